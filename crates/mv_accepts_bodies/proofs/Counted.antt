@@ -14,15 +14,12 @@ use Rattle.mv_check_scope.specs.Conversions as conversions
 use Rattle.mv_source_forms.specs.Typing.{types_of, parameter_types}
 use Rattle.mv_source_forms.specs.Names.{is_void, takes, is_callable}
 use Rattle.mv_accepts_bodies.specs.Formed.{HasParameters}
+use Rattle.mv_ast.proofs.Common.{truth_same}
 
 pub any_last : (bs : List Bool) (b : Bool) → any_of (bs ++ b ∷ []) ≡ false → (any_of bs ≡ false) × (b ≡ false)
 any_last [] b h = (refl, (or_parts b false h).0)
 any_last (true ∷ bs) b h = absurd (cc)
 any_last (false ∷ bs) b h = any_last bs b h
-
-same_itself : (a : Bool) → same_truth a a ≡ true
-same_itself true = refl
-same_itself false = refl
 
 -- whether a type is `void`
 pub void_is : (t : CType) (b : Bool) → conversions.is_void t ≡ b → is_void t ≡ b
@@ -40,5 +37,5 @@ callable p has g callee t args n count there result types =
     let q : callee.params ≡ n = sym (parameters_count callee (has g callee there)) ∙ (ap length (sym types) ∙ (length-map args (λ (e : Expr). e.ctype) ∙ sym count)) in
     let takes_it : takes (Some callee) n (is_void t) ≡ true =
     and_from (nat_eq callee.params n) (same_truth (is_void callee.result) (is_void t)) (eq-eqb callee.params n q)
-    (ap (λ u. same_truth (is_void callee.result) (is_void u)) result ∙ same_itself (is_void callee.result)) in
+    (ap (λ u. same_truth (is_void callee.result) (is_void u)) result ∙ truth_same (is_void callee.result)) in
     ap (λ o. takes o n (is_void t)) there ∙ takes_it

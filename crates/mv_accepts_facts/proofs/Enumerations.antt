@@ -34,10 +34,11 @@ use Rattle.mv_accepts_statements.proofs.Judging.{IfGood, if_any, if_then, if_kep
 use Rattle.mv_accepts_statements.proofs.Lists.{each_any}
 use Rattle.mv_accepts_globals.proofs.Tests.{if_given}
 use Rattle.mv_accepts_statements.proofs.Names.{named_behind}
-use Rattle.mv_accepts_statements.proofs.Places.{keeps_same, keeps_more, last_there}
+use Rattle.mv_accepts_statements.proofs.Places.{keeps_same, keeps_more}
 use Rattle.mv_accepts_identifiers.specs.Written.{HasMembers, HasValues, IsFilled}
 use Rattle.mv_accepts_identifiers.proofs.Phrases.{IfSome, HasSome}
 use Rattle.mv_accepts_facts.proofs.Attributes.{all_take, all_drop, IsFilledAttribute, attributes_some}
+use Rattle.mv_num.proofs.Lists.{last_there}
 
 -- ---- scopes
 

@@ -1,5 +1,5 @@
 -- The words that a global is given are first values of its type.
-use Rattle.std.proofs.Common.{◌≡◌, ℕ, suc, ◌+◌, arith, ◌⊎◌, inl, inr, Bool, true, false, not, refl, sym, ◌∙◌, subst, if◌then◌else◌, List, [], ◌∷◌, length, Option, Some, None}
+use Rattle.std.proofs.Common.{◌≡◌, ℕ, suc, ◌+◌, arith, ◌⊎◌, inl, inr, Bool, true, false, not, refl, sym, ◌∙◌, subst, List, [], ◌∷◌, length, Option, Some, None}
 use Rattle.std.specs.List.{AllByRecursion}
 use Rattle.std.proofs.lemmas.List.Elements.{All-from_recursion}
 use Rattle.std.proofs.lemmas.Bool.{not-false, and_parts, eqb-true}
@@ -39,16 +39,13 @@ use Rattle.mv_accepts_statements.proofs.Unbroken.{if_unbroken, unbroken, all_con
 use Rattle.mv_accepts_statements.proofs.Lists.{each_any, all_last}
 use Rattle.mv_accepts_globals.specs.FirstValues.{FirstValuesAreTyped}
 use Rattle.mv_accepts_globals.proofs.Nulls.{pointer_null}
+use Rattle.mv_num.proofs.Booleans.{value_if_some}
 
 -- a word is one more than the number of the function that an expression names, or the value of a constant
 word_case : (x : Form-F Form Target Expr) (o : Option ℕ) (w : ℕ) → address_or (address_form x) o ≡ Some w →
     ((g : ℕ) × (x ≡ form.Function g) × (w ≡ g + 1)) ⊎ (o ≡ Some w)
 word_case (form.Function g) o w h = inl (g, refl, cc)
 word_case x o w h = inr h
-
-value_is : (b : Bool) (r : Option ℕ) (w : ℕ) → (if b then r else None) ≡ Some w → r ≡ Some w
-value_is true r w h = h
-value_is false r w h = absurd (cc)
 
 zero_is : (o : Option ℕ) (w : ℕ) → o ≡ Some w → is_zero o ≡ true → w ≡ 0
 zero_is None w h k = absurd (cc)
@@ -75,7 +72,7 @@ module _ (p : Program) (f : Function) (comes : (e : Expr) (v : ℕ) → computed
 
   constant_first : (s : ℕ) (e : Expr) (w : ℕ) → TypedExpr p f e → constant_value e ≡ Some w →
       (same_type e.ctype (Pointer s) ≡ true) ⊎ (is_null e ≡ true) → IsFirstValue p (Pointer s) w
-  constant_first s e w h q (inl k) = inl (pointer_null p f comes e h s (same_is e.ctype (Pointer s) k) w (value_is (is_constant e) (computed e) w q))
+  constant_first s e w h q (inl k) = inl (pointer_null p f comes e h s (same_is e.ctype (Pointer s) k) w (value_if_some (is_constant e) (computed e) w q))
   constant_first s e w h q (inr k) = inl (zero_is (constant_value e) w q (and_parts (is_integer e.ctype) (is_zero (constant_value e)) k).1)
 
   either_first : (s : ℕ) (e : Expr) (w : ℕ) → TypedExpr p f e → (same_type e.ctype (Pointer s) ≡ true) ⊎ (is_null e ≡ true) →

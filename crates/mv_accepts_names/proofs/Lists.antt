@@ -5,11 +5,6 @@ use Rattle.std.proofs.lemmas.Option.{same_Some}
 module _ {A : Type 0} where
   -- ---- an element that is set
 
-  pub set_there : (xs : List A) (n : ℕ) (x y : A) → slice_get xs n ≡ Some x → slice_get (slice_set xs n y) n ≡ Some y
-  set_there [] n x y h = absurd (cc)
-  set_there (z ∷ zs) zero x y h = refl
-  set_there (z ∷ zs) (suc n) x y h = set_there zs n x y h
-
   pub set_elsewhere : (xs : List A) (n i : ℕ) (y x : A) → slice_get (slice_set xs n y) i ≡ Some x → (slice_get xs i ≡ Some x) ⊎ ((i ≡ n) × (y ≡ x))
   set_elsewhere [] n i y x h = absurd (cc)
   set_elsewhere (z ∷ zs) zero zero y x h = inr (refl, same_Some y x h)

@@ -11,15 +11,16 @@ use Rattle.mv_check_scope.specs.Spaces.{named}
 use Rattle.mv_check_scope.proofs.BoundNames.{names_kept}
 use Rattle.mv_accepts_expressions.specs.Soundness.{IsListed}
 use Rattle.mv_accepts_statements.proofs.Judging.{IfGood, if_any, if_then}
-use Rattle.mv_accepts_statements.proofs.Places.{keeps_same, keeps_more, last_there}
+use Rattle.mv_accepts_statements.proofs.Places.{keeps_same, keeps_more}
 use Rattle.mv_types.specs.declared.contents.Contents.{Contents}
 use Rattle.mv_types.specs.declared.contents.Foreknown.{Foreknown}
 use Rattle.mv_types.specs.declared.contents.Object.{Object}
 use Rattle.mv_types.specs.Objects.{number_of, object_words, object_meaning, object_scope, new_object, again, replaced, objects_again, objects_behind, object_judgement}
 use Rattle.mv_accepts_names.specs.Declared.{IsStill, IsGlobal, IsDeclared}
-use Rattle.mv_accepts_names.proofs.Lists.{set_there, set_before}
+use Rattle.mv_accepts_names.proofs.Lists.{set_before}
 use Rattle.mv_accepts_names.proofs.Named.{names_behind}
 use Rattle.mv_accepts_names.proofs.Extending.{To, IsLike, like_sound, still_same}
+use Rattle.mv_num.proofs.Lists.{set_there, last_there}
 
 -- ---- a new object
 

@@ -55,6 +55,7 @@ use Rattle.mv_accepts_names.proofs.Functions.{block_widens, function_sound}
 use Rattle.mv_accepts_expressions.proofs.Kept.{went_on, same_good}
 use Rattle.mv_accepts_expressions.proofs.Plain.{IsPlain}
 use Rattle.mv_accepts_numbers.specs.Numbers.{IsForeknown}
+use Rattle.mv_accepts_numbers.proofs.Common.{named_is}
 
 widens_same : (s : Scope) → Widens s s
 widens_same s = record { declares = declares_same s; names = names_same s s refl }
@@ -120,9 +121,6 @@ file_good b d s e q =
     let a = went_on (attributes (holder_of position.File b.fixed d) (scalar_kind b.ctype) m.0.0 d.marks b.attribute) (λ a. Good (m.0.0, record { entity = m.0.1; attribute = a })) e m.2 in
     m.1 ∙ ap (λ (z : Scope × Designated). Good (z.0, z.1.entity)) (same_good (m.0.0, record { entity = m.0.1; attribute = a.0 }) e a.2)
 
-name_is : (d : Declarator) (name : List ℕ) → d.name ≡ Some name → name_of d ≡ name
-name_is d name q = ap (λ (o : Option (List ℕ)). name_of (record d { name = o })) q
-
 module _ (fit : ParametersFit) (grow : BodyGrows) (k : Foreknown) where
   -- a function that it defines has a number
   abbrev pub Numbered : Declarator → Type 0
@@ -149,7 +147,7 @@ module _ (fit : ParametersFit) (grow : BodyGrows) (k : Foreknown) where
       let says = shape_says b.ctype fixed s c.scope n d.shape q in
       function_sound fit grow k d name b.ctype n c
       (record { scope = s; given = (c.scope, n); judged = says.1; number = refl; kept = keeps_same c.scope.signatures }) body
-      (λ line r. subst (λ (z : List ℕ). (g : ℕ) × (place_of z k.outline.functions ≡ Some g)) (name_is d name named) (known line r says.0))
+      (λ line r. subst (λ (z : List ℕ). (g : ℕ) × (place_of z k.outline.functions ≡ Some g)) (named_is d name named) (known line r says.0))
 
   named_sound : (b : Specified) (fixed : Bool) (body : Option Line) (d : Declarator) (name : Option (List ℕ)) (e : Designated) (s : Scope) (c : Contents) →
       designated d.shape b.ctype fixed s ≡ Good (c.scope, e.entity) → IsListedEntity c.scope.signatures e.entity → d.name ≡ name → Known body d →

@@ -49,6 +49,7 @@ use Rattle.mv_accepts_numbers.proofs.Lists.{all_both, set_there}
 use Rattle.mv_accepts_numbers.proofs.NameLists.{Different, name_is, among_here, among_last, among_once, among_kept, among_different, at_place, place_there, place_among, or_nothing}
 use Rattle.mv_accepts_numbers.proofs.Items.{one, IsNamed, AreNamed, all_named, items_done}
 use Rattle.mv_accepts_numbers.proofs.Designated.{is_function_entity, file_alike}
+use Rattle.mv_num.proofs.Booleans.{and_left}
 
 -- ---- lists of functions that are defined or not
 
@@ -244,10 +245,6 @@ known_functions items = refl
 
 pub known_different : (items : List Item) → Different (foreknown items).outline.functions
 known_different items = subst Different (sym (known_functions items)) (among_different (outlined.names wanted.DefinedFunctions items) (outlined.names wanted.Functions items))
-
-and_left : (a b : Bool) → (a && b) ≡ true → a ≡ true
-and_left true b h = refl
-and_left false b h = absurd (cc)
 
 among_functions : (name : List ℕ) (items : List Item) →
     is_among name (functions items) ≡ (is_among name (all_names wanted.DefinedFunctions items) && is_among name (all_names wanted.Functions items))

@@ -10,3 +10,4 @@ mod Spaces
 mod Objects
 mod DeclaredObjects
 mod Switches
+pub mod Common

@@ -12,12 +12,13 @@ use Rattle.mv_check_scope.proofs.BoundNames.{named_last, names_kept}
 use Rattle.mv_check_outline.specs.Names.{same_name, is_among, with_name, each_once}
 use Rattle.mv_types.specs.declared.contents.Object.{Object}
 use Rattle.mv_types.specs.Objects.{number_of, either_domain}
-use Rattle.mv_accepts_statements.proofs.Places.{keeps_more, last_there, there_before}
+use Rattle.mv_accepts_statements.proofs.Places.{keeps_more, there_before}
 use Rattle.mv_accepts_statements.proofs.Lists.{all_last, mapped_there, all_at, all_by, mapped_back}
 use Rattle.mv_accepts_statements.proofs.Names.{named_behind}
 use Rattle.mv_accepts_numbers.proofs.Lists.{set_there, set_same}
 use Rattle.mv_accepts_numbers.proofs.NameLists.{name_itself, name_is, among_last, among_here, among_once, once_different, place_there, standing}
 use Rattle.mv_accepts_numbers.proofs.Spaces.{Adds}
+use Rattle.mv_num.proofs.Lists.{last_there}
 
 abbrev pub object_name : Object → List ℕ
 object_name o = o.global.name

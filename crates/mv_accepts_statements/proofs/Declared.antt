@@ -27,7 +27,6 @@ use Rattle.mv_source_forms.specs.Typing.{local_types}
 use Rattle.mv_accepts_expressions.specs.Soundness.{IsListed, IsMeant}
 use Rattle.mv_accepts_expressions.proofs.Plain.{IsPlain}
 use Rattle.mv_accepts_statements.proofs.Judging.{IfGood, by_good, of_good, if_any, if_then, if_more, if_through}
-use Rattle.mv_accepts_statements.proofs.Places.{last_there}
 use Rattle.mv_accepts_statements.proofs.Names.{declared_means}
 use Rattle.mv_accepts_statements.proofs.Growing.{grows_joined, grows_declared, grows_local}
 use Rattle.mv_accepts_statements.proofs.Specified.{Specifies, specifiers_specify}
@@ -37,6 +36,7 @@ use Rattle.mv_accepts_statements.specs.Bodies.{Grows}
 use Rattle.mv_accepts_statements.proofs.Leading.{IsWithin, Leads, leads_here, leads_more, leads_joined, leads_renamed, leads_enumerated, later}
 use Rattle.mv_accepts_statements.proofs.Lists.{mapped_there}
 use Rattle.mv_accepts_statements.proofs.Values.{values_new}
+use Rattle.mv_num.proofs.Lists.{last_there}
 
 module _ (x : Passage) where
   abbrev f : Function

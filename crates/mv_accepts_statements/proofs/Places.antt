@@ -36,10 +36,6 @@ module _ {A : Type 0} where
   keeps_more (x ∷ xs) ys zero y h = h
   keeps_more (x ∷ xs) ys (suc i) y h = keeps_more xs ys i y h
 
-  pub last_there : (xs : List A) (x : A) → slice_get (xs ++ x ∷ []) (length xs) ≡ Some x
-  last_there [] x = refl
-  last_there (y ∷ ys) x = last_there ys x
-
   pub there_before : (xs : List A) (y : A) (i : ℕ) (x : A) → slice_get (xs ++ y ∷ []) i ≡ Some x → (slice_get xs i ≡ Some x) ⊎ (y ≡ x)
   there_before [] y zero x h = inr (cc)
   there_before [] y (suc i) x h = absurd (cc)

@@ -23,11 +23,6 @@ use Rattle.mv_accepts_texts.proofs.Forms.{StmtsName}
 use Rattle.mv_accepts_texts.proofs.Scopes.{few, FewIn}
 use Rattle.mv_accepts_texts.proofs.Specifiers.{Adds}
 
-pub bool_same : (a b : Bool) → (a ≡ true → b ≡ true) → (b ≡ true → a ≡ true) → a ≡ b
-bool_same true b h k = sym (h refl)
-bool_same false true h k = k refl
-bool_same false false h k = refl
-
 -- ---- file scope
 
 -- there are no names around it but those that are known

@@ -36,8 +36,9 @@ use Rattle.mv_accepts_texts.proofs.Forms.{StmtsName}
 use Rattle.mv_accepts_texts.proofs.Scopes.{few, few_both}
 use Rattle.mv_accepts_texts.proofs.Functions.{rules_kept}
 use Rattle.mv_accepts_numbers.proofs.NameLists.{name_itself, name_is}
-use Rattle.mv_accepts_texts.proofs.Files.{bool_same, file_global, global_names, Sound}
+use Rattle.mv_accepts_texts.proofs.Files.{file_global, global_names, Sound}
 use Rattle.mv_accepts_texts.proofs.Units.{Told, HasNumber, Known, KnownItem, unit_sound}
+use Rattle.mv_num.proofs.Booleans.{same_bools}
 
 -- ---- what is known of each declarator
 
@@ -155,9 +156,9 @@ module _ (u : tree.Unit) (known : ItemsAreForeknown) where
     means_global g n = file_global c.scope x.around n g ∙ by (slice_get c.globals g) (get_mapped (λ (o : Global). o.name) c.globals g)
       where
         by : (o : Option Global) → slice_get (global_names c.globals) g ≡ mapped (λ (o : Global). o.name) o → is_global g (named n c.scope.names.here) ≡ has_name_among (n ∷ []) (mapped global_of o)
-        by None q = bool_same _ false (λ h. let z : None ≡ Some n = sym q ∙ (x.meant n g h).0 in absurd (cc)) (λ h. absurd (cc))
+        by None q = same_bools _ false (λ h. let z : None ≡ Some n = sym q ∙ (x.meant n g h).0 in absurd (cc)) (λ h. absurd (cc))
         by (Some o) q =
-            bool_same _ (same_name o.name n || false)
+            same_bools _ (same_name o.name n || false)
             (λ h. ap (λ m. same_name m n || false) (same_Some o.name n (sym q ∙ (x.meant n g h).0)) ∙ ap (λ b. b || false) (name_itself n))
             (λ h. ap (λ m. is_global g (named m c.scope.names.here)) (sym (name_is o.name n (or_none (same_name o.name n) h))) ∙ x.numbered g o.name q)
           where

@@ -34,9 +34,10 @@ use Rattle.mv_accepts_texts.proofs.Scopes.{few, FewIn}
 use Rattle.mv_accepts_texts.proofs.Locals.{params_counts}
 use Rattle.mv_accepts_numbers.proofs.Lists.{set_there}
 use Rattle.mv_accepts_numbers.proofs.NameLists.{name_itself, name_is}
-use Rattle.mv_accepts_texts.proofs.Lists.{place_within, all_pass}
+use Rattle.mv_accepts_texts.proofs.Lists.{place_within}
 use Rattle.mv_accepts_texts.proofs.Functions.{rules_kept, names_same, Defined, definition_tells}
 use Rattle.mv_accepts_texts.proofs.Files.{file_global, Steady, steady_names, steady_declared, Sound, sound_behind, sound_text}
+use Rattle.std.proofs.ByRecursion.{kept_by_passes}
 
 -- ---- lists of functions
 
@@ -79,7 +80,7 @@ module _ (items : List Item) (W : Type 0) (ObjectTold FunctionTold : List ℕ �
         numbered = λ g n h. ap (λ spaces. is_global g (named n spaces.here)) d.names ∙ x.numbered g n h;
         there = λ n h. ap (λ spaces. is_some (named n spaces.here)) d.names ∙ x.there n (sym (ap (is_among n) (append-nil x.objects)) ∙ h);
         of_objects = λ n. subst (λ objects. AllByRecursion (λ m. is_among m objects ≡ true) (texts n)) (sym (append-nil x.objects))
-            (all_append _ (x.texts n) _ (x.of_objects n) (all_pass (λ m. is_among m x.objects) (definition_names name params b n)));
+            (all_append _ (x.texts n) _ (x.of_objects n) (kept_by_passes (λ m. is_among m x.objects) (definition_names name params b n)));
         count = length-set c.functions k (Some f) ∙ x.count;
         number = λ i g h. number_of i g (set_there c.functions k (Some f) i (Some g) h);
         named_by = λ i g h. named_of i g (set_there c.functions k (Some f) i (Some g) h);

@@ -26,7 +26,6 @@ use Rattle.mv_check_rules.specs.Units.{Declarations, none_declared, behind, bear
 use Rattle.mv_check_rules.proofs.Shapes.{declarator_found, param_found}
 use Rattle.mv_accepts_statements.proofs.Judging.{IfGood, if_any, if_both, if_more, if_then}
 use Rattle.mv_accepts_statements.proofs.Names.{left_is}
-use Rattle.mv_accepts_numbers.proofs.NameLists.{or_nothing}
 use Rattle.mv_accepts_texts.specs.Expressions.{NameList}
 use Rattle.mv_accepts_texts.specs.Meanings.{is_global}
 use Rattle.mv_accepts_texts.specs.Texts.{Part, naming, next, in_turn, parameter, names_in_function, names_in_definition, declarator_objects, item_objects, enumerators_of}
@@ -38,6 +37,7 @@ use Rattle.mv_accepts_texts.proofs.Functions.{rules_kept}
 use Rattle.mv_accepts_texts.proofs.Files.{steady_names, steady_adds, Sound, sound_behind, sound_text}
 use Rattle.mv_accepts_texts.proofs.Objects.{With, object_sound}
 use Rattle.mv_accepts_texts.proofs.Routines.{WithOptional, Counts, Numbered, routine_sound}
+use Rattle.mv_accepts_numbers.proofs.Common.{named_is}
 
 -- ---- the parameters of a declarator
 
@@ -88,9 +88,6 @@ declared_kind x t fixed s =
     (sym (fold_out-Shape Shapes Declarators Params shape_step declarator_step param_step x))
     (subst (λ b. IfGood (shape_step (map-Shape Shape Declarator Param Shapes Declarators Params declared_as declarator_found param_found (out-Shape x)) t fixed s) (λ d. Kind b d.1))
     (same_form (out-Shape x)) (form_kind (map-Shape Shape Declarator Param Shapes Declarators Params declared_as declarator_found param_found (out-Shape x)) t fixed s))
-
-named_is : (d : Declarator) (name : List ℕ) → d.name ≡ Some name → name_of d ≡ name
-named_is d name h = ap or_nothing h
 
 module _ (items : List Item) (W : Type 0) (ObjectTold FunctionTold : List ℕ → Type 0) where
   abbrev Is : (List ℕ → Part) → Declarations → Type 0

@@ -10,8 +10,9 @@ use Rattle.mv_asm.specs.declared.spans.Span.{Span}
 use Rattle.mv_asm.specs.Sizes.{AreOffsets, IsNoLonger}
 use Rattle.mv_asm.proofs.Targets.{target_at, target-le}
 use Rattle.mv_asm.specs.Spans.{IsSpan, IsSpanOf, IsNarrowed, AreNarrowed}
-use Rattle.mv_asm.proofs.Offsets.{between-le, offset-cons}
+use Rattle.mv_asm.proofs.Offsets.{between-le}
 use Rattle.mv_asm.proofs.Turns.{at_written, reach_where_shorter}
+use Rattle.mv_isa.proofs.Common.{offset-cons}
 
 -- Offsets where an item has a word more.
 

@@ -1,5 +1,5 @@
 -- An instruction fits where its field holds the number.
-use Rattle.std.proofs.Common.{◌≡◌, ℕ, ◌%◌, ◌^◌, ◌<◌, ◌≤◌, Bool, true, false, ◌&&◌, eqb, refl, ap, ◌∙◌, arith, lit<, unsigned_abs}
+use Rattle.std.proofs.Common.{◌≡◌, ℕ, ◌%◌, ◌^◌, ◌<◌, ◌≤◌, Bool, true, false, eqb, refl, ap, ◌∙◌, arith, lit<, unsigned_abs}
 use Rattle.std.proofs.lemmas.Int.{ints}
 use Rattle.std.proofs.lemmas.Bool.Decides.{nat_tests}
 use Rattle.mv_isa.specs.Encoding.{Fits, IsSigned, IsOffset, IsUnsigned}
@@ -12,14 +12,7 @@ use Rattle.mv_asmtext.specs.declared.operand.Registers.{Registers}
 use Rattle.mv_asmtext.specs.Fields.{is_signed, is_offset, is_below, holds}
 use Rattle.mv_asmtext.specs.Mnemonics.{field_of, instruction}
 use Rattle.mv_asmtext.specs.Numbers.{number, signed}
-
-pub and_left : (a b : Bool) → (a && b) ≡ true → a ≡ true
-and_left true b h = refl
-and_left false b h = h
-
-pub and_right : (a b : Bool) → (a && b) ≡ true → b ≡ true
-and_right true b h = h
-and_right false b h = cc
+use Rattle.mv_num.proofs.Booleans.{and_right, and_left}
 
 signed_at_most : (half : ℕ) (b : Bool) (k : ℕ) → is_signed (number b k) half ≡ true → k ≤ half
 signed_at_most half true k h = grind (arith, nat_tests)

@@ -5,7 +5,7 @@ use Rattle.std.proofs.lemmas.Bool.Decides.{nat_tests}
 use Rattle.std.proofs.lemmas.List.{at_drop_more}
 use Rattle.mv_asmtext.specs.Lexemes.{Lexeme, word, mark, is_word_byte, is_name_byte, is_blank, lengthened, lexemes}
 
-one_more : (n : ℕ) → 1 + n ≡ suc n
+pub one_more : (n : ℕ) → 1 + n ≡ suc n
 one_more n = omega arith
 
 joined : (b n : ℕ) (l : List ℕ) (ls : List Lexeme) → ls ≡ word (take n l) ∷ lexemes (drop n l) → lengthened b ls ≡ word (take (1 + n) (b ∷ l)) ∷ lexemes (drop (1 + n) (b ∷ l))

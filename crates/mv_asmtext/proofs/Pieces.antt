@@ -13,8 +13,8 @@ use Rattle.mv_asmtext.specs.Numbers.{number_of, number_from}
 use Rattle.mv_asmtext.specs.Printing.{element_text, elements_text, operands_text, number_text}
 use Rattle.mv_asmtext.specs.Registers.{register_name}
 use Rattle.mv_asmtext.specs.Statements.{filled, filled_one, set_register, set_value, label_in}
-use Rattle.mv_asmtext.proofs.InstructionFits.{and_left, and_right}
 use Rattle.mv_asmtext.proofs.Words.{is_word, is_short_word, short_is_word, short_length, register_back, register_word}
+use Rattle.mv_num.proofs.Booleans.{and_right, and_left}
 
 -- ---- words and bytes of a line
 

@@ -1,5 +1,5 @@
 -- What is printed of code is read as that code.
-use Rattle.std.proofs.Common.{◌≡◌, ℕ, suc, ◌+◌, ◌*◌, ◌%◌, ◌^◌, ◌<◌, ◌≤◌, refl, sym, ap, ◌∙◌, List, [], ◌∷◌, ◌++◌, length, Bool, true, false, not, eqb, ltb, Some, None, Result, Ok, Err, arith, append_assoc, length-append, codes}
+use Rattle.std.proofs.Common.{◌≡◌, ℕ, suc, ◌+◌, ◌*◌, ◌%◌, ◌^◌, ◌<◌, ◌≤◌, refl, sym, ap, ◌∙◌, List, [], ◌∷◌, ◌++◌, length, true, false, eqb, ltb, Some, None, Result, Ok, Err, arith, append_assoc, length-append, codes}
 use Rattle.std.specs.List.{list_all}
 use Rattle.std.proofs.lemmas.List.{append-nil}
 use Rattle.std.proofs.lemmas.Bool.Decides.{nat_tests}
@@ -25,22 +25,18 @@ use Rattle.mv_asmtext.specs.Scans.{FitsImage, scanned, of_reading}
 use Rattle.mv_asmtext.specs.Sites.{Sites}
 use Rattle.mv_asmtext.specs.Sources.{address_of, place, place_in, place_after, put, with_next, read_from, lines_of, nothing_read}
 use Rattle.mv_asmtext.specs.Statements.{no_operands, with_operands, unlabelled, label_in, body, body_of}
-use Rattle.mv_asmtext.proofs.InstructionFits.{and_left, and_right}
 use Rattle.mv_asmtext.proofs.NumberTexts.{hex_length}
 use Rattle.mv_asmtext.proofs.Pieces.{is_line_byte}
 use Rattle.mv_asmtext.proofs.PrintedLines.{IsLine, directive_text, operands_with, word_line, word_length, data_line, raw_length, entry_reads, entry_bytes, data_reads}
+use Rattle.mv_num.proofs.Booleans.{and_right, and_left, not-true}
 
 -- ---- lines
-
-no_feed : (v : Bool) → not v ≡ true → v ≡ false
-no_feed true h = cc
-no_feed false h = refl
 
 -- a line feed parts a line from what follows
 lines_cut : (line rest : List ℕ) → list_all is_line_byte line ≡ true → lines_of (line ++ 10 ∷ rest) ≡ line ∷ lines_of rest
 lines_cut [] rest h = refl
 lines_cut (b ∷ bs) rest h =
-    rw (no_feed (eqb b 10) (and_left (is_line_byte b) (list_all is_line_byte bs) h), lines_cut bs rest (and_right (is_line_byte b) (list_all is_line_byte bs) h)) refl
+    rw (not-true (eqb b 10) (and_left (is_line_byte b) (list_all is_line_byte bs) h), lines_cut bs rest (and_right (is_line_byte b) (list_all is_line_byte bs) h)) refl
 
 labels_push : (sites : Sites) (ls : List Line) (l : Line) → l.label ≡ None → labels_from sites (ls ++ l ∷ []) ≡ labels_from sites ls
 unfolding labels_from

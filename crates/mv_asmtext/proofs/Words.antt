@@ -10,7 +10,7 @@ use Rattle.mv_asmtext.specs.Lexemes.{is_word_byte, is_name_byte}
 use Rattle.mv_asmtext.specs.Mnemonics.{name_of, mnemonic_named}
 use Rattle.mv_asmtext.specs.Registers.{register_name, register_named}
 use Rattle.mv_asmtext.specs.Statements.{operation_named}
-use Rattle.mv_asmtext.proofs.InstructionFits.{and_left, and_right}
+use Rattle.mv_num.proofs.Booleans.{and_right, and_left}
 
 -- not empty, and of word bytes
 abbrev pub is_word : List ℕ → Bool

@@ -28,7 +28,8 @@ use Rattle.mv_build.specs.declared.error.BuildError.TheVariants.{Refused, Memory
 use Rattle.mv_build.specs.Compiled.{IsLinkedOf, IsLinkedTo, IsLinkRefusal, IsSound, IsWithinLimits, OnRefusal, parts_of, without_data}
 use Rattle.mv_build.specs.Errors.{of_linking, of_selecting}
 use Rattle.mv_build.specs.Verdicts.{IsCoded, PassesLimit, large_frame, many_sites, much_data, long_text}
-use Rattle.mv_parts.proofs.Lists.{some_at, some_same}
+use Rattle.mv_num.proofs.Lists.{there_at}
+use Rattle.mv_num.proofs.Options.{some_same}
 
 -- ---- frames
 
@@ -38,8 +39,8 @@ frame_refused p (selecting.Memory e) h = tt
 
 pub frames_fit : (p : Program) (bodies : List Body) (codes : List Labelled) → AreGenerics p bodies → HaveCode p bodies codes → FramesFit p (length p.functions)
 frames_fit p bodies codes generics have f g below there =
-    let body = some_at bodies f (omega (arith, generics.one_each, below)) in
-    let code = some_at codes f (omega (arith, have.one_each, below)) in
+    let body = there_at bodies f (omega (arith, generics.one_each, below)) in
+    let code = there_at codes f (omega (arith, have.one_each, below)) in
     let h = have.each f body.0 code.0 body.1 code.1 in
     subst (λ (x : Function). frame_size p x ≤ frame_limit) (some_same h.function g (sym h.there ∙ there)) h.frame
 

@@ -51,6 +51,8 @@ use Rattle.mv_check_rules.proofs.Program.{contents_of}
 use Rattle.mv_check_rules.proofs.Values.{converted_of, initial_agrees, words_of, words_agree}
 use Rattle.mv_check_rules.proofs.Routines.{defined_parameters_agree, routine_agrees}
 use Rattle.mv_check_rules.proofs.Objects.{scalar_agrees, array_agrees}
+use Rattle.mv_num.proofs.Booleans.{or_true}
+use Rattle.mv_check_rules.proofs.Tags.{first_false, second_false}
 
 -- ---- what an attribute stands on
 
@@ -97,18 +99,6 @@ barred_by_form main fixed constant (shape.Function params) h = absurd (true≢fa
 barred_by_form main fixed constant (shape.Pointer own params) h = (refl, refl)
 barred_by_form main fixed constant (shape.PointerArray own size params) h = (refl, refl)
 
-or_true : (b : Bool) → (b || true) ≡ true
-or_true true = refl
-or_true false = refl
-
-or_first : (a b : Bool) → (a || b) ≡ false → a ≡ false
-or_first true b h = h
-or_first false b h = refl
-
-or_second : (a b : Bool) → (a || b) ≡ false → b ≡ false
-or_second true b h = absurd (true≢false h)
-or_second false b h = h
-
 module _ (items : List Item) (fixed : Bool) where
   abbrev constant : Declarator → Bool
   constant = code.declares_constant (foreknown items)
@@ -118,8 +108,8 @@ module _ (items : List Item) (fixed : Bool) where
   same_bearers [] h = refl
   same_bearers (d ∷ ds) h =
       ap (λ b. b ∷ map (bearer fixed) ds)
-      (same_by_form (is_main d.name) fixed (is_constant_object items (name_of d)) (out-Shape d.shape) (or_first (constant d) (list_any constant ds) h)) ∙
-      ap (λ (bs : List Bearer). bearer (fixed || is_constant_object items (name_of d)) d ∷ bs) (same_bearers ds (or_second (constant d) (list_any constant ds) h))
+      (same_by_form (is_main d.name) fixed (is_constant_object items (name_of d)) (out-Shape d.shape) (first_false (constant d) (list_any constant ds) h)) ∙
+      ap (λ (bs : List Bearer). bearer (fixed || is_constant_object items (name_of d)) d ∷ bs) (same_bearers ds (second_false (constant d) (list_any constant ds) h))
 
   barred : (ds : List Declarator) → list_any constant ds ≡ true →
       (list_any bears_none (bearers items fixed ds) ≡ true) × (list_any (λ b. not (is_switch b)) (bearers items fixed ds) ≡ true)

@@ -44,6 +44,7 @@ use Rattle.mv_check_rules.proofs.Parts.{IfGood, then_then}
 use Rattle.mv_check_rules.proofs.Program.{object_of, contents_of}
 use Rattle.mv_check_rules.proofs.Values.{IsOf, given_is, sizes_agree, added, add_word, words_of, words_agree, all_convert_added, words_added}
 use Rattle.mv_check_rules.proofs.Routines.{given_same}
+use Rattle.mv_num.proofs.Booleans.{or_false, or_true, not_and_false}
 
 -- ---- what is written and what is given
 
@@ -71,18 +72,6 @@ module _ (P : Option Initial → Given → Type 0)
   by_kind (Some (initial.Chars bytes)) (Characters them) h = subst (λ (b : List ℕ). P (Some (initial.Chars bytes)) (Characters b)) h (characters bytes)
 
 -- ---- tests
-
-or_false : (b : Bool) → (b || false) ≡ b
-or_false true = refl
-or_false false = refl
-
-or_true : (b : Bool) → (b || true) ≡ true
-or_true true = refl
-or_true false = refl
-
-and_false : (b : Bool) → not (b && false) ≡ true
-and_false true = refl
-and_false false = refl
 
 and_and : (a b c : Bool) → (a && (b && c)) ≡ ((a && b) && c)
 and_and true b c = refl
@@ -132,7 +121,7 @@ pub extents_scalar : (t : CType) (fixed : Bool) (v : Option Initial) (g : Given)
     breaks_extents true (scalar t) v (length (words_of (scalar t) g).words) ≡ ((is_string g && not (is_char_array (Scalar t fixed))) || not (fits_extent (Scalar t fixed) g))
 extents_scalar t fixed =
     by_kind (λ v g. breaks_extents true (scalar t) v (length (words_of (scalar t) g).words) ≡ ((is_string g && not (is_char_array (Scalar t fixed))) || not (fits_extent (Scalar t fixed) g)))
-    refl (λ n e. refl) (λ ns es h. refl) (λ bytes. and_false (code_objects.is_char t))
+    refl (λ n e. refl) (λ ns es h. refl) (λ bytes. not_and_false (code_objects.is_char t))
 
 nothing_filled : (n : ℕ) → (nat_eq n 0 || false) ≡ not (not (nat_eq n 0) && nat_le 0 n)
 nothing_filled n = or_false (nat_eq n 0) ∙ (by (nat_eq n 0) ∙ ap (λ b. not (not (nat_eq n 0) && b)) (sym (le-leb 0 n (omega arith))))

@@ -8,6 +8,7 @@ use Rattle.std.proofs.lemmas.Grind.{get_or-set_at}
 use Rattle.std.proofs.lemmas.Bool.{eqb-true, eqb-false}
 use Rattle.mv_ast.specs.Plans.{is_among}
 use Rattle.mv_check_uses.specs.Flags.{flagged, is_set}
+use Rattle.mv_num.proofs.Booleans.{or_false, or_taken_in}
 
 pub flagged_both : (xs ys : List ℕ) (flags : List Bool) → flagged (xs ++ ys) flags ≡ flagged ys (flagged xs flags)
 flagged_both [] ys flags = refl
@@ -24,16 +25,8 @@ pub flagged_push : {A : Type 0} (f : A → List ℕ) (xs : List A) (i : ℕ) (x 
     flagged (concat (map f (take (i + 1) xs))) flags ≡ flagged (f x) (flagged (concat (map f (take i xs))) flags)
 flagged_push f xs i x flags h e = ap (λ l. flagged l flags) (concat_push f xs i x h e) ∙ flagged_both (concat (map f (take i xs))) (f x) flags
 
-or_none : (a : Bool) → (a || false) ≡ a
-or_none true = refl
-or_none false = refl
-
-flag_here : (b z : Bool) → (true || z) ≡ (b || (true || z))
-flag_here true z = refl
-flag_here false z = refl
-
 is_set_flagged : (ns : List ℕ) (flags : List Bool) (k : ℕ) → k < length flags → is_set (flagged ns flags) k ≡ (is_set flags k || is_among k ns)
-is_set_flagged [] flags k h = sym (or_none (is_set flags k))
+is_set_flagged [] flags k h = sym (or_false (is_set flags k))
 is_set_flagged (n ∷ ns) flags k h =
     let long = length-set flags n true in
     is_set_flagged ns (slice_set flags n true) k (omega (arith, long)) ∙ by (nat_eq k n) refl
@@ -42,7 +35,7 @@ is_set_flagged (n ∷ ns) flags k h =
     by true e =
         let same = eqb-true k n e in
         ap (λ b. b || is_among k ns) (get_or-set_at flags n k true false same (omega arith)) ∙
-        (flag_here (is_set flags k) (is_among k ns) ∙ ap (λ b. is_set flags k || (b || is_among k ns)) (sym e))
+        (or_taken_in (is_set flags k) (is_among k ns) ∙ ap (λ b. is_set flags k || (b || is_among k ns)) (sym e))
     by false e = ap (λ b. b || is_among k ns) (get_or-set_other flags n k true false (eqb-false k n e)) ∙ ap (λ b. is_set flags k || (b || is_among k ns)) (sym e)
 
 -- a flag that was not set before is set for a number among these

@@ -7,10 +7,7 @@ use Rattle.mv_ast.specs.declared.program.Switch.{Switch}
 use Rattle.mv_ast.specs.declared.program.Stmt.{Stmt}
 use Rattle.mv_ast.specs.Plans.{is_among, global_or_none}
 use Rattle.mv_check_uses.specs.Uses.{numbers_from, switches_named, stmt_globals}
-
-or_true : (a : Bool) → (a || true) ≡ true
-or_true true = refl
-or_true false = refl
+use Rattle.mv_num.proofs.Booleans.{or_true}
 
 kept : (of_number : ℕ → ℕ) (g n : ℕ) (rest : List ℕ) (b : Bool) → is_among g (map of_number rest) ≡ true → is_among g (map of_number (cond b (n ∷ rest) rest)) ≡ true
 kept of_number g n rest true h = ap (λ b. nat_eq g (of_number n) || b) h ∙ or_true (nat_eq g (of_number n))

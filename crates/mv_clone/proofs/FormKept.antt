@@ -1,5 +1,5 @@
 -- The replacement of reads leaves a body well formed.
-use Rattle.std.proofs.Common.{◌≡◌, ◌≤◌, ◌^◌, ℕ, suc, ◌+◌, cond, Bool, true, false, ◌&&◌, List, [], ◌∷◌, length, map, refl, subst, sym, ap, ◌∙◌}
+use Rattle.std.proofs.Common.{◌≡◌, ◌≤◌, ◌^◌, ℕ, ◌+◌, cond, Bool, true, false, ◌&&◌, List, [], ◌∷◌, map, refl, subst, sym, ap, ◌∙◌}
 use Rattle.std.specs.Prelude.{nat_lt, nat_eq}
 use Rattle.std.specs.List.{filter}
 use Rattle.mv_ir.specs.declared.stm.Array.{Array}
@@ -12,10 +12,7 @@ use Rattle.mv_ir.proofs.Rolls.{targets_roll, named_roll, arguments_roll}
 use Rattle.mv_clone.specs.Bind.{bound_tree, bound_layer, bound_code, is_free}
 use Rattle.mv_clone.proofs.Kept.{blind_all}
 use Rattle.mv_clone.proofs.FlowsKept.{temps_kept}
-
-length_map : {A B : Type 0} (f : A → B) (xs : List A) → length (map f xs) ≡ length xs
-length_map f [] = refl
-length_map f (x ∷ xs) = ap (λ n. suc n) (length_map f xs)
+use Rattle.mv_num.proofs.Lists.{length_map}
 
 -- what holds of all holds of those that are left of them
 all_of_some : (p q : ℕ → Bool) (xs : List ℕ) → all_true (map p xs) ≡ true → all_true (map p (filter q xs)) ≡ true

@@ -25,6 +25,7 @@ use Rattle.mv_select_control.specs.Encoded.{words_layer, stm_words, own_words}
 use Rattle.mv_select_control.proofs.FlowEncoded.{words_roll}
 use Rattle.mv_lower_shape.specs.Allowances.{layer_allowance, stm_allowance, allowance}
 use Rattle.mv_parts_bound.proofs.Weights.{bound_parts, renamed_parts}
+use Rattle.mv_ir.proofs.Joining.{total_append}
 
 -- ---- the words that a statement takes are those that it is allowed
 
@@ -53,10 +54,6 @@ pub words_allowed : (code : List Stm) → own_words code ≡ allowance code
 words_allowed code = ap (λ f. total (map f code)) same_folds
 
 -- ---- passes
-
-total_append : (ns ms : List ℕ) → total (ns ++ ms) ≡ total ns + total ms
-total_append [] ms = omega arith
-total_append (n ∷ ns) ms = omega (arith, total_append ns ms)
 
 words_append : (xs ys : List Stm) → own_words (xs ++ ys) ≡ own_words xs + own_words ys
 words_append xs ys = ap total (map_append stm_words xs ys) ∙ total_append (map stm_words xs) (map stm_words ys)

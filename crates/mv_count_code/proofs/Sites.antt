@@ -2,7 +2,6 @@
 use Rattle.std.proofs.Common.{arith, ◌≡◌, ℕ, zero, suc, ◌+◌, ◌*◌, ◌≤◌, Bool, true, false, cond, List, [], ◌∷◌, length, map, Some, refl, sym, subst}
 use Rattle.std.specs.Prelude.{sum, slice_get}
 use Rattle.std.specs.List.{filter}
-use Rattle.std.proofs.lemmas.List.Sums.{sum_by-cons}
 use Rattle.std.proofs.Math.Nat.{mul-le-mul_right, mul_comm, suc-mul}
 use Rattle.mv_ast.specs.declared.program.Program.{Program}
 use Rattle.mv_ast.specs.declared.program.Function.{Function}
@@ -18,9 +17,7 @@ use Rattle.mv_parts_bound.specs.Slots.{slots, AtMost, SlotsAreFew, OwnSlotsAreFe
 use Rattle.mv_select.specs.Selected.{selected_lines}
 use Rattle.mv_count_code.specs.Sizes.{IsBodyOf, renamed, folded, bound}
 use Rattle.mv_count_code.specs.Texts.{SlotsAreFewInCode, AreVariantCodes, slots_in, SlotsAreCounted, SitesAreFew}
-
-sum_cons : (n : ℕ) (ns : List ℕ) → sum (n ∷ ns) ≡ n + sum ns
-sum_cons n ns = sum_by-cons (λ (k : ℕ). k) n ns
+use Rattle.mv_num.proofs.Lists.{sum_cons}
 
 module _ (often : LoweredCallAsOften) (renamed_few : RenamedSlotsAreFew) (folded_few : OwnSlotsAreFew) (bound_few : SlotsAreFew) where
   body_slots : (p : Program) (f : ℕ) (g : Function) → IsFunctionOf p f g → (b : Body) → IsBodyOf p g b → (attributed : Bool) → slots (selected_lines attributed b) ≤ calls p g

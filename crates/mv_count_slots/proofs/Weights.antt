@@ -6,17 +6,14 @@ use Rattle.mv_ir.specs.declared.stm.Stm.{Stm}
 use Rattle.mv_ir.specs.declared.stm.Stm.TheOpen.{Stm-F}
 use Rattle.mv_ir.specs.declared.stm.Stm.TheOpen as stm
 use Rattle.mv_ir.specs.declared.stm.Stm.TheViews.{roll-Stm}
-use Rattle.mv_ir.specs.declared.stm.Stm.TheFolds.{map-Stm, fold-roll-Stm}
+use Rattle.mv_ir.specs.declared.stm.Stm.TheFolds.{map-Stm}
 use Rattle.mv_ir.proofs.Induction.{Each, StmChildren, stm_ind, stms_ind}
 use Rattle.mv_lower_spec.specs.Functions.{callee_called, layer_called, stm_called, functions_called}
 use Rattle.mv_lower_shape.specs.Calls.{callee_weight, layer_weight, stm_weight, code_weight}
 use Rattle.mv_regalloc.specs.Rename.{renamed_callee, renamed_stm, renamed_code}
 use Rattle.mv_regalloc.proofs.RenamedTrees.{renamed_stm_roll}
 use Rattle.mv_parts_bound.proofs.Weights.{w_roll, renamed_parts}
-
-called_roll : (x : Stm-F Stm) → stm_called (roll-Stm x) ≡ layer_called (map-Stm Stm (List ℕ) stm_called x)
-unfolding stm_called
-called_roll x = fold-roll-Stm (List ℕ) layer_called x
+use Rattle.mv_lower_spec.proofs.Common.{called_roll}
 
 each_split : {A : Type 0} (P : A → Type 0) (xs ys : List A) → Each P (xs ++ ys) → Each P xs × Each P ys
 each_split P [] ys h = (tt, h)

@@ -21,8 +21,9 @@ use Rattle.mv_image.proofs.RowsFit.{functions_fit}
 use Rattle.mv_patch.specs.Orders.{bound_values, bound_now, next_binding, words_now, word_in, ordered_rows, is_ordered, is_known_order, bindings_after, plan_of}
 use Rattle.mv_patch.proofs.Rebinding.{ordered_count}
 use Rattle.mv_machine.specs.Runs.{State, Fault, Request, Exits, Reads, Writes, Traps, Plans, Polls, Unknown, argument, answered, stopped, live_frames, refused, ordered, planned, act, acted, polled, with_value, environment_call, runs_from, first}
-use Rattle.mv_refine_machine.proofs.Keeping.{either, runs_keep}
+use Rattle.mv_refine_machine.proofs.Keeping.{runs_keep}
 use Rattle.mv_count_words.specs.Bound.{RunsAreBound}
+use Rattle.mv_machine.proofs.Leaving.{either}
 
 -- ---- values that a variant fits have a row of it
 

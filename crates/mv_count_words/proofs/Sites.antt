@@ -15,8 +15,8 @@ use Rattle.mv_parts_bound.specs.Slots.{slot_weight}
 use Rattle.mv_count_slots.specs.Calls.{once_for, CalleesHaveSlots}
 use Rattle.mv_link_changes.specs.Linked.{slots_of, slots_in}
 use Rattle.mv_parts.specs.Codes.{AreGenerics, HaveCode}
-use Rattle.mv_parts.proofs.Lists.{some_at}
 use Rattle.mv_count_words.specs.Owed.{calls_of, direct_calls_of}
+use Rattle.mv_num.proofs.Lists.{there_at}
 
 slots_weigh : (f : ℕ) (lines : List Line) → slots_of f lines ≡ slot_weight (once_for f) lines
 slots_weigh f [] = refl
@@ -45,7 +45,7 @@ module _ (have_slots : CalleesHaveSlots) (p : Program) (formed : IsWellFormed p)
       each i c g at there =
           let within = slice_get_within p.functions i g there in
           let count = generics.one_each in
-          let body = some_at bodies i (omega (arith, within, count)) in
+          let body = there_at bodies i (omega (arith, within, count)) in
           let has = code.each i body.0 c body.1 at in
           let renamed = generics.each i g body.0 there body.1 in
           slots_weigh f c.items ∙ ap (slot_weight (once_for f)) has.is_code.selected.items

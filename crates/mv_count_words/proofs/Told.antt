@@ -39,9 +39,11 @@ use Rattle.mv_variants.specs.declared.variant.Variant.{Variant}
 use Rattle.mv_parts.specs.Codes.{IsCodeOf}
 use Rattle.mv_parts.specs.Numbers.{attributed_numbers}
 use Rattle.mv_parts.specs.Parts.{ArePartsOf, ArePartVariants}
-use Rattle.mv_parts.proofs.Lists.{all_by_index, map_at, one_of_all, some_at, some_same}
+use Rattle.mv_parts.proofs.Lists.{all_by_index, map_at, one_of_all}
 use Rattle.mv_parts.proofs.Numbers as numbered
 use Rattle.mv_count_words.proofs.Inlined.{addi_opcode, first_word, inline_plain, jump_opcode}
+use Rattle.mv_num.proofs.Lists.{there_at}
+use Rattle.mv_num.proofs.Options.{some_same}
 
 -- ---- lists
 
@@ -90,7 +92,7 @@ module _ (ascend : CodesAscend) (patched : PatchedCodeStands) (p : Program) (bod
     number_is = subst (λ (ns : List ℕ). slice_get ns n ≡ Some a.function) are.codes.variants.numbers number
 
     abbrev own : (code : Labelled) × (slice_get parts.functions a.function ≡ Some code)
-    own = some_at parts.functions a.function fits.there
+    own = there_at parts.functions a.function fits.there
 
     code_there : slice_get (codes parts) a.function ≡ Some own.0
     code_there = follow.function a.function own.0 own.1
@@ -120,7 +122,7 @@ module _ (ascend : CodesAscend) (patched : PatchedCodeStands) (p : Program) (bod
         let h = numbered.attributed_at p n a.function number_is in
         let within = slice_get_within p.functions a.function h.function h.there in
         let count = are.codes.generics.one_each in
-        let body = some_at bodies a.function (omega (arith, within, count)) in
+        let body = there_at bodies a.function (omega (arith, within, count)) in
         let has = are.codes.code.each a.function body.0 own.0 body.1 own.1 in
         begins_with has.function.attributed body.0 has.is_code
 
@@ -148,7 +150,7 @@ module _ (ascend : CodesAscend) (patched : PatchedCodeStands) (p : Program) (bod
         let h = numbered.attributed_at p n a.function number_is in
         let within = slice_get_within (attributed_numbers p) n a.function number_is in
         let count = are.codes.are_tables.one_each in
-        let table = some_at tables n (omega (arith, within, count)) in
+        let table = there_at tables n (omega (arith, within, count)) in
         let part = are.codes.variants.each n a.function h.function table.0 a number_is h.there table.1 at in
         all_by_index (λ (v : PartVariant). first_word v.inline % 128 ≢ 111) a.variants (λ j v e. plain table.0 part.variants_are j v e)
       where
@@ -156,7 +158,7 @@ module _ (ascend : CodesAscend) (patched : PatchedCodeStands) (p : Program) (bod
         plain variants vs j v e =
             let within = slice_get_within a.variants j v e in
             let count = vs.one_each in
-            let variant = some_at variants j (omega (arith, within, count)) in
+            let variant = there_at variants j (omega (arith, within, count)) in
             let is = vs.each j variant.0 v variant.1 e in
             subst (λ (words : Option (List ℕ)). first_word words % 128 ≢ 111) (sym is.inline) (inline_plain (place_in variant.0.body.rooms) variant.0.body)
 
@@ -196,7 +198,7 @@ module _ (ascend : CodesAscend) (patched : PatchedCodeStands) (p : Program) (bod
   pub can_be_told : (f : ℕ) (values : Option (List ℕ)) (d : FunctionRow) (row : VariantRow) → f < length image.functions → variant_under image f values ≡ Some row → CanBeTold image (get_or image.functions f d) row
   can_be_told f values d row lt e =
       let count = ap (λ (rows : List FunctionRow). length rows) functions_are ∙ length-map parts.attributed (function_row place) in
-      let found = some_at parts.attributed f (omega (arith, lt, count)) in
+      let found = there_at parts.attributed f (omega (arith, lt, count)) in
       let a = found.0 in
       let v = variant_is f values row e in
       let there = subst (λ (rows : List FunctionRow). slice_get rows f ≡ Some (function_row place a)) (sym functions_are) (map_at (function_row place) parts.attributed f a found.1) in

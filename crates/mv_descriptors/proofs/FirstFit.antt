@@ -1,7 +1,7 @@
 -- The first variant with a row that holds.
 use Rattle.std.proofs.Common.{◌≡◌, ℕ, zero, suc, ◌+◌, ◌-◌, ◌<◌, ◌≤◌, ◌⊎◌, Bool, true, false, List, [], ◌∷◌, length, take, drop, get_or, Some, None, refl, sym, ap, ◌∙◌, arith, inl, inr}
 use Rattle.std.specs.List.{list_any}
-use Rattle.std.proofs.lemmas.List.{drop_more, drop-drop, length-drop}
+use Rattle.std.proofs.lemmas.List.{drop_more, drop-drop, length-drop, drop_all}
 use Rattle.mv_descriptors.specs.declared.rows.VariantRow.{VariantRow}
 use Rattle.mv_descriptors.specs.declared.rows.GuardRow.{GuardRow}
 use Rattle.mv_descriptors.specs.Guards.{fitting}
@@ -12,12 +12,6 @@ take_past zero (x ∷ xs) h = absurd (omega arith)
 take_past (suc n) [] h = refl
 take_past {R} (suc n) (x ∷ xs) h = ap (λ (t : List R). x ∷ t) (take_past n xs (omega arith))
 
-drop_past : {R : Type 0} (n : ℕ) (xs : List R) → length xs ≤ n → drop n xs ≡ []
-drop_past zero [] h = refl
-drop_past zero (x ∷ xs) h = absurd (omega arith)
-drop_past (suc n) [] h = refl
-drop_past (suc n) (x ∷ xs) h = drop_past n xs (omega arith)
-
 -- as many rows as a variant has, or all that are left
 own_rows : {R : Type 0} (rows : List R) (at end n : ℕ) → at ≤ length rows → ((end ≡ at + n) × (at + n ≤ length rows)) ⊎ ((end ≡ length rows) × (length rows ≤ at + n)) → take (end - at) (drop at rows) ≡ take n (drop at rows)
 own_rows {R} rows at end n le (inl few) = let e : end - at ≡ n = omega (arith, few.0) in ap (λ (k : ℕ). take k (drop at rows)) e
@@ -26,7 +20,7 @@ own_rows rows at end n le (inr all) =
 
 other_rows : {R : Type 0} (rows : List R) (at end n : ℕ) → at ≤ length rows → ((end ≡ at + n) × (at + n ≤ length rows)) ⊎ ((end ≡ length rows) × (length rows ≤ at + n)) → drop end rows ≡ drop n (drop at rows)
 other_rows {R} rows at end n le (inl few) = let e : end ≡ at + n = few.0 in sym (drop-drop n at rows ∙ ap (λ (k : ℕ). drop k rows) (sym e))
-other_rows rows at end n le (inr all) = drop_past end rows (omega (arith, all.0)) ∙ sym (drop_past n (drop at rows) (omega (arith, all.1, length-drop at rows)))
+other_rows rows at end n le (inr all) = drop_all end rows (omega (arith, all.0)) ∙ sym (drop_all n (drop at rows) (omega (arith, all.1, length-drop at rows)))
 
 pub fits_here : (test : GuardRow → Bool) (n i at end : ℕ) (d : VariantRow) (variants : List VariantRow) (rows : List GuardRow) → i < length variants → at ≤ length rows
     → ((end ≡ at + (get_or variants i d).guards) × (at + (get_or variants i d).guards ≤ length rows)) ⊎ ((end ≡ length rows) × (length rows ≤ at + (get_or variants i d).guards))
@@ -51,4 +45,4 @@ fits_later test n i at end d variants rows lt le ends holds =
 
 pub fits_none : (test : GuardRow → Bool) (n i : ℕ) (variants : List VariantRow) (rows : List GuardRow) → length variants ≤ i → fitting test n (drop i variants) rows ≡ None
 unfolding fitting
-fits_none test n i variants rows past = ap (λ (vs : List VariantRow). fitting test n vs rows) (drop_past i variants past)
+fits_none test n i variants rows past = ap (λ (vs : List VariantRow). fitting test n vs rows) (drop_all i variants past)

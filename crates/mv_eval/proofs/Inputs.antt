@@ -2,7 +2,7 @@
 use Rattle.std.proofs.Common.{ℕ, ◌≡◌, ◌≤◌, ◌+◌, ◌-◌, List, [], ◌∷◌, ◌++◌, length, take, refl, sym, ap, ◌∙◌, subst, arith, Option, Some, None, Ok, Err}
 use Rattle.std.proofs.lemmas.List.{append-nil, append_assoc, take_all}
 use Rattle.std.proofs.Math.Seq.{take-append_seam, take-append-add}
-use Rattle.mv_io.specs.Outside.{Rose, Takes}
+use Rattle.mv_io.specs.Outside.{Takes}
 use Rattle.mv_io.specs.declared.outside.Failed.{Failed}
 use Rattle.mv_eval.specs.Grown.{Lost}
 use Rattle.mv_eval.specs.Evaluations.{most, IsInput, TookPart}
@@ -49,7 +49,3 @@ whole (Some old) mid now bytes (rest, is, here) few t =
     let u = subst (λ z. Takes {E = Failed} z now (Ok None)) here t in
     let all : old ≡ bytes = is ∙ ap (λ z. bytes ++ z) u.0 ∙ append-nil bytes in
     (sym (ap (take most) all ∙ take_all most bytes few), (rest, is, u.1))
-
--- a count that rose since a later moment rose since an earlier one
-pub rose_since : (before mid now : ℕ) → before ≤ mid → Rose mid now → Rose before now
-rose_since before mid now later rose = omega (arith, later, rose)

@@ -10,7 +10,10 @@ use Rattle.mv_ir.proofs.Rolls.{reads_temp_roll}
 use Rattle.mv_fold.specs.declared.uses.Use.{Use}
 use Rattle.mv_fold.specs.Needed.{layer_tree_uses, tree_uses, counts, used_in}
 use Rattle.mv_fold.proofs.NeededEquations.{tree_uses_roll}
-use Rattle.mv_fold.proofs.Reached.{or_left, or_right, or_cases, eqb_true, eqb_self}
+use Rattle.mv_fold.proofs.Reached.{eqb_self}
+use Rattle.std.proofs.lemmas.Bool.{or_right, or_left}
+use Rattle.mv_num.proofs.Booleans.{or_cases}
+use Rattle.std.proofs.lemmas.Map.Views.{exact_unsigned_eq}
 
 module _ (needed : ℕ → Bool) where
   -- a tree that reads needed ones alone
@@ -37,7 +40,7 @@ module _ (needed : ℕ → Bool) where
 
     among_layer : (x : Tree-F Tree) → TreeChildren IsAmong x → Closed (layer_tree_uses user (map-Tree Tree (List Use) (tree_uses user) x)) → (t : ℕ) → Reads t x → needed t ≡ true
     among_layer (tree.Number n) h a t r = let e : false ≡ true = r in absurd (cc)
-    among_layer (tree.Temp n) h a t r = subst (λ u. needed u ≡ true) (eqb_true n t r) (a.0 c)
+    among_layer (tree.Temp n) h a t r = subst (λ u. needed u ≡ true) (exact_unsigned_eq n t r) (a.0 c)
     among_layer (tree.Global n) h a t r = let e : false ≡ true = r in absurd (cc)
     among_layer (tree.Function n) h a t r = let e : false ≡ true = r in absurd (cc)
     among_layer (tree.Unary o x) h a t r = h a t r

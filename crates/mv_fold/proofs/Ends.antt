@@ -1,5 +1,5 @@
 -- What shortening the end of code gives, at each variant, and along the code's loop.
-use Rattle.std.proofs.Common.{arith, ◌≡◌, ℕ, zero, suc, ◌+◌, ◌<◌, ◌≤◌, Bool, true, false, cond, eqb, ltb, List, [], ◌∷◌, ◌++◌, length, take, drop, get_or, Option, Some, None, refl, sym, ◌∙◌, ap, subst}
+use Rattle.std.proofs.Common.{arith, ◌≡◌, ℕ, zero, suc, ◌+◌, ◌<◌, ◌≤◌, true, false, cond, eqb, ltb, List, [], ◌∷◌, ◌++◌, length, take, drop, get_or, Option, Some, None, refl, sym, ◌∙◌, ap}
 use Rattle.std.proofs.lemmas.Bool.{lt-ltb, le-ltb}
 use Rattle.std.proofs.lemmas.List.{take-append-drop, drop_all}
 use Rattle.std.proofs.Math.Seq.{drop-cons}
@@ -232,7 +232,7 @@ pub no_last : (code : List Stm) → length code ≡ 0 → without_leave code ≡
 no_last [] e = refl
 no_last (s ∷ ss) e = absurd (omega arith)
 
-add_one : (n : ℕ) → suc n ≡ n + 1
+pub add_one : (n : ℕ) → suc n ≡ n + 1
 add_one n = omega arith
 
 module _ (temps : ℕ) where

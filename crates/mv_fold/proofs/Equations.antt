@@ -19,6 +19,7 @@ use Rattle.mv_ir.specs.declared.stm.Stm.TheVariants.{rolls-Set, rolls-SetGlobal,
 use Rattle.mv_ir.specs.Trees.{flag, unary, binary, divide}
 use Rattle.mv_fold.specs.Simple.{constant, one_or, two_or, simple_tree, simple_callee, simple_stm, simple_code, jumps, ended, division, choice}
 use Rattle.mv_fold.proofs.SimpleKept.{not_zero, constant_roll, jumps_roll, simple_tree_roll, simple_stm_roll}
+use Rattle.mv_fold.proofs.Ends.{add_one}
 
 pub constant_number : (n : ℕ) → constant (tr.Number n) ≡ Some n
 constant_number n = ap constant (sym (rolls-Number n)) ∙ constant_roll (tree.Number n)
@@ -235,9 +236,6 @@ pub none_all : (code : List Stm) (n : ℕ) → length code ≤ n → NoneBefore 
 none_all code n le h =
     let e = subst NoneBefore (take_all n code le) h in
     ap ended (sym (append-nil code)) ∙ e [] ∙ append-nil code
-
-add_one : (i : ℕ) → suc i ≡ i + 1
-add_one i = omega arith
 
 pub jump_at : (code : List Stm) (i : ℕ) (d : Stm) → i < length code → NoneBefore (take i code) → jumps (get_or code i d) ≡ true → ended code ≡ take (i + 1) code
 jump_at code i d lt h e =

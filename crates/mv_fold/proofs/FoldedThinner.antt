@@ -1,5 +1,5 @@
 -- Folding keeps bodies whole, and makes no interval longer.
-use Rattle.std.proofs.Common.{◌≡◌, ℕ, zero, suc, Bool, true, false, cond, not, eqb, ◌&&◌, ◌||◌, List, [], ◌∷◌, ◌++◌, map, Option, Some, None, refl, sym, ◌∙◌, ap, subst, ◌⊎◌, inl, inr, append-nil}
+use Rattle.std.proofs.Common.{◌≡◌, ℕ, zero, suc, Bool, true, false, cond, not, eqb, ◌&&◌, List, [], ◌∷◌, ◌++◌, map, Option, Some, None, refl, sym, ◌∙◌, ap, subst, ◌⊎◌, inl, inr, append-nil}
 use Rattle.mv_num.specs.Words as word
 use Rattle.mv_ir.specs.declared.tree.Tree.{Tree}
 use Rattle.mv_ir.specs.declared.tree.Tree.TheOpen.{Tree-F}
@@ -23,11 +23,13 @@ use Rattle.mv_ir.proofs.Joining.{any_reads_append}
 use Rattle.mv_fold.specs.declared.uses.Use.{Use}
 use Rattle.mv_fold.specs.Simple.{constant, number, one_or, two_or, simple_node, simple_tree, layer_jumps, jumps, ended, simple_callee, alone, division, choice, simple_layer, simple_stm, simple_code}
 use Rattle.mv_fold.specs.Needed.{tree_uses, trees_uses, layer_uses, stm_uses, code_uses, IsNeeded, needed_layer, needed_stm, needed_code}
-use Rattle.mv_fold.proofs.Reached.{or_left, or_right, or_cases, eqb_true}
 use Rattle.mv_fold.proofs.SimpleKept.{jumps_roll, simple_tree_roll, simple_stm_roll}
 use Rattle.mv_fold.proofs.NeededEquations.{stm_uses_roll, needed_stm_roll}
 use Rattle.mv_fold.proofs.Closing.{Closed, left, right, among, for_body, closed}
-use Rattle.mv_fold.proofs.Thinner.{Covers, covers_append, never, Implies, Thins, code_flow, IsThinner, layer_of, flow_one, flow_append, thinner_one, thinner_many, thinner_trans, thinner_append, thinner_none, ReadsLess, plain_thins, on_next, on_leaves, on_restarts, on_nothing, if_thins, loop_thins, block_thins, KeepsIntervals, thinner_body}
+use Rattle.mv_fold.proofs.Thinner.{Covers, covers_append, Implies, Thins, code_flow, IsThinner, layer_of, flow_one, flow_append, thinner_one, thinner_many, thinner_trans, thinner_append, thinner_none, ReadsLess, plain_thins, on_next, on_leaves, on_restarts, on_nothing, if_thins, loop_thins, block_thins, KeepsIntervals, thinner_body, or_both}
+use Rattle.std.proofs.lemmas.Bool.{or_right, or_left}
+use Rattle.mv_num.proofs.Booleans.{or_cases, from_falsity}
+use Rattle.std.proofs.lemmas.Map.Views.{exact_unsigned_eq}
 
 -- ---- statements that are left out
 
@@ -144,7 +146,7 @@ jump_thinner : (s : Stm) (xs : List Stm) → jumps s ≡ true → Thinner (s ∷
 jump_thinner s xs = subst (λ u. jumps u ≡ true → Thinner (u ∷ xs) (u ∷ [])) (roll-out-Stm s) (by (out-Stm s))
   where
     no : (x : Stm-F Stm) → layer_jumps x ≡ false → jumps (roll-Stm x) ≡ true → Thinner (roll-Stm x ∷ xs) (roll-Stm x ∷ [])
-    no x f e = never (sym f ∙ sym (jumps_roll x) ∙ e)
+    no x f e = from_falsity (sym f ∙ sym (jumps_roll x) ∙ e)
 
     by : (x : Stm-F Stm) → jumps (roll-Stm x) ≡ true → Thinner (roll-Stm x ∷ xs) (roll-Stm x ∷ [])
     by (stm.Set t v) = no (stm.Set t v) refl
@@ -177,7 +179,7 @@ abbrev NoMoreRead : Tree → Tree → Type 0
 NoMoreRead x y = (t : ℕ) → Implies every t (reads_temp t x) (reads_temp t y)
 
 number_reads : (n : ℕ) (x : Tree) → NoMoreRead x (number n)
-number_reads n x t e = never (sym (reads_temp_roll t (tree.Number n)) ∙ e)
+number_reads n x t e = from_falsity (sym (reads_temp_roll t (tree.Number n)) ∙ e)
 
 abbrev IsTree : Tree → Type 0
 IsTree x = NoMoreRead x (simple_tree x)
@@ -188,13 +190,6 @@ LayerReads x y = (t : ℕ) → layer_reads_temp t (map-Tree Tree Bool (reads_tem
 node_reads : (x y : Tree-F Tree) → LayerReads x y → NoMoreRead (roll-Tree x) (roll-Tree y)
 node_reads x y h t e = (reads_temp_roll t x ∙ h t (sym (reads_temp_roll t y) ∙ e), refl)
 
-either : (a b c d : Bool) → (c ≡ true → a ≡ true) → (d ≡ true → b ≡ true) → (c || d) ≡ true → (a || b) ≡ true
-either a b c d h k e = by (or_cases c d e)
-  where
-    by : (c ≡ true) ⊎ (d ≡ true) → (a || b) ≡ true
-    by (inl x) = or_left a b (h x)
-    by (inr y) = or_right a b (k y)
-
 unary_reads : (o : ℕ) (a : Tree) (c : Option ℕ) → IsTree a → NoMoreRead (roll-Tree (tree.Unary o a)) (one_or c (unary o) (roll-Tree (tree.Unary o (simple_tree a))))
 unary_reads o a None h = node_reads (tree.Unary o a) (tree.Unary o (simple_tree a)) (λ t e. (h t e).0)
 unary_reads o a (Some n) h = number_reads (unary o n) (roll-Tree (tree.Unary o a))
@@ -204,7 +199,7 @@ narrow_reads k a None h = node_reads (tree.Narrow k a) (tree.Narrow k (simple_tr
 narrow_reads k a (Some n) h = number_reads (word.narrow k n) (roll-Tree (tree.Narrow k a))
 
 binary_same : (o : ℕ) (a b : Tree) → IsTree a → IsTree b → NoMoreRead (roll-Tree (tree.Binary o a b)) (roll-Tree (tree.Binary o (simple_tree a) (simple_tree b)))
-binary_same o a b h k = node_reads (tree.Binary o a b) (tree.Binary o (simple_tree a) (simple_tree b)) (λ t e. either (reads_temp t a) (reads_temp t b) (reads_temp t (simple_tree a)) (reads_temp t (simple_tree b)) (λ v. (h t v).0) (λ v. (k t v).0) e)
+binary_same o a b h k = node_reads (tree.Binary o a b) (tree.Binary o (simple_tree a) (simple_tree b)) (λ t e. or_both (reads_temp t a) (reads_temp t b) (reads_temp t (simple_tree a)) (reads_temp t (simple_tree b)) (λ v. (h t v).0) (λ v. (k t v).0) e)
 
 binary_reads : (o : ℕ) (a b : Tree) (c d : Option ℕ) → IsTree a → IsTree b → NoMoreRead (roll-Tree (tree.Binary o a b)) (two_or c d (binary o) (roll-Tree (tree.Binary o (simple_tree a) (simple_tree b))))
 binary_reads o a b (Some n) (Some m) h k = number_reads (binary o n m) (roll-Tree (tree.Binary o a b))
@@ -232,7 +227,7 @@ Less = ReadsLess every
 
 many_less : (ts : List Tree) → Less ts (map simple_tree ts)
 many_less [] t e = (e, refl)
-many_less (x ∷ ts) t e = (either (reads_temp t x) (any_reads t ts) (reads_temp t (simple_tree x)) (any_reads t (map simple_tree ts)) (λ v. (tree_reads_less x t v).0) (λ v. (many_less ts t v).0) e, refl)
+many_less (x ∷ ts) t e = (or_both (reads_temp t x) (any_reads t ts) (reads_temp t (simple_tree x)) (any_reads t (map simple_tree ts)) (λ v. (tree_reads_less x t v).0) (λ v. (many_less ts t v).0) e, refl)
 
 one_less : (x : Tree) → Less (x ∷ []) (simple_tree x ∷ [])
 one_less x = many_less (x ∷ [])
@@ -247,7 +242,7 @@ callee_less (callee.Through x) t e = one_less x t e
 call_less : (f : Callee) (ts : List Tree) → Less (callee_trees f ++ ts) (callee_trees (simple_callee f) ++ map simple_tree ts)
 call_less f ts t e = (
   any_reads_append t (callee_trees f) ts ∙
-      either (any_reads t (callee_trees f)) (any_reads t ts) (any_reads t (callee_trees (simple_callee f))) (any_reads t (map simple_tree ts)) (λ v. (callee_less f t v).0) (λ v. (many_less ts t v).0)
+      or_both (any_reads t (callee_trees f)) (any_reads t ts) (any_reads t (callee_trees (simple_callee f))) (any_reads t (map simple_tree ts)) (λ v. (callee_less f t v).0) (λ v. (many_less ts t v).0)
       (sym (any_reads_append t (callee_trees (simple_callee f)) (map simple_tree ts)) ∙ e),
   refl,
 )
@@ -256,8 +251,8 @@ number_less : (n : ℕ) (ts : List Tree) → Less ts (number n ∷ [])
 number_less n ts t e = by (or_cases (reads_temp t (number n)) false e)
   where
     by : (reads_temp t (number n) ≡ true) ⊎ (false ≡ true) → (any_reads t ts ≡ true) × (every t ≡ true)
-    by (inl v) = never (sym (reads_temp_roll t (tree.Number n)) ∙ v)
-    by (inr v) = never v
+    by (inl v) = from_falsity (sym (reads_temp_roll t (tree.Number n)) ∙ v)
+    by (inr v) = from_falsity v
 
 -- ---- statements
 
@@ -345,10 +340,10 @@ module _ (needed : ℕ → Bool) where
     where
       by : (reads_temp t x ≡ true) ⊎ (false ≡ true) → (any_reads t (x ∷ []) ≡ true) × (needed t ≡ true)
       by (inl v) = (e, h t v)
-      by (inr v) = never v
+      by (inr v) = from_falsity v
 
   reads_many : (ts : List Tree) → Closed needed (trees_uses ts) → ReadsLess needed ts ts
-  reads_many [] c t e = never e
+  reads_many [] c t e = from_falsity e
   reads_many (x ∷ ts) c t e = by (λ v. reads_many ts (right needed (tree_uses None x) (trees_uses ts) c) t v) (or_cases (reads_temp t x) (any_reads t ts) e)
     where
       by : (any_reads t ts ≡ true → (any_reads t ts ≡ true) × (needed t ≡ true)) → (reads_temp t x ≡ true) ⊎ (any_reads t ts ≡ true) → (any_reads t (x ∷ ts) ≡ true) × (needed t ≡ true)
@@ -383,7 +378,7 @@ module _ (needed : ℕ → Bool) where
   })
     where
       still : (t : ℕ) (c : Bool) → eqb u t ≡ c → needed t ≡ true → (b : Bool) → (not (eqb u t) && b) ≡ b
-      still t true e' n b = never (sym e ∙ ap needed (eqb_true u t e') ∙ n)
+      still t true e' n b = from_falsity (sym e ∙ ap needed (exact_unsigned_eq u t e') ∙ n)
       still t false e' n b = ap (λ c. not c && b) e'
 
   set_left : (u : ℕ) (v : Tree) (c : Bool) → needed u ≡ c → Closed needed (tree_uses (Some u) v) → IsThinner needed (roll-Stm (stm.Set u v) ∷ []) (cond c (alone (stm.Set u v)) [])
@@ -400,14 +395,14 @@ module _ (needed : ℕ → Bool) where
   left_layer (stm.Check r i) h a = kept (stm.Check r i) (next (i ∷ []) None (one i a))
   left_layer (stm.Read u r i) h a = kept (stm.Read u r i) (next (i ∷ []) (Some u) (one i a))
   left_layer (stm.Write r i v) h a = kept (stm.Write r i v) (next (i ∷ v ∷ []) None (reads_two i v a))
-  left_layer (stm.Zero l) h a = kept (stm.Zero l) (next [] None (λ t e. never e))
+  left_layer (stm.Zero l) h a = kept (stm.Zero l) (next [] None (λ t e. from_falsity e))
   left_layer (stm.If x y z) h a =
       let inner = right needed (tree_uses None x) (code_uses y ++ code_uses z) a in
       if_thins needed x x y (needed_code needed y) z (needed_code needed z) (λ t e. (e, for_body needed x (left needed (tree_uses None x) (code_uses y ++ code_uses z) a) t e)) (kids_left y h.0 (left needed (code_uses y) (code_uses z) inner)) (kids_left z h.1 (right needed (code_uses y) (code_uses z) inner))
   left_layer (stm.Loop b) h a = loop_thins needed b (needed_code needed b) (kids_left b h a)
   left_layer (stm.Block b) h a = block_thins needed b (needed_code needed b) (kids_left b h a)
-  left_layer (stm.Break n) h a = kept (stm.Break n) (plain_thins needed [] [] None (λ r. r.leaves n) (λ t e. never e) (on_leaves needed n))
-  left_layer (stm.Back n) h a = kept (stm.Back n) (plain_thins needed [] [] None (λ r. r.restarts n) (λ t e. never e) (on_restarts needed n))
+  left_layer (stm.Break n) h a = kept (stm.Break n) (plain_thins needed [] [] None (λ r. r.leaves n) (λ t e. from_falsity e) (on_leaves needed n))
+  left_layer (stm.Back n) h a = kept (stm.Back n) (plain_thins needed [] [] None (λ r. r.restarts n) (λ t e. from_falsity e) (on_restarts needed n))
   left_layer (stm.Call r f args) h a = kept (stm.Call r f args) (next (callee_trees f ++ args) r (reads_call f args a))
   left_layer (stm.Known r k args) h a = kept (stm.Known r k args) (next args r (reads_many args a))
   left_layer (stm.Return v) h a = kept (stm.Return v) (plain_thins needed (v ∷ []) (v ∷ []) None (λ r. false) (one v a) (on_nothing needed))

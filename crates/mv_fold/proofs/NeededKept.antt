@@ -3,7 +3,7 @@ use Rattle.std.proofs.Common.{arith, ◌≡◌, ℕ, zero, suc, ◌<◌, ◌≤�
 use Rattle.std.specs.Prelude.{slice_index, slice_set}
 use Rattle.std.proofs.lemmas.List.{length-set, get_or-set_other, set_past}
 use Rattle.std.proofs.lemmas.Grind.{get_or-set_at}
-use Rattle.std.proofs.lemmas.Bool.{cases_lt, cases_eq}
+use Rattle.std.proofs.lemmas.Bool.{cases_lt, cases_eq, or_right, or_left}
 use Rattle.mv_num.specs.Words as word
 use Rattle.mv_ir.specs.declared.tree.Tree.{Tree}
 use Rattle.mv_ir.specs.declared.tree.Tree.TheOpen.{Tree-F}
@@ -34,7 +34,7 @@ use Rattle.mv_fold.specs.Simple.{alone}
 use Rattle.mv_fold.specs.declared.uses.Use.{Use}
 use Rattle.mv_fold.specs.Needed.{tree_uses, trees_uses, layer_uses, stm_uses, code_uses, IsNeeded, needed_layer, needed_stm, needed_code}
 use Rattle.mv_fold.proofs.NeededEquations.{stm_uses_roll, needed_stm_roll}
-use Rattle.mv_fold.proofs.Reached.{or_left, or_right, eqb_self}
+use Rattle.mv_fold.proofs.Reached.{eqb_self}
 use Rattle.mv_fold.proofs.Closing.{Among, Closed, left, right, among, for_body, closed}
 
 -- ---- values

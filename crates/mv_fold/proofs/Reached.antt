@@ -1,6 +1,6 @@
 -- The search for the needed temporaries finds exactly these.
-use Rattle.std.proofs.Common.{arith, max, is_lt, nat_cmp, Less, Equal, Greater, nat_lt, ◌==◌, ◌≡◌, ℕ, zero, suc, ◌+◌, ◌<◌, ◌≤◌, Bool, true, false, cond, eqb, ◌&&◌, ◌||◌, List, [], ◌∷◌, ◌++◌, length, map, take, set, get_or, Option, Some, None, refl, sym, ◌∙◌, ap, subst, ◌⊎◌, inl, inr, All, Contains, filter, sum_by, replicate, append_assoc}
-use Rattle.std.proofs.lemmas.Bool.{cases_eq, cases_lt}
+use Rattle.std.proofs.Common.{arith, max, is_lt, nat_cmp, Less, Equal, Greater, nat_lt, ◌==◌, ◌≡◌, ℕ, zero, suc, ◌+◌, ◌<◌, ◌≤◌, Bool, true, false, cond, eqb, ◌&&◌, List, [], ◌∷◌, ◌++◌, length, map, take, set, get_or, Option, Some, None, refl, sym, ◌∙◌, ap, subst, ◌⊎◌, inl, inr, All, Contains, filter, sum_by, replicate, append_assoc}
+use Rattle.std.proofs.lemmas.Bool.{cases_eq, cases_lt, or_right, or_left}
 use Rattle.std.proofs.lemmas.List.{get_or_past, take_more, take_all, length_push, length-set, get_or-set_same, get_or-set_other, length-replicate, get_or-replicate, length-append, take-append-le}
 use Rattle.std.proofs.lemmas.List.Elements.{All-more, All-map, All-weaker, All-filter, Contains-push_cases, Contains-append_left, Contains-push, Contains-get_or}
 use Rattle.std.proofs.lemmas.List.Sums.{sum_by-le, sum_by-set}
@@ -8,24 +8,10 @@ use Rattle.std.specs.Ordering.{ord_max}
 use Rattle.mv_fold.specs.declared.uses.Use.{Use}
 use Rattle.mv_fold.specs.Needed.{flag, counts, used_in, IsNeeded}
 use Rattle.mv_fold.specs.Reaching.{row, Fits, read_by, one_if, IsReached, IsVisited}
+use Rattle.mv_num.proofs.Booleans.{or_cases, and_cases, same_bools}
+use Rattle.std.proofs.lemmas.Map.Views.{exact_unsigned_eq}
 
 -- ---- what is used, by what is read for each row
-
-pub or_left : (a b : Bool) → a ≡ true → (a || b) ≡ true
-or_left true b h = refl
-or_left false b h = let e : false ≡ true = h in absurd (cc)
-
-pub or_right : (a b : Bool) → b ≡ true → (a || b) ≡ true
-or_right true b h = refl
-or_right false b h = h
-
-pub or_cases : (a b : Bool) → (a || b) ≡ true → (a ≡ true) ⊎ (b ≡ true)
-or_cases true b h = inl refl
-or_cases false b h = inr h
-
-pub and_cases : (a b : Bool) → (a && b) ≡ true → (a ≡ true) × (b ≡ true)
-and_cases true b h = (refl, h)
-and_cases false b h = let e : false ≡ true = h in absurd (cc)
 
 -- the search after the rows of the body and of the first so many reached temporaries
 pub record IsSearched (count : ℕ) (uses : List Use) (flags : List Bool) (order : List ℕ) (next : ℕ) : Type 0 where
@@ -36,19 +22,11 @@ pub record IsSearched (count : ℕ) (uses : List Use) (flags : List Bool) (order
   pub closed : (u t : ℕ) → Contains (take next order) u → Contains (read_by (u + 1) uses) t → flag flags t ≡ true
   pub justified : (t : ℕ) → flag flags t ≡ true → used_in (flag flags) uses t ≡ true
 
-pub eqb_true : (a b : ℕ) → eqb a b ≡ true → a ≡ b
-eqb_true a b h = grind arith
-
 pub eqb_self : (n : ℕ) → eqb n n ≡ true
 eqb_self n = grind arith
 
 eqb_same : (a b : ℕ) → a ≡ b → eqb a b ≡ true
 eqb_same a b h = ap (λ n. eqb n b) h ∙ eqb_self b
-
-same_bools : (a b : Bool) → (a ≡ true → b ≡ true) → (b ≡ true → a ≡ true) → a ≡ b
-same_bools true b h k = sym (h refl)
-same_bools false true h k = k refl
-same_bools false false h k = refl
 
 none_contained : (t : ℕ) → Contains [] t → ⊥
 none_contained t h = let lt : h.0 < 0 = h.1 in omega arith
@@ -86,7 +64,7 @@ used_from_read f k (x ∷ xs) t every h = by (used_from_read f k xs t every) (eq
     first e c = or_left _ _ (ap (λ b. b && eqb x.used t) c ∙ eqb_same x.used t e)
 
     at : (Contains (read_by k xs) t → used_in f xs t ≡ true) → eqb (row x.user) k ≡ true → (x.used ≡ t) ⊎ Contains (read_by k xs) t → used_in f (x ∷ xs) t ≡ true
-    at more e (inl same) = first same (every x.user (eqb_true (row x.user) k e))
+    at more e (inl same) = first same (every x.user (exact_unsigned_eq (row x.user) k e))
     at more e (inr there) = or_right _ _ (more there)
 
     by : (Contains (read_by k xs) t → used_in f xs t ≡ true) → (c : Bool) → eqb (row x.user) k ≡ c → Contains (map used_of (cond c (x ∷ filter (λ y. eqb (row y.user) k) xs) (filter (λ y. eqb (row y.user) k) xs))) t → used_in f (x ∷ xs) t ≡ true
@@ -110,7 +88,7 @@ read_from_used f (x ∷ xs) t h = by (read_from_used f xs t) (or_cases _ _ h)
     at (Some u) e c same = inr (u, c, subst (Contains (read_by (u + 1) (x ∷ xs))) same (read_head (u + 1) x xs _ (ap (λ r. eqb (row r) (u + 1)) e) (eqb_self (u + 1))))
 
     by : (used_in f xs t ≡ true → Read f xs t) → ((counts f x.user && eqb x.used t) ≡ true) ⊎ (used_in f xs t ≡ true) → Read f (x ∷ xs) t
-    by behind (inl both) = let parts = and_cases (counts f x.user) (eqb x.used t) both in at x.user refl parts.0 (eqb_true x.used t parts.1)
+    by behind (inl both) = let parts = and_cases (counts f x.user) (eqb x.used t) both in at x.user refl parts.0 (exact_unsigned_eq x.used t parts.1)
     by behind (inr rest) = more (behind rest)
 
 counts_grows : (f g : ℕ → Bool) → ((t : ℕ) → f t ≡ true → g t ≡ true) → (user : Option ℕ) → counts f user ≡ true → counts g user ≡ true

@@ -21,10 +21,7 @@ use Rattle.mv_fold.specs.Simple.{alone}
 use Rattle.mv_fold.specs.Needed.{layer_tree_uses, tree_uses, trees_uses, layer_uses, stm_uses, code_uses, counts, used_in, IsNeeded, needed_layer, needed_stm, needed_code}
 use Rattle.mv_fold.specs.Form.{layer_unread, unread}
 use Rattle.mv_fold.proofs.NeededEquations.{tree_uses_roll, stm_uses_roll, needed_stm_roll}
-
-or_none : (a : Bool) → (a || false) ≡ a
-or_none true = refl
-or_none false = refl
+use Rattle.mv_num.proofs.Booleans.{or_false}
 
 module _ (needed : ℕ → Bool) (t : ℕ) where
   used_append : (xs ys : List Use) → used_in needed (xs ++ ys) t ≡ (used_in needed xs t || used_in needed ys t)
@@ -47,7 +44,7 @@ module _ (needed : ℕ → Bool) (t : ℕ) where
 
     read_layer : (x : Tree-F Tree) → TreeChildren IsRead x → used_in needed (layer_tree_uses user (map-Tree Tree (List Use) (tree_uses user) x)) t ≡ (counts needed user && layer_reads_temp t (map-Tree Tree Bool (reads_temp t) x))
     read_layer (tree.Number n) h = nothing (counts needed user)
-    read_layer (tree.Temp n) h = or_none (counts needed user && eqb n t)
+    read_layer (tree.Temp n) h = or_false (counts needed user && eqb n t)
     read_layer (tree.Global n) h = nothing (counts needed user)
     read_layer (tree.Function n) h = nothing (counts needed user)
     read_layer (tree.Unary o x) h = h
@@ -59,7 +56,7 @@ module _ (needed : ℕ → Bool) (t : ℕ) where
     tree_read = tree_ind IsRead (λ x h. ap (λ l. used_in needed l t) (tree_uses_roll user x) ∙ read_layer x h ∙ ap (λ b. counts needed user && b) (sym (reads_temp_roll t x)))
 
   one_read : (x : Tree) → used_in needed (tree_uses None x) t ≡ any_reads t (x ∷ [])
-  one_read x = tree_read None x ∙ sym (or_none (reads_temp t x))
+  one_read x = tree_read None x ∙ sym (or_false (reads_temp t x))
 
   two_read : (x y : Tree) → used_in needed (tree_uses None x ++ tree_uses None y) t ≡ any_reads t (x ∷ y ∷ [])
   two_read x y = used_append (tree_uses None x) (tree_uses None y) ∙ ap (λ b. b || used_in needed (tree_uses None y) t) (tree_read None x) ∙ ap (λ b. reads_temp t x || b) (one_read y)
@@ -86,7 +83,7 @@ module _ (needed : ℕ → Bool) (t : ℕ) where
   alone_reads x = ap (any_reads t) (sym (trees_roll x)) ∙ ap (any_reads t) (sym (append-nil (stm_trees (roll-Stm x))))
 
   set_left : (u : ℕ) (v : Tree) (c : Bool) → needed u ≡ c → used_in needed (tree_uses (Some u) v) t ≡ read_in (cond c (alone (stm.Set u v)) [])
-  set_left u v true e = tree_read (Some u) v ∙ ap (λ c. c && reads_temp t v) e ∙ sym (or_none (reads_temp t v)) ∙ alone_reads (stm.Set u v)
+  set_left u v true e = tree_read (Some u) v ∙ ap (λ c. c && reads_temp t v) e ∙ sym (or_false (reads_temp t v)) ∙ alone_reads (stm.Set u v)
   set_left u v false e = tree_read (Some u) v ∙ ap (λ c. c && reads_temp t v) e
 
   left_layer : (x : Stm-F Stm) → StmChildren IsLeft x → used_in needed (layer_uses (map-Stm Stm (List Use) stm_uses x)) t ≡ read_in (needed_layer needed (map-Stm Stm (List Stm) (needed_stm needed) x))
@@ -119,7 +116,7 @@ module _ (needed : ℕ → Bool) (t : ℕ) where
 
 -- ---- sets of what is needed alone
 
-unread_roll : (all : List Tree) (x : Stm-F Stm) → unread all (roll-Stm x) ≡ layer_unread all (map-Stm Stm ℕ (unread all) x)
+pub unread_roll : (all : List Tree) (x : Stm-F Stm) → unread all (roll-Stm x) ≡ layer_unread all (map-Stm Stm ℕ (unread all) x)
 unfolding unread
 unread_roll all x = fold-roll-Stm ℕ (layer_unread all) x
 

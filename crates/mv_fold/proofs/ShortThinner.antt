@@ -1,5 +1,5 @@
 -- Shortening the end of a body's code keeps the body whole, and makes no interval longer.
-use Rattle.std.proofs.Common.{◌≡◌, ℕ, ◌<◌, Bool, true, false, ◌||◌, List, [], ◌∷◌, ◌++◌, map, Option, Some, None, refl, sym, subst, append-nil}
+use Rattle.std.proofs.Common.{◌≡◌, ℕ, ◌<◌, Bool, true, false, ◌||◌, List, [], ◌∷◌, ◌++◌, map, refl, sym, subst, append-nil}
 use Rattle.mv_ir.specs.declared.tree.Tree.{Tree}
 use Rattle.mv_ir.specs.declared.stm.Stm.{Stm}
 use Rattle.mv_ir.specs.declared.stm.Stm.TheOpen.{Stm-F}
@@ -9,9 +9,10 @@ use Rattle.mv_ir.specs.declared.body.Body.{Body}
 use Rattle.mv_ir.specs.Live.{any_reads, Around, Flow, with_after, live_in_order, marks_in_order, flow, nowhere}
 use Rattle.mv_ir.proofs.Rolls.{flow_roll}
 use Rattle.mv_fold.specs.Shortened.{shortened}
-use Rattle.mv_fold.proofs.Shortening.{temp, set, store, return, Shortens, shortened_is}
-use Rattle.mv_fold.proofs.Thinner.{Covers, covers_trans, composed, covers_append, never, FitsAround, code_flow, layer_of, flow_one, nowhere_fits, KeepsIntervals, body_intervals}
+use Rattle.mv_fold.proofs.Shortening.{temp, set, store, return, shortened_is}
+use Rattle.mv_fold.proofs.Thinner.{Covers, covers_trans, composed, covers_append, FitsAround, code_flow, layer_of, flow_one, nowhere_fits, KeepsIntervals, body_intervals}
 use Rattle.mv_fold.proofs.FoldedThinner.{every, same, code_same}
+use Rattle.mv_num.proofs.Booleans.{from_falsity}
 
 abbrev flows : List Stm → ℕ → Flow
 flows = code_flow every
@@ -33,7 +34,7 @@ unfolding Thin
 both xs ys zs (m, h) (n, k) = (composed m n, record { live = λ t e. h.live t (k.live t e); marks = λ t. covers_trans m n _ _ _ (h.marks t) (k.marks t) })
 
 fits_behind : (t : ℕ) (b b' : Bool) → (b' ≡ true → b ≡ true) → FitsAround every t (with_after nowhere b) (with_after nowhere b')
-fits_behind t b b' h = record { next = λ e. (h e, refl); leaves = λ n e. never e; restarts = λ n e. never e }
+fits_behind t b b' h = record { next = λ e. (h e, refl); leaves = λ n e. from_falsity e; restarts = λ n e. from_falsity e }
 
 bare : (mask xs ys : List Bool) → Covers mask (xs ++ []) (ys ++ []) → Covers mask xs ys
 bare mask xs ys h = subst (λ l. Covers mask l ys) (append-nil xs) (subst (Covers mask (xs ++ [])) (append-nil ys) h)
@@ -60,7 +61,7 @@ behind s xs ys (n, k) =
 
 leave : (n : ℕ) → Thin (roll-Stm (stm.Break n) ∷ []) []
 unfolding Thin
-leave n = (false ∷ [], record { live = λ t e. never e; marks = λ t. subst (λ (f : ℕ → Flow). Covers (false ∷ []) ((f t).marks nowhere) []) (sym (flow_one every (stm.Break n))) tt })
+leave n = (false ∷ [], record { live = λ t e. from_falsity e; marks = λ t. subst (λ (f : ℕ → Flow). Covers (false ∷ []) ((f t).marks nowhere) []) (sym (flow_one every (stm.Break n))) tt })
 
 -- ---- two statements as one
 
@@ -85,11 +86,11 @@ pair_thin x y z h = (
 
 read_first : (a b : Bool) → (a || false) ≡ true → (a || b) ≡ true
 read_first true b e = refl
-read_first false b e = never e
+read_first false b e = from_falsity e
 
 marked_first : (a b c : Bool) → ((a || false) || false) ≡ true → ((a || b) || c) ≡ true
 marked_first true b c e = refl
-marked_first false b c e = never e
+marked_first false b c e = from_falsity e
 
 stored : (t g : ℕ) (v : Tree) → Thin (set t v ∷ store g (temp t) ∷ []) (store g v ∷ [])
 stored t g v = pair_thin (stm.Set t v) (stm.SetGlobal g (temp t)) (stm.SetGlobal g v) (record {

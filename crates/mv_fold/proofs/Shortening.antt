@@ -1,5 +1,5 @@
 -- A relation holds of code and the code with its end shortened, where it holds of each step of that.
-use Rattle.std.proofs.Common.{◌≡◌, ℕ, ◌<◌, Bool, true, false, cond, eqb, ltb, List, [], ◌∷◌, Option, Some, None, refl, sym, ◌∙◌, ap, subst}
+use Rattle.std.proofs.Common.{◌≡◌, ℕ, ◌<◌, Bool, true, false, cond, ltb, List, [], ◌∷◌, None, refl, sym, ◌∙◌, ap, subst}
 use Rattle.std.proofs.lemmas.Bool.{ltb-true}
 use Rattle.mv_ir.specs.declared.tree.Tree.{Tree, out-Tree}
 use Rattle.mv_ir.specs.declared.tree.Tree.TheOpen.{Tree-F}
@@ -10,8 +10,8 @@ use Rattle.mv_ir.specs.declared.stm.Stm.TheOpen.{Stm-F}
 use Rattle.mv_ir.specs.declared.stm.Stm.TheOpen as stm
 use Rattle.mv_ir.specs.declared.stm.Stm.TheViews.{roll-Stm, roll-out-Stm}
 use Rattle.mv_fold.specs.Shortened.{layer_leaves, leaves, without_leave, layer_is_temp, is_temp, where_true, layer_taking, taking, layer_as_one, as_one, or_both, in_front, carried, shortened}
-use Rattle.mv_fold.proofs.Reached.{eqb_true}
 use Rattle.mv_fold.proofs.Ends.{leaves_roll, is_temp_roll, taking_roll, as_one_roll}
+use Rattle.std.proofs.lemmas.Map.Views.{exact_unsigned_eq}
 
 abbrev pub temp : ℕ → Tree
 temp t = roll-Tree (tree.Temp t)
@@ -66,7 +66,7 @@ module _ (temps : ℕ) (P : List Stm → List Stm → Type 0) (h : Shortens temp
   -- ---- a temporary
 
   temp_rolled : (t : ℕ) (x : Tree-F Tree) → layer_is_temp t x ≡ true → roll-Tree x ≡ temp t
-  temp_rolled t (tree.Temp u) e = ap temp (eqb_true u t e)
+  temp_rolled t (tree.Temp u) e = ap temp (exact_unsigned_eq u t e)
   temp_rolled t (tree.Number n) e = let k : false ≡ true = e in absurd (cc)
   temp_rolled t (tree.Global n) e = let k : false ≡ true = e in absurd (cc)
   temp_rolled t (tree.Function n) e = let k : false ≡ true = e in absurd (cc)

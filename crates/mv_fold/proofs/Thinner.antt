@@ -11,7 +11,8 @@ use Rattle.mv_ir.specs.Live.{reads_temp, any_reads, is, Around, Flow, with_after
 use Rattle.mv_ir.proofs.Rolls.{flow_roll}
 use Rattle.mv_ir.proofs.Keeping.{map_append}
 use Rattle.mv_ir.proofs.Joining.{greatest_most, greatest_within, live_append, marks_append}
-use Rattle.mv_fold.proofs.Reached.{or_left, or_right, or_cases, and_cases}
+use Rattle.std.proofs.lemmas.Bool.{or_right, or_left}
+use Rattle.mv_num.proofs.Booleans.{or_cases, and_cases, from_falsity}
 
 -- ---- marks: which positions stay, and that none of these is marked where it wasn't
 
@@ -64,11 +65,8 @@ place (true ∷ ms) zero = zero
 place (true ∷ ms) (suc i) = suc (place ms i)
 place (false ∷ ms) i = suc (place ms i)
 
-pub never : {A : Type 0} → false ≡ true → A
-never e = absurd (cc)
-
 pub covers_mark : (ms xs ys : List Bool) → Covers ms xs ys → (i : ℕ) → mark_at ys i ≡ true → mark_at xs (place ms i) ≡ true
-covers_mark [] [] [] h i e = never e
+covers_mark [] [] [] h i e = from_falsity e
 covers_mark [] [] (y ∷ ys) h i e = absurd h
 covers_mark [] (x ∷ xs) ys h i e = absurd h
 covers_mark (true ∷ ms) [] ys h i e = absurd h
@@ -92,7 +90,7 @@ covers_any (true ∷ ms) (x ∷ xs) (y ∷ ys) h e = by (covers_any ms xs ys h.1
 covers_any (false ∷ ms) [] ys h e = absurd h
 covers_any (false ∷ ms) (x ∷ xs) ys h e = or_right x (any xs) (covers_any ms xs ys h e)
 
-or_both : (a b c d : Bool) → (c ≡ true → a ≡ true) → (d ≡ true → b ≡ true) → (c || d) ≡ true → (a || b) ≡ true
+pub or_both : (a b c d : Bool) → (c ≡ true → a ≡ true) → (d ≡ true → b ≡ true) → (c || d) ≡ true → (a || b) ≡ true
 or_both a b c d h k e = by (or_cases c d e)
   where
     by : (c ≡ true) ⊎ (d ≡ true) → (a || b) ≡ true
@@ -103,7 +101,7 @@ and_both : (a b c d : Bool) → (c ≡ true → a ≡ true) → (d ≡ true → 
 and_both a b c d h k e = let parts = and_cases c d e in ap (λ x. x && b) (h parts.0) ∙ k parts.1
 
 covers_filled : (ms xs ys : List Bool) → Covers ms xs ys → (b b' : Bool) → (b' ≡ true → b ≡ true) → (i : ℕ) → mark_at (filled b' ys) i ≡ true → mark_at (filled b xs) (place ms i) ≡ true
-covers_filled [] [] [] h b b' g i e = never e
+covers_filled [] [] [] h b b' g i e = from_falsity e
 covers_filled [] [] (y ∷ ys) h b b' g i e = absurd h
 covers_filled [] (x ∷ xs) ys h b b' g i e = absurd h
 covers_filled (true ∷ ms) [] ys h b b' g i e = absurd h
@@ -130,7 +128,7 @@ covers_place (false ∷ ms) (x ∷ xs) ys h i lt = omega (arith, covers_place ms
 cond_most : (c c' : Bool) → (c' ≡ true → c ≡ true) → cond c' 1 0 ≤ cond c 1 0
 cond_most true true h = omega arith
 cond_most true false h = omega arith
-cond_most false true h = never (h refl)
+cond_most false true h = from_falsity (h refl)
 cond_most false false h = omega arith
 
 count_most : (i j : ℕ) (f f' : ℕ → List Bool) → ((t : ℕ) → mark_at (f' t) i ≡ true → mark_at (f t) j ≡ true) → (ts : List ℕ) → count_at i (map f' ts) ≤ count_at j (map f ts)
@@ -242,7 +240,7 @@ module _ (needed : ℕ → Bool) where
 
   and_implies : (t : ℕ) (c b b' : Bool) → Implies t b b' → Implies t (c && b) (c && b')
   and_implies t true b b' h e = h e
-  and_implies t false b b' h e = never e
+  and_implies t false b b' h e = from_falsity e
 
   pub plain_thins : (ts ts' : List Tree) (writes : Option ℕ) (on : Around → Bool) → ReadsLess ts ts' → GoesOn on → Thins (true ∷ []) (λ t. plain t ts writes on) (λ t. plain t ts' writes on)
   plain_thins ts ts' writes on h g = record {
@@ -266,7 +264,7 @@ module _ (needed : ℕ → Bool) where
   on_restarts n t r r' e = e.restarts n
 
   pub on_nothing : GoesOn (λ r. false)
-  on_nothing t r r' e v = never v
+  on_nothing t r r' e v = from_falsity v
 
   -- ---- statements with others in them
 
@@ -287,7 +285,7 @@ module _ (needed : ℕ → Bool) where
   fits_loop t r r' b b' h k = record { next = k; leaves = at_place_implies t _ _ _ _ h.next h.leaves; restarts = at_place_implies t _ _ _ _ k h.restarts }
 
   fits_block : (t : ℕ) (r r' : Around) → FitsAround t r r' → FitsAround t (around_block r) (around_block r')
-  fits_block t r r' h = record { next = h.next; leaves = at_place_implies t _ _ _ _ h.next h.leaves; restarts = at_place_implies t _ _ _ _ (λ v. never v) h.restarts }
+  fits_block t r r' h = record { next = h.next; leaves = at_place_implies t _ _ _ _ h.next h.leaves; restarts = at_place_implies t _ _ _ _ (λ v. from_falsity v) h.restarts }
 
   pub loop_thins : (b b' : List Stm) → IsThinner b b' → IsThinner (roll-Stm (stm.Loop b) ∷ []) (roll-Stm (stm.Loop b') ∷ [])
   loop_thins b b' (m, h) = thinner_one (stm.Loop b) (stm.Loop b') (true ∷ m) (record {
@@ -296,7 +294,7 @@ module _ (needed : ℕ → Bool) where
   })
     where
       start : (t : ℕ) (r r' : Around) → FitsAround t r r' → Implies t (live_at_loop (map (flow t) b) r) (live_at_loop (map (flow t) b') r')
-      start t r r' e = h.live t (around_loop r false) (around_loop r' false) (fits_loop t r r' false false e (λ v. never v))
+      start t r r' e = h.live t (around_loop r false) (around_loop r' false) (fits_loop t r r' false false e (λ v. from_falsity v))
 
   pub block_thins : (b b' : List Stm) → IsThinner b b' → IsThinner (roll-Stm (stm.Block b) ∷ []) (roll-Stm (stm.Block b') ∷ [])
   block_thins b b' (m, h) = thinner_one (stm.Block b) (stm.Block b') (true ∷ m) (record {
@@ -307,7 +305,7 @@ module _ (needed : ℕ → Bool) where
   -- ---- bodies
 
   pub nowhere_fits : (t : ℕ) → FitsAround t nowhere nowhere
-  nowhere_fits t = record { next = λ v. never v; leaves = λ n v. never v; restarts = λ n v. never v }
+  nowhere_fits t = record { next = λ v. from_falsity v; leaves = λ n v. from_falsity v; restarts = λ n v. from_falsity v }
 
   pub record KeepsIntervals (b b' : Body) : Type 0 where
     pub whole : IsWhole b → IsWhole b'

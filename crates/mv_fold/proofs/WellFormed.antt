@@ -19,11 +19,12 @@ use Rattle.mv_fold.specs.Simple.{constant, simple_tree, jumps, ended, simple_cal
 use Rattle.mv_fold.specs.Needed.{needed_layer, needed_stm, needed_code}
 use Rattle.mv_fold.specs.Shortened.{shortened}
 use Rattle.mv_fold.specs.Folded.{simple_body, IsNoGreater}
-use Rattle.mv_fold.proofs.Reached.{and_cases, cons_head, cons_tail}
+use Rattle.mv_fold.proofs.Reached.{cons_head, cons_tail}
 use Rattle.mv_fold.proofs.SimpleKept.{simple_stm_roll}
 use Rattle.mv_fold.proofs.NeededEquations.{needed_stm_roll}
-use Rattle.mv_fold.proofs.FormNeeded.{length_map}
 use Rattle.mv_fold.proofs.Shortening.{temp, shortened_is}
+use Rattle.mv_num.proofs.Booleans.{and_cases, and_true}
+use Rattle.mv_num.proofs.Lists.{length_map}
 
 -- ---- what is asked of code
 
@@ -78,10 +79,6 @@ facts code = record { targets = all_around (map stm_targets code); arguments = a
 and_assoc : (a b c : Bool) → ((a && b) && c) ≡ (a && (b && c))
 and_assoc true b c = refl
 and_assoc false b c = refl
-
-and_true : (a : Bool) → (a && true) ≡ a
-and_true true = refl
-and_true false = refl
 
 around_append : (fs gs : List (List Bool → Bool)) (r : List Bool) → all_around (fs ++ gs) r ≡ (all_around fs r && all_around gs r)
 around_append [] gs r = refl

@@ -5,7 +5,7 @@ use Rattle.mv_ast.specs.declared.program.Program.{Program}
 use Rattle.mv_check_limits.specs.Limits.{excess, reported, first_some, functions_limit, first_exceeded}
 use Rattle.mv_check_limits.specs.declared.excess.Exceeded.{Exceeded}
 
-first_none : (o : Option Exceeded) (os : List (Option Exceeded)) → first_some (o ∷ os) ≡ None → o ≡ None
+pub first_none : (o : Option Exceeded) (os : List (Option Exceeded)) → first_some (o ∷ os) ≡ None → o ≡ None
 first_none None os h = refl
 first_none (Some e) os h = h
 

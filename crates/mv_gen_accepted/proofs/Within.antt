@@ -1,9 +1,9 @@
 -- Generated texts are within the counts, and so they are refused for no cause.
-use Rattle.std.proofs.Common.{◌≡◌, ℕ, List, sym, subst, arith}
+use Rattle.std.proofs.Common.{◌≡◌, ℕ, List, subst, arith}
 use Rattle.mv_ast.specs.declared.program.Program.{Program}
 use Rattle.mv_front.specs.Verdicts.{IsProgram, IsRefused}
 use Rattle.mv_front.specs.declared.refusal.Refusal.{Refusal}
-use Rattle.mv_build.specs.Verdicts.{PassesLimit, HasNoImage, refused, over_limit}
+use Rattle.mv_build.specs.Verdicts.{HasNoImage, refused, over_limit}
 use Rattle.mv_count_limits.specs.Counted.{IsWithinCounts, CountedPassNone}
 use Rattle.mv_gen.specs.Generated.{generated}
 use Rattle.mv_gen_programs.proofs.Called.{frames_fit, sites_fit, text_fits}

@@ -1,5 +1,5 @@
 -- Entries and sites don't overlap.
-use Rattle.std.proofs.Common.{◌≡◌, ℕ, zero, suc, ◌+◌, ◌-◌, ◌<◌, ◌≤◌, ◌⊎◌, Bool, true, false, ◌||◌, eqb, ltb, leb, List, length, get_or, refl, subst, arith, inl, inr}
+use Rattle.std.proofs.Common.{◌≡◌, ℕ, zero, suc, ◌+◌, ◌-◌, ◌<◌, ◌≤◌, ◌⊎◌, Bool, true, false, ◌||◌, eqb, ltb, leb, List, length, get_or, subst, arith, inl, inr}
 use Rattle.std.proofs.lemmas.Bool.{cases_lt, leb-true, ltb-true, ne_eqb}
 use Rattle.mv_descriptors.specs.Guards.{each_below}
 use Rattle.mv_descriptors.proofs.Below.{each_of}
@@ -11,26 +11,22 @@ use Rattle.mv_image.specs.Spelling.{Fields}
 use Rattle.mv_image.specs.Faults.{Rules, image_words}
 use Rattle.mv_image.proofs.RowReads.{function_rule, site_rule}
 use Rattle.mv_image.proofs.RowsStand.{counts_of, function_is, site_is, image_fits}
-use Rattle.mv_image.proofs.PlaceLaws.{first_true, second_true}
+use Rattle.mv_num.proofs.Booleans.{and_right, and_left, or_cases}
 
 not_first : (k : ℕ) (b : Bool) → 0 < k → (eqb k 0 || b) ≡ true → b ≡ true
 not_first k b pos e = let t : eqb k 0 ≡ false = ne_eqb k 0 (λ h. omega (arith, h, pos)) in rw t at e
 
 entry_next : (ws : List ℕ) (k : ℕ) → 0 < k → function_fits ws k 1 ≡ true → entry_of ws (k - 1) < entry_of ws k
 unfolding function_fits
-entry_next ws k pos h = ltb-true _ _ (not_first k _ pos (second_true _ _ h))
+entry_next ws k pos h = ltb-true _ _ (not_first k _ pos (and_right _ _ h))
 
 site_next : (ws : List ℕ) (k : ℕ) → 0 < k → site_fits ws k 0 ≡ true → site_field ws (k - 1) 0 + 8 ≤ site_field ws k 0
 unfolding site_fits
-site_next ws k pos h = leb-true _ _ (not_first k _ pos (second_true _ _ (first_true _ _ h)))
+site_next ws k pos h = leb-true _ _ (not_first k _ pos (and_right _ _ (and_left _ _ h)))
 
 site_outside : (ws : List ℕ) (k : ℕ) → site_fits ws k 0 ≡ true → each_below (λ f. is_outside (site_field ws k 0) (entry_of ws f)) (function_rows ws) ≡ true
 unfolding site_fits
-site_outside ws k h = second_true _ _ h
-
-either : (a b : Bool) → (a || b) ≡ true → (a ≡ true) ⊎ (b ≡ true)
-either true b e = inl refl
-either false b e = inr e
+site_outside ws k h = and_right _ _ h
 
 -- numbers that grow by a step from each to the next
 steps : (f : ℕ → ℕ) (step n : ℕ) → ((k : ℕ) → 0 < k → k < n → f (k - 1) + step ≤ f k) → (j k : ℕ) → j < k → k < n → f j + step ≤ f k
@@ -66,7 +62,7 @@ entry_outside a r f k d e hf hk =
     let there = site_is a r k 0 e hk (omega arith) in
     let test : ℕ → Bool = λ i. is_outside (site_field ws k 0) (entry_of ws i) in
     let out : test f ≡ true = each_of test (function_rows ws) f (omega (arith, n.functions, hf)) (site_outside ws k (site_rule ws k 0 (image_fits a r) (omega (arith, n.sites, hk)) (omega arith))) in
-    elim (either (ltb (entry_of ws f) (site_field ws k 0)) (leb (site_field ws k 0 + 8) (entry_of ws f)) out) [
+    elim (or_cases (ltb (entry_of ws f) (site_field ws k 0)) (leb (site_field ws k 0 + 8) (entry_of ws f)) out) [
       | inl before ↦ inl (omega (arith, ltb-true (entry_of ws f) (site_field ws k 0) before, here, there))
       | inr behind ↦ inr (omega (arith, leb-true (site_field ws k 0 + 8) (entry_of ws f) behind, here, there))
     ]

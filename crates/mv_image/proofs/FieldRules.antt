@@ -1,6 +1,6 @@
 -- The rule of each field of a row, and of each word of the header, from what is plainly asked of it.
-use Rattle.std.proofs.Common.{◌≡◌, ℕ, zero, suc, ◌+◌, ◌-◌, ◌%◌, ◌<◌, ◌≤◌, ◌⊎◌, Bool, true, false, ltb, eqb, ◌||◌, ◌&&◌, List, length, slice_index, refl, sym, ap, subst, ◌∙◌, arith, inl, inr, eq-eqb}
-use Rattle.std.proofs.lemmas.Bool.{lt-ltb, le-ltb, le-leb, cases_lt, ne_eqb}
+use Rattle.std.proofs.Common.{◌≡◌, ℕ, zero, suc, ◌+◌, ◌-◌, ◌%◌, ◌<◌, ◌≤◌, ◌⊎◌, Bool, true, false, ltb, eqb, ◌||◌, List, length, slice_index, sym, ap, subst, ◌∙◌, arith, inl, inr, eq-eqb}
+use Rattle.std.proofs.lemmas.Bool.{lt-ltb, le-ltb, le-leb, cases_lt, ne_eqb, or_right, or_left, and_from}
 use Rattle.mv_num.specs.Kinds.{is_value, is_at_most}
 use Rattle.mv_descriptors.specs.Guards.{each_below}
 use Rattle.mv_image.specs.Places.{header_words, text_words, data_words, switch_rows, function_rows, variant_rows, guard_rows, site_rows, name_bytes, switch_field, function_field, variant_field, guard_field, site_field, entry_of, variants_of, guards_of, text_word, sum_below, guard_function, name_length, names}
@@ -12,31 +12,21 @@ use Rattle.mv_image.proofs.PlaceLaws.{sum_below-none}
 
 -- ---- tests
 
-pub both : (a b : Bool) → a ≡ true → b ≡ true → (a && b) ≡ true
-both a b ea eb = rw (ea, eb) refl
-
-pub left : (a b : Bool) → a ≡ true → (a || b) ≡ true
-left a b e = rw e refl
-
-pub right : (a b : Bool) → b ≡ true → (a || b) ≡ true
-right true b e = refl
-right false b e = e
-
 -- a test that is asked only behind the first
 behind_first : (k : ℕ) (b : Bool) → (0 < k → b ≡ true) → (eqb k 0 || b) ≡ true
 behind_first k b more =
     elim (cases_lt 0 k) [
-      | inl later ↦ right (eqb k 0) b (more later)
-      | inr first ↦ left (eqb k 0) b (eq-eqb k 0 (omega arith))
+      | inl later ↦ or_right (eqb k 0) b (more later)
+      | inr first ↦ or_left (eqb k 0) b (eq-eqb k 0 (omega arith))
     ]
 
 pub text_address : (a : Fields) (ws : List ℕ) (x : ℕ) → text_words ws ≡ length a.text → IsInText a x → is_text_address ws x ≡ true
 text_address a ws x n within =
-    both _ _ (both _ _ (eq-eqb _ _ within.aligned) (le-leb _ _ within.not_before)) (lt-ltb _ _ (omega (arith, n, within.within)))
+    and_from _ _ (and_from _ _ (eq-eqb _ _ within.aligned) (le-leb _ _ within.not_before)) (lt-ltb _ _ (omega (arith, n, within.within)))
 
 pub data_address : (a : Fields) (ws : List ℕ) (x : ℕ) → data_words ws ≡ length a.globals → IsInData a x → is_data_address ws x ≡ true
 data_address a ws x n within =
-    both _ _ (both _ _ (eq-eqb _ _ within.aligned) (le-leb _ _ within.not_before)) (lt-ltb _ _ (omega (arith, n, within.within)))
+    and_from _ _ (and_from _ _ (eq-eqb _ _ within.aligned) (le-leb _ _ within.not_before)) (lt-ltb _ _ (omega (arith, n, within.within)))
 
 -- ---- sums
 
@@ -47,13 +37,13 @@ pub record SumsHold (ws : List ℕ) : Type 0 where
   pub names : sum_below (name_length ws) (names ws) ≡ name_bytes ws
 
 sum_holds : (count : ℕ → ℕ) (n total row : ℕ) → sum_below count n ≡ total → sums_to count n total row ≡ true
-sum_holds count n total row e = right _ _ (eq-eqb _ _ e)
+sum_holds count n total row e = or_right _ _ (eq-eqb _ _ e)
 
 none_holds : (count : ℕ → ℕ) (n total : ℕ) → sum_below count n ≡ total → sums_to_none n total ≡ true
 none_holds count n total e =
     elim (cases_lt 0 n) [
-      | inl some ↦ left _ _ (lt-ltb _ _ some)
-      | inr none ↦ let z : n ≡ 0 = omega arith in right _ _ (eq-eqb _ _ (sym e ∙ ap (sum_below count) z ∙ sum_below-none count))
+      | inl some ↦ or_left _ _ (lt-ltb _ _ some)
+      | inr none ↦ let z : n ≡ 0 = omega arith in or_right _ _ (eq-eqb _ _ (sym e ∙ ap (sum_below count) z ∙ sum_below-none count))
     ]
 
 -- ---- the header
@@ -88,7 +78,7 @@ header_entry ws e = eq-eqb _ _ e
 
 pub header_text : (ws : List ℕ) → 1 ≤ text_words ws → text_words ws ≤ 131072 → is_text_address ws (slice_index ws 2) ≡ true → header_fits ws 3 ≡ true
 unfolding header_fits
-header_text ws some few entry = both _ _ (both _ _ (le-leb _ _ some) (le-leb _ _ few)) entry
+header_text ws some few entry = and_from _ _ (and_from _ _ (le-leb _ _ some) (le-leb _ _ few)) entry
 
 pub header_data : (ws : List ℕ) → data_words ws ≤ 262144 → header_fits ws 4 ≡ true
 unfolding header_fits
@@ -104,11 +94,11 @@ header_functions ws few = le-leb _ _ few
 
 pub header_variants : (ws : List ℕ) → SumsHold ws → variant_rows ws ≤ 64000 → header_fits ws 7 ≡ true
 unfolding header_fits
-header_variants ws sums few = both _ _ (le-leb _ _ few) (none_holds _ _ _ sums.variants)
+header_variants ws sums few = and_from _ _ (le-leb _ _ few) (none_holds _ _ _ sums.variants)
 
 pub header_guards : (ws : List ℕ) → SumsHold ws → guard_rows ws ≤ 64000 → header_fits ws 8 ≡ true
 unfolding header_fits
-header_guards ws sums few = both _ _ (le-leb _ _ few) (none_holds _ _ _ sums.guards)
+header_guards ws sums few = and_from _ _ (le-leb _ _ few) (none_holds _ _ _ sums.guards)
 
 pub header_sites : (ws : List ℕ) → site_rows ws ≤ 16384 → header_fits ws 9 ≡ true
 unfolding header_fits
@@ -126,7 +116,7 @@ header_last ws e = eq-eqb _ _ e
 
 pub switch_named : (ws : List ℕ) (k : ℕ) → SumsHold ws → 1 ≤ switch_field ws k 0 → switch_field ws k 0 ≤ 63 → switch_fits ws k 0 ≡ true
 unfolding switch_fits
-switch_named ws k sums some few = both _ _ (both _ _ (le-leb _ _ some) (le-leb _ _ few)) (right _ _ (sum_holds _ _ _ _ sums.names))
+switch_named ws k sums some few = and_from _ _ (and_from _ _ (le-leb _ _ some) (le-leb _ _ few)) (or_right _ _ (sum_holds _ _ _ _ sums.names))
 
 pub switch_addressed : (ws : List ℕ) (k : ℕ) → is_data_address ws (switch_field ws k 1) ≡ true → switch_fits ws k 1 ≡ true
 unfolding switch_fits
@@ -138,7 +128,7 @@ switch_kinded ws k few = le-leb _ _ few
 
 pub switch_counted : (ws : List ℕ) (k : ℕ) → 1 ≤ switch_field ws k 3 → switch_field ws k 3 ≤ 16 → switch_fits ws k 3 ≡ true
 unfolding switch_fits
-switch_counted ws k some few = both _ _ (le-leb _ _ some) (le-leb _ _ few)
+switch_counted ws k some few = and_from _ _ (le-leb _ _ some) (le-leb _ _ few)
 
 pub switch_valued : (ws : List ℕ) (k i : ℕ) → (i < switch_field ws k 3 → is_value (switch_field ws k 2) (switch_field ws k (4 + i)) ≡ true) → (switch_field ws k 3 ≤ i → switch_field ws k (4 + i) ≡ 0) → switch_fits ws k (4 + i) ≡ true
 unfolding switch_fits
@@ -157,11 +147,11 @@ switch_valued ws k i used unused =
 
 pub function_named : (ws : List ℕ) (k : ℕ) → SumsHold ws → 1 ≤ function_field ws k 0 → function_field ws k 0 ≤ 63 → function_fits ws k 0 ≡ true
 unfolding function_fits
-function_named ws k sums some few = both _ _ (both _ _ (le-leb _ _ some) (le-leb _ _ few)) (sum_holds _ _ _ _ sums.names)
+function_named ws k sums some few = and_from _ _ (and_from _ _ (le-leb _ _ some) (le-leb _ _ few)) (sum_holds _ _ _ _ sums.names)
 
 pub function_entered : (ws : List ℕ) (k : ℕ) → is_text_address ws (entry_of ws k) ≡ true → (0 < k → entry_of ws (k - 1) < entry_of ws k) → function_fits ws k 1 ≡ true
 unfolding function_fits
-function_entered ws k e more = both _ _ e (behind_first k _ (λ pos. lt-ltb _ _ (more pos)))
+function_entered ws k e more = and_from _ _ e (behind_first k _ (λ pos. lt-ltb _ _ (more pos)))
 
 pub function_counted : (ws : List ℕ) (k : ℕ) → function_field ws k 2 ≤ 6 → function_fits ws k 2 ≡ true
 unfolding function_fits
@@ -179,18 +169,18 @@ function_switched ws k i small used more unused =
     elim (cases_lt i (function_field ws k 2)) [
       | inl lt ↦
           let t : ltb i (function_field ws k 2) ≡ true = lt-ltb _ _ lt in
-          rw (e0, e1, e2, e9, m, t) (both _ _ (lt-ltb _ _ (used lt)) (elim (cases_lt 0 i) [
+          rw (e0, e1, e2, e9, m, t) (and_from _ _ (lt-ltb _ _ (used lt)) (elim (cases_lt 0 i) [
             | inl pos ↦
                 let b : 3 + i - 1 ≡ 3 + (i - 1) = omega arith in
-                right (eqb (3 + i) 3) _ (lt-ltb _ _ (subst (λ (x : ℕ). function_field ws k x < function_field ws k (3 + i)) (sym b) (more pos lt)))
-            | inr none ↦ left (eqb (3 + i) 3) _ (eq-eqb _ _ (omega arith))
+                or_right (eqb (3 + i) 3) _ (lt-ltb _ _ (subst (λ (x : ℕ). function_field ws k x < function_field ws k (3 + i)) (sym b) (more pos lt)))
+            | inr none ↦ or_left (eqb (3 + i) 3) _ (eq-eqb _ _ (omega arith))
           ]))
       | inr le ↦ let t : ltb i (function_field ws k 2) ≡ false = le-ltb _ _ le in rw (e0, e1, e2, e9, m, t) (eq-eqb _ _ (unused le))
     ]
 
 pub function_variable : (ws : List ℕ) (k : ℕ) → SumsHold ws → 1 ≤ variants_of ws k → variants_of ws k ≤ 64 → function_fits ws k 9 ≡ true
 unfolding function_fits
-function_variable ws k sums some few = both _ _ (both _ _ (le-leb _ _ some) (le-leb _ _ few)) (sum_holds _ _ _ _ sums.variants)
+function_variable ws k sums some few = and_from _ _ (and_from _ _ (le-leb _ _ some) (le-leb _ _ few)) (sum_holds _ _ _ _ sums.variants)
 
 -- ---- variants
 
@@ -209,13 +199,13 @@ variant_inlined ws k i small flag unused =
     let e1 : eqb (2 + i) 1 ≡ false = ne_eqb _ _ (λ e. omega (arith, e)) in
     let e4 : eqb (2 + i) 4 ≡ false = ne_eqb _ _ (λ e. omega (arith, e, small)) in
     rw (e0, e1, e4) (elim (cases_lt 0 (variant_field ws k 1)) [
-      | inl pos ↦ let one : variant_field ws k 1 ≡ 1 = omega arith in left _ _ (eq-eqb _ _ one)
-      | inr none ↦ right _ _ (eq-eqb _ _ (unused (omega arith)))
+      | inl pos ↦ let one : variant_field ws k 1 ≡ 1 = omega arith in or_left _ _ (eq-eqb _ _ one)
+      | inr none ↦ or_right _ _ (eq-eqb _ _ (unused (omega arith)))
     ])
 
 pub variant_guarded : (ws : List ℕ) (k : ℕ) → SumsHold ws → 1 ≤ guards_of ws k → guards_of ws k ≤ 64 → variant_fits ws k 4 ≡ true
 unfolding variant_fits
-variant_guarded ws k sums some few = both _ _ (both _ _ (le-leb _ _ some) (le-leb _ _ few)) (sum_holds _ _ _ _ sums.guards)
+variant_guarded ws k sums some few = and_from _ _ (and_from _ _ (le-leb _ _ some) (le-leb _ _ few)) (sum_holds _ _ _ _ sums.guards)
 
 -- ---- guard rows
 
@@ -235,7 +225,7 @@ guard_highest ws g f i own used ordered unused =
     let s : ltb (6 + i) 6 ≡ false = le-ltb _ _ (omega arith) in
     let m : 6 + i - 6 ≡ i = omega arith in
     elim (cases_lt i (function_field ws f 2)) [
-      | inl lt ↦ let t : ltb i (function_field ws f 2) ≡ true = lt-ltb _ _ lt in rw (own, s, m, t) (both _ _ (used lt) (ordered lt))
+      | inl lt ↦ let t : ltb i (function_field ws f 2) ≡ true = lt-ltb _ _ lt in rw (own, s, m, t) (and_from _ _ (used lt) (ordered lt))
       | inr le ↦ let t : ltb i (function_field ws f 2) ≡ false = le-ltb _ _ le in rw (own, s, m, t) (eq-eqb _ _ (unused le))
     ]
 
@@ -244,15 +234,15 @@ guard_highest ws g f i own used ordered unused =
 pub site_addressed : (ws : List ℕ) (k : ℕ) → is_text_address ws (site_field ws k 0) ≡ true → is_text_address ws (site_field ws k 0 + 4) ≡ true → (0 < k → site_field ws (k - 1) 0 + 8 ≤ site_field ws k 0)
     → each_below (λ f. is_outside (site_field ws k 0) (entry_of ws f)) (function_rows ws) ≡ true → site_fits ws k 0 ≡ true
 unfolding site_fits
-site_addressed ws k first second more outside = both _ _ (both _ _ (both _ _ first second) (behind_first k _ (λ pos. le-leb _ _ (more pos)))) outside
+site_addressed ws k first second more outside = and_from _ _ (and_from _ _ (and_from _ _ first second) (behind_first k _ (λ pos. le-leb _ _ (more pos)))) outside
 
 pub site_called : (ws : List ℕ) (k : ℕ) → site_field ws k 1 < function_rows ws → text_word ws (site_field ws k 0) ≡ jump 1 (site_field ws k 0) (entry_of ws (site_field ws k 1)) → text_word ws (site_field ws k 0 + 4) ≡ nop → site_fits ws k 1 ≡ true
 unfolding site_fits
-site_called ws k below call pad = both _ _ (both _ _ (lt-ltb _ _ below) (eq-eqb _ _ call)) (eq-eqb _ _ pad)
+site_called ws k below call pad = and_from _ _ (and_from _ _ (lt-ltb _ _ below) (eq-eqb _ _ call)) (eq-eqb _ _ pad)
 
 pub is_out : (site address : ℕ) → (address < site) ⊎ (site + 8 ≤ address) → is_outside site address ≡ true
-is_out site address (inl before) = left _ _ (lt-ltb _ _ before)
-is_out site address (inr behind) = right _ _ (le-leb _ _ behind)
+is_out site address (inl before) = or_left _ _ (lt-ltb _ _ before)
+is_out site address (inr behind) = or_right _ _ (le-leb _ _ behind)
 
 -- ---- the fields of a row, one after the other
 

@@ -18,9 +18,9 @@ use Rattle.mv_descriptors.specs.declared.rows.SiteRow.{SiteRow}
 use Rattle.mv_image.specs.Places.{header_words}
 use Rattle.mv_image.specs.Spelling.{Fields, joined, header_of, words_in}
 use Rattle.mv_image.specs.Format.{IsTyped, FitsFormat}
-use Rattle.mv_image.proofs.OneVerdict.{all_head, all_tail}
 use Rattle.mv_image.proofs.FieldRules.{of_twelve}
 use Rattle.mv_image.proofs.NameRules.{names_count, joined_length, lengths_keep}
+use Rattle.mv_num.proofs.Lists.{all_tail, all_head}
 
 no_words : AreWords []
 no_words i = omega arith

@@ -7,35 +7,35 @@ use Rattle.mv_image.specs.WellFormed.{IsInText, IsInData}
 use Rattle.mv_image.specs.Format.{IsWithin}
 use Rattle.mv_image.specs.Spelling.{Fields}
 use Rattle.mv_image.specs.Faults.{Rules, image_words}
-use Rattle.mv_image.proofs.PlaceLaws.{first_true, second_true}
 use Rattle.mv_image.proofs.WhatIsRead.{header_rule}
 use Rattle.mv_image.proofs.RowsStand.{counts_of, image_fits}
+use Rattle.mv_num.proofs.Booleans.{and_right, and_left}
 
 pub in_text : (image : Fields) (ws : List ℕ) (a : ℕ) → text_words ws ≡ length image.text → is_text_address ws a ≡ true → IsInText image a
 in_text image ws a n h = record {
-  aligned = eqb-true _ _ (first_true _ _ (first_true _ _ h));
-  not_before = leb-true _ _ (second_true _ _ (first_true _ _ h));
-  within = omega (arith, n, ltb-true a (4096 + 4 * text_words ws) (second_true _ _ h));
+  aligned = eqb-true _ _ (and_left _ _ (and_left _ _ h));
+  not_before = leb-true _ _ (and_right _ _ (and_left _ _ h));
+  within = omega (arith, n, ltb-true a (4096 + 4 * text_words ws) (and_right _ _ h));
 }
 
 pub in_data : (image : Fields) (ws : List ℕ) (a : ℕ) → data_words ws ≡ length image.globals → is_data_address ws a ≡ true → IsInData image a
 in_data image ws a n h = record {
-  aligned = eqb-true _ _ (first_true _ _ (first_true _ _ h));
-  not_before = leb-true _ _ (second_true _ _ (first_true _ _ h));
-  within = omega (arith, n, ltb-true a (1048576 + 4 * data_words ws) (second_true _ _ h));
+  aligned = eqb-true _ _ (and_left _ _ (and_left _ _ h));
+  not_before = leb-true _ _ (and_right _ _ (and_left _ _ h));
+  within = omega (arith, n, ltb-true a (1048576 + 4 * data_words ws) (and_right _ _ h));
 }
 
 from_one : (ws : List ℕ) → header_fits ws 3 ≡ true → 1 ≤ text_words ws
 unfolding header_fits
-from_one ws h = leb-true _ _ (first_true _ _ (first_true _ _ h))
+from_one ws h = leb-true _ _ (and_left _ _ (and_left _ _ h))
 
 text_most : (ws : List ℕ) → header_fits ws 3 ≡ true → text_words ws ≤ 131072
 unfolding header_fits
-text_most ws h = leb-true _ _ (second_true _ _ (first_true _ _ h))
+text_most ws h = leb-true _ _ (and_right _ _ (and_left _ _ h))
 
 entry_in : (ws : List ℕ) → header_fits ws 3 ≡ true → is_text_address ws (slice_index ws 2) ≡ true
 unfolding header_fits
-entry_in ws h = second_true _ _ h
+entry_in ws h = and_right _ _ h
 
 data_most : (ws : List ℕ) → header_fits ws 4 ≡ true → data_words ws ≤ 262144
 unfolding header_fits
@@ -51,11 +51,11 @@ functions_most ws h = leb-true _ _ h
 
 variants_most : (ws : List ℕ) → header_fits ws 7 ≡ true → variant_rows ws ≤ 64000
 unfolding header_fits
-variants_most ws h = leb-true _ _ (first_true _ _ h)
+variants_most ws h = leb-true _ _ (and_left _ _ h)
 
 guards_most : (ws : List ℕ) → header_fits ws 8 ≡ true → guard_rows ws ≤ 64000
 unfolding header_fits
-guards_most ws h = leb-true _ _ (first_true _ _ h)
+guards_most ws h = leb-true _ _ (and_left _ _ h)
 
 sites_most : (ws : List ℕ) → header_fits ws 9 ≡ true → site_rows ws ≤ 16384
 unfolding header_fits

@@ -1,7 +1,7 @@
 -- The names of an image, one after the other.
 use Rattle.std.proofs.Common.{◌≡◌, ℕ, ◌+◌, ◌-◌, ◌*◌, ◌<◌, ◌≤◌, Bool, true, false, ltb, eqb, ◌||◌, ◌&&◌, not, List, [], ◌∷◌, ◌++◌, length, take, drop, map, slice_index, slice_range, get_or, All, refl, sym, ap, subst, ◌∙◌, arith, inl, inr, eq-eqb}
 use Rattle.std.specs.Prelude.{sum_by}
-use Rattle.std.proofs.lemmas.Bool.{lt-ltb, le-ltb, cases_lt, ne_eqb, not-true}
+use Rattle.std.proofs.lemmas.Bool.{lt-ltb, le-ltb, cases_lt, ne_eqb, not-true, or_right, or_left, and_from}
 use Rattle.std.proofs.lemmas.List.{take-append-drop, drop_more, length-append, length-map, get_or-map}
 use Rattle.std.proofs.lemmas.List.Concat.{length-flat_map, flat_map-cons}
 use Rattle.std.proofs.lemmas.Grind.{flat_map-append}
@@ -14,11 +14,11 @@ use Rattle.mv_image.specs.Names.{is_letter, is_digit, is_keyword}
 use Rattle.mv_image.specs.Spelling.{Fields, joined}
 use Rattle.mv_image.specs.Faults.{lengths_in}
 use Rattle.mv_image.specs.Format.{IsIdentifier}
-use Rattle.mv_image.proofs.PlaceLaws.{first_true, second_true}
 use Rattle.mv_image.proofs.WhatIsRead.{not_last}
-use Rattle.mv_image.proofs.RowsStand.{StandIn, before, behind}
-use Rattle.mv_image.proofs.FieldRules.{both, left, right}
+use Rattle.mv_image.proofs.RowsStand.{StandIn, behind}
 use Rattle.mv_image.proofs.Sums.{sums_are, any_switch, any_function}
+use Rattle.mv_num.proofs.Booleans.{and_right, and_left}
+use Rattle.mv_num.proofs.Lists.{index_left}
 
 -- ---- how long the names are
 
@@ -30,7 +30,7 @@ names_count a n =
 switch_length : (a : Fields) (k : ℕ) (d : SwitchRow) → k < length a.switches → slice_index (lengths_in a) k ≡ (get_or a.switches k d).length
 switch_length a k d lt =
     let f : SwitchRow → ℕ = λ row. row.length in
-    before (map f a.switches) (map (λ (row : FunctionRow). row.length) a.functions) k (omega (arith, lt, length-map a.switches f)) ∙ get_or-map f a.switches k d 0 lt
+    index_left (map f a.switches) (map (λ (row : FunctionRow). row.length) a.functions) k (omega (arith, lt, length-map a.switches f)) ∙ get_or-map f a.switches k d 0 lt
 
 function_length : (a : Fields) (k : ℕ) (d : FunctionRow) → k < length a.functions → slice_index (lengths_in a) (length a.switches + k) ≡ (get_or a.functions k d).length
 function_length a k d lt =
@@ -116,7 +116,7 @@ byte_fits : (name : List ℕ) (start j : ℕ) → IsIdentifier name → start �
 byte_fits name start j is from to =
     elim (cases_lt start j) [
       | inl later ↦ let t : ltb start j ≡ true = lt-ltb _ _ later in rw t (is.others (j - start) (omega arith))
-      | inr first ↦ let z : 0 ≡ j - start = omega arith in left _ _ (subst (λ (i : ℕ). is_letter (slice_index name i) ≡ true) z is.first)
+      | inr first ↦ let z : 0 ≡ j - start = omega arith in or_left _ _ (subst (λ (i : ℕ). is_letter (slice_index name i) ≡ true) z is.first)
     ]
 
 end_fits : (bytes name : List ℕ) (base start j : ℕ) → IsIdentifier name → j < start + length name → slice_range bytes (base + start) (base + (start + length name)) ≡ name
@@ -127,7 +127,7 @@ end_fits bytes name base start j is to whole =
       | inr last ↦
           let e : base + j + 1 ≡ base + (start + length name) = omega arith in
           let here : slice_range bytes (base + start) (base + j + 1) ≡ name = ap (λ (n : ℕ). slice_range bytes (base + start) n) e ∙ whole in
-          right _ _ (ap (λ (x : List ℕ). not (is_keyword x)) here ∙ ap not is.no_keyword)
+          or_right _ _ (ap (λ (x : List ℕ). not (is_keyword x)) here ∙ ap not is.no_keyword)
     ]
 
 pub name_byte_fits : (ws bytes : List ℕ) (j k : ℕ) (name : List ℕ) → StandsInName ws bytes j k name → IsIdentifier name → name_fits ws bytes j ≡ true
@@ -137,7 +137,7 @@ name_byte_fits ws bytes j k name s is =
     let own = s.own in
     let size = s.size in
     let byte = s.byte in
-    rw (t, own, size, byte) (both _ _ (byte_fits name (sum_below (name_length ws) k) j is s.from s.to) (end_fits bytes name (4 * words_end ws) (sum_below (name_length ws) k) j is s.to s.whole))
+    rw (t, own, size, byte) (and_from _ _ (byte_fits name (sum_below (name_length ws) k) j is s.from s.to) (end_fits bytes name (4 * words_end ws) (sum_below (name_length ws) k) j is s.to s.whole))
 
 pub fill_byte_fits : (ws bytes : List ℕ) (j : ℕ) → name_bytes ws ≤ j → slice_index bytes (4 * words_end ws + j) ≡ 0 → name_fits ws bytes j ≡ true
 unfolding name_fits
@@ -175,8 +175,8 @@ name_says ws bytes j k name s fits =
     let byte = s.byte in
     let h = rw (t, own, size, byte) at fits in
     record {
-      letter = first_true _ _ h;
-      last = λ last. last_says bytes name (4 * words_end ws) (sum_below (name_length ws) k) j s.whole last (second_true _ _ h);
+      letter = and_left _ _ h;
+      last = λ last. last_says bytes name (4 * words_end ws) (sum_below (name_length ws) k) j s.whole last (and_right _ _ h);
     }
 
 -- a name whose bytes keep their rules

@@ -13,8 +13,9 @@ use Rattle.mv_image.specs.Faults.{image_words, lengths_in}
 use Rattle.mv_image.specs.Format.{HasWidths, AreNamed, IsIdentifier}
 use Rattle.mv_image.proofs.PlaceLaws.{sum_below-more, sum_below-grows, owner-is, IsOwner, has_owner}
 use Rattle.mv_image.proofs.WhatIsRead.{filled_from}
-use Rattle.mv_image.proofs.RowsStand.{StandIn, before, behind, part_is, words_length, image_words_are}
+use Rattle.mv_image.proofs.RowsStand.{StandIn, behind, part_is, words_length, image_words_are}
 use Rattle.mv_image.proofs.NameRules.{StandsInName, names_count, length_stands, starts_are, names_add_up, joined_split, name_byte_fits, fill_byte_fits, name_says, is_identifier}
+use Rattle.mv_num.proofs.Lists.{index_left}
 
 -- the names begin behind the words
 names_from : (a : Fields) → AreWords (words_in a) → HasWidths a → 4 * words_end (image_words a) ≡ length (bytes_of (words_in a))
@@ -41,7 +42,7 @@ name_byte_is : (a : Fields) (base start j k : ℕ) (d : List ℕ) → base ≡ l
     → slice_index (spelling a) (base + j) ≡ slice_index (get_or a.names k d) (j - start)
 name_byte_is a base start j k d eb es hk from to within =
     let e : j ≡ length (joined (take k a.names)) + (j - start) = omega (arith, es, from) in
-    byte_is a base j eb ∙ before (joined a.names) (replicate (fill a) 0) j within ∙ ap (slice_index (joined a.names)) e
+    byte_is a base j eb ∙ index_left (joined a.names) (replicate (fill a) 0) j within ∙ ap (slice_index (joined a.names)) e
     ∙ get_or-flat_map (λ (name : List ℕ). name) a.names k (j - start) d 0 hk (omega (arith, from, to))
 
 name_is : (a : Fields) (base start k : ℕ) (d : List ℕ) → base ≡ length (bytes_of (words_in a)) → start ≡ length (joined (take k a.names)) → k < length a.names

@@ -1,14 +1,14 @@
 -- Bytes have one verdict: they spell one image, or have one first fault.
-use Rattle.std.proofs.Common.{◌≡◌, ℕ, suc, ◌+◌, ◌*◌, ◌<◌, true, false, List, [], ◌∷◌, ◌++◌, length, take, drop, map, refl, sym, ap, subst, ◌∙◌, arith, inl, inr, All, append_assoc, Result, Ok, Err}
+use Rattle.std.proofs.Common.{◌≡◌, ℕ, suc, ◌+◌, ◌*◌, ◌<◌, true, false, List, [], ◌∷◌, ◌++◌, length, map, refl, sym, ap, subst, ◌∙◌, arith, inl, inr, All, append_assoc, Result, Ok, Err}
 use Rattle.std.specs.Prelude.{IfOk, IfErr, MatchResult}
 use Rattle.std.specs.List.{flat_map}
 use Rattle.std.proofs.lemmas.Bool.{cases_lt}
-use Rattle.std.proofs.lemmas.List.{take_at, drop_at, length-append}
+use Rattle.std.proofs.lemmas.List.{length-append}
 use Rattle.std.proofs.lemmas.List.Concat.{flat_map-cons}
 use Rattle.mv_num.specs.Bytes.{words_of, bytes_of, AreWords}
 use Rattle.mv_num.proofs.ByteLaws.{bytes-number}
 use Rattle.mv_descriptors.specs.Widths.{switch_words, function_words, variant_words, guard_words, site_words, SwitchWhole, FunctionWhole, VariantWhole, GuardWhole, SiteWhole}
-use Rattle.mv_descriptors.specs.WidthLaws.{one_switch, one_function, one_variant, one_guard, one_site, switch_width, function_width, variant_width, guard_width, site_width}
+use Rattle.mv_descriptors.specs.WidthLaws.{one_switch, one_function, one_variant, one_guard, one_site, switch_width, function_width, variant_width, guard_width, site_width, parted}
 use Rattle.mv_descriptors.specs.declared.rows.SwitchRow.{SwitchRow}
 use Rattle.mv_descriptors.specs.declared.rows.FunctionRow.{FunctionRow}
 use Rattle.mv_descriptors.specs.declared.rows.VariantRow.{VariantRow}
@@ -19,6 +19,7 @@ use Rattle.mv_image.specs.declared.fault.ImageError.{ImageError}
 use Rattle.mv_image.specs.declared.fault.ImageError.TheVariants.{Memory, Truncated, BadField, Trailing}
 use Rattle.mv_image.specs.Spelling.{Fields, joined, header_of, words_in, names_in, spelling}
 use Rattle.mv_image.specs.Faults.{places, offset, place_fits, IsThere, AllBefore, Spelled, IsTruncated, IsBad, FirstFault, IsMemory, Rules, Spells, lengths_in}
+use Rattle.mv_num.proofs.Lists.{all_tail, all_head}
 
 -- ---- one fault
 
@@ -79,16 +80,6 @@ one_fault bytes (Trailing at) (BadField to) hf hg nf ng = absurd (none_first byt
 one_fault bytes (Trailing at) (Trailing to) hf hg nf ng = ap (λ (n : ℕ). Trailing n) (hf.at_is ∙ sym hg.at_is)
 
 -- ---- one image
-
-parted : (n : ℕ) (a b c d : List ℕ) → length a ≡ n → length b ≡ n → a ++ c ≡ b ++ d → (a ≡ b) × (c ≡ d)
-parted n a b c d la lb e =
-    (sym (take_at a c n la) ∙ ap (take n) e ∙ take_at b d n lb, sym (drop_at a c n la) ∙ ap (drop n) e ∙ drop_at b d n lb)
-
-pub all_tail : {R : Type 0} (P : R → Type 0) (x : R) (xs : List R) → All P (x ∷ xs) → All P xs
-all_tail P x xs all k d lt = all (suc k) d (omega (arith, lt))
-
-pub all_head : {R : Type 0} (P : R → Type 0) (x : R) (xs : List R) → All P (x ∷ xs) → P x
-all_head P x xs all = all 0 x (omega arith)
 
 rows_same : {R : Type 0} (words_are : R → List ℕ) (Whole : R → Type 0) (w : ℕ) → ((x : R) → Whole x → length (words_are x) ≡ w) → ((x y : R) → Whole x → Whole y → words_are x ≡ words_are y → x ≡ y)
     → (xs ys : List R) → All Whole xs → All Whole ys → length xs ≡ length ys → flat_map words_are xs ≡ flat_map words_are ys → xs ≡ ys

@@ -12,10 +12,10 @@ use Rattle.mv_image.specs.Jumps.{nop, jump}
 use Rattle.mv_image.specs.Spelling.{Fields}
 use Rattle.mv_image.specs.Faults.{Rules, image_words}
 use Rattle.mv_image.specs.WellFormed.{IsInText, IsInData, FitsSwitch, FitsFunction, FitsVariant, FitsSite}
-use Rattle.mv_image.proofs.PlaceLaws.{first_true, second_true}
 use Rattle.mv_image.proofs.RowReads.{switch_rule, function_rule, variant_rule, site_rule}
 use Rattle.mv_image.proofs.RowsStand.{counts_of, image_fits, image_stands, behind, text_word_stands, switch_is, function_is, variant_is, site_is, function_variants, variant_guards, function_switch_is}
 use Rattle.mv_image.proofs.Limits.{in_text, in_data}
+use Rattle.mv_num.proofs.Booleans.{and_right, and_left}
 
 -- ---- switches
 
@@ -29,11 +29,11 @@ record SwitchSays (ws : List ℕ) (k : ℕ) : Type 0 where
 switch_says : (ws : List ℕ) (k : ℕ) → switch_fits ws k 0 ≡ true → switch_fits ws k 1 ≡ true → switch_fits ws k 3 ≡ true → SwitchSays ws k
 unfolding switch_fits
 switch_says ws k h0 h1 h3 = record {
-  named = leb-true _ _ (first_true _ _ (first_true _ _ h0));
-  name = leb-true _ _ (second_true _ _ (first_true _ _ h0));
+  named = leb-true _ _ (and_left _ _ (and_left _ _ h0));
+  name = leb-true _ _ (and_right _ _ (and_left _ _ h0));
   address = h1;
-  some = leb-true _ _ (first_true _ _ h3);
-  count = leb-true _ _ (second_true _ _ h3);
+  some = leb-true _ _ (and_left _ _ h3);
+  count = leb-true _ _ (and_right _ _ h3);
 }
 
 switch_value : (ws : List ℕ) (k i : ℕ) → switch_fits ws k (4 + i) ≡ true → i < switch_field ws k 3 → is_value (switch_field ws k 2) (switch_field ws k (4 + i)) ≡ true
@@ -84,12 +84,12 @@ record FunctionSays (ws : List ℕ) (k : ℕ) : Type 0 where
 function_says : (ws : List ℕ) (k : ℕ) → function_fits ws k 0 ≡ true → function_fits ws k 1 ≡ true → function_fits ws k 2 ≡ true → function_fits ws k 9 ≡ true → FunctionSays ws k
 unfolding function_fits
 function_says ws k h0 h1 h2 h9 = record {
-  named = leb-true _ _ (first_true _ _ (first_true _ _ h0));
-  name = leb-true _ _ (second_true _ _ (first_true _ _ h0));
-  entry = first_true _ _ h1;
+  named = leb-true _ _ (and_left _ _ (and_left _ _ h0));
+  name = leb-true _ _ (and_right _ _ (and_left _ _ h0));
+  entry = and_left _ _ h1;
   count = leb-true _ _ h2;
-  some = leb-true _ _ (first_true _ _ (first_true _ _ h9));
-  variants = leb-true _ _ (second_true _ _ (first_true _ _ h9));
+  some = leb-true _ _ (and_left _ _ (and_left _ _ h9));
+  variants = leb-true _ _ (and_right _ _ (and_left _ _ h9));
 }
 
 function_switch : (ws : List ℕ) (k i : ℕ) → i < 6 → function_fits ws k (3 + i) ≡ true → i < function_field ws k 2
@@ -131,11 +131,11 @@ functions_fit a r k d lt =
       switches = λ i hi. (
           let small : i < 6 = omega (arith, hi, says.count, f2) in
           let h = function_switch ws k i small (function_rule ws k (3 + i) fit here (omega (arith, small))) (omega (arith, hi, f2)) in
-          omega (arith, f3 i small, n.switches, ltb-true (function_field ws k (3 + i)) (switch_rows ws) (first_true _ _ h)));
+          omega (arith, f3 i small, n.switches, ltb-true (function_field ws k (3 + i)) (switch_rows ws) (and_left _ _ h)));
       ascend = λ i hi. (
           let small : i + 1 < 6 = omega (arith, hi, says.count, f2) in
           let h = function_switch ws k (i + 1) small (function_rule ws k (3 + (i + 1)) fit here (omega (arith, small))) (omega (arith, hi, f2)) in
-          omega (arith, f3 i (omega (arith, small)), f3 (i + 1) small, function_next ws k i (second_true _ _ h)));
+          omega (arith, f3 i (omega (arith, small)), f3 (i + 1) small, function_next ws k i (and_right _ _ h)));
       some = omega (arith, says.some, f9);
       variants = omega (arith, says.variants, f9);
     }
@@ -153,8 +153,8 @@ unfolding variant_fits
 variant_says ws k h0 h1 h4 = record {
   address = h0;
   inlined = leb-true _ _ h1;
-  some = leb-true _ _ (first_true _ _ (first_true _ _ h4));
-  guards = leb-true _ _ (second_true _ _ (first_true _ _ h4));
+  some = leb-true _ _ (and_left _ _ (and_left _ _ h4));
+  guards = leb-true _ _ (and_right _ _ (and_left _ _ h4));
 }
 
 pub variants_fit : (a : Fields) → Rules a → All (FitsVariant a) a.variants
@@ -179,7 +179,7 @@ variants_fit a r k d lt =
 
 site_places : (ws : List ℕ) (k : ℕ) → site_fits ws k 0 ≡ true → (is_text_address ws (site_field ws k 0) ≡ true) × (is_text_address ws (site_field ws k 0 + 4) ≡ true)
 unfolding site_fits
-site_places ws k h = (first_true _ _ (first_true _ _ (first_true _ _ h)), second_true _ _ (first_true _ _ (first_true _ _ h)))
+site_places ws k h = (and_left _ _ (and_left _ _ (and_left _ _ h)), and_right _ _ (and_left _ _ (and_left _ _ h)))
 
 record SiteSays (ws : List ℕ) (k : ℕ) : Type 0 where
   function : site_field ws k 1 < function_rows ws
@@ -189,9 +189,9 @@ record SiteSays (ws : List ℕ) (k : ℕ) : Type 0 where
 site_says : (ws : List ℕ) (k : ℕ) → site_fits ws k 1 ≡ true → SiteSays ws k
 unfolding site_fits
 site_says ws k h = record {
-  function = ltb-true _ _ (first_true _ _ (first_true _ _ h));
-  call = eqb-true _ _ (second_true _ _ (first_true _ _ h));
-  pad = eqb-true _ _ (second_true _ _ h);
+  function = ltb-true _ _ (and_left _ _ (and_left _ _ h));
+  call = eqb-true _ _ (and_right _ _ (and_left _ _ h));
+  pad = eqb-true _ _ (and_right _ _ h);
 }
 
 pub sites_fit : (a : Fields) → Rules a → All (FitsSite a) a.sites

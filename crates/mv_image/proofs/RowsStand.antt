@@ -20,7 +20,8 @@ use Rattle.mv_image.specs.WellFormed.{IsInText}
 use Rattle.mv_image.proofs.RowRules.{functions_from, variants_from, guards_from, sites_from, end_from}
 use Rattle.mv_image.proofs.RowReads.{index_range}
 use Rattle.mv_image.proofs.WhatIsRead.{data_from, switches_after, all_fit}
-use Rattle.mv_image.proofs.OneVerdict.{words_in_front, flat_length, all_tail, all_head, whole_switches, whole_functions, whole_variants}
+use Rattle.mv_image.proofs.OneVerdict.{words_in_front, flat_length, whole_switches, whole_functions, whole_variants}
+use Rattle.mv_num.proofs.Lists.{index_left, all_tail, all_head}
 
 pub counts_are : (image : Fields) (x : List ℕ) → Counts (words_in image ++ x) image
 unfolding words_in header_of
@@ -33,11 +34,6 @@ behind (x ∷ front) back i j e =
     let m : i ≡ suc (length front + j) = omega (arith, e) in
     ap (slice_index (x ∷ (front ++ back))) m ∙ behind front back (length front + j) j refl
 
-pub before : (front back : List ℕ) (i : ℕ) → i < length front → slice_index (front ++ back) i ≡ slice_index front i
-before [] back i lt = absurd (omega arith)
-before (x ∷ front) back zero lt = refl
-before (x ∷ front) back (suc i) lt = before front back i (omega (arith, lt))
-
 -- a word of a row, behind others
 row_word : {R : Type 0} (f : R → List ℕ) (Whole : R → Type 0) (w : ℕ) → ((x : R) → Whole x → length (f x) ≡ w) → (rows : List R) → All Whole rows → (front rest : List ℕ) (k j i : ℕ) (d : R)
     → k < length rows → j < w → i ≡ length front + w * k + j → slice_index (front ++ (flat_map f rows ++ rest)) i ≡ slice_index (f (get_or rows k d)) j
@@ -47,7 +43,7 @@ row_word f Whole w size (x ∷ rows) whole front rest zero j i d hk hj e =
     ap (λ (t : List ℕ). slice_index (front ++ (t ++ rest)) i) (flat_map-cons f x rows)
     ∙ behind front ((f x ++ flat_map f rows) ++ rest) i j (omega (arith, e))
     ∙ ap (λ (t : List ℕ). slice_index t j) (append_assoc (f x) (flat_map f rows) rest)
-    ∙ before (f x) (flat_map f rows ++ rest) j (omega (arith, s, hj))
+    ∙ index_left (f x) (flat_map f rows ++ rest) j (omega (arith, s, hj))
 row_word f Whole w size (x ∷ rows) whole front rest (suc k) j i d hk hj e =
     let s = size x (all_head Whole x rows whole) in
     let grows : w * suc k ≡ w + w * k = omega arith in
@@ -228,13 +224,13 @@ pub function_switch_stands : (ws : List ℕ) (a : Fields) → StandIn ws a → (
 function_switch_stands ws a s k i d lt hi =
     let row : FunctionRow = get_or a.functions k d in
     let whole : length row.switches ≡ 6 = s.whole.functions k d lt in
-    s.function k (3 + i) d lt (omega (arith, hi)) ∙ behind (row.length ∷ row.entry ∷ row.count ∷ []) (row.switches ++ row.variants ∷ []) (3 + i) i refl ∙ before row.switches (row.variants ∷ []) i (omega (arith, whole, hi))
+    s.function k (3 + i) d lt (omega (arith, hi)) ∙ behind (row.length ∷ row.entry ∷ row.count ∷ []) (row.switches ++ row.variants ∷ []) (3 + i) i refl ∙ index_left row.switches (row.variants ∷ []) i (omega (arith, whole, hi))
 
 pub inline_word_stands : (ws : List ℕ) (a : Fields) → StandIn ws a → (k i : ℕ) (d : VariantRow) → k < length a.variants → i < 2 → variant_field ws k (2 + i) ≡ slice_index (get_or a.variants k d).words i
 inline_word_stands ws a s k i d lt hi =
     let row : VariantRow = get_or a.variants k d in
     let whole : length row.words ≡ 2 = s.whole.variants k d lt in
-    s.variant k (2 + i) d lt (omega (arith, hi)) ∙ behind (row.address ∷ row.inlined ∷ []) (row.words ++ row.guards ∷ []) (2 + i) i refl ∙ before row.words (row.guards ∷ []) i (omega (arith, whole, hi))
+    s.variant k (2 + i) d lt (omega (arith, hi)) ∙ behind (row.address ∷ row.inlined ∷ []) (row.words ++ row.guards ∷ []) (2 + i) i refl ∙ index_left row.words (row.guards ∷ []) i (omega (arith, whole, hi))
 
 pub switch_value_stands : (ws : List ℕ) (a : Fields) → StandIn ws a → (k i : ℕ) (d : SwitchRow) → k < length a.switches → i < 16 → switch_field ws k (4 + i) ≡ slice_index (get_or a.switches k d).values i
 switch_value_stands ws a s k i d lt hi =
@@ -245,7 +241,7 @@ pub lowest_stands : (ws : List ℕ) (a : Fields) → StandIn ws a → (k i : ℕ
 lowest_stands ws a s k i d lt hi =
     let row : GuardRow = get_or a.guards k d in
     let whole : length row.low ≡ 6 = (s.whole.guards k d lt).low in
-    s.guard k i d lt (omega (arith, hi)) ∙ before row.low row.high i (omega (arith, whole, hi))
+    s.guard k i d lt (omega (arith, hi)) ∙ index_left row.low row.high i (omega (arith, whole, hi))
 
 pub highest_stands : (ws : List ℕ) (a : Fields) → StandIn ws a → (k i : ℕ) (d : GuardRow) → k < length a.guards → i < 6 → guard_field ws k (6 + i) ≡ slice_index (get_or a.guards k d).high i
 highest_stands ws a s k i d lt hi =

@@ -16,32 +16,33 @@ use Rattle.mv_image.specs.Spelling.{Fields}
 use Rattle.mv_image.specs.Faults.{AllFit, Rules, image_words}
 use Rattle.mv_image.specs.Patched.{variants_before, guards_before, kind_of, kind_in}
 use Rattle.mv_image.specs.WellFormed.{FitsFunction, FitsGuard}
-use Rattle.mv_image.proofs.PlaceLaws.{second_true, first_true, sum_below-none, sum_below-more, owner-is}
+use Rattle.mv_image.proofs.PlaceLaws.{sum_below-none, sum_below-more, owner-is}
 use Rattle.mv_image.proofs.WhatIsRead.{header_rule, not_last}
 use Rattle.mv_image.proofs.RowReads.{function_rule, variant_rule, guard_rule}
 use Rattle.mv_image.proofs.RowsStand.{StandIn, image_stands, counts_of, image_fits, variants_stand, guards_stand, function_switch_stands, lowest_stands, highest_stands}
 use Rattle.mv_image.proofs.RowsFit.{functions_fit}
+use Rattle.mv_num.proofs.Booleans.{and_right, and_left}
 
 variants_at_last : (ws : List ℕ) (k : ℕ) → function_fits ws k 9 ≡ true → k + 1 ≡ function_rows ws → sum_below (variants_of ws) (function_rows ws) ≡ variant_rows ws
 unfolding function_fits
-variants_at_last ws k h last = eqb-true _ _ (not_last _ _ _ last (second_true _ _ h))
+variants_at_last ws k h last = eqb-true _ _ (not_last _ _ _ last (and_right _ _ h))
 
 no_variants : (ws : List ℕ) → header_fits ws 7 ≡ true → function_rows ws ≡ 0 → variant_rows ws ≡ 0
 unfolding header_fits
 no_variants ws h none =
     let t : ltb 0 (function_rows ws) ≡ false = le-ltb _ _ (omega (arith, none)) in
-    let g : (ltb 0 (function_rows ws) || eqb (variant_rows ws) 0) ≡ true = second_true _ _ h in
+    let g : (ltb 0 (function_rows ws) || eqb (variant_rows ws) 0) ≡ true = and_right _ _ h in
     eqb-true _ _ (rw t at g)
 
 guards_at_last : (ws : List ℕ) (k : ℕ) → variant_fits ws k 4 ≡ true → k + 1 ≡ variant_rows ws → sum_below (guards_of ws) (variant_rows ws) ≡ guard_rows ws
 unfolding variant_fits
-guards_at_last ws k h last = eqb-true _ _ (not_last _ _ _ last (second_true _ _ h))
+guards_at_last ws k h last = eqb-true _ _ (not_last _ _ _ last (and_right _ _ h))
 
 no_guards : (ws : List ℕ) → header_fits ws 8 ≡ true → variant_rows ws ≡ 0 → guard_rows ws ≡ 0
 unfolding header_fits
 no_guards ws h none =
     let t : ltb 0 (variant_rows ws) ≡ false = le-ltb _ _ (omega (arith, none)) in
-    let g : (ltb 0 (variant_rows ws) || eqb (guard_rows ws) 0) ≡ true = second_true _ _ h in
+    let g : (ltb 0 (variant_rows ws) || eqb (guard_rows ws) 0) ≡ true = and_right _ _ h in
     eqb-true _ _ (rw t at g)
 
 variants_add_up : (ws : List ℕ) → AllFit ws → sum_below (variants_of ws) (function_rows ws) ≡ variant_rows ws
@@ -179,14 +180,14 @@ guards_fit a r f v g d e hf from to above below hv hg =
           let small : i < 6 = omega (arith, hi, few) in
           let k = kind_stands ws a s f i d hf fits hi in
           let h = guard_high ws g f i own (guard_rule ws g (6 + i) fit here (omega (arith, small))) (omega (arith, hi, count)) in
-          ap (λ (x : ℕ). is_value x (slice_index row.high i)) (sym k) ∙ ap (is_value (kind_at ws f i)) (sym (high i small)) ∙ first_true _ _ h);
+          ap (λ (x : ℕ). is_value x (slice_index row.high i)) (sym k) ∙ ap (is_value (kind_at ws f i)) (sym (high i small)) ∙ and_left _ _ h);
       ordered = λ i hi. (
           let small : i < 6 = omega (arith, hi, few) in
           let k = kind_stands ws a s f i d hf fits hi in
           let h = guard_high ws g f i own (guard_rule ws g (6 + i) fit here (omega (arith, small))) (omega (arith, hi, count)) in
           ap (λ (x : ℕ). is_at_most x (slice_index row.low i) (slice_index row.high i)) (sym k)
           ∙ ap (λ (x : ℕ). is_at_most (kind_at ws f i) x (slice_index row.high i)) (sym (low i small))
-          ∙ ap (is_at_most (kind_at ws f i) (guard_field ws g i)) (sym (high i small)) ∙ second_true _ _ h);
+          ∙ ap (is_at_most (kind_at ws f i) (guard_field ws g i)) (sym (high i small)) ∙ and_right _ _ h);
       low_unused = λ i hi small. sym (low i small) ∙ guard_low_unused ws g f i own small (guard_rule ws g i fit here (omega (arith, small))) (omega (arith, hi, count));
       high_unused = λ i hi small. sym (high i small) ∙ guard_high_unused ws g f i own (guard_rule ws g (6 + i) fit here (omega (arith, small))) (omega (arith, hi, count));
     }

@@ -5,12 +5,12 @@ use Rattle.std.specs.List.{flat_map}
 use Rattle.std.proofs.Math.Seq.{take-length}
 use Rattle.std.proofs.Common.{eq-eqb}
 use Rattle.std.proofs.lemmas.Bool.{lt-ltb, le-ltb, cases_lt, eqb-true}
-use Rattle.std.proofs.lemmas.List.{get_or-take, get_or_past, length-take, length-drop, take-append-drop, take_at, drop_at}
+use Rattle.std.proofs.lemmas.List.{get_or-take, get_or_past, length-take, length-drop, take-append-drop}
 use Rattle.byteorder.specs.Endian.{little_number}
 use Rattle.mv_num.specs.Bytes.{words_of, bytes_of, AreBytes, AreWords}
 use Rattle.mv_num.proofs.ByteLaws.{number-bytes, length-words_of}
 use Rattle.mv_descriptors.specs.Widths.{switch_words, function_words, variant_words, guard_words, site_words, SwitchWhole, FunctionWhole, VariantWhole, GuardWhole, SwitchClean, FunctionClean, VariantClean}
-use Rattle.mv_descriptors.specs.WidthLaws.{switch_width, function_width}
+use Rattle.mv_descriptors.specs.WidthLaws.{switch_width, function_width, parted}
 use Rattle.std.proofs.lemmas.List.Concat.{flat_map-cons}
 use Rattle.mv_descriptors.specs.declared.rows.SwitchRow.{SwitchRow}
 use Rattle.mv_descriptors.specs.declared.rows.FunctionRow.{FunctionRow}
@@ -24,7 +24,8 @@ use Rattle.mv_image.proofs.Judged.{end_of, fits-word, fits-name, end_is}
 use Rattle.mv_image.proofs.RowRules.{switches_from, functions_from, variants_from, guards_from, sites_from, end_from, header_word}
 use Rattle.mv_image.proofs.RowReads.{index_range, switch_rule, function_rule}
 use Rattle.mv_image.proofs.Parts.{range_join, front_join, range_length}
-use Rattle.mv_image.proofs.PlaceLaws.{sum_below-none, second_true}
+use Rattle.mv_image.proofs.PlaceLaws.{sum_below-none}
+use Rattle.mv_num.proofs.Booleans.{and_right}
 
 -- ---- bytes and words
 
@@ -113,12 +114,12 @@ not_last a b x e h = let t : eqb a b ≡ true = eq-eqb a b e in rw t at h
 
 function_sum : (ws : List ℕ) (k : ℕ) → function_fits ws k 0 ≡ true → switch_rows ws + k + 1 ≡ names ws → sum_below (name_length ws) (names ws) ≡ name_bytes ws
 unfolding function_fits
-function_sum ws k h last = eqb-true _ _ (not_last _ _ _ last (second_true _ _ h))
+function_sum ws k h last = eqb-true _ _ (not_last _ _ _ last (and_right _ _ h))
 
 switch_sum : (ws : List ℕ) (k : ℕ) → switch_fits ws k 0 ≡ true → function_rows ws ≡ 0 → k + 1 ≡ names ws → sum_below (name_length ws) (names ws) ≡ name_bytes ws
 unfolding switch_fits
 switch_sum ws k h none last =
-    let g : (ltb 0 (function_rows ws) || (not (eqb (k + 1) (names ws)) || eqb (sum_below (name_length ws) (names ws)) (name_bytes ws))) ≡ true = second_true _ _ h in
+    let g : (ltb 0 (function_rows ws) || (not (eqb (k + 1) (names ws)) || eqb (sum_below (name_length ws) (names ws)) (name_bytes ws))) ≡ true = and_right _ _ h in
     let t : ltb 0 (function_rows ws) ≡ false = le-ltb _ _ (omega (arith, none)) in
     eqb-true _ _ (not_last _ _ _ last (rw t at g))
 
@@ -287,11 +288,6 @@ first_from-same f g a b (suc n) same =
     let here : f a ≡ g b = sym (ap f e) ∙ same 0 (omega arith) ∙ ap g d in
     let rest = first_from-same f g (suc a) (suc b) n (λ i lt. (let p : suc a + i ≡ a + suc i = omega arith in let q : suc b + i ≡ b + suc i = omega arith in ap f p ∙ same (suc i) (omega (arith, lt)) ∙ sym (ap g q))) in
     ap (λ (x : ℕ). x ∷ first_from f (suc a) n) here ∙ ap (λ (x : List ℕ). g b ∷ x) rest
-
--- two lists of one length in front of others
-parted : (n : ℕ) (a b c d : List ℕ) → length a ≡ n → length b ≡ n → a ++ c ≡ b ++ d → (a ≡ b) × (c ≡ d)
-parted n a b c d la lb e =
-    (sym (take_at a c n la) ∙ ap (take n) e ∙ take_at b d n lb, sym (drop_at a c n la) ∙ ap (drop n) e ∙ drop_at b d n lb)
 
 -- the first words of rows
 firsts : {R : Type 0} (words_are : R → List ℕ) (first : R → ℕ) (w : ℕ) → 0 < w → ((r : R) → slice_index (words_are r) 0 ≡ first r)

@@ -4,16 +4,12 @@ use Rattle.std.proofs.lemmas.List.{drop_more, drop_all}
 use Rattle.mv_ast.specs.declared.program.Program.{Program}
 use Rattle.mv_ast.specs.declared.program.Function.{Function}
 use Rattle.mv_ast.specs.declared.world.Binding.{Binding}
-use Rattle.mv_ast.specs.Plans.{all_in_domain, ordered_from, events_from, bindings_after, attributed_functions, is_addressed}
+use Rattle.mv_ast.specs.Plans.{all_in_domain, ordered_from, bindings_after, attributed_functions, is_addressed}
 use Rattle.mv_interpret.specs.Answers.{ordered_binding}
 
 pub all_in_domain-end : (p : Program) (ss vs : List ℕ) (i : ℕ) → i < length ss → length vs ≤ i →
     all_in_domain p (drop i ss) (drop i vs) ≡ true
 all_in_domain-end p ss vs i hs hv = rw (drop_more ss i 0 hs, drop_all i vs hv) refl
-
-pub events_from-end : (i : ℕ) (old : List Binding) → events_from i old [] ≡ []
-events_from-end i [] = refl
-events_from-end i (b ∷ old) = refl
 
 length-ordered : (addressed : ℕ → Function → Bool) (next : Function → Binding) (i : ℕ) (fs : List Function) (bs : List Binding) →
     length (ordered_from addressed next i fs bs) ≤ length fs

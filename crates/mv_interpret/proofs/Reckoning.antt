@@ -3,7 +3,6 @@ use Rattle.std.proofs.Common.{inl, inr, ◌≡◌, ℕ, zero, suc, ◌+◌, ◌-
 use Rattle.std.specs.Prelude.{sum, option_to_list}
 use Rattle.std.proofs.lemmas.Bool.{cases_lt}
 use Rattle.std.proofs.lemmas.List.{map-append, map_more}
-use Rattle.std.proofs.lemmas.List.Sums.{sum_by-append}
 use Rattle.std.proofs.Math.Nat.{mul_assoc}
 use Rattle.mv_ast.specs.declared.program.Program.{Program}
 use Rattle.mv_ast.specs.declared.program.Expr.{Expr}
@@ -13,6 +12,7 @@ use Rattle.mv_ast.specs.declared.program.Arm.{Arm, Arm-F, fold_out-Arm}
 use Rattle.mv_ast.specs.Layers.{stmt_parts, stmt_expressions}
 use Rattle.mv_ast.specs.Counts.{expr_calls, stmt_calls, arm_calls, product_of}
 use Rattle.mv_meaning.specs.Growth.{capped}
+use Rattle.mv_num.proofs.Lists.{sum_append}
 
 -- ---- sums and products
 
@@ -44,13 +44,10 @@ pub product_more : {A : Type 0} (f : A → ℕ) (xs : List A) (i : ℕ) (d : A) 
     product_of (map f (take (i + 1) xs)) ≡ product_of (map f (take i xs)) * f (get_or xs i d)
 product_more f xs i d lt = ap product_of (map_more f xs i d lt) ∙ product-append (map f (take i xs)) (f (get_or xs i d))
 
-sum_both : (xs ys : List ℕ) → sum (xs ++ ys) ≡ sum xs + sum ys
-sum_both xs ys = sum_by-append (λ x. x) xs ys
-
 sum_more : {A : Type 0} (f : A → ℕ) (xs : List A) (i : ℕ) (d : A) → i < length xs →
     sum (map f (take (i + 1) xs)) ≡ sum (map f (take i xs)) + f (get_or xs i d)
 sum_more f xs i d lt =
-    let h = sum_both (map f (take i xs)) (f (get_or xs i d) ∷ []) in
+    let h = sum_append (map f (take i xs)) (f (get_or xs i d) ∷ []) in
     ap sum (map_more f xs i d lt) ∙ omega (arith, h)
 
 -- ---- calls in statements
@@ -72,7 +69,7 @@ module _ (p : Program) where
       stmt_calls p s ≡ expr_calls p e + (sum (map (stmt_calls p) ys) + sum (map (stmt_calls p) ns))
   calls-If s e ys ns h =
       let l = stmt_lem s _ h in
-      let b = sum_both (map (stmt_calls p) ys) (map (stmt_calls p) ns) in
+      let b = sum_append (map (stmt_calls p) ys) (map (stmt_calls p) ns) in
       omega (arith, l, b)
 
   pub calls-While : (s : Stmt) (e : Expr) (body : List Stmt) → out-Stmt s ≡ stmt.While e body →
@@ -86,8 +83,8 @@ module _ (p : Program) where
   calls-For s first test step body h =
       let l = stmt_lem s _ h in
       let m = ap sum (map-append (expr_calls p) (option_to_list test) (option_to_list step)) in
-      let es = sum_both (map (expr_calls p) (option_to_list test)) (map (expr_calls p) (option_to_list step)) in
-      let b = sum_both (map (stmt_calls p) first) (map (stmt_calls p) body) in
+      let es = sum_append (map (expr_calls p) (option_to_list test)) (map (expr_calls p) (option_to_list step)) in
+      let b = sum_append (map (stmt_calls p) first) (map (stmt_calls p) body) in
       omega (arith, l, m, es, b)
 
   pub calls-Switch : (s : Stmt) (e : Expr) (arms : List Arm) → out-Stmt s ≡ stmt.Switch e arms →

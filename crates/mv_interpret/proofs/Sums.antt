@@ -35,6 +35,3 @@ module _ (p : Program) where
 
 pub capped_right : (a b : ℕ) → capped (a + capped b) ≡ capped (a + b)
 capped_right a b = omega arith
-
-pub capped_both : (a b : ℕ) → capped (capped a + capped b) ≡ capped (a + b)
-capped_both a b = omega arith

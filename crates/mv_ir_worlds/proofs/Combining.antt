@@ -7,6 +7,7 @@ use Rattle.mv_ast.specs.declared.world.Binding.{Binding}
 use Rattle.mv_ast.specs.Plans.{switch_domain, is_among, all_in_domain, same_words, same_truth, is_same_binding}
 use Rattle.mv_ir.specs.Combinations.{In, IsCombination}
 use Rattle.mv_ir_worlds.specs.Fit.{some_value, some_combination}
+use Rattle.mv_ast.proofs.Common.{truth_same, truth_told}
 
 -- ---- what stands in a list
 
@@ -86,16 +87,6 @@ words_told (x ∷ xs) (y ∷ ys) h = let p = and_parts (nat_eq x y) (same_words 
 pub words_same : (xs : List ℕ) → same_words xs xs ≡ true
 words_same [] = refl
 words_same (x ∷ xs) = and_from (nat_eq x x) (same_words xs xs) (eq-eqb x x refl) (words_same xs)
-
-truth_told : (a b : Bool) → same_truth a b ≡ true → a ≡ b
-truth_told true true h = refl
-truth_told true false h = absurd (cc)
-truth_told false true h = absurd (cc)
-truth_told false false h = refl
-
-truth_same : (a : Bool) → same_truth a a ≡ true
-truth_same true = refl
-truth_same false = refl
 
 pub binding_told : (a b : Binding) → is_same_binding a b ≡ true → a ≡ b
 binding_told a b h =

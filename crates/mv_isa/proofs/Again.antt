@@ -243,7 +243,7 @@ register_said w h o =
     )
     tt
 
-count_fits : (n : ℕ) → n < 32 → IsUnsigned 32 (pos n)
+pub count_fits : (n : ℕ) → n < 32 → IsUnsigned 32 (pos n)
 count_fits n h = (omega (arith, ints), omega (arith, ints))
 
 shift_said : (w : ℕ) → w < 2 ^ 32 → opcode_of w ≡ 0x13 → IsSaid w (shift_at w)

@@ -30,7 +30,7 @@ pub add_distance : (at to : ℕ) → at < 2 ^ 31 → to < 2 ^ 31 → add at (wor
 unfolding add
 add_distance at to a t = ap (λ w. (at + w) % 2 ^ 32) (word_of_is (distance at to) (small_distance at to a t)) ∙ jump_leads at to a t
 
-add_four : (at : ℕ) → at < 2 ^ 31 → add at 4 ≡ at + 4
+pub add_four : (at : ℕ) → at < 2 ^ 31 → add at 4 ≡ at + 4
 unfolding add
 add_four at a = omega arith
 

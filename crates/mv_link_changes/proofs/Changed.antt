@@ -1,5 +1,5 @@
 -- At least one word is another for each function that is bound, and for each of its sites.
-use Rattle.std.proofs.Common.{◌≡◌, ◌≢◌, ℕ, ◌+◌, ◌%◌, ◌^◌, ◌<◌, ◌≤◌, Bool, true, false, if◌then◌else◌, eqb, List, [], ◌∷◌, length, get_or, slice_index, is_some, Option, Some, None, refl, sym, ap, ◌∙◌, subst, arith, eq-eqb}
+use Rattle.std.proofs.Common.{◌≡◌, ◌≢◌, ℕ, ◌+◌, ◌%◌, ◌^◌, ◌<◌, ◌≤◌, Bool, true, false, if◌then◌else◌, eqb, List, length, get_or, slice_index, is_some, Option, Some, None, refl, sym, ap, ◌∙◌, subst, arith}
 use Rattle.std.proofs.Math.Path.{fun_ext}
 use Rattle.std.specs.Prelude.{option_and_then, slice_get}
 use Rattle.std.proofs.lemmas.Bool.{eqb-true}
@@ -16,13 +16,14 @@ use Rattle.mv_image.proofs.Limits.{is_within}
 use Rattle.mv_image.proofs.PatchLaws.{free_text, entry_word, site_word_is}
 use Rattle.mv_image.proofs.RowsFit.{functions_fit, variants_fit, sites_fit}
 use Rattle.mv_patch.specs.declared.prepared.Pair.{Pair}
-use Rattle.mv_patch.specs.Pairs.{text_start, pair_of, differing, pairs_between}
+use Rattle.mv_patch.specs.Pairs.{text_start, pairs_between}
 use Rattle.mv_patch.specs.Tables.{entries, site_words, patched_places, word_of, pairs_at}
 use Rattle.mv_patch.proofs.TablePairs.{word_under_at, tables_tell}
 use Rattle.mv_patch.proofs.TablePlaces.{index_in, no_function, no_site}
 use Rattle.mv_link_changes.specs.Changed.{changed_words, shown_words, sum_from, CanBeTold, TextShowsBindings, FreeTextIsUnchanged}
 use Rattle.mv_link_changes.proofs.Jumps.{jump_opcode, same_jump}
 use Rattle.mv_link_changes.proofs.Sums.{total_least, differs, pairs_total, differs_one, merged_total, entries_total, sites_total, functions_least, passes, each_least}
+use Rattle.mv_patch.proofs.Common.{none_differ}
 
 -- a variant of an image stands in its text
 variant_in_text : (image : Fields) → Rules image → (f : ℕ) (values : Option (List ℕ)) (v : VariantRow) → variant_under image f values ≡ Some v → IsInText image v.address
@@ -116,12 +117,6 @@ pub text_shows : TextShowsBindings
 text_shows image r bound told = shows image r bound told
 
 -- ---- where all functions are free
-
-none_differ : (a : ℕ) (text : List ℕ) → differing a text text ≡ []
-unfolding differing
-none_differ a [] = refl
-none_differ a (word ∷ words) =
-    ap (λ (b : Bool). if b then differing (a + 4) words words else (pair_of a word ∷ differing (a + 4) words words)) (eq-eqb word word refl) ∙ none_differ (a + 4) words
 
 pub free_unchanged : FreeTextIsUnchanged
 free_unchanged image bound free =

@@ -1,12 +1,12 @@
 -- The codes of linked parts, each behind the label of its entry.
-use Rattle.std.proofs.Common.{◌≡◌, ℕ, zero, suc, ◌+◌, ◌<◌, ◌≤◌, inl, inr, List, [], ◌∷◌, false, Some, length, map, get_or, slice_get, slice_index, refl, sym, ap, ◌∙◌, subst, arith}
+use Rattle.std.proofs.Common.{◌≡◌, ℕ, zero, suc, ◌+◌, ◌<◌, ◌≤◌, inl, inr, List, [], ◌∷◌, false, Some, length, map, get_or, slice_get, slice_index, sym, ap, ◌∙◌, subst, arith}
 use Rattle.std.proofs.lemmas.Bool.{cases_lt}
 use Rattle.std.proofs.lemmas.List.{length-map, get_or-map}
 use Rattle.std.proofs.lemmas.Option.{slice_get_within, slice_get-get_or, get_or_from_slice_get}
 use Rattle.mv_isa.specs.declared.instr.Instr.{Instr}
 use Rattle.mv_isa.specs.declared.labelled.Labelled.{Labelled}
 use Rattle.mv_isa.specs.declared.labelled.Line.{Line}
-use Rattle.mv_isa.specs.declared.labelled.Line.TheVariants.{Word, Label, Jump, Branch, Entry, Slot}
+use Rattle.mv_isa.specs.declared.labelled.Line.TheVariants.{Word, Label}
 use Rattle.mv_isa.specs.Code.{IsSizing, line_at, least_words, text_start}
 use Rattle.mv_isa.specs.Standing.{LineStands, word_at}
 use Rattle.mv_asm.specs.Outcome.{AreWordsUnder}
@@ -15,7 +15,7 @@ use Rattle.mv_linker.specs.declared.parts.PartFunction.{PartFunction}
 use Rattle.mv_linker.specs.Linked.{codes, relabelled, linked_lines, first_label, AreParts}
 use Rattle.mv_linker.specs.Tables.{attributed_numbers, is_slot, BeginsWithWords, FitsPartFunction, FitTables}
 use Rattle.mv_linker.specs.Laws.{StandFrom, FunctionStands}
-use Rattle.mv_linker.proofs.Entered.{index_behind, relabelled_slot}
+use Rattle.mv_linker.proofs.Entered.{index_behind, relabelled_slot, relabelled_words, has_line}
 use Rattle.mv_linker.proofs.Places.{function_law}
 use Rattle.mv_linker.proofs.Tabled.{function_code}
 use Rattle.mv_link_text.proofs.LinkedText.{linked_text}
@@ -34,24 +34,12 @@ ascends ns next i (suc j) lt below =
       | inr not_before ↦ let same : j ≡ i = omega (arith, lt, not_before) in subst (λ k. slice_index ns k < slice_index ns (suc j)) same last
     ]
 
-relabelled_words : (first count : ℕ) (x : Line) → least_words (relabelled first count x) ≡ least_words x
-relabelled_words first count (Word i) = refl
-relabelled_words first count (Label l) = refl
-relabelled_words first count (Jump rd l) = refl
-relabelled_words first count (Branch funct3 a b l) = refl
-relabelled_words first count (Entry rd f) = refl
-relabelled_words first count (Slot f) = refl
-
 -- lines that stand from an index on, but for the first
 pub behind_first : (lines : List Line) (k : ℕ) (line : Line) (part : List Line) → StandFrom lines k (line ∷ part) → StandFrom lines (k + 1) part
 behind_first lines k line part stand = let within = stand.within in record {
   within = omega (arith, within);
   each = λ j lt. let next : k + 1 + j ≡ k + suc j = omega arith in ap (line_at lines) next ∙ stand.each (suc j) (omega (arith, lt));
 }
-
-pub has_line : (items : List Line) → 1 ≤ least_words (line_at items 0) → 0 < length items
-has_line [] some = absurd (omega (arith, some))
-has_line (x ∷ items) some = omega arith
 
 abbrev pub no_code : Labelled
 no_code = record { items = []; labels = 0 }

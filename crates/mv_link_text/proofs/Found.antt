@@ -1,18 +1,10 @@
 -- What is found in a list.
-use Rattle.std.proofs.Common.{◌≡◌, ℕ, suc, ◌<◌, Bool, true, false, cond, ltb, List, [], ◌∷◌, length, get_or, Option, Some, None, refl, subst, arith}
-use Rattle.std.specs.List.{find, position, position_or_len}
-use Rattle.std.proofs.lemmas.Bool.{lt-ltb}
-use Rattle.std.proofs.lemmas.List.Sums.{position_or_len_is}
+use Rattle.std.proofs.Common.{◌≡◌, ℕ, suc, ◌<◌, Bool, true, false, cond, List, [], ◌∷◌, length, get_or, Option, Some, None, refl, subst, arith}
+use Rattle.std.specs.List.{find}
 
 pub none_of : {X : Type 0} (o : Option X) → ((x : X) → o ≡ Some x → ⊥) → o ≡ None
 none_of None never = refl
 none_of (Some x) never = absurd (never x refl)
-
-pub position_at : {R : Type 0} (test : R → Bool) (rows : List R) (k : ℕ) (d : R) → k < length rows → ((i : ℕ) → i < k → test (get_or rows i d) ≡ false) → test (get_or rows k d) ≡ true → position test rows ≡ Some k
-position_at test rows k d lt before here =
-    let at : position_or_len test rows ≡ k = position_or_len_is test rows k d (omega arith) before (λ h. here) in
-    let t : ltb k (length rows) ≡ true = lt-ltb _ _ lt in
-    rw (at, t) refl
 
 -- a row that is found is one of them, and passes
 pub record IsFound {R : Type 0} (test : R → Bool) (rows : List R) (x : R) : Type 0 where

@@ -1,6 +1,5 @@
 -- Lines whose labels are renamed stand in text where the lines do at the places of the new labels.
-use Rattle.std.proofs.Common.{◌≡◌, ℕ, ◌+◌, ◌<◌, ◌≤◌, true, false, List, [], ◌∷◌, map, nat_lt, refl}
-use Rattle.std.proofs.lemmas.Bool.{lt-ltb, le-ltb}
+use Rattle.std.proofs.Common.{ℕ, List, [], ◌∷◌, map}
 use Rattle.mv_isa.specs.declared.labelled.Line.{Line}
 use Rattle.mv_isa.specs.declared.labelled.Line.TheVariants.{Word, Label, Jump, Branch, Entry, Slot}
 use Rattle.mv_select_control.specs.Placed.{Text, IsPlaced, Placed}
@@ -22,11 +21,3 @@ module _ (text : Text) (place entry : ℕ → ℕ) (first count : ℕ) where
   pub lines_placed : (lines : List Line) (at end : ℕ) → Placed text place entry (map (relabelled first count) lines) at end → Placed text own_place entry lines at end
   lines_placed [] at end h = h
   lines_placed (line ∷ lines) at end h = (h.0, line_placed at h.0 line h.1, lines_placed lines h.0 end h.2)
-
--- a label that isn't an own one stays
-pub own_stays : (first count l : ℕ) → count ≤ l → own first count l ≡ l
-own_stays first count l le = let e : nat_lt l count ≡ false = le-ltb l count le in rw (e) refl
-
--- and an own label is counted from the first one on
-pub own_here : (first count l : ℕ) → l < count → own first count l ≡ first + l
-own_here first count l lt = let e : nat_lt l count ≡ true = lt-ltb l count lt in rw (e) refl

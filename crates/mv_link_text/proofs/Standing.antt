@@ -24,7 +24,8 @@ use Rattle.mv_link_text.proofs.LinkedText.{linked_text}
 use Rattle.mv_link_text.proofs.Lines.{word_size}
 use Rattle.mv_link_text.proofs.Codes.{IsAssembled, attributed_begun, behind_first, stands, behind_label, lines_stand, first_line, first_below, ends_before, first_in}
 use Rattle.mv_link_text.proofs.Kept.{NotFirst, kept_as}
-use Rattle.mv_link_text.proofs.Renamed.{own_place, lines_placed, own_stays, own_here}
+use Rattle.mv_link_text.proofs.Renamed.{own_place, lines_placed}
+use Rattle.mv_linker.proofs.Counting.{own_stays, own_is}
 
 -- words stand one behind the other
 words_size : (text : Text) (place entry : ℕ → ℕ) (instrs : List Instr) (at end : ℕ) → Placed text place entry (map Word instrs) at end → end ≡ at + 4 * length instrs
@@ -161,7 +162,7 @@ module _ (laws : Laws) (parts : Parts) (sizing words : List ℕ) (s : IsAssemble
     only_label : (functions : ℕ) (line : Line) → NamesAreThere functions code line → IsOnlyLabel lines (renamed line)
     only_label functions (Word i) h = tt
     only_label functions (Label l) h =
-        subst (StandsOnce lines) (sym (own_here first code.labels l h))
+        subst (StandsOnce lines) (sym (own_is first code.labels l h))
         ((stands parts sizing words s f code found).own l (h, labels.own l (omega arith) (omega (arith, h))))
     only_label functions (Jump rd l) h = tt
     only_label functions (Branch funct3 rs1 rs2 l) h = tt

@@ -1,7 +1,7 @@
 -- How often a label stands in the parts of functions.
-use Rattle.std.proofs.Common.{◌≡◌, ℕ, zero, suc, ◌+◌, ◌<◌, ◌≤◌, ◌⊎◌, ◌++◌, Bool, true, false, cond, eqb, nat_lt, List, [], ◌∷◌, Some, length, take, slice_get, map, count_by, All, refl, ap, sym, subst, ◌∙◌, ⊎_elim, arith, eq-eqb}
+use Rattle.std.proofs.Common.{◌≡◌, ℕ, zero, suc, ◌+◌, ◌<◌, ◌≤◌, ◌⊎◌, Bool, true, false, cond, eqb, nat_lt, List, [], ◌∷◌, Some, length, take, slice_get, map, count_by, All, refl, ap, sym, subst, ◌∙◌, ⊎_elim, arith, eq-eqb}
 use Rattle.std.proofs.lemmas.List.Elements.{All-head, All-tail}
-use Rattle.std.proofs.lemmas.List.Sums.{sum_by-append, sum_by-cons}
+use Rattle.std.proofs.lemmas.List.Sums.{sum_by-cons}
 use Rattle.std.proofs.lemmas.Bool.{cases_eq, ne_eqb}
 use Rattle.std.proofs.lemmas.Bool.Decides.{nat_tests}
 use Rattle.mv_isa.specs.declared.labelled.Labelled.{Labelled}
@@ -9,13 +9,11 @@ use Rattle.mv_isa.specs.declared.labelled.Line.{Line}
 use Rattle.mv_isa.specs.declared.labelled.Line.TheVariants.{Word, Label, Jump, Branch, Entry, Slot}
 use Rattle.mv_isa.specs.Code.{is_label}
 use Rattle.mv_linker.specs.Linked.{own, relabelled, function_part, function_parts, label_count, NamesAreThere, IsFunction}
+use Rattle.mv_isa.proofs.Common.{count_append}
 
 -- how often a test is true
 abbrev pub times : Bool → ℕ
 times b = cond b 1 0
-
-pub count_append : (m : ℕ) (xs ys : List Line) → count_by (is_label m) (xs ++ ys) ≡ count_by (is_label m) xs + count_by (is_label m) ys
-count_append m xs ys = sum_by-append (λ x. times (is_label m x)) xs ys
 
 pub count_cons : (m : ℕ) (x : Line) (xs : List Line) → count_by (is_label m) (x ∷ xs) ≡ times (is_label m x) + count_by (is_label m) xs
 count_cons m x xs = sum_by-cons (λ y. cond (is_label m y) 1 0) x xs

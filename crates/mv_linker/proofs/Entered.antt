@@ -1,5 +1,5 @@
 -- Where the codes of parts begin: at different words of text, none of which is a slot's.
-use Rattle.std.proofs.Common.{◌≡◌, ℕ, zero, suc, ◌+◌, ◌*◌, ◌<◌, ◌≤◌, ◌⊎◌, inl, inr, true, false, List, [], ◌∷◌, Some, length, take, map, get_or, slice_get, slice_index, refl, ap, sym, subst, ◌∙◌, arith}
+use Rattle.std.proofs.Common.{◌≡◌, ℕ, suc, ◌+◌, ◌*◌, ◌<◌, ◌≤◌, ◌⊎◌, inl, inr, true, false, List, [], ◌∷◌, Some, length, take, map, get_or, slice_get, refl, ap, sym, subst, ◌∙◌, arith}
 use Rattle.std.proofs.lemmas.List.{length-map, take-take, get_or-take, length-take-le, get_or-map}
 use Rattle.std.proofs.lemmas.List.Sums.{sum_by_more_le, sum_by-take-le}
 use Rattle.std.proofs.lemmas.Option.{get_or_from_slice_get, slice_get_within}
@@ -7,7 +7,7 @@ use Rattle.std.proofs.lemmas.Bool.{cases_lt, cases_eq}
 use Rattle.mv_isa.specs.declared.labelled.Labelled.{Labelled}
 use Rattle.mv_isa.specs.declared.labelled.Line.{Line}
 use Rattle.mv_isa.specs.declared.labelled.Line.TheVariants.{Word, Label, Jump, Branch, Entry, Slot}
-use Rattle.mv_isa.specs.Code.{IsSizing, IsPlace, line_at, least_words, offset, address, label_address, text_start}
+use Rattle.mv_isa.specs.Code.{IsSizing, line_at, least_words, offset, address, label_address, text_start}
 use Rattle.mv_isa.specs.Standing.{LineStands, word_at}
 use Rattle.mv_asm.specs.Outcome.{AreWordsUnder}
 use Rattle.mv_image.specs.Spelling.{Fields}
@@ -21,7 +21,7 @@ use Rattle.mv_linker.proofs.Slots.{offset_next, behind_slot, before_slot}
 
 -- ---- renaming keeps what a line is
 
-relabelled_words : (first count : ℕ) (x : Line) → least_words (relabelled first count x) ≡ least_words x
+pub relabelled_words : (first count : ℕ) (x : Line) → least_words (relabelled first count x) ≡ least_words x
 relabelled_words first count (Word i) = refl
 relabelled_words first count (Label l) = refl
 relabelled_words first count (Jump rd l) = refl
@@ -38,7 +38,7 @@ relabelled_slot first count (Entry rd f) = refl
 relabelled_slot first count (Slot f) = refl
 
 -- code that begins with words has a line
-has_line : (items : List Line) → 1 ≤ least_words (line_at items 0) → 0 < length items
+pub has_line : (items : List Line) → 1 ≤ least_words (line_at items 0) → 0 < length items
 has_line [] some = absurd (omega (arith, some))
 has_line (x ∷ items) some = omega arith
 

@@ -9,7 +9,8 @@ use Rattle.mv_isa.specs.declared.labelled.Line.TheVariants.{Word, Label, Jump, B
 use Rattle.mv_isa.specs.Code.{is_label, StandsOnce, TargetStands, LineFits, CodeFits}
 use Rattle.mv_linker.specs.declared.parts.Parts.{Parts}
 use Rattle.mv_linker.specs.Linked.{function_variants, variant_codes, codes, trap_label, commit_label, own, relabelled, start_lines, trap_lines, commit_instrs, commit_lines, stub_lines, function_part, function_parts, linked_lines, label_count, first_label, IsStubLabel, IsOwnLabel, IsTarget, NamesAreThere, IsFunction, AreParts}
-use Rattle.mv_linker.proofs.Counting.{times, count_append, count_cons, unmarked, own_is, own_stays, label_count_more, labels_within, parts_other, parts_entry, parts_own}
+use Rattle.mv_linker.proofs.Counting.{times, count_cons, unmarked, own_is, own_stays, label_count_more, labels_within, parts_other, parts_entry, parts_own}
+use Rattle.mv_isa.proofs.Common.{count_append}
 
 -- ---- labels of the stubs
 

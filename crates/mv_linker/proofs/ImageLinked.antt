@@ -23,10 +23,9 @@ use Rattle.mv_linker.specs.Linked.{codes, function_variants, linked_lines, IsDat
 use Rattle.mv_linker.specs.Tables.{switch_row, function_row, variant_rows, guards_of, sites_from, attributed_numbers, slot_count, site_count, FitsFunctionRow, HasFewGuards, FitsPartFunction, kinds_of, FitTables}
 use Rattle.mv_linker.specs.Outcome.{datum_word, image_with, HasFewSites, WithinLimit, IsLinked}
 use Rattle.mv_linker.proofs.Rowed.{few_variants, IsRowed, all_rowed}
-use Rattle.mv_linker.proofs.Images.{linked, start_count, datum_within, image_is}
+use Rattle.mv_linker.proofs.Images.{linked, datum_within, image_is}
 use Rattle.mv_linker.proofs.Sited.{slots_of_codes}
 use Rattle.mv_linker.proofs.Tabled.{tables_fit}
-use Rattle.mv_linker.proofs.Fits.{within_codes}
 
 module _ (parts : Parts) (tables : FitTables parts) where
   pub function_rows_fit : (n : ℕ) → length parts.functions ≤ n → All (FitsFunctionRow n) parts.attributed

@@ -2,16 +2,12 @@
 use Rattle.std.proofs.Common.{◌≡◌, ℕ, zero, suc, ◌+◌, ◌<◌, ◌≤◌, List, [], ◌∷◌, Some, length, map, slice_get, slice_index, All, refl, ap, sym, subst, ◌∙◌, arith, eq-eqb}
 use Rattle.std.proofs.lemmas.List.{get_or-map, length-append, length-map}
 use Rattle.std.proofs.lemmas.List.Elements.{All-head, All-tail, All-weaker, All-from_get_or}
-use Rattle.std.proofs.lemmas.List.Sums.{get_or-le-sum_by}
-use Rattle.std.proofs.lemmas.Option.{slice_get-get_or}
-use Rattle.mv_descriptors.specs.declared.rows.SiteRow.{SiteRow}
 use Rattle.mv_isa.specs.declared.labelled.Labelled.{Labelled}
 use Rattle.mv_isa.specs.declared.labelled.Line.{Line}
 use Rattle.mv_isa.specs.declared.labelled.Line.TheVariants.{Word, Label, Jump, Branch, Entry, Slot}
-use Rattle.mv_isa.specs.Code.{CodeFits, IsSizing, line_at, label_index, label_address, address, text_start}
-use Rattle.mv_asm.specs.Outcome.{ArePlaced, ArePlacedUnder, AreAddresses}
+use Rattle.mv_isa.specs.Code.{CodeFits, line_at, label_index, label_address, address, text_start}
+use Rattle.mv_asm.specs.Outcome.{ArePlaced}
 use Rattle.mv_asm.proofs.Standing.{index_once}
-use Rattle.mv_image.specs.Spelling.{Fields}
 use Rattle.mv_linker.specs.declared.joined.Joined.{Joined}
 use Rattle.mv_linker.specs.declared.parts.Parts.{Parts}
 use Rattle.mv_linker.specs.declared.parts.PartFunction.{PartFunction}
@@ -20,7 +16,7 @@ use Rattle.mv_linker.specs.declared.parts.Datum.{Datum}
 use Rattle.mv_linker.specs.declared.parts.Datum.TheVariants.{Number, Function}
 use Rattle.mv_linker.specs.Linked.{codes, function_variants, linked_lines, part_index, IsDatum, AreParts, IsJoined}
 use Rattle.mv_linker.specs.Tables.{function_row, variant_row, variant_rows, sites_from, place_among, attributed_numbers, FitsPartFunction, FitTables}
-use Rattle.mv_linker.specs.Outcome.{datum_word, image_with, HasFewSites, WithinLimit, IsLinked}
+use Rattle.mv_linker.specs.Outcome.{datum_word, image_with}
 use Rattle.mv_linker.proofs.Fits.{lines_fit, within_codes}
 use Rattle.mv_linker.proofs.Places.{function_law}
 

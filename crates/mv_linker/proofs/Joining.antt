@@ -9,7 +9,7 @@ use Rattle.mv_linker.specs.declared.joined.Joined.{Joined}
 use Rattle.mv_linker.specs.declared.parts.Parts.{Parts}
 use Rattle.mv_linker.specs.declared.parts.PartFunction.{PartFunction}
 use Rattle.mv_linker.specs.declared.parts.PartVariant.{PartVariant}
-use Rattle.mv_linker.specs.Linked.{codes, function_variants, variant_codes, relabelled, stub_lines, stub_count, function_part, function_parts, linked_lines, label_count, line_count, part_index, trap_label, IsJoined}
+use Rattle.mv_linker.specs.Linked.{codes, function_variants, variant_codes, relabelled, stub_lines, function_part, function_parts, label_count, line_count, trap_label, IsJoined}
 use Rattle.mv_linker.specs.Joining.{with_code, with_codes}
 use Rattle.mv_linker.proofs.Counting.{label_count_more}
 
@@ -78,7 +78,7 @@ items_of j (x ∷ xs) =
 part_length : (f first : ℕ) (x : Labelled) → length (function_part f first x) ≡ 1 + length x.items
 part_length f first x = omega (arith, length-map x.items (relabelled first x.labels))
 
-line_count_more : (x : Labelled) (xs : List Labelled) → line_count (x ∷ xs) ≡ 1 + length x.items + line_count xs
+pub line_count_more : (x : Labelled) (xs : List Labelled) → line_count (x ∷ xs) ≡ 1 + length x.items + line_count xs
 line_count_more x xs = sum_by-cons (λ (c : Labelled). 1 + length c.items) x xs
 
 -- where the codes before one stand stays

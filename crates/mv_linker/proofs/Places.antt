@@ -1,7 +1,6 @@
 -- Where the stubs and the parts of functions stand.
 use Rattle.std.proofs.Common.{◌≡◌, ℕ, zero, suc, ◌+◌, ◌≤◌, ◌++◌, List, [], ◌∷◌, Some, length, take, slice_get, refl, ap, sym, subst, ◌∙◌, arith}
 use Rattle.std.proofs.lemmas.List.{append_assoc, length-append, length-map, get_or-append-add, get_or_append_left}
-use Rattle.std.proofs.lemmas.List.Sums.{sum_by-cons}
 use Rattle.std.proofs.lemmas.Option.{slice_get_within}
 use Rattle.mv_isa.specs.declared.labelled.Labelled.{Labelled}
 use Rattle.mv_isa.specs.declared.labelled.Line.{Line}
@@ -11,6 +10,7 @@ use Rattle.mv_linker.specs.Linked.{codes, relabelled, start_lines, trap_lines, c
 use Rattle.mv_linker.specs.Laws.{StandFrom, TrapStands, CommitStands, FunctionStands}
 use Rattle.mv_linker.proofs.Counting.{label_count_more}
 use Rattle.mv_linker.proofs.Fits.{entry_once, own_once, trap_once, commit_once}
+use Rattle.mv_linker.proofs.Joining.{line_count_more}
 
 pub stand_in : (before part after : List Line) (k : ℕ) → k ≡ length before → StandFrom (before ++ (part ++ after)) k part
 stand_in before part after k e = record {
@@ -47,9 +47,6 @@ record IsSplit (lines : List Line) (count : ℕ) (part : List Line) : Type 0 whe
   after : List Line
   lines_are : lines ≡ before ++ (part ++ after)
   count_is : count ≡ length before
-
-line_count_more : (code : Labelled) (rest : List Labelled) → line_count (code ∷ rest) ≡ 1 + length code.items + line_count rest
-line_count_more code rest = sum_by-cons (λ (x : Labelled). 1 + length x.items) code rest
 
 parts_split : (functions : List Labelled) (f first k : ℕ) (code : Labelled) (g m : ℕ) → slice_get functions k ≡ Some code → g ≡ f + k → m ≡ first + label_count (take k functions)
     → IsSplit (function_parts f first functions) (line_count (take k functions)) (function_part g m code)

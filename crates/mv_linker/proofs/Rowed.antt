@@ -2,11 +2,9 @@
 use Rattle.std.proofs.Common.{◌≡◌, ℕ, zero, suc, ◌+◌, ◌-◌, ◌*◌, ◌<◌, ◌≤◌, ◌++◌, true, Option, Some, None, List, [], ◌∷◌, length, map, replicate, get_or, slice_get, slice_index, All, refl, ap, sym, subst, ◌∙◌, arith}
 use Rattle.std.specs.Prelude.{option_map}
 use Rattle.std.specs.List.{flat_map}
-use Rattle.std.proofs.lemmas.List.{length-append, length-map, length-replicate, map-append, get_or-map, get_or-append-add, get_or_append_left, get_or-replicate}
-use Rattle.std.proofs.lemmas.List.Elements.{All-nil, All-cons, All-append, All-head, All-tail, All-map, All-weaker}
-use Rattle.std.proofs.lemmas.List.Concat.{length-flat_map}
-use Rattle.std.proofs.lemmas.Option.{slice_get-map, slice_get-get_or, get_or_from_slice_get}
-use Rattle.std.proofs.lemmas.Bool.{cases_lt}
+use Rattle.std.proofs.lemmas.List.{length-append, length-map, map-append, get_or-map, get_or-append-add, get_or_append_left}
+use Rattle.std.proofs.lemmas.List.Elements.{All-nil, All-cons, All-append, All-head, All-tail}
+use Rattle.std.proofs.lemmas.Option.{slice_get-map}
 use Rattle.mv_num.specs.Kinds.{kind_number, is_value, is_at_most}
 use Rattle.mv_descriptors.specs.Rows.{ZerosFrom}
 use Rattle.mv_descriptors.specs.Widths.{VariantClean}
@@ -15,29 +13,23 @@ use Rattle.mv_descriptors.specs.declared.rows.FunctionRow.{FunctionRow}
 use Rattle.mv_descriptors.specs.declared.rows.VariantRow.{VariantRow}
 use Rattle.mv_descriptors.specs.declared.rows.GuardRow.{GuardRow}
 use Rattle.mv_image.specs.Spelling.{Fields}
-use Rattle.mv_image.specs.WellFormed.{IsInData, IsInText, FitsSwitch, FitsFunction, FitsVariant, FitsGuard}
+use Rattle.mv_image.specs.WellFormed.{IsInText, FitsSwitch, FitsFunction, FitsVariant, FitsGuard}
 use Rattle.mv_image.specs.Names.{is_letter}
 use Rattle.mv_image.specs.Patched.{kind_of}
 use Rattle.mv_image.specs.Patched as patched
-use Rattle.mv_image.specs.Format.{IsIdentifier}
 use Rattle.mv_image.specs.Groups.{Groups, variant_groups}
-use Rattle.mv_isa.specs.declared.labelled.Labelled.{Labelled}
 use Rattle.mv_linker.specs.declared.parts.Parts.{Parts}
 use Rattle.mv_linker.specs.declared.parts.PartSwitch.{PartSwitch}
 use Rattle.mv_linker.specs.declared.parts.PartFunction.{PartFunction}
 use Rattle.mv_linker.specs.declared.parts.PartVariant.{PartVariant}
 use Rattle.mv_linker.specs.Linked.{function_variants}
 use Rattle.mv_linker.specs.Tables.{padded, switch_row, function_row, variant_row, variant_rows, guards_of, kinds_of, kind_in, IsName, IsRange, FitsPartSwitch, FitsPartVariant, FitsPartFunction}
+use Rattle.mv_num.proofs.Numbers.{zeros_at}
 
 -- ---- padded words
 
 pub padded_at : (n : ℕ) (ws : List ℕ) (i : ℕ) → i < length ws → slice_index (padded n ws) i ≡ slice_index ws i
 padded_at n ws i below = get_or_append_left ws (replicate (n - length ws) 0) 0 i below
-
-zeros_at : (n i : ℕ) → slice_index (replicate n 0) i ≡ 0
-zeros_at zero i = refl
-zeros_at (suc n) zero = refl
-zeros_at (suc n) (suc i) = zeros_at n i
 
 pub padded_zeros : (n : ℕ) (ws : List ℕ) → ZerosFrom (length ws) (padded n ws)
 padded_zeros n ws i from =

@@ -11,12 +11,14 @@ use Rattle.mv_isa.specs.Formats.{low_in, i_word, j_word}
 use Rattle.mv_isa.specs.Encoding.{encode}
 use Rattle.mv_isa.specs.Code.{IsPlace, IsSizing, distance, nop, text_start, line_at, least_words, greatest_words, offset, address}
 use Rattle.mv_isa.specs.Standing.{SlotStands, word_at}
-use Rattle.mv_asm.proofs.Offsets.{offset-cons, offset-nil}
+use Rattle.mv_asm.proofs.Offsets.{offset-nil}
 use Rattle.mv_descriptors.specs.declared.rows.FunctionRow.{FunctionRow}
 use Rattle.mv_descriptors.specs.declared.rows.SiteRow.{SiteRow}
 use Rattle.mv_image.specs.Spelling.{Fields}
 use Rattle.mv_image.specs.WellFormed.{IsInText, FitsSite}
 use Rattle.mv_image.specs.Jumps as image
+use Rattle.mv_isa.proofs.Common.{offset-cons}
+use Rattle.mv_image.proofs.Common.{jal_is}
 
 low_distance : (from to : ℕ) → IsPlace from → IsPlace to → low_in (2 ^ 21) (distance from to) ≡ image.distance from to
 unfolding low_in
@@ -24,9 +26,6 @@ low_distance from to p q =
     let ends = p.1 in
     let e : distance from to +ℤ pos (1 * 2 ^ 21) ≡ pos (to + 2 ^ 21 - from) = omega (arith, ints, ends) in
     ap unsigned_abs (int_rem_euclid_is (distance from to) (pos (2 ^ 21)) (2 ^ 21) 1 (to + 2 ^ 21 - from) (omega arith) refl e)
-
-jal_is : (rd : ℕ) (x : ℕ) → x < 2 ^ 21 → 0x6f + rd * 2 ^ 7 + x / 2 ^ 12 % 2 ^ 8 * 2 ^ 12 + x / 2 ^ 11 % 2 * 2 ^ 20 + x / 2 % 2 ^ 10 * 2 ^ 21 + x / 2 ^ 20 * 2 ^ 31 ≡ image.jal_word rd x
-jal_is rd x h = omega (arith, h)
 
 jump_is : (rd from to : ℕ) → IsPlace from → IsPlace to → image.jump rd from to ≡ encode (Jal rd (distance from to))
 unfolding image.jump encode j_word

@@ -1,14 +1,12 @@
 -- The tables of linked parts fit the format of images.
-use Rattle.std.proofs.Common.{◌≡◌, ℕ, zero, suc, ◌+◌, ◌*◌, ◌<◌, ◌≤◌, ◌⊎◌, ◌++◌, List, [], ◌∷◌, Some, length, map, get_or, slice_get, slice_index, All, refl, ap, sym, subst, ◌∙◌, arith}
-use Rattle.std.proofs.lemmas.List.{length-append, length-map, map-append, get_or-map, get_or-append-add, get_or_append_left}
-use Rattle.std.proofs.lemmas.List.Elements.{All-nil, All-cons, All-append, All-head, All-tail, All-map, All-weaker, All-get_or, All-from_get_or}
+use Rattle.std.proofs.Common.{◌≡◌, ℕ, suc, ◌+◌, ◌*◌, ◌<◌, ◌≤◌, ◌⊎◌, ◌++◌, List, [], ◌∷◌, Some, length, map, get_or, slice_get, slice_index, All, refl, ap, sym, subst, ◌∙◌, arith}
+use Rattle.std.proofs.lemmas.List.{length-map, map-append, get_or-map}
+use Rattle.std.proofs.lemmas.List.Elements.{All-nil, All-cons, All-append, All-head, All-tail, All-map, All-weaker, All-from_get_or}
 use Rattle.std.proofs.lemmas.List.Sums.{get_or-le-sum_by}
 use Rattle.std.proofs.lemmas.Option.{slice_get-map, slice_get-get_or, get_or_from_slice_get}
 use Rattle.std.specs.Prelude.{option_map}
 use Rattle.mv_descriptors.specs.declared.rows.SwitchRow.{SwitchRow}
 use Rattle.mv_descriptors.specs.declared.rows.FunctionRow.{FunctionRow}
-use Rattle.mv_descriptors.specs.declared.rows.VariantRow.{VariantRow}
-use Rattle.mv_descriptors.specs.declared.rows.GuardRow.{GuardRow}
 use Rattle.mv_descriptors.specs.declared.rows.SiteRow.{SiteRow}
 use Rattle.mv_descriptors.specs.Widths.{SwitchClean, FunctionClean, VariantClean}
 use Rattle.mv_isa.specs.declared.labelled.Labelled.{Labelled}
@@ -19,33 +17,22 @@ use Rattle.mv_isa.specs.Standing.{SlotStands, LineStands, word_at}
 use Rattle.mv_asm.specs.Outcome.{AreWordsUnder}
 use Rattle.mv_image.specs.Spelling.{Fields}
 use Rattle.mv_image.specs.WellFormed.{IsInText, FitsSwitch, FitsFunction, FitsVariant, FitsSite, FitsGuard}
-use Rattle.mv_image.specs.Faults.{lengths_in}
-use Rattle.mv_image.specs.Format.{IsWithin, RowsFit, LeavesZeros, AreApart, IsIdentifier, AreNamed, FitsFormat}
+use Rattle.mv_image.specs.Format.{IsWithin, IsIdentifier, AreNamed, FitsFormat}
 use Rattle.mv_image.specs.Groups.{AreGrouped, GroupsFit, GroupsBelong, GroupsAreRows}
 use Rattle.mv_linker.specs.declared.parts.Parts.{Parts}
 use Rattle.mv_linker.specs.declared.parts.PartSwitch.{PartSwitch}
 use Rattle.mv_linker.specs.declared.parts.PartFunction.{PartFunction}
 use Rattle.mv_linker.specs.declared.parts.PartVariant.{PartVariant}
 use Rattle.mv_linker.specs.Linked.{codes, function_variants, variant_codes, linked_lines, AreParts}
-use Rattle.mv_linker.specs.Tables.{switch_row, function_row, variant_row, variant_rows, guards_of, sites_from, place_among, attributed_numbers, slot_count, BeginsWithWords, IsRange, CallsAmong, FitsPartSwitch, FitsPartFunction, FitsPartVariant, kinds_of, FitTables}
+use Rattle.mv_linker.specs.Tables.{switch_row, function_row, variant_row, variant_rows, sites_from, place_among, attributed_numbers, BeginsWithWords, IsRange, CallsAmong, FitsPartFunction, FitsPartVariant, kinds_of, FitTables}
 use Rattle.mv_linker.specs.Outcome.{datum_word, image_with, HasFewSites, WithinLimit}
 use Rattle.mv_linker.proofs.Entered.{in_text, next_in_text, entry_in_text, entry_before, entry_outside}
 use Rattle.mv_linker.proofs.Slots.{slot_is_site, behind_slot}
-use Rattle.mv_linker.proofs.Rowed.{padded_zeros, switch_fits, function_fits, variant_clean, variant_fits, IsRowed, all_rowed, guard_fits, variant_guards, groups_of, function_counts, group_counts, group_guards, variant_row_count, are_few, AreFew}
-use Rattle.mv_linker.proofs.Sited.{row_at, slots_of_codes, lines_call, IsAmong, among, IsSite, AreSites, site_is, sites_are, site_length}
+use Rattle.mv_linker.proofs.Rowed.{padded_zeros, switch_fits, function_fits, variant_clean, variant_fits, IsRowed, all_rowed, guard_fits, variant_guards, groups_of, function_counts, group_counts, group_guards, variant_row_count, are_few}
+use Rattle.mv_linker.proofs.Sited.{row_at, slots_of_codes, lines_call, IsAmong, among, site_is, sites_are, site_length}
+use Rattle.mv_num.proofs.Lists.{slice_get-left, slice_get-right}
 
 -- ---- codes by number
-
-slice_get-left : {X : Type 0} (xs ys : List X) (k : ℕ) (x : X) → slice_get xs k ≡ Some x → slice_get (xs ++ ys) k ≡ Some x
-slice_get-left [] ys k x found = absurd (let bad : ⊥ = cc in bad)
-slice_get-left (y ∷ xs) ys zero x found = found
-slice_get-left (y ∷ xs) ys (suc k) x found = slice_get-left xs ys k x found
-
-slice_get-right : {X : Type 0} (xs ys : List X) (k : ℕ) (x : X) → slice_get ys k ≡ Some x → slice_get (xs ++ ys) (length xs + k) ≡ Some x
-slice_get-right [] ys k x found = let same : k ≡ 0 + k = omega arith in subst (λ i. slice_get ys i ≡ Some x) same found
-slice_get-right (y ∷ xs) ys k x found =
-    let same : suc (length xs + k) ≡ length (y ∷ xs) + k = omega arith in
-    subst (λ i. slice_get (y ∷ (xs ++ ys)) i ≡ Some x) same (slice_get-right xs ys k x found)
 
 pub function_code : (parts : Parts) (f : ℕ) (code : Labelled) → slice_get parts.functions f ≡ Some code → slice_get (codes parts) f ≡ Some code
 function_code parts f code found = slice_get-left parts.functions (variant_codes (function_variants parts.attributed)) f code found

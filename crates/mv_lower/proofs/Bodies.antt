@@ -25,6 +25,7 @@ use Rattle.mv_lower.specs.Naming.{flagged, Flags, marked, seen_marks, code_names
 use Rattle.mv_lower.specs.Programs.{ended, no_marks, is_set, is_named, AreMarks}
 use Rattle.mv_lower_expressions.proofs.Forms.{map_push}
 use Rattle.mv_lower.proofs.Switching.{next_item}
+use Rattle.mv_num.proofs.Booleans.{or_false, or_taken_in}
 
 -- ---- code
 
@@ -45,16 +46,8 @@ pub ruleset endings = (ended_void, ended_value)
 
 -- ---- flags
 
-or_none : (a : Bool) → (a || false) ≡ a
-or_none true = refl
-or_none false = refl
-
-flag_here : (b z : Bool) → (true || z) ≡ (b || (true || z))
-flag_here true z = refl
-flag_here false z = refl
-
 pub is_set_flagged : (ns : List ℕ) (flags : List Bool) (k : ℕ) → k < length flags → is_set (flagged ns flags) k ≡ (is_set flags k || is_among k ns)
-is_set_flagged [] flags k h = sym (or_none (is_set flags k))
+is_set_flagged [] flags k h = sym (or_false (is_set flags k))
 is_set_flagged (n ∷ ns) flags k h =
     let long = length-set flags n true in
     is_set_flagged ns (slice_set flags n true) k (omega (arith, long)) ∙ by (nat_eq k n) refl
@@ -63,7 +56,7 @@ is_set_flagged (n ∷ ns) flags k h =
     by true e =
         let same = eqb-true k n e in
         ap (λ b. b || is_among k ns) (get_or-set_at flags n k true false same (omega arith)) ∙
-        (flag_here (is_set flags k) (is_among k ns) ∙ ap (λ b. is_set flags k || (b || is_among k ns)) (sym e))
+        (or_taken_in (is_set flags k) (is_among k ns) ∙ ap (λ b. is_set flags k || (b || is_among k ns)) (sym e))
     by false e = ap (λ b. b || is_among k ns) (get_or-set_other flags n k true false (eqb-false k n e)) ∙ ap (λ b. is_set flags k || (b || is_among k ns)) (sym e)
 
 -- ---- rooms and marks

@@ -6,7 +6,6 @@ use Rattle.mv_ast.specs.declared.program.Known.{Known}
 use Rattle.mv_ir.specs.declared.tree.Tree.{Tree}
 use Rattle.mv_ir.specs.declared.tree.Tree as tr
 use Rattle.mv_ir.specs.declared.tree.Tree.TheOpen as tree
-use Rattle.mv_ir.specs.declared.tree.Tree.TheOpen.{Tree-F}
 use Rattle.mv_ir.specs.declared.stm.Array.{Array}
 use Rattle.mv_ir.specs.declared.stm.Callee.{Callee}
 use Rattle.mv_ir.specs.declared.stm.Callee.TheVariants as callee
@@ -16,7 +15,7 @@ use Rattle.mv_ir.specs.declared.stm.Stm.TheOpen as stm
 use Rattle.mv_ir.specs.declared.stm.Stm.TheOpen.{Stm-F}
 use Rattle.mv_ir.specs.declared.stm.Stm.TheViews.{roll-Stm}
 use Rattle.mv_ir.specs.declared.stm.Stm.TheVariants.{rolls-Back}
-use Rattle.mv_ir.specs.declared.stm.Stm.TheFolds.{fold-roll-Stm, map-Stm}
+use Rattle.mv_ir.specs.declared.stm.Stm.TheFolds.{map-Stm}
 use Rattle.mv_ir.proofs.Lists.{joined_push}
 use Rattle.mv_ir.specs.Measures.{joined, layer_trees, tree_reads, stm_trees, array_read, callee_trees}
 use Rattle.mv_ir.specs.WellFormed.{stm_named, layer_named}
@@ -24,6 +23,7 @@ use Rattle.mv_ir.proofs.Rolls.{reads_roll, trees_roll, named_roll}
 use Rattle.mv_lower_spec.specs.Functions.{callee_called, layer_called, stm_called}
 use Rattle.mv_lower.specs.Naming.{flagged, Flags, Names, marked, tree_names, trees_names, global_names, function_names, array_names, callee_names, stm_names, code_names}
 use Rattle.mv_lower_expressions.proofs.Emitting.{number_is, temp_is, global_is, function_is, unary_is, binary_is, narrow_is, set_is, set_global_is, divide_is, check_is, read_is, write_is, zero_is, if_is, loop_is, block_is, break_is, call_is, known_is, return_is}
+use Rattle.mv_lower_spec.proofs.Common.{called_roll}
 
 flagged_both : (xs ys : List ℕ) (flags : List Bool) → flagged (xs ++ ys) flags ≡ flagged ys (flagged xs flags)
 flagged_both [] ys flags = refl
@@ -72,10 +72,6 @@ names_of r s c = record { read = r; stored = s; called = c }
 
 same_names : (r r' s s' c c' : List ℕ) → r ≡ r' → s ≡ s' → c ≡ c' → names_of r s c ≡ names_of r' s' c'
 same_names r r' s s' c c' e f h = ap (λ l. names_of l s c) e ∙ (ap (λ l. names_of r' l c) f ∙ ap (λ l. names_of r' s' l) h)
-
-called_roll : (x : Stm-F Stm) → stm_called (roll-Stm x) ≡ layer_called (map-Stm Stm (List ℕ) stm_called x)
-unfolding stm_called
-called_roll x = fold-roll-Stm (List ℕ) layer_called x
 
 -- the names of a statement, by one layer of it
 abbrev layer_names : Stm-F Stm → Names

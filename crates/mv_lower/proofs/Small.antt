@@ -12,7 +12,6 @@ use Rattle.mv_ast.specs.declared.program.Arm.{Arm, Arm-F, out-Arm, roll-Arm, out
 use Rattle.mv_ast.specs.Counts.{expr_nodes, own_nodes, stmt_sum, arm_sum, stmt_nodes, nodes}
 use Rattle.mv_ir.proofs.Induction.{Each}
 use Rattle.mv_source_forms.specs.Lists.{all_of}
-use Rattle.mv_lower_spec.proofs.Expressions.{split}
 use Rattle.mv_lower_spec.proofs.Bare.{bare_of, bare_arms, labels_of, labelled_switch}
 use Rattle.mv_source_forms.specs.Labels.{ArmLabels, labels_layer, arm_labels_layer, stmt_labelled, arm_labels}
 use Rattle.mv_source_forms.specs.WellFormed.{IsWellFormed}
@@ -20,6 +19,7 @@ use Rattle.mv_source_forms.proofs.StatementInduction.{StmtChildren, stmt_ind}
 use Rattle.mv_lower.specs.Programs.{HasRoom, IsSmall}
 use Rattle.mv_lower.specs.Statements.{stmt_size, stmts_size}
 use Rattle.mv_lower_expressions.proofs.Sizes.{sum_cons, before_suc}
+use Rattle.mv_num.proofs.Booleans.{and_cases}
 
 -- ---- counts
 
@@ -52,7 +52,7 @@ labelled_inside a = all_of (map stmt_labelled (out-Arm a).body)
 all_inside : (arms : List Arm) → all_of (map (λ (a : ArmLabels). a.holds) (map arm_labels arms)) ≡ true → all_of (map labelled_inside arms) ≡ true
 all_inside [] h = refl
 all_inside (a ∷ arms) h =
-    let s = split (arm_labels a).holds (all_of (map (λ (b : ArmLabels). b.holds) (map arm_labels arms))) h in
+    let s = and_cases (arm_labels a).holds (all_of (map (λ (b : ArmLabels). b.holds) (map arm_labels arms))) h in
     and_from (labelled_inside a) (all_of (map labelled_inside arms)) (sym (ap (λ (z : ArmLabels). z.holds) (labels_of a)) ∙ s.0) (all_inside arms s.1)
 
 -- ---- sizes
@@ -69,7 +69,7 @@ FewArm a = FewIn (out-Arm a)
 few_stmts : (body : List Stmt) → Each Few body → all_of (map stmt_labelled body) ≡ true → sum (map sized body) ≤ 3 * sum (map stmt_nodes body)
 few_stmts [] h l = omega arith
 few_stmts (s ∷ body) h l =
-    let ls = split (stmt_labelled s) (all_of (map stmt_labelled body)) l in
+    let ls = and_cases (stmt_labelled s) (all_of (map stmt_labelled body)) l in
     let here = h.0 ls.0 in
     let rest = few_stmts body h.1 ls.1 in
     let a = sum_cons sized s body in
@@ -79,7 +79,7 @@ few_stmts (s ∷ body) h l =
 few_arms : (arms : List Arm) → Each FewArm arms → all_of (map labelled_inside arms) ≡ true → sum (map arm_sized arms) ≤ 3 * sum (map arm_nodes arms) + bare_arms arms
 few_arms [] h l = omega arith
 few_arms (x ∷ arms) h l =
-    let ls = split (labelled_inside x) (all_of (map labelled_inside arms)) l in
+    let ls = and_cases (labelled_inside x) (all_of (map labelled_inside arms)) l in
     let here = h.0 ls.0 in
     let rest = few_arms arms h.1 ls.1 in
     let a = sum_cons arm_sized x arms in
@@ -94,7 +94,7 @@ two_lists f xs ys = sum_by-append (λ n. n) (map f xs) (map f ys)
 few_lists : (xs ys : List Stmt) → Each Few xs → Each Few ys → (all_of (map stmt_labelled xs) && all_of (map stmt_labelled ys)) ≡ true →
     sum (map sized xs ++ map sized ys) ≤ 3 * sum (map stmt_nodes xs ++ map stmt_nodes ys)
 few_lists xs ys h k l =
-    let ls = split (all_of (map stmt_labelled xs)) (all_of (map stmt_labelled ys)) l in
+    let ls = and_cases (all_of (map stmt_labelled xs)) (all_of (map stmt_labelled ys)) l in
     let a = few_stmts xs h ls.0 in
     let b = few_stmts ys k ls.1 in
     let c = two_lists sized xs ys in

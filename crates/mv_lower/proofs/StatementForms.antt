@@ -1,10 +1,10 @@
 -- What statements are lowered to, form by form.
 use Rattle.std.proofs.Common.{◌≡◌, ℕ, suc, ◌+◌, ◌*◌, ◌-◌, ◌≤◌, Bool, cond, List, [], ◌∷◌, ◌++◌, map, length, max, Option, Some, None, refl, sym, ap, ◌∙◌, arith, append_assoc}
 use Rattle.std.specs.Prelude.{sum, ◌||◌, nat_le, option_to_list}
-use Rattle.std.proofs.lemmas.List.Sums.{sum_by-append, sum_by-cons}
+use Rattle.std.proofs.lemmas.List.Sums.{sum_by-cons}
 use Rattle.mv_ast.specs.declared.program.Function.{Function}
 use Rattle.mv_ast.specs.declared.program.Expr.{Expr}
-use Rattle.mv_ast.specs.declared.program.Stmt.{Stmt, Stmt-F, out-Stmt, map-Stmt, fold-Stmt, fold_out-Stmt}
+use Rattle.mv_ast.specs.declared.program.Stmt.{Stmt, Stmt-F, out-Stmt, map-Stmt, fold_out-Stmt}
 use Rattle.mv_ast.specs.declared.program.Stmt as at
 use Rattle.mv_ast.specs.declared.program.Stmt.TheOpen as stmt
 use Rattle.mv_ast.specs.declared.program.Stmt.TheVariants.{outs-Block, outs-Clear, outs-Express, outs-If, outs-While, outs-Do, outs-For, outs-Switch, outs-Break, outs-Continue, outs-Return}
@@ -22,6 +22,7 @@ use Rattle.mv_lower_expressions.specs.Expressions.{expr_at, expr_size, exprs_siz
 use Rattle.mv_lower.specs.Statements.{stmt_at, stmts_at, arm_at, express_of, return_of, if_of, while_of, do_of, for_of, break_at, continue_at, end_at, return_at, stmt_size, arm_size, stmts_size, arms_size}
 use Rattle.mv_lower.specs.Declarations.{values_stored, values_top_of, clear_of}
 use Rattle.mv_lower.specs.Switches.{default_place, tests_from, all_tests, arms_of, switch_of}
+use Rattle.mv_num.proofs.Lists.{length_map, sum_append}
 
 -- ---- sizes
 
@@ -32,9 +33,6 @@ sized : (s : Stmt) (x : Stmt-F Stmt Arm) → out-Stmt s ≡ x → stmt_size s �
 unfolding stmt_size
 sized s x e =
     fold_out-Stmt ℕ ℕ (stmt_sum expr_nodes own_nodes (λ a. 1 + length a.labels)) (arm_sum expr_nodes own_nodes (λ a. 1 + length a.labels)) s ∙ ap size_of_layer e
-
-both_sums : (xs ys : List ℕ) → sum (xs ++ ys) ≡ sum xs + sum ys
-both_sums xs ys = sum_by-append (λ x. x) xs ys
 
 pub size_block : (body : List Stmt) → stmt_size (at.Block body) ≡ 1 + stmts_size body
 unfolding stmt_size
@@ -52,7 +50,7 @@ pub size_if : (e : Expr) (a b : List Stmt) → stmt_size (at.If e a b) ≡ 1 + (
 unfolding expr_size stmt_size
 size_if e a b =
     let h = sized _ _ (outs-If e a b) in
-    let s = both_sums (map (stmt_total expr_nodes own_nodes (λ a. 1 + length a.labels)) a) (map (stmt_total expr_nodes own_nodes (λ a. 1 + length a.labels)) b) in
+    let s = sum_append (map (stmt_total expr_nodes own_nodes (λ a. 1 + length a.labels)) a) (map (stmt_total expr_nodes own_nodes (λ a. 1 + length a.labels)) b) in
     omega (arith, h, s)
 
 pub size_while : (e : Expr) (body : List Stmt) → stmt_size (at.While e body) ≡ 1 + (expr_size e + stmts_size body)
@@ -75,7 +73,7 @@ unfolding stmt_size
 size_for first test step body =
     let h = sized _ _ (outs-For first test step body) in
     let o = two_options test step in
-    let s = both_sums (map (stmt_total expr_nodes own_nodes (λ a. 1 + length a.labels)) first) (map (stmt_total expr_nodes own_nodes (λ a. 1 + length a.labels)) body) in
+    let s = sum_append (map (stmt_total expr_nodes own_nodes (λ a. 1 + length a.labels)) first) (map (stmt_total expr_nodes own_nodes (λ a. 1 + length a.labels)) body) in
     omega (arith, h, o, s)
 
 pub size_switch : (e : Expr) (arms : List Arm) → stmt_size (at.Switch e arms) ≡ 1 + (expr_size e + arms_size arms)
@@ -185,14 +183,10 @@ stored_given : (m k : ℕ) (size : Option ℕ) (l i : ℕ) (vs : List Lowered) �
 stored_given m k size l i [] = refl
 stored_given m k size l i (v ∷ vs) = ap (λ rest. v.code ++ (store_word size l i v.tree ∷ rest)) (stored_given m k size l (suc i) vs)
 
-pub map_length : {A B : Type 0} (f : A → B) (xs : List A) → length (map f xs) ≡ length xs
-map_length f [] = refl
-map_length f (x ∷ xs) = ap suc (map_length f xs)
-
 pub clear_is : (size : Option ℕ) (l : ℕ) (names_itself : Bool) (vs : List Lowered) (n : ℕ) → clear_of size l names_itself vs n ≡ cleared size l names_itself (length vs) (values_stored size l 0 vs) (values_top_of vs n)
 unfolding clear_of values_stored values_top_of
 clear_is size l names_itself vs n =
-    ap (λ k. cleared size l names_itself k (store_values n size l 0 (map given vs)) (values_top n (map given vs))) (map_length given vs) ∙
+    ap (λ k. cleared size l names_itself k (store_values n size l 0 (map given vs)) (values_top n (map given vs))) (length_map given vs) ∙
     ap (λ c. cleared size l names_itself (length vs) c (values_top n (map given vs))) (stored_given n 0 size l 0 vs)
 
 pub stmt_clear : (g : Function) (l : ℕ) (values : List Expr) (j : Jumps) →

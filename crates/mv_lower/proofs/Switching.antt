@@ -7,11 +7,11 @@ use Rattle.mv_ast.specs.declared.program.Arm.{Arm}
 use Rattle.mv_ir.specs.declared.stm.Stm.{Stm}
 use Rattle.mv_lower_spec.specs.Lowered.{number, temp, binary, set, choose, is_empty}
 use Rattle.mv_lower_spec.specs.Statements.{Jumps, Code, LoweredArm, in_arm, arm_code, arms_code, arms_top}
-use Rattle.mv_lower_spec.proofs.Expressions.{no}
 use Rattle.mv_lower.specs.Statements.{stmts_at, arm_at}
 use Rattle.mv_lower.specs.Switches.{arms_of}
 use Rattle.mv_lower.proofs.Sequences.{same_code}
 use Rattle.mv_lower.proofs.StatementForms.{arm_is}
+use Rattle.mv_num.proofs.Booleans.{from_falsity}
 
 -- the next item and the rest
 pub next_item : {A : Type 0} (xs : List A) (i : ℕ) (x : A) → i < length xs → x ≡ get_or xs i x → drop i xs ≡ x ∷ drop (i + 1) xs
@@ -19,10 +19,10 @@ next_item xs i x h e = let s : suc i ≡ i + 1 = omega arith in drop-cons xs i x
 
 pub arm_none : (n i : ℕ) (code : List Stm) → is_empty code ≡ true → arm_code n i code ≡ code
 arm_none n i [] e = refl
-arm_none n i (x ∷ xs) e = no e
+arm_none n i (x ∷ xs) e = from_falsity e
 
 pub arm_some : (n i : ℕ) (code : List Stm) → is_empty code ≡ false → arm_code n i code ≡ choose (binary 10 (number i) (temp n)) [] (code ++ set n (number 0) ∷ []) ∷ []
-arm_some n i [] e = no (sym e)
+arm_some n i [] e = from_falsity (sym e)
 arm_some n i (x ∷ xs) e = refl
 
 pub ruleset arm_forms = (arm_none, arm_some)

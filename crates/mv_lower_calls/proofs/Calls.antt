@@ -15,10 +15,11 @@ use Rattle.mv_ir.specs.Outcome.{End, Stuck, Call}
 use Rattle.mv_source_forms.specs.Names.{is_void, takes}
 use Rattle.mv_lower_spec.specs.Correct.{CallShown, seen, end_of, is_astray}
 use Rattle.mv_lower_spec.specs.Law.{strict_context}
-use Rattle.mv_lower_spec.proofs.Expressions.{no, split}
 use Rattle.mv_source_forms.specs.WellFormed.{IsWellFormedFunction}
 use Rattle.mv_lower_correct.proofs.Knot.{Agreed, lowered_calls, all_agreed}
 use Rattle.mv_lower_calls.specs.SourceCalls.{meaningless, as_call, any_frame, call_by_source, source_call}
+use Rattle.mv_num.proofs.Booleans.{and_cases, from_falsity}
+use Rattle.mv_ast.proofs.Common.{truth_told}
 
 -- how a call ends that stops
 pub stopped_end : (why : Stop) (w : World) (z : Bool) → is_astray why ≡ z → cond (is_astray why) Stuck (end_of why (seen w)) ≡ cond z Stuck (end_of why (seen w))
@@ -28,11 +29,6 @@ stopped_end why w z e = ap (λ a. cond a Stuck (end_of why (seen w))) e
 any_caller : (void : Bool) (f : Frame) (w : World) (o : Outcome Frame Flow) → as_call void (back_in any_frame w o) ≡ as_call void (back_in f w o)
 any_caller void f w (Came flow a left work) = refl
 any_caller void f w (Stopped why left work) = refl
-
-same_void : (a b : Bool) → same_truth a b ≡ true → a ≡ b
-same_void true b q = sym q
-same_void false true q = no q
-same_void false false q = refl
 
 module _ (p : Program) (numbers : List ℕ) where
   -- what a function does that is there and is given as many arguments as it has parameters
@@ -44,11 +40,11 @@ module _ (p : Program) (numbers : List ℕ) where
   -- so it is with a function that a call fits
   fitting_call_is : (k f : ℕ) (void : Bool) (vs : List ℕ) (a : Frame) (w : World) (o : Option Function) → takes o (length vs) void ≡ true →
       call_by_source p numbers k f o vs w ≡ as_call void (call_of p (strict_context p numbers k) f o vs a w)
-  fitting_call_is k f void vs a w None e = no e
+  fitting_call_is k f void vs a w None e = from_falsity e
   fitting_call_is k f void vs a w (Some g) e =
-      let both = split (nat_eq g.params (length vs)) (same_truth (is_void g.result) void) e in
+      let both = and_cases (nat_eq g.params (length vs)) (same_truth (is_void g.result) void) e in
       ap (λ z. if z then as_call (is_void g.result) (call_of p (strict_context p numbers k) f (Some g) vs any_frame w) else meaningless) both.0 ∙
-      ap (λ v. as_call v (call_of p (strict_context p numbers k) f (Some g) vs any_frame w)) (same_void (is_void g.result) void both.1) ∙
+      ap (λ v. as_call v (call_of p (strict_context p numbers k) f (Some g) vs any_frame w)) (truth_told (is_void g.result) void both.1) ∙
       any_caller void a w (flow_of_all p (strict_context p numbers k) g.body (frame_of f g vs) (deeper g w))
 
   -- Where a call in the code does what one in the source does, so does the source's own.

@@ -18,7 +18,6 @@ use Rattle.mv_meaning.specs.declared.state.Lvalue.TheVariants as lvalue
 use Rattle.mv_meaning.specs.Meaning.{Evaluation, Context, Denotation, read_lvalue, store_lvalue, global_element, local_element, value_or_trap, unless_zero, truth_of, values_of, known_value, call_at, call_through, target_lvalue, form_value, expr_denotation, form_of, lvalue_of, denotation_of, value_of}
 use Rattle.mv_meaning.proofs.Equations.{ctype_of_lem}
 use Rattle.mv_source_forms.specs.Lists.{all_of}
-use Rattle.mv_lower_spec.proofs.Expressions.{split}
 use Rattle.mv_source_forms.proofs.ExpressionFolds.{ExprFolds, expr_fold, expr_folds, expr_family, along_exprs}
 use Rattle.mv_source_forms.proofs.ExpressionInduction.{FormChildren, TargetChildren}
 use Rattle.mv_source_forms.proofs.Tests.{one_holds, two_hold, three_hold, last_apart}
@@ -26,6 +25,7 @@ use Rattle.mv_source_forms.specs.Scopes.{Scope, form_in, target_in, layer_in, na
 use Rattle.mv_lower_correct.proofs.Agreement.{Agree, Post, Alike, alike_give, alike_counted, alike_unless, alike_bind, alike_by}
 use Rattle.mv_lower_correct.proofs.Leaves as leaves
 use Rattle.mv_lower_correct.proofs.Leaves.{Found, InScope}
+use Rattle.mv_num.proofs.Booleans.{and_cases}
 
 module _ (p : Program) (lost fine : Stop → Type 0) (traps : (n : ℕ) → n < 256 → fine (Trapped n)) (scope : Scope) (context : Bool → Context) (steady : leaves.SteadyCalls p lost fine traps scope context) where
   abbrev Keeps : {A : Type 0} → (Bool → Evaluation A) → Type 0
@@ -73,7 +73,7 @@ module _ (p : Program) (lost fine : Stop → Type 0) (traps : (n : ℕ) → n < 
   values_keep : (es : List Expr) → Each S es → all_of (map (names_declared scope) es) ≡ true → Keeps (vals es)
   values_keep [] h b = gives []
   values_keep (e ∷ es) h b =
-      let bs = split (names_declared scope e) (all_of (map (names_declared scope) es)) b in
+      let bs = and_cases (names_declared scope e) (all_of (map (names_declared scope) es)) b in
       both (val e) (λ v z. bind (vals es z) (λ vs. give (v ∷ vs))) (h.0 bs.0) (λ v. both (vals es) (λ vs z. give (v ∷ vs)) (values_keep es h.1 bs.1) (λ vs. gives (v ∷ vs)))
 
   abbrev agreed : ExprFolds ((Bool → CType → Evaluation ℕ) × Bool) ((Bool → Evaluation Lvalue) × Bool) ((Bool → Denotation) × Bool)
@@ -142,7 +142,7 @@ module _ (p : Program) (lost fine : Stop → Type 0) (traps : (n : ℕ) → n < 
   target_layer (form.GlobalAt g e) h b =
       alike_bind lost fine (Kept {A = ℕ}) (Found p lost fine traps scope) (Agree scope) (val e) (λ i z. global_element g i) (h b) (λ i. leaves.found_global p lost fine traps scope g i)
   target_layer (form.LocalAt l e) h b =
-      let bs = split (scope l) (names_declared scope e) b in
+      let bs = and_cases (scope l) (names_declared scope e) b in
       alike_bind lost fine (Kept {A = ℕ}) (Found p lost fine traps scope) (Agree scope) (val e) (λ i z. local_element l i) (h bs.1) (λ i. leaves.found_local p lost fine traps scope l i bs.0)
 
   -- An expression that names declared locals alone.

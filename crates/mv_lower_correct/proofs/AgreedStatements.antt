@@ -23,8 +23,6 @@ use Rattle.mv_meaning.specs.Meaning.{Evaluation, Context, ArmDenotation, store_l
 use Rattle.mv_meaning.proofs.Equations.{flow_of-Block, flow_of-Clear, flow_of-Express, flow_of-If, flow_of-While, flow_of-Do, flow_of-For, flow_of-Switch, flow_of-Break, flow_of-Continue, flow_of-Return, arm_of_lem}
 use Rattle.mv_meaning.proofs.SwitchArms.{leads_to}
 use Rattle.mv_source_forms.specs.Lists.{all_of}
-use Rattle.mv_lower_spec.proofs.Expressions.{split}
-use Rattle.mv_lower_spec.proofs.Forms.{words_is}
 use Rattle.mv_lower_spec.proofs.Switches.{in_order_both}
 use Rattle.mv_source_forms.specs.Jumps.{Jumping, all_jump, jumps_layer, arm_jumps_layer, stmt_jumps, arm_jumps}
 use Rattle.mv_source_forms.specs.Scopes.{Scope, Scoped, with_local, with_declared, scope_behind, names_declared, option_declared, all_scoped, scoped_layer, arm_scoped_layer, stmt_scoped, arm_scoped}
@@ -34,6 +32,8 @@ use Rattle.mv_lower_correct.proofs.Agreement.{Agree, Post, Alike, AlikeOutcome, 
 use Rattle.mv_lower_correct.proofs.Leaves as leaves
 use Rattle.mv_lower_correct.proofs.Leaves.{agree_changed}
 use Rattle.mv_lower_correct.proofs.AgreedExpressions.{expr_keeps}
+use Rattle.mv_num.proofs.Booleans.{and_cases}
+use Rattle.mv_ast.proofs.Common.{objects_at}
 
 -- ---- scopes
 
@@ -151,13 +151,13 @@ module _ (p : Program) (lost fine : Stop → Type 0) (traps : (n : ℕ) → n < 
         Alike lost fine (Agree inner) (Leads scope inner b c) (puts l i es)
     put scope inner b c l i [] there h = goes scope inner b c
     put scope inner b c l i (e ∷ es) there h =
-        let bs = split (names_declared inner e) (all_of (map (names_declared inner) es)) h in
+        let bs = and_cases (names_declared inner e) (all_of (map (names_declared inner) es)) h in
         alike_bind lost fine (Kept inner) (Leads scope inner b c) (Agree inner) (val e) (λ v z. bind (store_lvalue (lvalue.Local l i) v) (λ _. puts l (suc i) es z)) (value inner e bs.0)
         (λ v. alike_bind lost fine (Kept inner) (Leads scope inner b c) (Agree inner) (λ z. store_lvalue (lvalue.Local l i) v) (λ _ z. puts l (suc i) es z) (leaves.keeps_store p lost fine traps inner (lvalue.Local l i) v there)
         (λ u. put scope inner b c l (suc i) es there bs.1))
 
     size_same : (scope : Scope) (l : ℕ) (f g : Frame) → Agree scope f g → size_of f.locals l ≡ size_of g.locals l
-    size_same scope l f g h = ap length (words_is f.locals l) ∙ h.sizes l ∙ sym (ap length (words_is g.locals l))
+    size_same scope l f g h = ap length (objects_at f.locals l) ∙ h.sizes l ∙ sym (ap length (objects_at g.locals l))
 
     still_there : (scope : Scope) (l k : ℕ) → with_local l scope k ≡ true → (k ≡ l → ⊥) → scope k ≡ true
     still_there scope l k e ne = ap (λ z. z || scope k) (sym (ne_eqb k l ne)) ∙ e
@@ -192,8 +192,8 @@ module _ (p : Program) (lost fine : Stop → Type 0) (traps : (n : ℕ) → n < 
     in_scopes (s ∷ body) h scope b c q j =
         let mid = with_declared (stmt_scoped s).declares scope in
         let last = scope_behind (map stmt_scoped body) mid in
-        let qs = split ((stmt_scoped s).holds scope) (all_scoped (map stmt_scoped body) mid) q in
-        let js = split (stmt_jumps s b c) (all_jump (map stmt_jumps body) b c) j in
+        let qs = and_cases ((stmt_scoped s).holds scope) (all_scoped (map stmt_scoped body) mid) q in
+        let js = and_cases (stmt_jumps s b c) (all_jump (map stmt_jumps body) b c) j in
         alike_bind lost fine (Leads scope mid b c) (Leads scope last b c) (Agree scope) (λ z. flow_of p (context z) s) (λ flow z. then_on flow (all body z)) (h.0 scope b c qs.0 js.0)
         (then_leads scope mid last b c (all body) (wider_declared (stmt_scoped s).declares scope) (in_scopes body h.1 mid b c qs.1 js.1))
 
@@ -232,16 +232,16 @@ module _ (p : Program) (lost fine : Stop → Type 0) (traps : (n : ℕ) → n < 
         Flows scope scope b c (bodies (drop n arms))
     arms_flow zero [] h scope b c q j = goes scope scope b c
     arms_flow zero (a ∷ arms) h scope b c q j =
-        let qs = split (arm_scoped a scope) (all_of (map (λ a. a scope) (map arm_scoped arms))) q in
-        let js = split (arm_jumps a b c) (all_jump (map arm_jumps arms) b c) j in
+        let qs = and_cases (arm_scoped a scope) (all_of (map (λ a. a scope) (map arm_scoped arms))) q in
+        let js = and_cases (arm_jumps a b c) (all_jump (map arm_jumps arms) b c) j in
         alike_pointwise lost fine (Agree scope) (Leads scope scope b c) (bodies (a ∷ arms)) (λ z. bind (first_body a z) (λ flow. then_on flow (bodies arms z)))
         (λ z. in_order_both (arm_of p (context z) a).body (bodies_of (map (arm_of p (context z)) arms)))
         (alike_bind lost fine (Leads scope scope b c) (Leads scope scope b c) (Agree scope) (first_body a) (λ flow z. then_on flow (bodies arms z)) (h.0 scope b c qs.0 js.0)
         (then_leads scope scope scope b c (bodies arms) (λ l e. e) (arms_flow zero arms h.1 scope b c qs.1 js.1)))
     arms_flow (suc n) [] h scope b c q j = goes scope scope b c
     arms_flow (suc n) (a ∷ arms) h scope b c q j =
-        let qs = split (arm_scoped a scope) (all_of (map (λ a. a scope) (map arm_scoped arms))) q in
-        let js = split (arm_jumps a b c) (all_jump (map arm_jumps arms) b c) j in
+        let qs = and_cases (arm_scoped a scope) (all_of (map (λ a. a scope) (map arm_scoped arms))) q in
+        let js = and_cases (arm_jumps a b c) (all_jump (map arm_jumps arms) b c) j in
         arms_flow n arms h.1 scope b c qs.1 js.1
 
     switched : (v : ℕ) (arms : List Arm) → Each Q arms → (scope : Scope) (b c : Bool) → all_of (map (λ a. a scope) (map arm_scoped arms)) ≡ true → all_jump (map arm_jumps arms) true c ≡ true →
@@ -271,20 +271,20 @@ module _ (p : Program) (lost fine : Stop → Type 0) (traps : (n : ℕ) → n < 
         counts scope scope b c (roll-Stmt x) (λ z. bind (val e z) (λ v. give Goes)) (λ z. flow_of-Express p (context z) (roll-Stmt x) e (out-roll-Stmt x)) (valued scope scope b c (val e) (λ v z. give Goes) (value scope e q) (λ v. goes scope scope b c))
     layer (stmt.If e yes_part no_part) h scope b c q j =
         let x : Stmt-F Stmt Arm = stmt.If e yes_part no_part in
-        let q0 = split (names_declared scope e) (all_scoped (map stmt_scoped yes_part) scope && all_scoped (map stmt_scoped no_part) scope) q in
-        let q1 = split (all_scoped (map stmt_scoped yes_part) scope) (all_scoped (map stmt_scoped no_part) scope) q0.1 in
-        let js = split (all_jump (map stmt_jumps yes_part) b c) (all_jump (map stmt_jumps no_part) b c) j in
+        let q0 = and_cases (names_declared scope e) (all_scoped (map stmt_scoped yes_part) scope && all_scoped (map stmt_scoped no_part) scope) q in
+        let q1 = and_cases (all_scoped (map stmt_scoped yes_part) scope) (all_scoped (map stmt_scoped no_part) scope) q0.1 in
+        let js = and_cases (all_jump (map stmt_jumps yes_part) b c) (all_jump (map stmt_jumps no_part) b c) j in
         counts scope scope b c (roll-Stmt x) (λ z. bind (val e z) (λ v. unless_zero v (all no_part z) (all yes_part z))) (λ z. flow_of-If p (context z) (roll-Stmt x) e yes_part no_part (out-roll-Stmt x))
         (tested scope b c (val e) (all no_part) (all yes_part) (value scope e q0.0) (within no_part h.1 scope b c q1.1 js.1) (within yes_part h.0 scope b c q1.0 js.0))
     layer (stmt.While e body) h scope b c q j =
         let x : Stmt-F Stmt Arm = stmt.While e body in
-        let qs = split (names_declared scope e) (all_scoped (map stmt_scoped body) scope) q in
+        let qs = and_cases (names_declared scope e) (all_scoped (map stmt_scoped body) scope) q in
         let turn : Bool → Evaluation Flow = λ z. bind (all body z) (λ flow. after_body flow (loop (roll-Stmt x) z)) in
         counts scope scope b c (roll-Stmt x) (λ z. bind (val e z) (λ v. unless_zero v (give Goes) (turn z))) (λ z. flow_of-While p (context z) (roll-Stmt x) e body (out-roll-Stmt x))
         (tested scope b c (val e) (λ z. give Goes) turn (value scope e qs.0) (goes scope scope b c) (around scope b c (all body) (loop (roll-Stmt x)) (within body h scope true true qs.1 j) (again x scope b c q j)))
     layer (stmt.Do body e) h scope b c q j =
         let x : Stmt-F Stmt Arm = stmt.Do body e in
-        let qs = split (names_declared scope e) (all_scoped (map stmt_scoped body) scope) q in
+        let qs = and_cases (names_declared scope e) (all_scoped (map stmt_scoped body) scope) q in
         let test : Bool → Evaluation Flow = λ z. bind (val e z) (λ v. unless_zero v (give Goes) (loop (roll-Stmt x) z)) in
         counts scope scope b c (roll-Stmt x) (λ z. bind (all body z) (λ flow. after_body flow (test z))) (λ z. flow_of-Do p (context z) (roll-Stmt x) body e (out-roll-Stmt x))
         (around scope b c (all body) test (within body h scope true true qs.1 j)
@@ -294,10 +294,10 @@ module _ (p : Program) (lost fine : Stop → Type 0) (traps : (n : ℕ) → n < 
         let rest : Stmt-F Stmt Arm = stmt.For [] test step body in
         let inner = scope_behind (map stmt_scoped first) scope in
         let parts = option_declared inner step && all_scoped (map stmt_scoped body) inner in
-        let q0 = split (all_scoped (map stmt_scoped first) scope) (option_declared inner test && parts) q in
-        let q1 = split (option_declared inner test) parts q0.1 in
-        let q2 = split (option_declared inner step) (all_scoped (map stmt_scoped body) inner) q1.1 in
-        let js = split (all_jump (map stmt_jumps first) b c) (all_jump (map stmt_jumps body) true true) j in
+        let q0 = and_cases (all_scoped (map stmt_scoped first) scope) (option_declared inner test && parts) q in
+        let q1 = and_cases (option_declared inner test) parts q0.1 in
+        let q2 = and_cases (option_declared inner step) (all_scoped (map stmt_scoped body) inner) q1.1 in
+        let js = and_cases (all_jump (map stmt_jumps first) b c) (all_jump (map stmt_jumps body) true true) j in
         let next : Bool → Evaluation Flow = λ z. bind (optional_val 0 step z) (λ _. loop (roll-Stmt rest) z) in
         let turn : Bool → Evaluation Flow = λ z. bind (all body z) (λ flow. after_body flow (next z)) in
         let turns : Bool → Evaluation Flow = λ z. bind (optional_val 1 test z) (λ v. unless_zero v (give Goes) (turn z)) in
@@ -311,7 +311,7 @@ module _ (p : Program) (lost fine : Stop → Type 0) (traps : (n : ℕ) → n < 
         (then_leads scope inner inner b c turns (wider_behind (map stmt_scoped first) scope) right)))
     layer (stmt.Switch e arms) h scope b c q j =
         let x : Stmt-F Stmt Arm = stmt.Switch e arms in
-        let qs = split (names_declared scope e) (all_of (map (λ a. a scope) (map arm_scoped arms))) q in
+        let qs = and_cases (names_declared scope e) (all_of (map (λ a. a scope) (map arm_scoped arms))) q in
         counts scope scope b c (roll-Stmt x) (λ z. bind (val e z) (λ v. switch_flow v (map (arm_of p (context z)) arms))) (λ z. flow_of-Switch p (context z) (roll-Stmt x) e arms (out-roll-Stmt x))
         (valued scope scope b c (val e) (λ v z. switch_flow v (map (arm_of p (context z)) arms)) (value scope e qs.0) (λ v. switched v arms h scope b c qs.1 j))
     layer stmt.Break h scope b c q j =

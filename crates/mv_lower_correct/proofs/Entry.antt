@@ -26,6 +26,7 @@ use Rattle.mv_lower_spec.specs.Functions.{elements_of, array_sizes, lower_functi
 use Rattle.mv_lower_spec.proofs.Forms.{word_is}
 use Rattle.mv_source_forms.specs.WellFormed.{parameters, IsWellFormedFunction}
 use Rattle.mv_lower_correct.proofs.Agreement.{Agree}
+use Rattle.mv_num.proofs.Lists.{index_left, index_beyond, all_tail, all_head}
 
 -- ---- what the code's state holds, as words of locals
 
@@ -46,11 +47,6 @@ shown_at i [] s l k e lt = absurd (omega (arith, lt))
 shown_at i (x ∷ ls) s zero k e lt = ap (λ j. shown_words x.size j s) (omega (arith, e))
 shown_at i (x ∷ ls) s (suc l) k e lt = shown_at (suc i) ls s l k (omega (arith, e)) (omega (arith, lt))
 
-beyond : (xs : List (List ℕ)) (l : ℕ) → length xs ≤ l → slice_index_or xs l [] ≡ []
-beyond [] l le = refl
-beyond (x ∷ xs) zero le = absurd (omega (arith, le))
-beyond (x ∷ xs) (suc l) le = beyond xs l (omega (arith, le))
-
 -- ---- what it begins with
 
 arrays_count : (f : ℕ → ℕ → ℕ) (ls : List Local) → length (first_arrays f (array_sizes ls)) ≡ length ls
@@ -61,11 +57,6 @@ array_count : (f : ℕ → ℕ → ℕ) (ls : List Local) (l n : ℕ) → size_i
 array_count f [] l n e = absurd (cc)
 array_count f (x ∷ ls) zero n e = items_count (elements_of x.size) (f 0) ∙ ap elements_of e
 array_count f (x ∷ ls) (suc l) n e = array_count (λ i. f (suc i)) ls l n e
-
-index_left : (xs ys : List ℕ) (i : ℕ) → i < length xs → slice_index (xs ++ ys) i ≡ slice_index xs i
-index_left [] ys i lt = absurd (omega (arith, lt))
-index_left (x ∷ xs) ys zero lt = refl
-index_left (x ∷ xs) ys (suc i) lt = index_left xs ys i (omega (arith, lt))
 
 -- ---- the source's frame
 
@@ -93,12 +84,6 @@ local_words (suc n) ls [] l e le lt = absurd (omega (arith, e))
 local_words (suc n) [] (v ∷ vs) l e le lt = absurd (omega (arith, lt))
 local_words (suc n) (x ∷ ls) (v ∷ vs) zero e le lt = absurd (omega (arith, le))
 local_words (suc n) (x ∷ ls) (v ∷ vs) (suc l) e le lt = local_words n ls vs l (omega (arith, e)) (omega (arith, le)) (omega (arith, lt))
-
-pub all_head : {A : Type 0} (P : A → Type 0) (x : A) (xs : List A) → All P (x ∷ xs) → P x
-all_head P x xs h = h 0 x (omega arith)
-
-pub all_tail : {A : Type 0} (P : A → Type 0) (x : A) (xs : List A) → All P (x ∷ xs) → All P xs
-all_tail P x xs h k d lt = h (suc k) d (omega (arith, lt))
 
 pub scalar_at : (n : ℕ) (ls : List Local) (l : ℕ) → All (λ (x : Local). x.size ≡ None) (take n ls) → l < n → size_in ls l ≡ None
 scalar_at zero ls l h lt = absurd (omega (arith, lt))
@@ -241,8 +226,8 @@ module _ (p : Program) where
         sizes l (inl lt) (inr high) =
             words_count l lt ∙ sym (ap length (local_words g.params g.locals vs l count high lt) ∙ length-replicate (words_of_size (size_in g.locals l)) 0)
         sizes l (inr ge) q =
-            ap length (beyond (shown_locals 0 g.locals s) l (omega (arith, ge, shown_count 0 g.locals s))) ∙
-            sym (ap length (beyond (map single vs ++ map zeros (drop g.params g.locals)) l (omega (arith, ge, counts, shown_count 0 g.locals s))))
+            ap length (index_beyond (shown_locals 0 g.locals s) l (omega (arith, ge, shown_count 0 g.locals s))) ∙
+            sym (ap length (index_beyond (map single vs ++ map zeros (drop g.params g.locals)) l (omega (arith, ge, counts, shown_count 0 g.locals s))))
 
         arguments : (l : ℕ) → l < g.params → slice_index_or (shown_locals 0 g.locals s) l [] ≡ slice_index_or (map single vs ++ map zeros (drop g.params g.locals)) l []
         arguments l low =

@@ -29,7 +29,6 @@ use Rattle.mv_lower_spec.specs.Correct.{Ground, resting, val, Shows, CallShown, 
 use Rattle.mv_lower_spec.specs.Law.{fits_call, strict_context}
 use Rattle.mv_lower_spec.proofs.Running as run
 use Rattle.mv_lower_spec.proofs.Running.{nodes_number}
-use Rattle.mv_lower_spec.proofs.Expressions.{no, split}
 use Rattle.mv_lower_spec.proofs.Flows.{code}
 use Rattle.mv_lower_spec.proofs.AllStatements.{body_correct}
 use Rattle.mv_source_forms.specs.Scopes.{Scope}
@@ -42,6 +41,7 @@ use Rattle.mv_lower_correct.proofs.Contexts.{function_flows}
 use Rattle.mv_lower_correct.proofs.Pairs.{Nothing, steady_same}
 use Rattle.mv_lower_correct.proofs.KnownAgree.{OwnIsLive, same_reads, known_agrees}
 use Rattle.mv_lower_correct.proofs.Entry.{entry_frame, ground_of, frame_for, code_for, code_is, shows_entry, agrees}
+use Rattle.mv_num.proofs.Booleans.{and_cases, from_falsity}
 
 abbrev pub call_from : Run → Call
 call_from r = record { cost = r.cost; end = body_end r.outcome }
@@ -94,8 +94,8 @@ Stays (Stopped why w work) = Unit {0}
 
 stays : (scope inner : Scope) (o q : Outcome Frame Flow) → AlikeOutcome Nothing Any Flow (Leads scope inner false false) o q → Stays o
 stays scope inner (Came Goes f w n) (Came b f' w' n') h = tt
-stays scope inner (Came Breaks f w n) (Came b f' w' n') h = no h.frames.0
-stays scope inner (Came Continues f w n) (Came b f' w' n') h = no h.frames.0
+stays scope inner (Came Breaks f w n) (Came b f' w' n') h = from_falsity h.frames.0
+stays scope inner (Came Continues f w n) (Came b f' w' n') h = from_falsity h.frames.0
 stays scope inner (Came (Returns v) f w n) (Came b f' w' n') h = tt
 stays scope inner (Came a f w n) (Stopped why' w' n') h = absurd h
 stays scope inner (Stopped why w n) q h = tt
@@ -250,9 +250,9 @@ module _ (p : Program) (numbers : List ℕ) (formed : (f : ℕ) (g : Function) �
     entered : (j : ℕ) → ((i : ℕ) → i ≤ j → Agreed lowered_calls i) → (idx : ℕ) (void : Bool) (vs : List ℕ) (f : Frame) (w : World) → w.depth ≡ frame.depth → w.live ≡ frame.live → HasGlobals p w →
         (o : Option Function) → slice_get p.functions idx ≡ o → takes o (length vs) void ≡ true →
         CallShown p frame own void (called (setting_of numbers p) (slice_get codes idx) (below j) vs frame.depth frame.live (seen w)) f w (call_of p (strict_context p numbers j) idx o vs f w)
-    entered j ih idx void vs f w hd hl globals None e t = no t
+    entered j ih idx void vs f w hd hl globals None e t = from_falsity t
     entered j ih idx void vs f w hd hl globals (Some g) e t =
-        let ts = split (nat_eq g.params (length vs)) (same_truth (is_void g.result) void) t in
+        let ts = and_cases (nat_eq g.params (length vs)) (same_truth (is_void g.result) void) t in
         let count : length vs ≡ g.params = sym (eqb-true g.params (length vs) ts.0) in
         let result : is_void g.result ≡ void = same (is_void g.result) void ts.1 in
         subst (λ v. CallShown p frame own v (called (setting_of numbers p) (slice_get codes idx) (below j) vs frame.depth frame.live (seen w)) f w (call_of p (strict_context p numbers j) idx (Some g) vs f w)) result
@@ -263,7 +263,7 @@ module _ (p : Program) (numbers : List ℕ) (formed : (f : ℕ) (g : Function) �
       where
         same : (a b : Bool) → same_truth a b ≡ true → a ≡ b
         same true b q = sym q
-        same false true q = no q
+        same false true q = from_falsity q
         same false false q = refl
 
   at_zero : Agreed lowered_calls zero

@@ -15,9 +15,10 @@ use Rattle.mv_meaning.specs.declared.state.Frame.{Frame}
 use Rattle.mv_meaning.specs.declared.state.Lvalue.{Lvalue}
 use Rattle.mv_meaning.specs.declared.state.Lvalue.TheVariants as lvalue
 use Rattle.mv_meaning.specs.Meaning.{Evaluation, Context, value_in, read_lvalue, store_lvalue, element_below, global_element, local_element, byte_of, known_value, value_or_trap, call_at, call_numbered, call_through}
-use Rattle.mv_lower_spec.proofs.Forms.{words_is, word_is, with_word_is}
+use Rattle.mv_lower_spec.proofs.Forms.{word_is, with_word_is}
 use Rattle.mv_source_forms.specs.Scopes.{Scope}
 use Rattle.mv_lower_correct.proofs.Agreement.{Agree, Post, Alike, AlikeOutcome, alike_give, alike_stop, alike_either, alike_by}
+use Rattle.mv_ast.proofs.Common.{objects_at}
 
 -- ---- one local changed
 
@@ -108,7 +109,7 @@ module _ (p : Program) (lost fine : Stop → Type 0) (traps : (n : ℕ) → n < 
   pub found_local : (l i : ℕ) → scope l ≡ true → Alike lost fine (Agree scope) Found (λ z. local_element l i)
   found_local l i k f g w h =
       subst (λ size. AlikeOutcome lost fine Lvalue Found (local_element l i f w) (element_below size i (lvalue.Local l) g w))
-      (ap length (words_is f.locals l) ∙ h.sizes l ∙ sym (ap length (words_is g.locals l)))
+      (ap length (objects_at f.locals l) ∙ h.sizes l ∙ sym (ap length (objects_at g.locals l)))
       (below_found (length (words_or_none (slice_get f.locals l))) i (lvalue.Local l) k f g w h)
 
   pub keeps_trap : (o : Option ℕ) → Keeps (λ z. value_or_trap o)

@@ -36,7 +36,6 @@ use Rattle.mv_lower_spec.specs.Correct.{resting, Shows, seen, is_astray, astray,
 use Rattle.mv_lower_spec.specs.Law.{fits_call, strict_context}
 use Rattle.mv_lower_spec.specs.Statements as statements
 use Rattle.mv_lower_spec.specs.Functions.{lower_function, lower_program}
-use Rattle.mv_lower_spec.proofs.Expressions.{no}
 use Rattle.mv_source_forms.specs.WellFormed.{parameters, IsWellFormed, IsWellFormedFunction, IsWellFormedGlobal}
 use Rattle.mv_lower_correct.specs.Laws.{HasGlobals, IsExecution}
 use Rattle.mv_source_forms.specs.Scopes.{Scope}
@@ -46,8 +45,11 @@ use Rattle.mv_lower_correct.proofs.AgreedStatements.{Leads}
 use Rattle.mv_lower_correct.proofs.Contexts.{function_flows}
 use Rattle.mv_lower_correct.proofs.Pairs.{Nothing, steady_same}
 use Rattle.mv_lower_correct.proofs.KnownAgree.{OwnIsLive}
-use Rattle.mv_lower_correct.proofs.Entry.{all_head, all_tail, entry_frame, code_is, ground_of, entry_shown, agrees}
+use Rattle.mv_lower_correct.proofs.Entry.{entry_frame, code_is, ground_of, entry_shown, agrees}
 use Rattle.mv_lower_correct.proofs.Knot.{BodyDoes, Agreed, body_does, lowered_calls, same_levels, all_agreed}
+use Rattle.mv_num.proofs.Booleans.{from_falsity}
+use Rattle.mv_ast.proofs.Common.{truth_same}
+use Rattle.mv_num.proofs.Lists.{all_tail, all_head}
 
 -- ---- the first world
 
@@ -67,10 +69,6 @@ integer_result ctypes.Void h = absurd h
 integer_result (ctypes.Scalar kind) h = refl
 integer_result (ctypes.Pointer s) h = refl
 
-same_void : (a : Bool) → same_truth a a ≡ true
-same_void true = refl
-same_void false = refl
-
 -- a call through a pointer may reach each function of the pointer's type
 admitted : (p : Program) → IsWellFormed p → Admits p (fits_call p)
 admitted p formed s f signature here typed =
@@ -81,7 +79,7 @@ admitted p formed s f signature here typed =
     let void : is_void signature.result ≡ is_void g.result = ap (λ (x : Signature). is_void x.result) (sym same) ∙ ap is_void typed.result in
     ap (λ o. takes o (length signature.params) (is_void signature.result)) typed.defined ∙
     ap (λ b. b && same_truth (is_void g.result) (is_void signature.result)) (eq-eqb g.params (length signature.params) (sym long)) ∙
-    ap (same_truth (is_void g.result)) void ∙ same_void (is_void g.result)
+    ap (same_truth (is_void g.result)) void ∙ truth_same (is_void g.result)
 
 -- ---- no program goes astray
 
@@ -168,7 +166,7 @@ module _ (p : Program) (numbers : List ℕ) (formed : IsWellFormed p) (numbering
       sym (ap (λ o. bound_value p first.bindings p.main o x) here ∙ ap (λ z. cond z (binding_value p main (slice_get first.bindings (attributed_before p.functions p.main)) x) None) (formed.entry main here))
 
   lively : OwnIsLive p frame p.main
-  lively g e q = absurd (no (sym (formed.entry g e) ∙ q))
+  lively g e q = absurd (from_falsity (sym (formed.entry g e) ∙ q))
 
   shows_main : (contents : Contents) → Shows (resting (ground_of p numbers frame first p.main main)) (entry_frame p p.main main (start contents)) first (start contents)
   shows_main contents = entry_shown p p.main main here (formed.functions p.main main here) [] no_arguments contents first globals numbers frame first (record {

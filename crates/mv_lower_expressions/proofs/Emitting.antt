@@ -18,10 +18,10 @@ use Rattle.mv_ir.specs.declared.stm.Stm.TheOpen as stm
 use Rattle.mv_ir.specs.declared.stm.Stm.TheVariants.{rolls-Set, rolls-SetGlobal, rolls-Divide, rolls-Check, rolls-Read, rolls-Write, rolls-Zero, rolls-If, rolls-Loop, rolls-Block, rolls-Break, rolls-Call, rolls-Known, rolls-Return}
 use Rattle.mv_ir.specs.declared.stm.Stm.TheViews.{roll-Stm}
 use Rattle.mv_ir.specs.Trees.{depth}
-use Rattle.mv_ir.proofs.Rolls.{depth_roll}
 use Rattle.mv_ir.proofs.Joining.{depth_positive}
 use Rattle.mv_lower_spec.specs.Lowered.{is_low, is_empty}
 use Rattle.mv_lower_expressions.specs.Values.{is_leaf}
+use Rattle.mv_ir.proofs.Common.{depth_number, depth_temp, depth_global, depth_function, depth_unary, depth_binary, depth_narrow}
 
 pub number_is : (n : ℕ) → tr.Number n ≡ roll-Tree (tree.Number n)
 number_is n = sym (rolls-Number n)
@@ -89,27 +89,6 @@ return_is v = sym (rolls-Return v)
 pub ruleset emitted = (number_is, temp_is, global_is, function_is, unary_is, binary_is, narrow_is, set_is, set_global_is, divide_is, check_is, read_is, write_is, zero_is, if_is, loop_is, block_is, break_is, call_is, known_is, return_is)
 
 -- ---- depths
-
-depth_number : (n : ℕ) → depth (tr.Number n) ≡ 1
-depth_number n = ap depth (number_is n) ∙ depth_roll (tree.Number n)
-
-depth_temp : (n : ℕ) → depth (tr.Temp n) ≡ 1
-depth_temp n = ap depth (temp_is n) ∙ depth_roll (tree.Temp n)
-
-depth_global : (n : ℕ) → depth (tr.Global n) ≡ 1
-depth_global n = ap depth (global_is n) ∙ depth_roll (tree.Global n)
-
-depth_function : (n : ℕ) → depth (tr.Function n) ≡ 1
-depth_function n = ap depth (function_is n) ∙ depth_roll (tree.Function n)
-
-depth_unary : (o : ℕ) (a : Tree) → depth (tr.Unary o a) ≡ suc (depth a)
-depth_unary o a = ap depth (unary_is o a) ∙ depth_roll (tree.Unary o a)
-
-depth_binary : (o : ℕ) (a b : Tree) → depth (tr.Binary o a b) ≡ suc (max (depth a) (depth b))
-depth_binary o a b = ap depth (binary_is o a b) ∙ depth_roll (tree.Binary o a b)
-
-depth_narrow : (k : Kind) (a : Tree) → depth (tr.Narrow k a) ≡ suc (depth a)
-depth_narrow k a = ap depth (narrow_is k a) ∙ depth_roll (tree.Narrow k a)
 
 within : (t : Tree) (d l : ℕ) → depth t ≡ d → d ≤ l → nat_le (depth t) l ≡ true
 within t d l e h = le-leb (depth t) l (omega arith)

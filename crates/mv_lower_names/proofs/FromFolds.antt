@@ -13,16 +13,16 @@ use Rattle.mv_ast.specs.Counts.{words_of_size}
 use Rattle.mv_ast.specs.Layers.{stmt_expressions, stmt_parts}
 use Rattle.mv_ir.proofs.Induction.{Each}
 use Rattle.mv_source_forms.specs.Lists.{all_of}
-use Rattle.mv_lower_spec.proofs.Expressions.{split}
 use Rattle.mv_source_forms.proofs.ExpressionInduction.{FormChildren, TargetChildren}
 use Rattle.mv_source_forms.specs.Scopes.{form_in, layer_in}
 use Rattle.mv_source_forms.specs.Uses.{target_in_parts, all_layer}
 use Rattle.mv_source_forms.proofs.Tests.{one_holds, two_hold, three_hold, all_apart, last_apart}
 use Rattle.mv_lower_names.proofs.Premises.{OwnNames, KnownOf, Optional, StmtKnown, StmtsKnown}
+use Rattle.mv_num.proofs.Booleans.{and_cases}
 
 pub each_true : {A : Type 0} (test : A → Bool) (xs : List A) → all_of (map test xs) ≡ true → Each (λ x. test x ≡ true) xs
 each_true test [] q = tt
-each_true test (x ∷ xs) q = let s = split (test x) (all_of (map test xs)) q in (s.0, each_true test xs s.1)
+each_true test (x ∷ xs) q = let s = and_cases (test x) (all_of (map test xs)) q in (s.0, each_true test xs s.1)
 
 -- a test of forms that asks for one of all their parts
 module _ (F : ℕ → Type 0) (K : Known → Type 0) (C : ℕ → Type 0) (test : Form-F Bool Bool Bool → Bool) where
@@ -138,7 +138,7 @@ module _ (F : ℕ → Type 0) (K : Known → Type 0) (C : ℕ → Type 0) (test 
 
     optionals : (o u : Option Expr) → all_of (map holds (option_to_list o ++ option_to_list u)) ≡ true → MayHold o × MayHold u
     optionals None u q = (tt, optional u q)
-    optionals (Some e) u q = let s = split (holds e) (all_of (map holds (option_to_list u))) q in (s.0, optional u s.1)
+    optionals (Some e) u q = let s = and_cases (holds e) (all_of (map holds (option_to_list u))) q in (s.0, optional u s.1)
 
     stmt_children : (x : Stmt-F Stmt Arm) → Counts x → all_of (map holds (stmt_expressions (tested_stmt x))) ≡ true → all_of (stmt_parts (tested_stmt x)) ≡ true → Parts x
     stmt_children (stmt.Block body) c q r = each_true stmt_holds body r
@@ -167,7 +167,7 @@ module _ (F : ℕ → Type 0) (K : Known → Type 0) (C : ℕ → Type 0) (test 
       test_stmts_known = record {
         parts = λ x q.
             let t = at_stmt x q in
-            let s = split (all_of (map holds (stmt_expressions (tested_stmt x)))) (all_of (stmt_parts (tested_stmt x))) t.parts in
+            let s = and_cases (all_of (map holds (stmt_expressions (tested_stmt x)))) (all_of (stmt_parts (tested_stmt x))) t.parts in
             stmt_children x t.counts s.0 s.1;
         labels = λ x q. (at_arm x q).labels;
         body = λ x q. each_true stmt_holds x.body (at_arm x q).body;

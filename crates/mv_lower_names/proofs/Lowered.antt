@@ -3,7 +3,6 @@ use Rattle.std.proofs.Common.{◌≡◌, ℕ, zero, suc, ◌+◌, ◌<◌, ◌�
 use Rattle.std.specs.Prelude.{◌&&◌, nat_eq, nat_lt, slice_get}
 use Rattle.std.proofs.lemmas.Bool.{ltb-true}
 use Rattle.std.proofs.lemmas.List.{length-map}
-use Rattle.std.proofs.lemmas.List.Elements.{All-nil, All-cons}
 use Rattle.mv_ast.specs.declared.program.Program.{Program}
 use Rattle.mv_ast.specs.declared.program.Function.{Function}
 use Rattle.mv_ast.specs.declared.program.Local.{Local}
@@ -24,7 +23,6 @@ use Rattle.mv_source_forms.specs.Typing.{IsTypedFunction}
 use Rattle.mv_source_forms.specs.Lists.{all_of}
 use Rattle.mv_source_forms.specs.Names.{is_void, size_in}
 use Rattle.mv_lower_spec.specs.Functions.{outermost, lower_body, ending, lower_function_code, lower_function, marked_from}
-use Rattle.mv_lower_spec.proofs.Expressions.{split, no}
 use Rattle.mv_source_forms.specs.Uses.{known_is_there, known_parameters, form_calls_known, calls_known, all_layer, all_arm_layer}
 use Rattle.mv_lower_shape.specs.Law.{IsFunctionOf}
 use Rattle.mv_lower_shape.proofs.WithinExpressions.{at_index}
@@ -36,10 +34,8 @@ use Rattle.mv_lower_names.proofs.Premises.{AnyNumber, any_number, KnownOf, Stmts
 use Rattle.mv_lower_names.proofs.Statements.{body_names}
 use Rattle.mv_lower_names.proofs.FromTypes as types
 use Rattle.mv_lower_names.proofs.FromFolds as tests
-
-all_from : {A : Type 0} (P : A → Type 0) (xs : List A) → Each P xs → All P xs
-all_from P [] h = All-nil P
-all_from P (x ∷ xs) h = All-cons P x xs h.0 (all_from P xs h.1)
+use Rattle.mv_num.proofs.Booleans.{and_cases, from_falsity}
+use Rattle.mv_ir.proofs.Common.{each_is_all}
 
 -- ---- a function
 
@@ -61,7 +57,7 @@ pub functions_there : (p : Program) (f : ℕ) (g : Function) → IsFunctionOf p 
 functions_there p f g h =
     let sizes = size_in g.locals in
     let typed = (at_index (IsTypedFunction p) p.functions f g h.formed.typed.functions h.there).body in
-    all_from (λ k. k < length p.functions) (functions (lower_function p g).code)
+    each_is_all (λ k. k < length p.functions) (functions (lower_function p g).code)
     (code_functions (types.IsThere p g sizes) (types.AnyKnown p g sizes) AnyNumber (lower_function_code g).code
     (function_names (types.IsThere p g sizes) (types.AnyKnown p g sizes) AnyNumber tt tt tt g (types.PF p g sizes) (types.PT p g sizes) (types.PE p g sizes) (types.PS p g sizes) (types.PA p g sizes)
     (types.typed_known p g sizes) (types.typed_stmts_known p g sizes) (types.body_known p g sizes g.body typed)))
@@ -95,7 +91,7 @@ module _ (K : Known → Type 0) (test : Form-F Bool Bool Bool → Bool) (g : Fun
   knowns_there tells q =
       let sizes = size_in g.locals in
       let layers = all_layer holds in
-      all_from K (knowns (lower_function_code g).code)
+      each_is_all K (knowns (lower_function_code g).code)
       (code_knowns AnyNumber K AnyNumber (lower_function_code g).code
       (function_names AnyNumber K AnyNumber tt tt tt g (tests.PF AnyNumber K AnyNumber test) (tests.PT AnyNumber K AnyNumber test) (tests.PE AnyNumber K AnyNumber test)
       (tests.PS AnyNumber K AnyNumber test sizes layers all_arm_layer) (tests.PA AnyNumber K AnyNumber test sizes layers all_arm_layer) (tests.test_known AnyNumber K AnyNumber test tells)
@@ -123,8 +119,8 @@ calls_tell p g (form.Through args e) q = record { own = tt; parts = q }
 calls_tell p g (form.Known k args) q =
     let all = all_of (map (calls_known p) args) in
     let count = nat_eq (length (map (calls_known p) args)) (known_parameters k) in
-    let s = split (known_is_there p k) (count && all) q in
-    record { own = s.0; parts = (split count all s.1).1 }
+    let s = and_cases (known_is_there p k) (count && all) q in
+    record { own = s.0; parts = (and_cases count all s.1).1 }
 
 pub orders_there : (p : Program) (f : ℕ) (g : Function) → IsFunctionOf p f g → All (λ k. known_is_there p k ≡ true) (knowns (lower_function p g).code)
 orders_there p f g h = knowns_there (IsKnownThere p) (form_calls_known p) g (calls_tell p g) (h.formed.functions f g h.there).known
@@ -132,8 +128,8 @@ orders_there p f g h = knowns_there (IsKnownThere p) (form_calls_known p) g (cal
 direct : (k : Known) → keeps_bindings k ≡ true → IsDirect k
 direct Getchar q = tt
 direct Putchar q = tt
-direct Poll q = no q
-direct (Plan code index) q = no q
+direct Poll q = from_falsity q
+direct (Plan code index) q = from_falsity q
 
 bindings_tell : (g : Function) (x : Form-F Form Target Expr) → form_never_rebinds (tests.tested AnyNumber IsDirect AnyNumber form_never_rebinds x) ≡ true → Tells IsDirect form_never_rebinds g x
 bindings_tell g (form.Number n) q = record { own = tt; parts = q }
@@ -150,7 +146,7 @@ bindings_tell g (form.Change op kind t a) q = record { own = tt; parts = q }
 bindings_tell g (form.After up t) q = record { own = tt; parts = q }
 bindings_tell g (form.Direct f args) q = record { own = tt; parts = q }
 bindings_tell g (form.Through args e) q = record { own = tt; parts = q }
-bindings_tell g (form.Known k args) q = let s = split (keeps_bindings k) (all_of (map never_rebinds args)) q in record { own = direct k s.0; parts = s.1 }
+bindings_tell g (form.Known k args) q = let s = and_cases (keeps_bindings k) (all_of (map never_rebinds args)) q in record { own = direct k s.0; parts = s.1 }
 
 pub only_direct : (p : Program) (f : ℕ) (g : Function) → slice_get p.functions f ≡ Some g → NeverRebinds p → All IsDirect (knowns (lower_function p g).code)
 only_direct p f g there never = knowns_there IsDirect form_never_rebinds g (bindings_tell g) (never f g there)
@@ -175,13 +171,13 @@ word n q = ltb-true n (2 ^ 32) q
 
 all_words : (ls : List ℕ) → all_of (map is_word ls) ≡ true → Each IsWord ls
 all_words [] q = tt
-all_words (l ∷ ls) q = let s = split (is_word l) (all_of (map is_word ls)) q in (word l s.0, all_words ls s.1)
+all_words (l ∷ ls) q = let s = and_cases (is_word l) (all_of (map is_word ls)) q in (word l s.0, all_words ls s.1)
 
 order : (k : Known) → fits_order k ≡ true → IsOrder k
 order Getchar q = tt
 order Putchar q = tt
 order Poll q = tt
-order (Plan code index) q = let s = split (nat_lt code 256) (is_word index) q in (ltb-true code 256 s.0, word index s.1)
+order (Plan code index) q = let s = and_cases (nat_lt code 256) (is_word index) q in (ltb-true code 256 s.0, word index s.1)
 
 words_tell : (x : Form-F Form Target Expr) → form_has_words (tests.tested AnyNumber IsOrder IsWord form_has_words x) ≡ true → tests.Tells AnyNumber IsOrder IsWord form_has_words x
 words_tell (form.Number n) q = record { own = word n q; parts = refl }
@@ -198,7 +194,7 @@ words_tell (form.Change op kind t a) q = record { own = tt; parts = q }
 words_tell (form.After up t) q = record { own = tt; parts = q }
 words_tell (form.Direct f args) q = record { own = tt; parts = q }
 words_tell (form.Through args e) q = record { own = tt; parts = q }
-words_tell (form.Known k args) q = let s = split (fits_order k) (all_of (map has_words args)) q in record { own = order k s.0; parts = s.1 }
+words_tell (form.Known k args) q = let s = and_cases (fits_order k) (all_of (map has_words args)) q in record { own = order k s.0; parts = s.1 }
 
 small_sizes : (locals : List Local) → All (λ (x : Local). words_of_size x.size ≤ 262144) locals → (l : ℕ) → words_of_size (size_in locals l) ≤ 262144
 small_sizes [] h l = omega arith
@@ -213,12 +209,12 @@ module _ (sizes : ℕ → Option ℕ) (small : (l : ℕ) → words_of_size (size
   StmtTold = tests.StmtTells AnyNumber IsOrder IsWord form_has_words sizes layer_has_words arm_has_words
 
   plain : (n : ℕ) (b : Bool) → (is_word n && b) ≡ true → b ≡ true
-  plain n b q = (split (is_word n) b q).1
+  plain n b q = (and_cases (is_word n) b q).1
 
   stmt_words : (x : Stmt-F Stmt Arm) → layer_has_words (tested x) ≡ true → StmtTold x
   stmt_words (stmt.Block body) q = record { counts = tt; parts = plain 1 _ q }
   stmt_words (stmt.Clear l values) q =
-      let s = split (is_word (length values + 1)) (all_layer has_words (tested (stmt.Clear l values))) q in
+      let s = and_cases (is_word (length values + 1)) (all_layer has_words (tested (stmt.Clear l values))) q in
       let few = word (length values + 1) s.0 in
       let less = small l in
       record { counts = λ i lt. omega (arith, lt, few, less); parts = s.1 }
@@ -229,7 +225,7 @@ module _ (sizes : ℕ → Option ℕ) (small : (l : ℕ) → words_of_size (size
   stmt_words (stmt.For first when step body) q = record { counts = tt; parts = plain 1 _ q }
   stmt_words (stmt.Switch e arms) q =
       let arm_test = tests.arm_holds AnyNumber IsOrder IsWord form_has_words sizes layer_has_words arm_has_words in
-      let s = split (is_word (length (map arm_test arms) + 1)) (all_layer has_words (tested (stmt.Switch e arms))) q in
+      let s = and_cases (is_word (length (map arm_test arms) + 1)) (all_layer has_words (tested (stmt.Switch e arms))) q in
       let few = word (length (map arm_test arms) + 1) s.0 in
       let same = length-map arms arm_test in
       record { counts = λ i lt. omega (arith, lt, few, same); parts = s.1 }
@@ -241,7 +237,7 @@ module _ (sizes : ℕ → Option ℕ) (small : (l : ℕ) → words_of_size (size
       tests.ArmTells AnyNumber IsOrder IsWord form_has_words sizes layer_has_words arm_has_words x
   arm_words x q =
       let stmt_test = tests.stmt_holds AnyNumber IsOrder IsWord form_has_words sizes layer_has_words arm_has_words in
-      let s = split (all_of (map is_word x.labels)) (all_of (map stmt_test x.body)) q in
+      let s = and_cases (all_of (map is_word x.labels)) (all_of (map stmt_test x.body)) q in
       record { labels = all_words x.labels s.0; body = s.1 }
 
 pub words_there : (p : Program) (f : ℕ) (g : Function) → IsFunctionOf p f g → NumbersAreWords p → HasWords (lower_function p g).code
@@ -255,6 +251,6 @@ words_there p f g h numbers =
     (tests.test_stmts_known AnyNumber IsOrder IsWord form_has_words sizes layer_has_words arm_has_words (stmt_words sizes small) (arm_words sizes small))
     (tests.each_true (tests.stmt_holds AnyNumber IsOrder IsWord form_has_words sizes layer_has_words arm_has_words) g.body (numbers f g h.there)) in
     record {
-      constants = all_from IsWord (constants (lower_function_code g).code) (code_constants AnyNumber IsOrder IsWord (lower_function_code g).code code);
-      orders = all_from IsOrder (knowns (lower_function_code g).code) (code_knowns AnyNumber IsOrder IsWord (lower_function_code g).code code);
+      constants = each_is_all IsWord (constants (lower_function_code g).code) (code_constants AnyNumber IsOrder IsWord (lower_function_code g).code code);
+      orders = each_is_all IsOrder (knowns (lower_function_code g).code) (code_knowns AnyNumber IsOrder IsWord (lower_function_code g).code code);
     }

@@ -1,50 +1,34 @@
 -- Code that names only functions, known functions and constants of some kinds.
-use Rattle.std.proofs.Common.{◌≡◌, ℕ, List, [], ◌∷◌, ◌++◌, map, Option, Some, sym, ◌∙◌, ap, subst}
+use Rattle.std.proofs.Common.{ℕ, List, [], ◌∷◌, ◌++◌, Option, Some, sym, subst}
 use Rattle.mv_num.specs.declared.kind.Kind.{Kind}
 use Rattle.mv_ast.specs.declared.program.Known.{Known}
 use Rattle.mv_ir.specs.declared.tree.Tree.{Tree}
 use Rattle.mv_ir.specs.declared.tree.Tree.TheOpen.{Tree-F}
 use Rattle.mv_ir.specs.declared.tree.Tree.TheOpen as tree
 use Rattle.mv_ir.specs.declared.tree.Tree.TheViews.{roll-Tree}
-use Rattle.mv_ir.specs.declared.tree.Tree.TheFolds.{map-Tree, fold-roll-Tree}
+use Rattle.mv_ir.specs.declared.tree.Tree.TheFolds.{map-Tree}
 use Rattle.mv_ir.specs.declared.stm.Array.{Array}
 use Rattle.mv_ir.specs.declared.stm.Callee.TheVariants as callee
 use Rattle.mv_ir.specs.declared.stm.Stm.{Stm}
 use Rattle.mv_ir.specs.declared.stm.Stm.TheOpen.{Stm-F}
 use Rattle.mv_ir.specs.declared.stm.Stm.TheOpen as stm
 use Rattle.mv_ir.specs.declared.stm.Stm.TheViews.{roll-Stm}
-use Rattle.mv_ir.specs.declared.stm.Stm.TheFolds.{map-Stm, fold-roll-Stm}
-use Rattle.mv_ir.specs.Measures.{joined, layer_trees, stm_trees, trees}
+use Rattle.mv_ir.specs.declared.stm.Stm.TheFolds.{map-Stm}
+use Rattle.mv_ir.specs.Measures.{layer_trees, stm_trees, trees}
 use Rattle.mv_ir.proofs.Induction.{Each, each_append}
-use Rattle.mv_ir.proofs.Keeping.{map_append}
-use Rattle.mv_ir.proofs.Lists.{joined_append}
 use Rattle.mv_ir.proofs.Rolls.{trees_roll}
 use Rattle.mv_lower_spec.specs.Lowered.{number, temp, global, function, unary, binary, set, set_global, divide, choose, call, check, read, write, known}
 use Rattle.mv_lower_spec.specs.Lower.{narrowed}
 use Rattle.mv_lower_spec.specs.Statements.{return_with, break, repeat, enclosed}
 use Rattle.mv_select_control.specs.Labels.{functions_layer, tree_functions, functions_of_all, named_layer, stm_functions, functions}
 use Rattle.mv_select_bodies.specs.SelectedBodies.{constants_layer, tree_constants, constants_of_all, constants, knowns_layer, stm_knowns, knowns}
+use Rattle.mv_select_control.proofs.TargetsStand.{named_roll}
+use Rattle.mv_select_control.proofs.TreeNames.{functions_roll}
+use Rattle.mv_select_bodies.proofs.NamedTrees.{constants_roll}
+use Rattle.mv_select_bodies.proofs.FineCode.{knowns_roll}
+use Rattle.mv_select_bodies.proofs.Common.{constants_append}
 
 -- ---- one level at a time
-
-pub tree_functions_roll : (x : Tree-F Tree) → tree_functions (roll-Tree x) ≡ functions_layer (map-Tree Tree (List ℕ) tree_functions x)
-unfolding tree_functions
-tree_functions_roll x = fold-roll-Tree (List ℕ) functions_layer x
-
-pub tree_constants_roll : (x : Tree-F Tree) → tree_constants (roll-Tree x) ≡ constants_layer (map-Tree Tree (List ℕ) tree_constants x)
-unfolding tree_constants
-tree_constants_roll x = fold-roll-Tree (List ℕ) constants_layer x
-
-pub stm_functions_roll : (x : Stm-F Stm) → stm_functions (roll-Stm x) ≡ named_layer (map-Stm Stm (List ℕ) stm_functions x)
-unfolding stm_functions
-stm_functions_roll x = fold-roll-Stm (List ℕ) named_layer x
-
-pub stm_knowns_roll : (x : Stm-F Stm) → stm_knowns (roll-Stm x) ≡ knowns_layer (map-Stm Stm (List Known) stm_knowns x)
-unfolding stm_knowns
-stm_knowns_roll x = fold-roll-Stm (List Known) knowns_layer x
-
-pub constants_append : (xs ys : List Tree) → constants_of_all (xs ++ ys) ≡ constants_of_all xs ++ constants_of_all ys
-constants_append xs ys = ap joined (map_append tree_constants xs ys) ∙ joined_append (map tree_constants xs) (map tree_constants ys)
 
 -- ---- what names only what is of a kind
 
@@ -71,7 +55,7 @@ module _ (F : ℕ → Type 0) (K : Known → Type 0) (C : ℕ → Type 0) where
   -- ---- trees
 
   tree_of : (x : Tree-F Tree) → Each F (functions_layer (map-Tree Tree (List ℕ) tree_functions x)) → Each C (constants_layer (map-Tree Tree (List ℕ) tree_constants x)) → TreeNames (roll-Tree x)
-  tree_of x h k = record { functions = subst (Each F) (sym (tree_functions_roll x)) h; constants = subst (Each C) (sym (tree_constants_roll x)) k }
+  tree_of x h k = record { functions = subst (Each F) (sym (functions_roll x)) h; constants = subst (Each C) (sym (constants_roll x)) k }
 
   pub number_names : (n : ℕ) → C n → TreeNames (number n)
   number_names n h = tree_of (tree.Number n) tt (h, tt)
@@ -125,8 +109,8 @@ module _ (F : ℕ → Type 0) (K : Known → Type 0) (C : ℕ → Type 0) where
   stm_of : (x : Stm-F Stm) → Each F (named_layer (map-Stm Stm (List ℕ) stm_functions x)) → Each K (knowns_layer (map-Stm Stm (List Known) stm_knowns x)) →
       Each C (constants_of_all (layer_trees (map-Stm Stm (List Tree) stm_trees x))) → StmNames (roll-Stm x)
   stm_of x h k l = record {
-    functions = subst (Each F) (sym (stm_functions_roll x)) h;
-    knowns = subst (Each K) (sym (stm_knowns_roll x)) k;
+    functions = subst (Each F) (sym (named_roll x)) h;
+    knowns = subst (Each K) (sym (knowns_roll x)) k;
     constants = subst (λ ts. Each C (constants_of_all ts)) (sym (trees_roll x)) l;
   }
 

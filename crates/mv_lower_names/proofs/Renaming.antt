@@ -20,35 +20,39 @@ use Rattle.mv_regalloc.proofs.RenamedTrees.{renamed_tree_roll, renamed_stm_roll}
 use Rattle.mv_select_control.specs.Labels.{tree_functions, functions_of_all, callee_functions, named_layer, stm_functions, functions}
 use Rattle.mv_select_bodies.specs.SelectedBodies.{tree_constants, constants_of_all, constants, knowns_layer, stm_knowns}
 use Rattle.mv_lower_names.specs.Laws.{NamesTheSame}
-use Rattle.mv_lower_names.proofs.Naming.{tree_functions_roll, tree_constants_roll, stm_functions_roll, stm_knowns_roll, constants_append}
+use Rattle.mv_select_control.proofs.TargetsStand.{named_roll}
+use Rattle.mv_select_control.proofs.TreeNames.{functions_roll}
+use Rattle.mv_select_bodies.proofs.NamedTrees.{constants_roll}
+use Rattle.mv_select_bodies.proofs.FineCode.{knowns_roll}
+use Rattle.mv_select_bodies.proofs.Common.{constants_append}
 
 module _ (c : ℕ → ℕ) where
   -- ---- trees
 
   functions_node : (x : Tree-F Tree) → TreeChildren (λ t. tree_functions (renamed_tree c t) ≡ tree_functions t) x → tree_functions (renamed_tree c (roll-Tree x)) ≡ tree_functions (roll-Tree x)
   functions_node (tree.Number n) h = ap tree_functions (renamed_tree_roll c (tree.Number n))
-  functions_node (tree.Temp n) h = ap tree_functions (renamed_tree_roll c (tree.Temp n)) ∙ tree_functions_roll (tree.Temp (c n)) ∙ sym (tree_functions_roll (tree.Temp n))
+  functions_node (tree.Temp n) h = ap tree_functions (renamed_tree_roll c (tree.Temp n)) ∙ functions_roll (tree.Temp (c n)) ∙ sym (functions_roll (tree.Temp n))
   functions_node (tree.Global g) h = ap tree_functions (renamed_tree_roll c (tree.Global g))
   functions_node (tree.Function f) h = ap tree_functions (renamed_tree_roll c (tree.Function f))
-  functions_node (tree.Unary o a) h = ap tree_functions (renamed_tree_roll c (tree.Unary o a)) ∙ tree_functions_roll (tree.Unary o (renamed_tree c a)) ∙ h ∙ sym (tree_functions_roll (tree.Unary o a))
+  functions_node (tree.Unary o a) h = ap tree_functions (renamed_tree_roll c (tree.Unary o a)) ∙ functions_roll (tree.Unary o (renamed_tree c a)) ∙ h ∙ sym (functions_roll (tree.Unary o a))
   functions_node (tree.Binary o a b) h =
-      ap tree_functions (renamed_tree_roll c (tree.Binary o a b)) ∙ tree_functions_roll (tree.Binary o (renamed_tree c a) (renamed_tree c b)) ∙
-      ap (λ l. l ++ tree_functions (renamed_tree c b)) h.0 ∙ ap (λ l. tree_functions a ++ l) h.1 ∙ sym (tree_functions_roll (tree.Binary o a b))
-  functions_node (tree.Narrow k a) h = ap tree_functions (renamed_tree_roll c (tree.Narrow k a)) ∙ tree_functions_roll (tree.Narrow k (renamed_tree c a)) ∙ h ∙ sym (tree_functions_roll (tree.Narrow k a))
+      ap tree_functions (renamed_tree_roll c (tree.Binary o a b)) ∙ functions_roll (tree.Binary o (renamed_tree c a) (renamed_tree c b)) ∙
+      ap (λ l. l ++ tree_functions (renamed_tree c b)) h.0 ∙ ap (λ l. tree_functions a ++ l) h.1 ∙ sym (functions_roll (tree.Binary o a b))
+  functions_node (tree.Narrow k a) h = ap tree_functions (renamed_tree_roll c (tree.Narrow k a)) ∙ functions_roll (tree.Narrow k (renamed_tree c a)) ∙ h ∙ sym (functions_roll (tree.Narrow k a))
 
   functions_same : (t : Tree) → tree_functions (renamed_tree c t) ≡ tree_functions t
   functions_same = tree_ind (λ t. tree_functions (renamed_tree c t) ≡ tree_functions t) functions_node
 
   constants_node : (x : Tree-F Tree) → TreeChildren (λ t. tree_constants (renamed_tree c t) ≡ tree_constants t) x → tree_constants (renamed_tree c (roll-Tree x)) ≡ tree_constants (roll-Tree x)
   constants_node (tree.Number n) h = ap tree_constants (renamed_tree_roll c (tree.Number n))
-  constants_node (tree.Temp n) h = ap tree_constants (renamed_tree_roll c (tree.Temp n)) ∙ tree_constants_roll (tree.Temp (c n)) ∙ sym (tree_constants_roll (tree.Temp n))
+  constants_node (tree.Temp n) h = ap tree_constants (renamed_tree_roll c (tree.Temp n)) ∙ constants_roll (tree.Temp (c n)) ∙ sym (constants_roll (tree.Temp n))
   constants_node (tree.Global g) h = ap tree_constants (renamed_tree_roll c (tree.Global g))
   constants_node (tree.Function f) h = ap tree_constants (renamed_tree_roll c (tree.Function f))
-  constants_node (tree.Unary o a) h = ap tree_constants (renamed_tree_roll c (tree.Unary o a)) ∙ tree_constants_roll (tree.Unary o (renamed_tree c a)) ∙ h ∙ sym (tree_constants_roll (tree.Unary o a))
+  constants_node (tree.Unary o a) h = ap tree_constants (renamed_tree_roll c (tree.Unary o a)) ∙ constants_roll (tree.Unary o (renamed_tree c a)) ∙ h ∙ sym (constants_roll (tree.Unary o a))
   constants_node (tree.Binary o a b) h =
-      ap tree_constants (renamed_tree_roll c (tree.Binary o a b)) ∙ tree_constants_roll (tree.Binary o (renamed_tree c a) (renamed_tree c b)) ∙
-      ap (λ l. l ++ tree_constants (renamed_tree c b)) h.0 ∙ ap (λ l. tree_constants a ++ l) h.1 ∙ sym (tree_constants_roll (tree.Binary o a b))
-  constants_node (tree.Narrow k a) h = ap tree_constants (renamed_tree_roll c (tree.Narrow k a)) ∙ tree_constants_roll (tree.Narrow k (renamed_tree c a)) ∙ h ∙ sym (tree_constants_roll (tree.Narrow k a))
+      ap tree_constants (renamed_tree_roll c (tree.Binary o a b)) ∙ constants_roll (tree.Binary o (renamed_tree c a) (renamed_tree c b)) ∙
+      ap (λ l. l ++ tree_constants (renamed_tree c b)) h.0 ∙ ap (λ l. tree_constants a ++ l) h.1 ∙ sym (constants_roll (tree.Binary o a b))
+  constants_node (tree.Narrow k a) h = ap tree_constants (renamed_tree_roll c (tree.Narrow k a)) ∙ constants_roll (tree.Narrow k (renamed_tree c a)) ∙ h ∙ sym (constants_roll (tree.Narrow k a))
 
   constants_same : (t : Tree) → tree_constants (renamed_tree c t) ≡ tree_constants t
   constants_same = tree_ind (λ t. tree_constants (renamed_tree c t) ≡ tree_constants t) constants_node
@@ -164,10 +168,10 @@ module _ (c : ℕ → ℕ) where
   -- ---- code
 
   functions_one : (s : Stm) → Same stm_functions s
-  functions_one = stm_ind (Same stm_functions) (λ x h. ap stm_functions (renamed_stm_roll c x) ∙ stm_functions_roll (again x) ∙ functions_layer_same x h ∙ sym (stm_functions_roll x))
+  functions_one = stm_ind (Same stm_functions) (λ x h. ap stm_functions (renamed_stm_roll c x) ∙ named_roll (again x) ∙ functions_layer_same x h ∙ sym (named_roll x))
 
   knowns_one : (s : Stm) → Same stm_knowns s
-  knowns_one = stm_ind (Same stm_knowns) (λ x h. ap stm_knowns (renamed_stm_roll c x) ∙ stm_knowns_roll (again x) ∙ knowns_layer_same x h ∙ sym (stm_knowns_roll x))
+  knowns_one = stm_ind (Same stm_knowns) (λ x h. ap stm_knowns (renamed_stm_roll c x) ∙ knowns_roll (again x) ∙ knowns_layer_same x h ∙ sym (knowns_roll x))
 
   constants_one : (s : Stm) → Same stm_constants s
   constants_one =

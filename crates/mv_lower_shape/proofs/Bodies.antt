@@ -18,7 +18,6 @@ use Rattle.mv_lower_spec.specs.Lowered.{number}
 use Rattle.mv_source_forms.specs.Names.{is_scalar, is_void, size_in}
 use Rattle.mv_lower_spec.specs.Functions.{elements_of, array_sizes, lower_body, outermost, ending, lower_function}
 use Rattle.mv_lower_spec.proofs.Depths.{ShallowCode, both_parts}
-use Rattle.mv_lower_spec.proofs.Expressions.{no}
 use Rattle.mv_lower_shape.proofs.Asked.{Globals, IsAsked}
 use Rattle.mv_lower_shape.specs.Allowances.{allowance}
 use Rattle.mv_lower_shape.specs.Calls.{each_once, attributed_once}
@@ -31,12 +30,14 @@ use Rattle.mv_lower_shape.proofs.Unused.{Unused, IsQuiet, unused_rules, unused_b
 use Rattle.mv_lower_shape.proofs.Flowing.{live_at, marks_at, live_append, live_one, reads_one}
 use Rattle.mv_lower_shape.proofs.Functions.{room_of, body_nodes, FunctionPaid, function_paid}
 use Rattle.mv_lower_shape.proofs.Whole.{body_dead}
-use Rattle.mv_lower_shape.proofs.Shallow.{body_shallow, shallow_return, deepest_up}
+use Rattle.mv_lower_shape.proofs.Shallow.{body_shallow, shallow_return}
 use Rattle.mv_lower_shape.proofs.Targets.{HasTargets, targets_append, targets_one, code_targets}
 use Rattle.mv_lower_shape.proofs.StatementTops.{body_top}
 use Rattle.mv_lower_shape.proofs.Rooms.{scalars_have_rooms, named_are_there}
 use Rattle.mv_lower_shape.proofs.Intervals.{marked_none, few_intervals, total_is}
 use Rattle.mv_lower_shape.proofs.SameCounts.{all_calls, attributed_calls}
+use Rattle.mv_num.proofs.Booleans.{from_falsity}
+use Rattle.mv_lower_spec.proofs.ExpressionDepths.{deepest_up}
 
 -- ---- depth
 
@@ -88,7 +89,7 @@ module _ (p : Program) (globals : Globals) (g : Function) (asked : IsAsked p glo
       or_from (live_at_start u b.code || ltb u g.params) (any (marks_at u b.code nowhere)) (or_from (live_at_start u b.code) (ltb u g.params) h.0 (no_param (ltb u g.params) refl)) h.1
     where
       no_param : (z : Bool) → ltb u g.params ≡ z → ltb u g.params ≡ false
-      no_param true q = no (sym e ∙ params_used u (ltb-true u g.params q))
+      no_param true q = from_falsity (sym e ∙ params_used u (ltb-true u g.params q))
       no_param false q = q
 
   -- a temporary that isn't below the number of temporaries isn't used
@@ -105,7 +106,7 @@ module _ (p : Program) (globals : Globals) (g : Function) (asked : IsAsked p glo
     where
       by : (t < room_of g) ⊎ (room_of g ≤ t) → t < room_of g
       by (inl lt) = lt
-      by (inr le) = no (sym (marked_none (all_marks b t) i (unmarked t (beyond t le))) ∙ h)
+      by (inr le) = from_falsity (sym (marked_none (all_marks b t) i (unmarked t (beyond t le))) ∙ h)
 
   -- ---- wholeness
 
@@ -127,16 +128,16 @@ module _ (p : Program) (globals : Globals) (g : Function) (asked : IsAsked p glo
     where
       by : (x y : Bool) → x ≡ true → y ≡ false → ((x && y) || (not x && nat_lt u (room_of g))) ≡ false
       by true y e f = or_from y false f refl
-      by false y e f = no e
+      by false y e f = from_falsity e
 
   pub lowered_whole : (t : ℕ) → live_at_start t b.code ≡ true → t < g.params
   lowered_whole t h = by (nat_lt t g.params) refl (nat_lt t locals) refl (is_scalar (sizes t)) refl
     where
       by : (x : Bool) → nat_lt t g.params ≡ x → (y : Bool) → nat_lt t locals ≡ y → (z : Bool) → is_scalar (sizes t) ≡ z → t < g.params
       by true e y f z k = ltb-true t g.params e
-      by false e true f true k = no (sym (dead_at_start t e (λ q. k)) ∙ h)
-      by false e true f false k = no (sym (array_dead t f k) ∙ h)
-      by false e false f z k = no (sym (dead_at_start t e (λ q. no (sym f ∙ q))) ∙ h)
+      by false e true f true k = from_falsity (sym (dead_at_start t e (λ q. k)) ∙ h)
+      by false e true f false k = from_falsity (sym (array_dead t f k) ∙ h)
+      by false e false f z k = from_falsity (sym (dead_at_start t e (λ q. from_falsity (sym f ∙ q))) ∙ h)
 
   -- ---- names
 
@@ -187,7 +188,7 @@ module _ (p : Program) (globals : Globals) (g : Function) (asked : IsAsked p glo
   has_targets : HasTargets (false ∷ []) b.code
   has_targets =
       targets_append (false ∷ []) (lower_body g).code (ending (is_void g.result))
-      (code_targets globals locals sizes (is_void g.result) g.body params asked.within false false asked.jumps outermost (false ∷ []) (record { leave = λ e. no e; again = λ e. no e; around = omega arith })) (last (is_void g.result))
+      (code_targets globals locals sizes (is_void g.result) g.body params asked.within false false asked.jumps outermost (false ∷ []) (record { leave = λ e. from_falsity e; again = λ e. from_falsity e; around = omega arith })) (last (is_void g.result))
     where
       last : (void : Bool) → HasTargets (false ∷ []) (ending void)
       last true = refl

@@ -12,14 +12,15 @@ use Rattle.mv_lower_spec.specs.Lowered.{Lowering, number}
 use Rattle.mv_lower_spec.specs.Lower.{lower_expr}
 use Rattle.mv_source_forms.specs.Names.{is_scalar}
 use Rattle.mv_lower_spec.specs.Statements.{Jumps, store_word, clear_words, store_zeros, store_values, values_top, lower_clear}
-use Rattle.mv_lower_spec.proofs.Expressions.{split}
 use Rattle.mv_lower_shape.proofs.Asked.{Globals, is_within, all_exprs_within}
 use Rattle.mv_lower_shape.specs.Calls.{expr_weight}
 use Rattle.mv_lower_shape.proofs.Rules.{Allowed, Rules}
 use Rattle.mv_lower_shape.proofs.Plain.{plain_set, plain_write, plain_zero, covers_number, covers_none, covers_before}
 use Rattle.mv_lower_shape.proofs.Given as given
 use Rattle.mv_lower_shape.proofs.Paid as paying
-use Rattle.mv_lower_shape.proofs.Expressions.{allowed, scratch_used, local_used, expr_paid, sum_cons}
+use Rattle.mv_lower_shape.proofs.Expressions.{allowed, scratch_used, local_used, expr_paid}
+use Rattle.mv_num.proofs.Booleans.{and_cases}
+use Rattle.mv_num.proofs.Lists.{sum_cons}
 
 module _ (globals : Globals) (locals : ℕ) (sizes : ℕ → Option ℕ) (room : ℕ) (direct : ℕ → ℕ) (through : ℕ) (declared : ℕ → Bool)
     (B : ℕ → ℕ → ℕ → ℕ → List Tree → List Stm → List Tree → Type 0) (r : Rules (allowed globals locals sizes room direct through declared) B) where
@@ -74,7 +75,7 @@ module _ (globals : Globals) (locals : ℕ) (sizes : ℕ → Option ℕ) (room :
         CodePaid (sum (map expr_nodes es)) (sum (map weight es)) (store_values locals size l i (map lower_expr es))
     stores_paid i [] b top = paying.paid locals B 0 0 0 (r.retree (covers_none [])) (omega arith) (omega arith) (omega arith)
     stores_paid i (e ∷ es) b top =
-        let bs = split (is_within globals locals sizes declared e) (all_exprs_within globals locals sizes es declared) b in
+        let bs = and_cases (is_within globals locals sizes declared e) (all_exprs_within globals locals sizes es declared) b in
         let p = value e bs.0 (omega (arith, top)) in
         let q = stores_paid (suc i) es bs.1 (omega (arith, top)) in
         let n = sum_cons (expr_nodes e) (map expr_nodes es) in

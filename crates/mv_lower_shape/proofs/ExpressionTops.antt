@@ -18,10 +18,10 @@ use Rattle.mv_lower_spec.specs.Lowered.{Lowered, Lowering, is_low, is_empty, kep
 use Rattle.mv_lower_spec.specs.Lower.{Part, Place, InLocal, InGlobal, Element, quotient_number, remainder_number, bit_tree, lower_operator, lower_product, lower_binary, lower_changed, lower_change, lower_after, lower_read, lower_set, unary_tree, converted_tree, place_of, part_of, lower_expr}
 use Rattle.mv_source_forms.proofs.ExpressionFolds.{ExprFolds, expr_fold, expr_folds, along_exprs}
 use Rattle.mv_source_forms.proofs.ExpressionInduction.{FormChildren, TargetChildren}
-use Rattle.mv_lower_spec.proofs.Expressions.{split}
 use Rattle.mv_lower_shape.proofs.Folds.{limited_exprs, lowers}
 use Rattle.mv_lower_shape.proofs.Asked.{Globals, Access, target_is_within, is_within}
 use Rattle.mv_source_forms.specs.Lists.{all_of}
+use Rattle.mv_num.proofs.Booleans.{and_cases}
 
 -- ---- tops at one place
 
@@ -155,7 +155,7 @@ module _ (globals : Globals) (locals : ℕ) (sizes : ℕ → Option ℕ) (declar
   each_top : (es : List Expr) → Each S es → all_of (map within es) ≡ true → (d : ℕ) → greatest (map expr_depth es) ≤ d → Each (Top d) (lowers es)
   each_top [] h b d le = tt
   each_top (e ∷ es) h b d le =
-      let bs = split (within e) (all_of (map within es)) b in
+      let bs = and_cases (within e) (all_of (map within es)) b in
       (higher (expr_depth e) d (lower_expr e) (omega (arith, le)) (h.0.top bs.0), each_top es h.1 bs.1 d (omega (arith, le)))
 
   lowers_length : (es : List Expr) → length (lowers es) ≡ length (map within es)
@@ -175,26 +175,26 @@ module _ (globals : Globals) (locals : ℕ) (sizes : ℕ → Option ℕ) (declar
   layer (form.Function f) h b c n = omega arith
   layer (form.Unary op e) h b c n = let k = h.top b n in let w = one_within (unary_tree op) (lower_expr e) n in omega (arith, k, w)
   layer (form.Binary op x y) h b c n =
-      let bs = split (within x) (within y) b in
+      let bs = and_cases (within x) (within y) b in
       let k = h.0.top bs.0 n in
       let l = h.1.top bs.1 (n + 1) in
       let w = binary_within false op (part_of x).ctype (lower_expr x) (lower_expr y) n in
       omega (arith, k, l, w)
   layer (form.Both x y) h b c n =
-      let bs = split (within x) (within y) b in
+      let bs = and_cases (within x) (within y) b in
       let k = h.0.top bs.0 n in
       let l = h.1.top bs.1 n in
       let w = kept_within (is_low (lower_expr y n).tree) n (lower_expr y n) in
       omega (arith, k, l, w)
   layer (form.Either x y) h b c n =
-      let bs = split (within x) (within y) b in
+      let bs = and_cases (within x) (within y) b in
       let k = h.0.top bs.0 n in
       let l = h.1.top bs.1 n in
       let w = kept_within (is_low (lower_expr y n).tree) n (lower_expr y n) in
       omega (arith, k, l, w)
   layer (form.Choose z x y) h b c n =
-      let bs = split (within z) (within x && within y) b in
-      let cs = split (within x) (within y) bs.1 in
+      let bs = and_cases (within z) (within x && within y) b in
+      let cs = and_cases (within x) (within y) bs.1 in
       let k = h.0.top bs.0 n in
       let l = h.1.top cs.0 n in
       let m = h.2.top cs.1 n in
@@ -202,35 +202,35 @@ module _ (globals : Globals) (locals : ℕ) (sizes : ℕ → Option ℕ) (declar
   layer (form.Convert e) h b c n = let k = h.top b n in let w = one_within (converted_tree c) (lower_expr e) n in omega (arith, k, w)
   layer (form.Set target e) h b c n =
       let access = target_is_within globals locals sizes declared target in
-      let bs = split access.stored (within e) b in
+      let bs = and_cases access.stored (within e) b in
       let k = set_top (place_of target) (target_depth target) (expr_depth e) (lower_expr e) (h.0.1 bs.0) (h.1.top bs.1) n in
       omega (arith, k)
   layer (form.Change op kind target e) h b c n =
       let access = target_is_within globals locals sizes declared target in
-      let bs = split access.read (access.stored && within e) b in
-      let cs = split access.stored (within e) bs.1 in
+      let bs = and_cases access.read (access.stored && within e) b in
+      let cs = and_cases access.stored (within e) bs.1 in
       let k = change_top op kind c (place_of target) (target_depth target) (expr_depth e) (lower_expr e) (h.0.0 bs.0) (h.1.top cs.1) n in
       omega (arith, k)
   layer (form.After up target) h b c n =
       let access = target_is_within globals locals sizes declared target in
-      let bs = split access.read access.stored b in
+      let bs = and_cases access.read access.stored b in
       let k = after_top up c (place_of target) (target_depth target) (h.0 bs.0) n in
       omega (arith, k)
   layer (form.Direct f args) h b c n =
-      let bs = split (nat_lt (length (map within args)) 9) (all_of (map within args)) b in
+      let bs = and_cases (nat_lt (length (map within args)) 9) (all_of (map within args)) b in
       let few = ltb-true (length (map within args)) 9 bs.0 in
       let k = some_top args h bs.1 (omega (arith, few)) n in
       omega (arith, k)
   layer (form.Through args e) h b c n =
-      let bs = split (nat_lt (length (map within args)) 9) (all_of (map within args) && within e) b in
-      let cs = split (all_of (map within args)) (within e) bs.1 in
+      let bs = and_cases (nat_lt (length (map within args)) 9) (all_of (map within args) && within e) b in
+      let cs = and_cases (all_of (map within args)) (within e) bs.1 in
       let few = ltb-true (length (map within args)) 9 bs.0 in
       let d = max (greatest (map expr_depth args)) (expr_depth e) in
       let k = all_top d (lowers args ++ lower_expr e ∷ []) (omega (arith, h.1.deep))
       (each_append (Top d) (lowers args) (lower_expr e ∷ []) (each_top args h.0 cs.0 d (omega arith)) (higher (expr_depth e) d (lower_expr e) (omega arith) (h.1.top cs.1), tt)) n in
       omega (arith, k, few, lowers_length args, length-append (lowers args) (lower_expr e ∷ []), greatest_append (map expr_depth args) (expr_depth e ∷ []))
   layer (form.Known f args) h b c n =
-      let bs = split (nat_eq (length (map within args)) (known_arguments f)) (all_of (map within args)) b in
+      let bs = and_cases (nat_eq (length (map within args)) (known_arguments f)) (all_of (map within args)) b in
       let few = eqb-true (length (map within args)) (known_arguments f) bs.0 in
       let k = some_top args h bs.1 (omega (arith, few, known_few f)) n in
       omega (arith, k)
@@ -242,8 +242,8 @@ module _ (globals : Globals) (locals : ℕ) (sizes : ℕ → Option ℕ) (declar
   target_layer (form.Global g) h = (λ e. tt, λ e. tt)
   target_layer (form.Local l) h = (λ e. tt, λ e. tt)
   target_layer (form.GlobalAt g e) h =
-      (λ b. index_top e h (split (globals.arrays g) (within e) (split (globals.there g) (globals.arrays g && within e) b).1).1, λ b. index_top e h (split (globals.there g) (within e) b).1)
-  target_layer (form.LocalAt l e) h = (λ b. index_top e h (split _ (within e) b).1, λ b. index_top e h (split _ (within e) b).1)
+      (λ b. index_top e h (and_cases (globals.arrays g) (within e) (and_cases (globals.there g) (globals.arrays g && within e) b).1).1, λ b. index_top e h (and_cases (globals.there g) (within e) b).1)
+  target_layer (form.LocalAt l e) h = (λ b. index_top e h (and_cases _ (within e) b).1, λ b. index_top e h (and_cases _ (within e) b).1)
 
   pub expr_top : (e : Expr) → S e
   expr_top = along_exprs measured (λ f. FormTop) (λ x. TargetTop) (λ e. ExprTop) layer target_layer (λ x h. record { deep = omega arith; top = λ b. h b x.ctype })

@@ -3,7 +3,6 @@ use Rattle.std.proofs.Common.{◌≡◌, ℕ, ◌+◌, ◌*◌, ◌<◌, ◌≤�
 use Rattle.std.specs.Prelude.{◌&&◌, ◌||◌, not, nat_lt, nat_eq, sum}
 use Rattle.std.proofs.lemmas.Bool.{ltb-true, lt-ltb, and_from, or_left, or_right}
 use Rattle.std.proofs.lemmas.List.{length-map}
-use Rattle.std.proofs.lemmas.List.Sums.{sum_by-cons, sum_by-append}
 use Rattle.mv_ir.specs.declared.tree.Tree.{Tree}
 use Rattle.mv_ir.specs.declared.stm.Array.{Array}
 use Rattle.mv_ir.specs.declared.stm.Array.TheVariants as array
@@ -24,7 +23,6 @@ use Rattle.mv_source_forms.specs.Lists.{all_of}
 use Rattle.mv_source_forms.specs.Names.{is_scalar, is_void}
 use Rattle.mv_source_forms.proofs.ExpressionFolds.{ExprFolds, expr_fold, expr_folds, along_exprs}
 use Rattle.mv_source_forms.proofs.ExpressionInduction.{FormChildren, TargetChildren}
-use Rattle.mv_lower_spec.proofs.Expressions.{split}
 use Rattle.mv_lower_shape.proofs.Folds.{limited_exprs, lowers}
 use Rattle.mv_lower_shape.proofs.Asked.{Globals, Access, local_access, target_is_within, is_within}
 use Rattle.mv_lower_shape.specs.Calls.{form_weights, expr_weight}
@@ -33,6 +31,8 @@ use Rattle.mv_lower_shape.proofs.Plain.{covers_none}
 use Rattle.mv_lower_shape.proofs.Given as given
 use Rattle.mv_lower_shape.proofs.Operators as operators
 use Rattle.mv_lower_shape.proofs.Operators.{on_unary, on_converted, on_next, temp_low, global_low}
+use Rattle.mv_num.proofs.Booleans.{and_cases}
+use Rattle.mv_num.proofs.Lists.{sum_cons}
 
 -- ---- what is allowed
 
@@ -65,12 +65,6 @@ scratch_used locals sizes room t le lt =
 
 pub local_used : (locals : ℕ) (sizes : ℕ → Option ℕ) (room l : ℕ) → nat_lt l locals ≡ true → is_scalar (sizes l) ≡ true → is_used locals sizes room l ≡ true
 local_used locals sizes room l h k = or_left (nat_lt l locals && is_scalar (sizes l)) (not (nat_lt l locals) && nat_lt l room) (and_from (nat_lt l locals) (is_scalar (sizes l)) h k)
-
-pub sum_cons : (n : ℕ) (ns : List ℕ) → sum (n ∷ ns) ≡ n + sum ns
-sum_cons n ns = sum_by-cons (λ x. x) n ns
-
-pub sum_append : (ms ns : List ℕ) → sum (ms ++ ns) ≡ sum ms + sum ns
-sum_append ms ns = sum_by-append (λ x. x) ms ns
 
 module _ (globals : Globals) (locals : ℕ) (sizes : ℕ → Option ℕ) (room : ℕ) (direct : ℕ → ℕ) (through : ℕ) (declared : ℕ → Bool)
     (B : ℕ → ℕ → ℕ → ℕ → List Tree → List Stm → List Tree → Type 0) (rules : Rules (allowed globals locals sizes room direct through declared) B) where
@@ -305,7 +299,7 @@ module _ (globals : Globals) (locals : ℕ) (sizes : ℕ → Option ℕ) (room :
   all_paid : (es : List Expr) → Each S es → all_of (map within es) ≡ true → AllPaid (sum (map expr_nodes es)) (sum (map weight es)) (map (λ (x : Part). x.lower) (map part_of es))
   all_paid [] h b = record { units = 0; words = 0; nodes = 0; give = given.none_give a B rules locals room scratch; few_units = omega arith; few_nodes = omega arith; few_words = omega arith }
   all_paid (e ∷ es) h b =
-      let bs = split (within e) (all_of (map within es)) b in
+      let bs = and_cases (within e) (all_of (map within es)) b in
       let x = h.0 bs.0 in
       let xs = all_paid es h.1 bs.1 in
       let n = sum_cons (expr_nodes e) (map expr_nodes es) in
@@ -404,7 +398,7 @@ module _ (globals : Globals) (locals : ℕ) (sizes : ℕ → Option ℕ) (room :
   all_within : (xs : List Expr) (e : Expr) → all_of (map within xs) ≡ true → within e ≡ true → all_of (map within (xs ++ e ∷ [])) ≡ true
   all_within [] e b k = and_from (within e) true k refl
   all_within (x ∷ xs) e b k =
-      let bs = split (within x) (all_of (map within xs)) b in
+      let bs = and_cases (within x) (all_of (map within xs)) b in
       and_from (within x) (all_of (map within (xs ++ e ∷ []))) bs.0 (all_within xs e bs.1 k)
 
   layer : (x : Form-F Form Target Expr) → FormChildren P Q S x → FormPays (counted.form_layer x)
@@ -413,46 +407,46 @@ module _ (globals : Globals) (locals : ℕ) (sizes : ℕ → Option ℕ) (room :
   layer (form.Function f) h b c = paid_as _ (omega arith) (omega arith) (leaf_paid (lower_function f) (given.gives_function a B rules locals room scratch f))
   layer (form.Unary op e) h b c = paid_as _ (omega arith) (omega arith) (one_paid (unary_tree op) (lower_expr e) (on_unary op) (h b))
   layer (form.Binary op x y) h b c =
-      let bs = split (within x) (within y) b in
+      let bs = and_cases (within x) (within y) b in
       paid_as _ (omega arith) (omega arith) (binary_paid op (part_of x).ctype (lower_expr x) (lower_expr y) (h.0 bs.0) (h.1 bs.1))
   layer (form.Both x y) h b c =
-      let bs = split (within x) (within y) b in
+      let bs = and_cases (within x) (within y) b in
       paid_as _ (omega arith) (omega arith) (both_paid (lower_expr x) (lower_expr y) (h.0 bs.0) (h.1 bs.1))
   layer (form.Either x y) h b c =
-      let bs = split (within x) (within y) b in
+      let bs = and_cases (within x) (within y) b in
       paid_as _ (omega arith) (omega arith) (either_paid (lower_expr x) (lower_expr y) (h.0 bs.0) (h.1 bs.1))
   layer (form.Choose z x y) h b c =
-      let bs = split (within z) (within x && within y) b in
-      let cs = split (within x) (within y) bs.1 in
+      let bs = and_cases (within z) (within x && within y) b in
+      let cs = and_cases (within x) (within y) bs.1 in
       paid_as _ (omega arith) (omega arith) (choice_paid (lower_expr z) (lower_expr x) (lower_expr y) (h.0 bs.0) (h.1 cs.0) (h.2 cs.1))
   layer (form.Convert e) h b c = paid_as _ (omega arith) (omega arith) (one_paid (converted_tree c) (lower_expr e) (on_converted c) (h b))
   layer (form.Set target e) h b c =
       let access = target_is_within globals locals sizes declared target in
-      let bs = split access.stored (within e) b in
+      let bs = and_cases access.stored (within e) b in
       paid_as _ (omega arith) (omega arith) (set_paid (place_of target) access _ _ _ _ (lower_expr e) h.0 bs.0 (h.1 bs.1))
   layer (form.Change op kind target e) h b c =
       let access = target_is_within globals locals sizes declared target in
-      let bs = split access.read (access.stored && within e) b in
-      let cs = split access.stored (within e) bs.1 in
+      let bs = and_cases access.read (access.stored && within e) b in
+      let cs = and_cases access.stored (within e) bs.1 in
       paid_as _ (omega arith) (omega arith) (change_paid op kind c (place_of target) access _ _ _ _ (lower_expr e) h.0 bs.0 cs.0 (h.1 cs.1))
   layer (form.After up target) h b c =
       let access = target_is_within globals locals sizes declared target in
-      let bs = split access.read access.stored b in
+      let bs = and_cases access.read access.stored b in
       paid_as _ (omega arith) (omega arith) (after_paid up c (place_of target) access _ _ h bs.0 bs.1)
   layer (form.Direct f args) h b c =
-      let bs = split (nat_lt (length (map within args)) 9) (all_of (map within args)) b in
+      let bs = and_cases (nat_lt (length (map within args)) 9) (all_of (map within args)) b in
       let all = all_paid args h bs.1 in
       call_paid (direct f) _ (lowers args) all (given.gives_call a B rules locals room scratch (is_void c) f (lowers args) (lowers_length args (λ m. nat_lt m 9) bs.0) all.give)
   layer (form.Through args e) h b c =
-      let bs = split (nat_lt (length (map within args)) 9) (all_of (map within args) && within e) b in
-      let cs = split (all_of (map within args)) (within e) bs.1 in
+      let bs = and_cases (nat_lt (length (map within args)) 9) (all_of (map within args) && within e) b in
+      let cs = and_cases (all_of (map within args)) (within e) bs.1 in
       let all = all_paid (args ++ e ∷ []) (each_append S args (e ∷ []) h.0 (h.1, tt)) (all_within args e cs.0 cs.1) in
       paid_as _ (omega (arith, ap sum (map_append expr_nodes args (e ∷ [])))) (omega (arith, ap sum (map_append weight args (e ∷ []))))
       (call_paid through (lower_through (is_void c) (lowers args) (lower_expr e)) (lowers (args ++ e ∷ [])) all
       (given.gives_through a B rules locals room scratch (is_void c) (lowers args) (lower_expr e) (lowers_length args (λ m. nat_lt m 9) bs.0)
       (subst (λ ls. given.AllGive a B rules locals room scratch all.units all.words all.nodes (sum (map weight (args ++ e ∷ []))) ls) (lowers_append args (e ∷ [])) all.give)))
   layer (form.Known k args) h b c =
-      let bs = split (nat_eq (length (map within args)) (known_arguments k)) (all_of (map within args)) b in
+      let bs = and_cases (nat_eq (length (map within args)) (known_arguments k)) (all_of (map within args)) b in
       let all = all_paid args h bs.1 in
       call_paid 0 _ (lowers args) all (same_weight _ (omega arith) (given.gives_known a B rules locals room scratch k (lowers args) (lowers_length args (λ m. nat_eq m (known_arguments k)) bs.0) all.give))
 
@@ -460,22 +454,22 @@ module _ (globals : Globals) (locals : ℕ) (sizes : ℕ → Option ℕ) (room :
   target_layer (form.Global g) h = record { free = refl; read = λ e. e; stored = λ e. e }
   target_layer (form.Local l) h = record {
     free = refl;
-    read = λ e. (split (declared l) (is_scalar (sizes l)) (split (nat_lt l locals) (declared l && is_scalar (sizes l)) e).1).0;
+    read = λ e. (and_cases (declared l) (is_scalar (sizes l)) (and_cases (nat_lt l locals) (declared l && is_scalar (sizes l)) e).1).0;
     used = used;
     stored = used;
   }
     where
       used : local_access globals locals sizes declared (is_scalar (sizes l)) l ≡ true → is_used locals sizes room l ≡ true
       used e =
-          let bs = split (nat_lt l locals) (declared l && is_scalar (sizes l)) e in
-          local_used locals sizes room l bs.0 (split (declared l) (is_scalar (sizes l)) bs.1).1
+          let bs = and_cases (nat_lt l locals) (declared l && is_scalar (sizes l)) e in
+          local_used locals sizes room l bs.0 (and_cases (declared l) (is_scalar (sizes l)) bs.1).1
   target_layer (form.GlobalAt g e) h = record {
     read = λ b.
-        let bs = split (globals.there g) (globals.arrays g && within e) b in
-        let cs = split (globals.arrays g) (within e) bs.1 in
+        let bs = and_cases (globals.there g) (globals.arrays g && within e) b in
+        let cs = and_cases (globals.arrays g) (within e) bs.1 in
         record { named = bs.0; read = (cs.0, tt); index = paid_as (lower_expr e) (omega arith) (omega arith) (h cs.1) };
     stored = λ b.
-        let bs = split (globals.there g) (within e) b in
+        let bs = and_cases (globals.there g) (within e) b in
         record { named = bs.0; index = paid_as (lower_expr e) (omega arith) (omega arith) (h bs.1) };
   }
   target_layer (form.LocalAt l e) h = record {
@@ -485,8 +479,8 @@ module _ (globals : Globals) (locals : ℕ) (sizes : ℕ → Option ℕ) (room :
     where
       known : (local_access globals locals sizes declared (not (is_scalar (sizes l))) l && within e) ≡ true → (nat_lt l locals ≡ true) × Paid (sum (expr_nodes e ∷ [])) (sum (weight e ∷ [])) (lower_expr e)
       known b =
-          let bs = split (local_access globals locals sizes declared (not (is_scalar (sizes l))) l) (within e) b in
-          ((split (nat_lt l locals) (declared l && not (is_scalar (sizes l))) bs.0).0, paid_as (lower_expr e) (omega arith) (omega arith) (h bs.1))
+          let bs = and_cases (local_access globals locals sizes declared (not (is_scalar (sizes l))) l) (within e) b in
+          ((and_cases (nat_lt l locals) (declared l && not (is_scalar (sizes l))) bs.0).0, paid_as (lower_expr e) (omega arith) (omega arith) (h bs.1))
 
   -- what an expression that is within the limits is lowered to
   pub expr_paid : (e : Expr) → S e

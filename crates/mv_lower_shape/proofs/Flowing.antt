@@ -12,8 +12,8 @@ use Rattle.mv_ir.specs.Live.{reads_temp, any_reads, Around, Flow, with_after, li
 use Rattle.mv_ir.proofs.Keeping.{map_append}
 use Rattle.mv_ir.proofs.Rolls.{reads_temp_roll}
 use Rattle.mv_ir.proofs.Joining.{marks_append, live_append as flows_append}
-use Rattle.mv_lower_spec.proofs.Expressions.{no}
 use Rattle.mv_lower_spec.specs.Lowered.{temp, global}
+use Rattle.mv_num.proofs.Booleans.{from_falsity}
 
 pub any_append : (xs ys : List Bool) → any (xs ++ ys) ≡ (any xs || any ys)
 any_append [] ys = refl
@@ -60,7 +60,7 @@ pub another : (f : ℕ → Bool) (t u : ℕ) → f t ≡ true → f u ≡ false 
 another f t u h k = by (eqb t u) refl
   where
     by : (z : Bool) → eqb t u ≡ z → z ≡ false
-    by true e = no (sym k ∙ ap f (sym (eqb-true t u e)) ∙ h)
+    by true e = from_falsity (sym k ∙ ap f (sym (eqb-true t u e)) ∙ h)
     by false e = refl
 
 pub not_true : (b : Bool) → (b ≡ true → b ≡ false) → b ≡ false

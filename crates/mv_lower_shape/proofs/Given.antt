@@ -15,9 +15,9 @@ use Rattle.mv_ir.specs.declared.stm.Callee.TheVariants as callee
 use Rattle.mv_ir.specs.Measures.{array_read}
 use Rattle.mv_ir.specs.WellFormed.{known_arguments}
 use Rattle.mv_lower_spec.specs.Lowered.{Lowered, Lowering, Arguments, number, temp, unary, global, set, set_global, divide, choose, read, write, truth, truth_in, is_empty, is_low, kept_if, first, second, lower_number, lower_local, lower_global, lower_function, lower_one, lower_two, lower_division, lower_both, lower_either, lower_choice, lower_set_local, lower_set_global, lower_all, lower_call_to, lower_call, but_last, last_of, lower_through, lower_known, index_in, lower_element, lower_read_element, lower_set_element}
-use Rattle.mv_lower_spec.proofs.Expressions.{no}
 use Rattle.mv_lower_shape.proofs.Rules.{Allowed, Rules, Covers, IsPlain, IsAllowed, AllMay, result, one_for}
 use Rattle.mv_lower_shape.proofs.Plain.{plain_set, plain_set_global, plain_divide, plain_check, plain_read, plain_write, plain_call, plain_through, plain_known, covers_unary, covers_number, covers_function, covers_self, covers_then, covers_before, covers_swap, covers_twice}
+use Rattle.mv_num.proofs.Booleans.{from_falsity}
 
 -- operators on one and on two trees
 abbrev pub OnOne : (Tree → Tree) → Type 0
@@ -122,7 +122,7 @@ module _ (a : Allowed) (B : ℕ → ℕ → ℕ → ℕ → List Tree → List S
   -- what is low isn't put away
   stays : {s w t k : ℕ} {ts : List Tree} (keep : Bool) (n : ℕ) (l : Lowered) → keep ≡ true → B s w t k ts l.code (l.tree ∷ []) → B s w t k ts (kept_if keep n l).code ((kept_if keep n l).tree ∷ [])
   stays true n l e h = h
-  stays false n l e h = no e
+  stays false n l e h = from_falsity e
 
   abbrev pub AlwaysLow : Lowering → Type 0
   AlwaysLow x = (n : ℕ) → is_low (x n).tree ≡ true

@@ -3,16 +3,16 @@ use Rattle.std.proofs.Common.{◌≡◌, ℕ, ◌<◌, Bool, true, false, not, L
 use Rattle.std.specs.Prelude.{◌||◌, nat_eq}
 use Rattle.std.proofs.lemmas.Bool.{or_left, or_right}
 use Rattle.mv_ast.specs.Names.{any_of}
-use Rattle.mv_lower_spec.proofs.Expressions.{no}
 use Rattle.mv_lower_shape.specs.Reads.{none}
 use Rattle.mv_lower_shape.proofs.Asked.{Globals}
+use Rattle.mv_num.proofs.Booleans.{from_falsity}
 
 -- whether one of some scalars and arrays is read
 abbrev pub Reading : Type 0
 Reading = (scalar array : ℕ → Bool) → Bool
 
 pub any_left : (xs ys : List Bool) → any_of xs ≡ true → any_of (xs ++ ys) ≡ true
-any_left [] ys e = no e
+any_left [] ys e = from_falsity e
 any_left (true ∷ xs) ys e = refl
 any_left (false ∷ xs) ys e = any_left xs ys e
 

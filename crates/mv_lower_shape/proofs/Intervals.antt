@@ -11,7 +11,8 @@ use Rattle.mv_ast.specs.declared.program.Local.{Local}
 use Rattle.mv_ast.specs.Counts.{words_of_size}
 use Rattle.mv_source_forms.specs.Names.{is_scalar, size_in}
 use Rattle.mv_lower_spec.specs.Functions.{elements_of, array_sizes}
-use Rattle.mv_lower_shape.proofs.Expressions.{is_used, sum_cons}
+use Rattle.mv_lower_shape.proofs.Expressions.{is_used}
+use Rattle.mv_num.proofs.Lists.{sum_cons}
 
 -- ---- marks
 

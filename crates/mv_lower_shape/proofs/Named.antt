@@ -19,8 +19,9 @@ use Rattle.mv_ir.proofs.Rolls.{reads_roll, arrays_roll, named_roll, arguments_ro
 use Rattle.mv_ir.proofs.Joining.{trees_append}
 use Rattle.mv_lower_spec.specs.Lowered.{temp, choose}
 use Rattle.mv_lower_shape.proofs.Rules.{Allowed, Rules, BlockRules, AllMay, all_read, result}
-use Rattle.mv_lower_shape.proofs.Plain.{read_append, each_first, each_last}
+use Rattle.mv_lower_shape.proofs.Plain.{read_append}
 use Rattle.mv_lower_shape.proofs.Counted.{trees_one}
+use Rattle.mv_ir.proofs.Common.{each_first, each_right}
 
 arrays_one : (x : Stm-F Stm) → arrays_read (roll-Stm x ∷ []) ≡ layer_arrays (map-Stm Stm (List ℕ) stm_arrays x)
 arrays_one x = append-nil (stm_arrays (roll-Stm x)) ∙ arrays_roll x
@@ -71,7 +72,7 @@ module _ (may_read may_find : ℕ → Bool) (may_name : Array → Bool) where
   first_reads xs ys h = each_first (λ g. may_read g ≡ true) (all_read xs) (all_read ys) (subst MayRead (read_append xs ys) h)
 
   last_reads : (xs ys : List Tree) → MayRead (all_read (xs ++ ys)) → MayRead (all_read ys)
-  last_reads xs ys h = each_last (λ g. may_read g ≡ true) (all_read xs) (all_read ys) (subst MayRead (read_append xs ys) h)
+  last_reads xs ys h = each_right (λ g. may_read g ≡ true) (all_read xs) (all_read ys) (subst MayRead (read_append xs ys) h)
 
   chained : {s w t k s' w' t' k' m o n l : ℕ} {xs ys : List Stm} {ts us vs : List Tree} → Named s w t k ts xs us → Named s' w' t' k' us ys vs → Named m o n l ts (xs ++ ys) vs
   chained {xs = xs} {ys = ys} h h' = record {

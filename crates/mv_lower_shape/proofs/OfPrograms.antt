@@ -16,17 +16,17 @@ use Rattle.mv_source_forms.specs.Typing.{IsTypedFunction, IsTypedStmt}
 use Rattle.mv_source_forms.proofs.TypedParts.{AllStmts}
 use Rattle.mv_source_forms.specs.Names.{is_scalar, is_void, is_own_switch, size_in}
 use Rattle.mv_lower_spec.specs.Functions.{lower_function}
-use Rattle.mv_lower_spec.proofs.Expressions.{split}
 use Rattle.mv_source_forms.specs.WellFormed.{IsWellFormedFunction, parameters}
 use Rattle.mv_lower_correct.proofs.Entry.{scalar_at}
 use Rattle.mv_lower_shape.specs.Reads.{reads_scalar, reads_array, stmt_reads}
 use Rattle.mv_lower_shape.specs.Law.{IsFunctionOf, CallsAsOften, ReadsNoMore, IsSmall}
 use Rattle.mv_lower_shape.proofs.Asked.{Globals, IsAsked}
-use Rattle.mv_lower_shape.proofs.Expressions.{sum_cons}
 use Rattle.mv_lower_shape.proofs.Holding.{Holds}
 use Rattle.mv_lower_shape.proofs.WithinExpressions.{at_index}
 use Rattle.mv_lower_shape.proofs.WithinStatements.{body_within}
 use Rattle.mv_lower_shape.proofs.Bodies as bodies
+use Rattle.mv_num.proofs.Booleans.{and_cases}
+use Rattle.mv_num.proofs.Lists.{sum_cons}
 
 -- one of some functions has no more nodes than all of them
 nodes_of_one : (gs : List Function) (f : ℕ) (g : Function) → slice_get gs f ≡ Some g → nodes g ≤ sum (map nodes gs)
@@ -69,7 +69,7 @@ module _ (p : Program) (f : ℕ) (g : Function) (h : IsFunctionOf p f g) where
     params_are_locals = formed.parameters_there;
     params_are_scalars = λ l lt. ap is_scalar (scalar_at g.params g.locals l formed.scalars lt);
     there = λ k e. ltb-true k count e;
-    scalars = λ k e. ltb-true k count (split (nat_lt k count) (reads_scalar g k) e).0;
+    scalars = λ k e. ltb-true k count (and_cases (nat_lt k count) (reads_scalar g k) e).0;
     within =
         body_within p f g own (length g.locals) (size_in g.locals) (is_void g.result) h.formed.limits (λ k lt. lt-ltb k count lt) g.body (parameters g)
         (record {
@@ -96,9 +96,9 @@ module _ (p : Program) (f : ℕ) (g : Function) (h : IsFunctionOf p f g) where
 
   pub reads : ReadsNoMore g (lower_function p g)
   reads = record {
-    scalars = all_from (λ k. own.scalars k ≡ true) (λ k. reads_scalar g k ≡ true) _ (λ k e. (split (nat_lt k count) (reads_scalar g k) e).1) (bodies.scalars_within p own g asked);
-    arrays = all_from (λ k. own.arrays k ≡ true) (λ k. reads_array g k ≡ true) _ (λ k e. (split (not (is_own_switch p (slice_get p.functions f) k)) (reads_array g k) e).1) (bodies.arrays_within p own g asked);
-    switches = all_from (λ k. own.arrays k ≡ true) (λ k. is_among k (map (switch_global p) g.switches) ≡ false) _ (λ k e. no_switch k (split (not (is_own_switch p (slice_get p.functions f) k)) (reads_array g k) e).0) (bodies.arrays_within p own g asked);
+    scalars = all_from (λ k. own.scalars k ≡ true) (λ k. reads_scalar g k ≡ true) _ (λ k e. (and_cases (nat_lt k count) (reads_scalar g k) e).1) (bodies.scalars_within p own g asked);
+    arrays = all_from (λ k. own.arrays k ≡ true) (λ k. reads_array g k ≡ true) _ (λ k e. (and_cases (not (is_own_switch p (slice_get p.functions f) k)) (reads_array g k) e).1) (bodies.arrays_within p own g asked);
+    switches = all_from (λ k. own.arrays k ≡ true) (λ k. is_among k (map (switch_global p) g.switches) ≡ false) _ (λ k e. no_switch k (and_cases (not (is_own_switch p (slice_get p.functions f) k)) (reads_array g k) e).0) (bodies.arrays_within p own g asked);
   }
     where
       is_false : (b : Bool) → not b ≡ true → b ≡ false

@@ -9,10 +9,10 @@ use Rattle.mv_ir.specs.declared.stm.Stm.TheViews.{roll-Stm}
 use Rattle.mv_ir.specs.Live.{reads_temp, any_reads, is, Around, with_after, plain, goes_next, flow}
 use Rattle.mv_ir.proofs.Rolls.{flow_roll}
 use Rattle.mv_lower_spec.specs.Lowered.{choose}
-use Rattle.mv_lower_spec.proofs.Expressions.{no}
 use Rattle.mv_lower_shape.proofs.Rules.{Allowed, Rules, result}
 use Rattle.mv_ir.proofs.Joining.{any_reads_append}
 use Rattle.mv_lower_shape.proofs.Flowing.{live_at, live_append, live_one, temp_reads, global_reads, another}
+use Rattle.mv_num.proofs.Booleans.{from_falsity}
 
 module _ (a : Allowed) (u : ℕ) where
   -- Not live before code where it isn't behind, and in no case where a tree behind reads it.
@@ -55,11 +55,11 @@ module _ (a : Allowed) (u : ℕ) where
 
   pub passing_rules : a.declared u ≡ false → Rules a Passing
   passing_rules undeclared = record {
-    local = λ l h k. record { passes = λ e r q. q; writes = λ e v r. no (sym (temp_reads u l ∙ another a.declared l u h undeclared) ∙ v) };
-    scalar = λ g h. record { passes = λ e r q. q; writes = λ e v r. no (sym (global_reads u g) ∙ v) };
-    retree = λ {m} {ts} {us} c. record { passes = λ e r q. q; writes = λ e v r. no (sym e ∙ c.temps u v) };
+    local = λ l h k. record { passes = λ e r q. q; writes = λ e v r. from_falsity (sym (temp_reads u l ∙ another a.declared l u h undeclared) ∙ v) };
+    scalar = λ g h. record { passes = λ e r q. q; writes = λ e v r. from_falsity (sym (global_reads u g) ∙ v) };
+    retree = λ {m} {ts} {us} c. record { passes = λ e r q. q; writes = λ e v r. from_falsity (sym e ∙ c.temps u v) };
     does = λ {c} {v} {w} {x} {reads} {writes} p. done x reads writes (flow_roll u x ∙ p.flows u);
-    drops = λ {c} {v} {w} {x} {reads} {writes} p. record { passes = (done {m = 0} {o = 0} {n = 0} {l = 0} x reads writes (flow_roll u x ∙ p.flows u)).passes; writes = λ e w. no w };
+    drops = λ {c} {v} {w} {x} {reads} {writes} p. record { passes = (done {m = 0} {o = 0} {n = 0} {l = 0} x reads writes (flow_roll u x ∙ p.flows u)).passes; writes = λ e w. from_falsity w };
     choose = λ {s} {w} {t} {k} {s'} {w'} {t'} {k'} {ys} {zs} {us} x h h'. chosen x h h';
     chain = λ {s} {w} {t} {k} {s'} {w'} {t'} {k'} {xs} {ys} {ts} {us} {vs} h h'. chained h h';
     beside = λ {s} {w} {t} {k} {xs} {ts} {us} rest h. record {
@@ -73,4 +73,4 @@ module _ (a : Allowed) (u : ℕ) where
     where
       left_true : (x y : Bool) → y ≡ false → (x || y) ≡ true → x ≡ true
       left_true true y e v = refl
-      left_true false y e v = no (sym e ∙ v)
+      left_true false y e v = from_falsity (sym e ∙ v)

@@ -15,12 +15,14 @@ use Rattle.mv_ir.specs.Trees.{nodes}
 use Rattle.mv_ir.specs.Measures.{tree_reads, array_read}
 use Rattle.mv_ir.specs.Live.{reads_temp, any_reads}
 use Rattle.mv_ir.specs.WellFormed.{known_arguments}
-use Rattle.mv_ir.proofs.Induction.{Each, each_append}
+use Rattle.mv_ir.proofs.Induction.{each_append}
 use Rattle.mv_ir.proofs.Rolls.{nodes_roll, reads_roll, reads_temp_roll}
 use Rattle.mv_ir.proofs.Joining.{any_reads_append, nodes_append}
 use Rattle.mv_lower_spec.specs.Lowered.{number, temp, function, unary, binary}
 use Rattle.mv_lower_spec.specs.Lower.{narrowed}
 use Rattle.mv_lower_shape.proofs.Rules.{Allowed, IsPlain, IsAllowed, Covers, AllMay, all_read}
+use Rattle.mv_num.proofs.Booleans.{from_falsity}
+use Rattle.mv_ir.proofs.Common.{each_first, each_right}
 
 -- ---- statements
 
@@ -59,9 +61,6 @@ module _ (a : Allowed) where
   plain_known t f args h k = record { flows = λ u. refl; trees = refl; units = omega arith; allowed = omega arith; calls = refl; arguments = k; targets = λ r. refl; named = tt; arrays = tt; written = h }
 
 -- ---- trees
-
-absurd_true : {A : Type 0} → false ≡ true → A
-absurd_true e = absurd cc
 
 -- one tree for one
 one_covers : (x y : Tree) (more : ℕ) → ((t : ℕ) → reads_temp t y ≡ reads_temp t x) → tree_reads y ≡ tree_reads x → nodes y ≤ nodes x + more → Covers (x ∷ []) (y ∷ []) more
@@ -104,7 +103,7 @@ covers_function f = record {
 
 -- nothing for some
 pub covers_none : (ts : List Tree) → Covers ts [] 0
-covers_none ts = record { temps = λ t e. absurd_true e; scalars = λ may h. tt; nodes = omega arith }
+covers_none ts = record { temps = λ t e. from_falsity e; scalars = λ may h. tt; nodes = omega arith }
 
 pub covers_self : (ts : List Tree) → Covers ts ts 0
 covers_self ts = record { temps = λ t e. e; scalars = λ may h. h; nodes = omega arith }
@@ -118,14 +117,6 @@ pub read_append : (xs ys : List Tree) → all_read (xs ++ ys) ≡ all_read xs ++
 read_append [] ys = refl
 read_append (x ∷ xs) ys = ap (λ l. tree_reads x ++ l) (read_append xs ys) ∙ sym (append_assoc (tree_reads x) (all_read xs) (all_read ys))
 
-pub each_first : {A : Type 0} (P : A → Type 0) (xs ys : List A) → Each P (xs ++ ys) → Each P xs
-each_first P [] ys h = tt
-each_first P (x ∷ xs) ys h = (h.0, each_first P xs ys h.1)
-
-pub each_last : {A : Type 0} (P : A → Type 0) (xs ys : List A) → Each P (xs ++ ys) → Each P ys
-each_last P [] ys h = h
-each_last P (x ∷ xs) ys h = each_last P xs ys h.1
-
 pub or_either : {A : Type 0} (x y : Bool) → (x || y) ≡ true → (x ≡ true → A) → (y ≡ true → A) → A
 or_either true y e f g = f refl
 or_either false y e f g = g e
@@ -138,7 +129,7 @@ covers_before ts us rest m h = record {
   scalars = λ may x.
       let y = subst (AllMay may) (read_append ts rest) x in
       subst (AllMay may) (sym (read_append us rest))
-      (each_append (λ g. may g ≡ true) (all_read us) (all_read rest) (h.scalars may (each_first (λ g. may g ≡ true) (all_read ts) (all_read rest) y)) (each_last (λ g. may g ≡ true) (all_read ts) (all_read rest) y));
+      (each_append (λ g. may g ≡ true) (all_read us) (all_read rest) (h.scalars may (each_first (λ g. may g ≡ true) (all_read ts) (all_read rest) y)) (each_right (λ g. may g ≡ true) (all_read ts) (all_read rest) y));
   nodes = omega (arith, h.nodes, nodes_append ts rest, nodes_append us rest);
 }
 
@@ -150,7 +141,7 @@ covers_swap ts us = record {
   scalars = λ may x.
       let y = subst (AllMay may) (read_append ts us) x in
       subst (AllMay may) (sym (read_append us ts))
-      (each_append (λ g. may g ≡ true) (all_read us) (all_read ts) (each_last (λ g. may g ≡ true) (all_read ts) (all_read us) y) (each_first (λ g. may g ≡ true) (all_read ts) (all_read us) y));
+      (each_append (λ g. may g ≡ true) (all_read us) (all_read ts) (each_right (λ g. may g ≡ true) (all_read ts) (all_read us) y) (each_first (λ g. may g ≡ true) (all_read ts) (all_read us) y));
   nodes = omega (arith, nodes_append ts us, nodes_append us ts);
 }
 

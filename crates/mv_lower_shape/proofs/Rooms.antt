@@ -13,10 +13,10 @@ use Rattle.mv_ast.specs.declared.program.Global.{Global}
 use Rattle.mv_ast.specs.Counts.{words_of_size}
 use Rattle.mv_ast.specs.Plans.{is_among}
 use Rattle.mv_lower_spec.specs.Functions.{names_global, address_behind, rooms_from}
-use Rattle.mv_lower_spec.proofs.Expressions.{no}
 use Rattle.mv_lower_shape.proofs.Asked.{Globals}
 use Rattle.mv_lower_shape.proofs.Rules.{AllMay}
 use Rattle.mv_lower_shape.proofs.Expressions as limits
+use Rattle.mv_num.proofs.Booleans.{from_falsity}
 
 -- ---- rooms
 
@@ -39,7 +39,7 @@ room_in f k h from before (x ∷ xs) le lt =
     by true e more =
         let named : f from ≡ true = ap f (eqb-true from k e) ∙ h in
         ap (λ z. has_room (cond z (first ∷ rest) rest) k) named ∙ or_left (nat_eq from k) (has_room rest k) e
-    by false e more = later (f from) (more (λ q. no (sym e ∙ eq-eqb from k q)))
+    by false e more = later (f from) (more (λ q. from_falsity (sym e ∙ eq-eqb from k q)))
 
 -- ---- what is named
 

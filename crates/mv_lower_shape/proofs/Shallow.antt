@@ -1,5 +1,5 @@
 -- No tree in lowered statements is deeper than 4.
-use Rattle.std.proofs.Common.{ℕ, zero, suc, ◌-◌, ◌*◌, ◌≤◌, Bool, true, false, cond, List, [], ◌∷◌, ◌++◌, map, length, Option, Some, None, sym, subst, arith}
+use Rattle.std.proofs.Common.{ℕ, zero, suc, ◌-◌, ◌*◌, Bool, true, false, cond, List, [], ◌∷◌, ◌++◌, map, length, Option, Some, None, sym, subst, arith}
 use Rattle.std.specs.Prelude.{◌||◌, nat_le}
 use Rattle.mv_ir.specs.declared.tree.Tree.{Tree}
 use Rattle.mv_ir.specs.declared.tree.Tree.TheOpen as tree
@@ -9,7 +9,7 @@ use Rattle.mv_ir.specs.declared.stm.Stm.TheOpen.{Stm-F}
 use Rattle.mv_ir.specs.declared.stm.Stm.TheOpen as stm
 use Rattle.mv_ir.specs.declared.stm.Stm.TheViews.{roll-Stm}
 use Rattle.mv_ir.specs.declared.stm.Stm.TheFolds.{map-Stm}
-use Rattle.mv_ir.specs.Measures.{layer_trees, stm_trees, deepest_of}
+use Rattle.mv_ir.specs.Measures.{layer_trees, stm_trees}
 use Rattle.mv_ir.proofs.Induction.{Each}
 use Rattle.mv_ir.proofs.Rolls.{depth_roll}
 use Rattle.mv_ast.specs.declared.program.Expr.{Expr}
@@ -34,10 +34,6 @@ one x h = subst (Each Shallow) (sym (trees_one x)) h
 
 small_number : (n : ℕ) → Shallow (number n)
 small_number n = omega (arith, depth_roll (tree.Number n))
-
-pub deepest_up : (ts : List Tree) → Each Shallow ts → deepest_of ts ≤ 4
-deepest_up [] h = omega arith
-deepest_up (t ∷ ts) h = omega (arith, h.0, deepest_up ts h.1)
 
 shallow_break : (n : ℕ) → ShallowCode (break n ∷ [])
 shallow_break n = one (stm.Break n) tt

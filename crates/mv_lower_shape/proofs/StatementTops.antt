@@ -13,13 +13,13 @@ use Rattle.mv_ast.specs.Names.{any_of, names_local}
 use Rattle.mv_lower_spec.specs.Lower.{lower_expr}
 use Rattle.mv_lower_spec.specs.Statements.{Jumps, Placed, LoweredArm, in_body, in_arm, in_sequence, values_top, arms_top}
 use Rattle.mv_lower_spec.specs.LowerStatements.{lower_optional, lower_stmt, lower_arm}
-use Rattle.mv_lower_spec.proofs.Expressions.{split}
 use Rattle.mv_source_forms.specs.Scopes.{with_local}
 use Rattle.mv_lower_shape.proofs.Asked.{Globals, Scope, ArmScope, all_within, all_behind, arms_within, is_within, all_exprs_within, optional_within, stmt_scope, arm_scope}
 use Rattle.mv_lower_shape.proofs.ExpressionTops.{expr_top, greatest_append}
 use Rattle.mv_lower_shape.proofs.Folds.{limited_stmts}
 use Rattle.mv_source_forms.proofs.StatementFolds.{StmtFolds, stmt_fold, stmt_folds, along_stmts}
 use Rattle.mv_source_forms.proofs.StatementInduction.{StmtChildren}
+use Rattle.mv_num.proofs.Booleans.{and_cases}
 
 abbrev depth_layer : Stmt-F ℕ ℕ → ℕ
 depth_layer s = max (greatest (map expr_depth (stmt_expressions s))) (greatest (stmt_parts s))
@@ -65,7 +65,7 @@ module _ (globals : Globals) (locals : ℕ) (sizes : ℕ → Option ℕ) (void :
   all_top [] h declared b j = omega arith
   all_top (s ∷ body) h declared b j =
       let scope = stmt_scope globals locals sizes s in
-      let bs = split (scope.within declared) (all_within (scopes body) (scope.behind declared)) b in
+      let bs = and_cases (scope.within declared) (all_within (scopes body) (scope.behind declared)) b in
       let k = h.0 declared bs.0 j in
       let l = all_top body h.1 (scope.behind declared) bs.1 j in
       omega (arith, k, l)
@@ -73,7 +73,7 @@ module _ (globals : Globals) (locals : ℕ) (sizes : ℕ → Option ℕ) (void :
   all_values_top : (declared : ℕ → Bool) (es : List Expr) → all_exprs_within globals locals sizes es declared ≡ true → values_top locals (map lower_expr es) ≤ locals + 8 * greatest (map expr_depth es)
   all_values_top declared [] b = omega arith
   all_values_top declared (e ∷ es) b =
-      let bs = split (within e declared) (all_exprs_within globals locals sizes es declared) b in
+      let bs = and_cases (within e declared) (all_exprs_within globals locals sizes es declared) b in
       let k = value_top declared e bs.0 in
       let l = all_values_top declared es bs.1 in
       omega (arith, k, l)
@@ -82,7 +82,7 @@ module _ (globals : Globals) (locals : ℕ) (sizes : ℕ → Option ℕ) (void :
       arms_top locals (map (lower_arm locals sizes void) arms) j ≤ locals + 8 * greatest (map arm_depth arms)
   all_arms_top [] h declared b j = omega arith
   all_arms_top (arm ∷ arms) h declared b j =
-      let bs = split (arm_scope globals locals sizes arm declared) (arms_within (map (arm_scope globals locals sizes) arms) declared) b in
+      let bs = and_cases (arm_scope globals locals sizes arm declared) (arms_within (map (arm_scope globals locals sizes) arms) declared) b in
       let k = h.0 declared bs.0 (in_arm j) in
       let l = all_arms_top arms h.1 declared bs.1 j in
       omega (arith, k, l)
@@ -95,23 +95,23 @@ module _ (globals : Globals) (locals : ℕ) (sizes : ℕ → Option ℕ) (void :
   layer (stmt.Block body) h declared b j = let k = all_top body h declared b j in omega (arith, k)
   layer (stmt.Clear l values) h declared b j =
       let known = cond (any_of (map (names_local l) values)) (with_local l declared) declared in
-      let k = all_values_top known values (split (nat_lt l locals) (all_exprs_within globals locals sizes values known) b).1 in
+      let k = all_values_top known values (and_cases (nat_lt l locals) (all_exprs_within globals locals sizes values known) b).1 in
       omega (arith, k)
   layer (stmt.Express e) h declared b j = let k = value_top declared e b in omega (arith, k)
   layer (stmt.If e yes_part no_part) h declared b j =
-      let bs = split (within e declared) (all_within (scopes yes_part) declared && all_within (scopes no_part) declared) b in
-      let cs = split (all_within (scopes yes_part) declared) (all_within (scopes no_part) declared) bs.1 in
+      let bs = and_cases (within e declared) (all_within (scopes yes_part) declared && all_within (scopes no_part) declared) b in
+      let cs = and_cases (all_within (scopes yes_part) declared) (all_within (scopes no_part) declared) bs.1 in
       let k = value_top declared e bs.0 in
       let l = all_top yes_part h.0 declared cs.0 j in
       let m = all_top no_part h.1 declared cs.1 j in
       omega (arith, k, l, m, greatest_append (map stmt_depth yes_part) (map stmt_depth no_part))
   layer (stmt.While e body) h declared b j =
-      let bs = split (within e declared) (all_within (scopes body) declared) b in
+      let bs = and_cases (within e declared) (all_within (scopes body) declared) b in
       let k = value_top declared e bs.0 in
       let l = all_top body h declared bs.1 (in_body j) in
       omega (arith, k, l)
   layer (stmt.Do body e) h declared b j =
-      let bs = split (within e declared) (all_within (scopes body) declared) b in
+      let bs = and_cases (within e declared) (all_within (scopes body) declared) b in
       let k = value_top declared e bs.0 in
       let l = all_top body h declared bs.1 (in_body j) in
       omega (arith, k, l)
@@ -119,9 +119,9 @@ module _ (globals : Globals) (locals : ℕ) (sizes : ℕ → Option ℕ) (void :
       let inside = all_behind (scopes first) declared in
       let may_test = optional_within globals locals sizes test inside in
       let may_step = optional_within globals locals sizes step inside in
-      let b0 = split (all_within (scopes first) declared) (may_test && (may_step && all_within (scopes body) inside)) b in
-      let b1 = split may_test (may_step && all_within (scopes body) inside) b0.1 in
-      let b2 = split may_step (all_within (scopes body) inside) b1.1 in
+      let b0 = and_cases (all_within (scopes first) declared) (may_test && (may_step && all_within (scopes body) inside)) b in
+      let b1 = and_cases may_test (may_step && all_within (scopes body) inside) b0.1 in
+      let b2 = and_cases may_step (all_within (scopes body) inside) b1.1 in
       let k = all_top first h.0 declared b0.0 j in
       let l = optional_top 1 test inside b1.0 in
       let m = optional_top 0 step inside b2.0 in
@@ -131,7 +131,7 @@ module _ (globals : Globals) (locals : ℕ) (sizes : ℕ → Option ℕ) (void :
       omega (arith, k, l, m, n, d, e)
   layer (stmt.Switch e arms) h declared b j =
       let scoped = map (arm_scope globals locals sizes) arms in
-      let bs = split (within e declared) (arms_within scoped declared) b in
+      let bs = and_cases (within e declared) (arms_within scoped declared) b in
       let k = value_top declared e bs.0 in
       let l = all_arms_top arms h declared bs.1 j in
       omega (arith, k, l, deep e)

@@ -15,7 +15,6 @@ use Rattle.mv_lower_spec.specs.Lowered.{Lowering, number, temp, binary, set}
 use Rattle.mv_lower_spec.specs.Lower.{lower_expr}
 use Rattle.mv_lower_spec.specs.Statements.{Jumps, Placed, LoweredArm, in_body, in_arm, in_sequence, test_labels, test_arms, arm_place, all_tests, arm_code, arms_code, arms_top, lower_switch, test_and_body}
 use Rattle.mv_lower_spec.specs.LowerStatements.{lower_optional, lower_stmt, lower_arm}
-use Rattle.mv_lower_spec.proofs.Expressions.{split}
 use Rattle.mv_source_forms.specs.Scopes.{with_local}
 use Rattle.mv_lower_shape.proofs.Asked.{Globals, Scope, ArmScope, all_within, all_behind, arms_within, is_within, all_exprs_within, optional_within, stmt_scope, arm_scope}
 use Rattle.mv_lower_shape.specs.Calls.{expr_weight, stmt_weight, arm_weight}
@@ -23,10 +22,12 @@ use Rattle.mv_lower_shape.proofs.Rules.{Allowed, Rules, BlockRules}
 use Rattle.mv_lower_shape.proofs.Plain.{plain_set, covers_number, covers_none, covers_before, covers_binary, covers_swap}
 use Rattle.mv_lower_shape.proofs.Paid as paying
 use Rattle.mv_lower_shape.proofs.Clears as clears
-use Rattle.mv_lower_shape.proofs.Expressions.{allowed, scratch_used, sum_cons, sum_append}
+use Rattle.mv_lower_shape.proofs.Expressions.{allowed, scratch_used}
 use Rattle.mv_lower_shape.proofs.Folds.{limited_stmts}
 use Rattle.mv_source_forms.proofs.StatementFolds.{StmtFolds, stmt_fold, stmt_folds, along_stmts}
 use Rattle.mv_source_forms.proofs.StatementInduction.{StmtChildren}
+use Rattle.mv_num.proofs.Booleans.{and_cases}
+use Rattle.mv_num.proofs.Lists.{sum_cons, sum_append}
 
 module _ (globals : Globals) (locals : ℕ) (sizes : ℕ → Option ℕ) (void : Bool) (room : ℕ) (direct : ℕ → ℕ) (through : ℕ)
     (B : ℕ → ℕ → ℕ → ℕ → List Tree → List Stm → List Tree → Type 0)
@@ -128,7 +129,7 @@ module _ (globals : Globals) (locals : ℕ) (sizes : ℕ → Option ℕ) (void :
   all_paid [] h declared b j top = nothing
   all_paid (s ∷ body) h declared b j top =
       let scope = stmt_scope globals locals sizes s in
-      let bs = split (scope.within declared) (all_within (scopes body) (scope.behind declared)) b in
+      let bs = and_cases (scope.within declared) (all_within (scopes body) (scope.behind declared)) b in
       let n = sum_cons (stmt_nodes s) (map stmt_nodes body) in
       let k = sum_cons (stmt_weight direct through s) (map (stmt_weight direct through) body) in
       code_as (omega (arith, n)) (sym k) (in_turn (all_of_it (h.0 declared bs.0 j (omega (arith, top)))) (all_paid body h.1 (scope.behind declared) bs.1 j (omega (arith, top))))
@@ -180,7 +181,7 @@ module _ (globals : Globals) (locals : ℕ) (sizes : ℕ → Option ℕ) (void :
     enters_paid i [] h declared b j top = nothing
     enters_paid i (s ∷ body) h declared b j top =
         let scope = stmt_scope globals locals sizes s in
-        let bs = split (scope.within declared) (all_within (scopes body) (scope.behind declared)) b in
+        let bs = and_cases (scope.within declared) (all_within (scopes body) (scope.behind declared)) b in
         let n = sum_cons (stmt_nodes s) (map stmt_nodes body) in
         let k = sum_cons (stmt_weight direct through s) (map (stmt_weight direct through) body) in
         let first = h.0 declared bs.0 j (omega (arith, top)) in
@@ -216,7 +217,7 @@ module _ (globals : Globals) (locals : ℕ) (sizes : ℕ → Option ℕ) (void :
       ArmsPaid arms (arms_code locals i (arms_lowered arms) j)
   arms_paid there i [] h declared b j top = record { units = 0; words = 0; nodes = 0; made = r.retree (covers_none []); few_units = omega arith; few_nodes = omega arith; few_words = omega arith }
   arms_paid there i (arm ∷ arms) h declared b j top =
-      let bs = split (arm_scope globals locals sizes arm declared) (arms_within (map (arm_scope globals locals sizes) arms) declared) b in
+      let bs = and_cases (arm_scope globals locals sizes arm declared) (arms_within (map (arm_scope globals locals sizes) arms) declared) b in
       let p = h.0.body there i declared bs.0 (in_arm j) (omega (arith, top)) in
       let rest = arms_paid there (suc i) arms h.1 declared bs.1 j (omega (arith, top)) in
       let n = sum_cons (arm_nodes arm) (map arm_nodes arms) in
@@ -281,14 +282,14 @@ module _ (globals : Globals) (locals : ℕ) (sizes : ℕ → Option ℕ) (void :
   layer (stmt.Clear l values) h declared b j top =
       let itself = any_of (map (names_local l) values) in
       let known = cond itself (with_local l declared) declared in
-      let bs = split (nat_lt l locals) (all_exprs_within globals locals sizes values known) b in
+      let bs = and_cases (nat_lt l locals) (all_exprs_within globals locals sizes values known) b in
       stmt_as (omega arith) (omega arith) (clears.cleared globals locals sizes room direct through known B (rules known) l bs.0 (sizes l) refl itself values j bs.1 top)
   layer (stmt.Express e) h declared b j top =
       let p = value declared e b top in
       one_more p.units p.words p.nodes (r.weaken (omega arith) (omega arith) (omega arith) (omega arith) (dropped p.made)) (omega (arith, p.few_units)) (omega (arith, p.few_nodes)) (omega (arith, p.few_words))
   layer (stmt.If e yes_part no_part) h declared b j top =
-      let bs = split (is_within globals locals sizes declared e) (all_within (scopes yes_part) declared && all_within (scopes no_part) declared) b in
-      let cs = split (all_within (scopes yes_part) declared) (all_within (scopes no_part) declared) bs.1 in
+      let bs = and_cases (is_within globals locals sizes declared e) (all_within (scopes yes_part) declared && all_within (scopes no_part) declared) b in
+      let cs = and_cases (all_within (scopes yes_part) declared) (all_within (scopes no_part) declared) bs.1 in
       let p = value declared e bs.0 (omega (arith, top)) in
       let yes = all_paid yes_part h.0 declared cs.0 j (omega (arith, top)) in
       let other = all_paid no_part h.1 declared cs.1 j (omega (arith, top)) in
@@ -298,14 +299,14 @@ module _ (globals : Globals) (locals : ℕ) (sizes : ℕ → Option ℕ) (void :
       (r.weaken (omega arith) (omega arith) (omega arith) (omega (arith, w)) (r.chain p.made (r.choose (lower_expr e locals).tree yes.made other.made)))
       (omega (arith, p.few_units, yes.few_units, other.few_units, n)) (omega (arith, p.few_nodes, yes.few_nodes, other.few_nodes, n)) (omega (arith, p.few_words, yes.few_words, other.few_words, n))
   layer (stmt.While e body) h declared b j top =
-      let bs = split (is_within globals locals sizes declared e) (all_within (scopes body) declared) b in
+      let bs = and_cases (is_within globals locals sizes declared e) (all_within (scopes body) declared) b in
       let p = value declared e bs.0 (omega (arith, top)) in
       let q = all_paid body h declared bs.1 (in_body j) (omega (arith, top)) in
       one_more (p.units + (q.units + 1 + 1 + 1) + 1) (p.words + (q.words + 1 + 3) + 1) (p.nodes + q.nodes)
       (r.weaken (omega arith) (omega arith) (omega arith) (omega arith) (blocks.turns (test_paid (lower_expr e) p.made (blocks.block q.made))))
       (omega (arith, p.few_units, q.few_units)) (omega (arith, p.few_nodes, q.few_nodes)) (omega (arith, p.few_words, q.few_words))
   layer (stmt.Do body e) h declared b j top =
-      let bs = split (is_within globals locals sizes declared e) (all_within (scopes body) declared) b in
+      let bs = and_cases (is_within globals locals sizes declared e) (all_within (scopes body) declared) b in
       let p = value declared e bs.0 (omega (arith, top)) in
       let q = all_paid body h declared bs.1 (in_body j) (omega (arith, top)) in
       one_more (q.units + 1 + (p.units + (0 + 1 + 1)) + 1) (q.words + (p.words + (0 + 1 + 3)) + 1) (q.nodes + (p.nodes + 0))
@@ -315,9 +316,9 @@ module _ (globals : Globals) (locals : ℕ) (sizes : ℕ → Option ℕ) (void :
       let inside = all_behind (scopes first) declared in
       let may_test = optional_within globals locals sizes test inside in
       let may_step = optional_within globals locals sizes step inside in
-      let b0 = split (all_within (scopes first) declared) (may_test && (may_step && all_within (scopes body) inside)) b in
-      let b1 = split may_test (may_step && all_within (scopes body) inside) b0.1 in
-      let b2 = split may_step (all_within (scopes body) inside) b1.1 in
+      let b0 = and_cases (all_within (scopes first) declared) (may_test && (may_step && all_within (scopes body) inside)) b in
+      let b1 = and_cases may_test (may_step && all_within (scopes body) inside) b0.1 in
+      let b2 = and_cases may_step (all_within (scopes body) inside) b1.1 in
       let begun = all_paid first h.0 declared b0.0 j (omega (arith, top)) in
       let tested = optional_paid 1 test inside b1.0 (omega (arith, top)) in
       let stepped = effect_paid 0 step inside b2.0 (omega (arith, top)) in
@@ -332,7 +333,7 @@ module _ (globals : Globals) (locals : ℕ) (sizes : ℕ → Option ℕ) (void :
       (omega (arith, begun.few_units, tested.few_units, stepped.few_units, turn.few_units, n, n'))
       (omega (arith, begun.few_nodes, tested.few_nodes, stepped.few_nodes, turn.few_nodes, n, n')) (omega (arith, begun.few_words, tested.few_words, stepped.few_words, turn.few_words, n, n'))
   layer (stmt.Switch e arms) h declared b j top =
-      let bs = split (is_within globals locals sizes declared e) (arms_within (map (arm_scope globals locals sizes) arms) declared) b in
+      let bs = and_cases (is_within globals locals sizes declared e) (arms_within (map (arm_scope globals locals sizes) arms) declared) b in
       stmt_as (omega arith) (omega arith) (switch_paid e arms h declared bs.0 bs.1 j top)
   layer stmt.Break h declared b j top = one_more 1 1 0 (r.weaken (omega arith) (omega arith) (omega arith) (omega arith) (blocks.leaves j.leave)) (omega arith) (omega arith) (omega arith)
   layer stmt.Continue h declared b j top = one_more 1 1 0 (r.weaken (omega arith) (omega arith) (omega arith) (omega arith) (blocks.leaves j.again)) (omega arith) (omega arith) (omega arith)

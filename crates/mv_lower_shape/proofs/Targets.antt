@@ -22,7 +22,6 @@ use Rattle.mv_lower_spec.specs.Lowered.{Lowering, number, temp, binary, set, cho
 use Rattle.mv_lower_spec.specs.Lower.{lower_expr}
 use Rattle.mv_lower_spec.specs.Statements.{Jumps, Placed, LoweredArm, in_body, in_arm, in_sequence, test_labels, test_arms, arm_place, all_tests, arm_code, arms_code, values_top, break, enclosed, repeat, return_with, test_and_body}
 use Rattle.mv_lower_spec.specs.LowerStatements.{lower_optional, lower_stmt, lower_arm}
-use Rattle.mv_lower_spec.proofs.Expressions.{split}
 use Rattle.mv_source_forms.specs.Jumps.{Jumping, all_jump, jumps_layer, arm_jumps_layer, stmt_jumps, arm_jumps}
 use Rattle.mv_source_forms.specs.Scopes.{with_local}
 use Rattle.mv_lower_shape.proofs.Asked.{Globals, Scope, ArmScope, all_within, all_behind, arms_within, is_within, all_exprs_within, optional_within, stmt_scope, arm_scope}
@@ -32,6 +31,7 @@ use Rattle.mv_lower_shape.proofs.Clears as clears
 use Rattle.mv_lower_shape.proofs.Folds.{limited_stmts}
 use Rattle.mv_source_forms.proofs.StatementFolds.{StmtFolds, stmt_fold, stmt_folds, along_stmts}
 use Rattle.mv_source_forms.proofs.StatementInduction.{StmtChildren}
+use Rattle.mv_num.proofs.Booleans.{and_cases}
 
 -- the jumps of some code have targets, where these loops and blocks are around it
 abbrev pub HasTargets : List Bool → List Stm → Type 0
@@ -39,7 +39,7 @@ HasTargets around code = all_around (map stm_targets code) around ≡ true
 
 all_append : (fs gs : List (List Bool → Bool)) (r : List Bool) → all_around fs r ≡ true → all_around gs r ≡ true → all_around (fs ++ gs) r ≡ true
 all_append [] gs r h k = k
-all_append (f ∷ fs) gs r h k = let bs = split (f r) (all_around fs r) h in and_from (f r) (all_around (fs ++ gs) r) bs.0 (all_append fs gs r bs.1 k)
+all_append (f ∷ fs) gs r h k = let bs = and_cases (f r) (all_around fs r) h in and_from (f r) (all_around (fs ++ gs) r) bs.0 (all_append fs gs r bs.1 k)
 
 pub targets_append : (r : List Bool) (xs ys : List Stm) → HasTargets r xs → HasTargets r ys → HasTargets r (xs ++ ys)
 targets_append r xs ys h k = ap (λ l. all_around l r) (map_append stm_targets xs ys) ∙ all_append (map stm_targets xs) (map stm_targets ys) r h k
@@ -126,8 +126,8 @@ module _ (globals : Globals) (locals : ℕ) (sizes : ℕ → Option ℕ) (void :
   all_targets [] h declared b u v l j r k = refl
   all_targets (s ∷ body) h declared b u v l j r k =
       let scope = stmt_scope globals locals sizes s in
-      let bs = split (scope.within declared) (all_within (scopes body) (scope.behind declared)) b in
-      let ls = split (stmt_jumps s u v) (leading body u v) l in
+      let bs = and_cases (scope.within declared) (all_within (scopes body) (scope.behind declared)) b in
+      let ls = and_cases (stmt_jumps s u v) (leading body u v) l in
       targets_append r (lower_stmt locals sizes void s j).code (lowered body j).code (h.0 declared bs.0 u v ls.0 j r k) (all_targets body h.1 (scope.behind declared) bs.1 u v ls.1 j r k)
 
   -- ---- `switch`
@@ -159,8 +159,8 @@ module _ (globals : Globals) (locals : ℕ) (sizes : ℕ → Option ℕ) (void :
       (j : Jumps) (r : List Bool) → Leads u v j r → HasTargets (false ∷ r) (arms_code locals i (arms_lowered arms) j)
   arms_targets i [] h declared b u v l j r k = refl
   arms_targets i (arm ∷ arms) h declared b u v l j r k =
-      let bs = split (arm_scope globals locals sizes arm declared) (arms_within (map (arm_scope globals locals sizes) arms) declared) b in
-      let ls = split (arm_jumps arm true v) (all_jump (map arm_jumps arms) true v) l in
+      let bs = and_cases (arm_scope globals locals sizes arm declared) (arms_within (map (arm_scope globals locals sizes) arms) declared) b in
+      let ls = and_cases (arm_jumps arm true v) (all_jump (map arm_jumps arms) true v) l in
       let body = ((lower_arm locals sizes void arm).body (in_arm j)).code in
       targets_append (false ∷ r) (arm_code locals i body) (arms_code locals (suc i) (arms_lowered arms) j)
       (arm_targets i body (false ∷ r) (h.0 declared bs.0 true v ls.0 (in_arm j) (false ∷ r) (leads_in_arm u v j r k))) (arms_targets (suc i) arms h.1 declared bs.1 u v ls.1 j r k)
@@ -181,24 +181,24 @@ module _ (globals : Globals) (locals : ℕ) (sizes : ℕ → Option ℕ) (void :
   layer (stmt.Clear m values) h declared b u v l j r k =
       let itself = any_of (map (names_local m) values) in
       let known = cond itself (with_local m declared) declared in
-      let bs = split (nat_lt m locals) (all_exprs_within globals locals sizes values known) b in
+      let bs = and_cases (nat_lt m locals) (all_exprs_within globals locals sizes values known) b in
       let room = values_top locals (map lower_expr values) in
       (clears.cleared globals locals sizes room none 0 known Jumpless (jumpless_rules (allowed globals locals sizes room none 0 known)) m bs.0 (sizes m) refl itself values j bs.1 (omega arith)).made.targets r
   layer (stmt.Express e) h declared b u v l j r k = value declared e b r
   layer (stmt.If e yes_part no_part) h declared b u v l j r k =
-      let bs = split (is_within globals locals sizes declared e) (all_within (scopes yes_part) declared && all_within (scopes no_part) declared) b in
-      let cs = split (all_within (scopes yes_part) declared) (all_within (scopes no_part) declared) bs.1 in
-      let ls = split (leading yes_part u v) (leading no_part u v) l in
+      let bs = and_cases (is_within globals locals sizes declared e) (all_within (scopes yes_part) declared && all_within (scopes no_part) declared) b in
+      let cs = and_cases (all_within (scopes yes_part) declared) (all_within (scopes no_part) declared) bs.1 in
+      let ls = and_cases (leading yes_part u v) (leading no_part u v) l in
       let yes = (lowered yes_part j).code in
       let other = (lowered no_part j).code in
       targets_append r (lower_expr e locals).code (choose (lower_expr e locals).tree yes other ∷ []) (value declared e bs.0 r)
       (choose_targets r (lower_expr e locals).tree yes other (all_targets yes_part h.0 declared cs.0 u v ls.0 j r k) (all_targets no_part h.1 declared cs.1 u v ls.1 j r k))
   layer (stmt.While e body) h declared b u v l j r k =
-      let bs = split (is_within globals locals sizes declared e) (all_within (scopes body) declared) b in
+      let bs = and_cases (is_within globals locals sizes declared e) (all_within (scopes body) declared) b in
       targets_one r (stm.Loop (test_and_body locals (lower_expr e) (enclosed (lowered body (in_body j)).code ∷ [])))
       (test_targets (lower_expr e) (enclosed (lowered body (in_body j)).code ∷ []) (true ∷ r) (omega arith) (value declared e bs.0 (true ∷ r)) (body_targets body h declared bs.1 u v l j r k))
   layer (stmt.Do body e) h declared b u v l j r k =
-      let bs = split (is_within globals locals sizes declared e) (all_within (scopes body) declared) b in
+      let bs = and_cases (is_within globals locals sizes declared e) (all_within (scopes body) declared) b in
       let code = (lowered body (in_body j)).code in
       let test = test_and_body locals (lower_expr e) [] in
       targets_one r (stm.Loop (enclosed code ∷ test))
@@ -207,10 +207,10 @@ module _ (globals : Globals) (locals : ℕ) (sizes : ℕ → Option ℕ) (void :
       let inside = all_behind (scopes first) declared in
       let may_test = optional_within globals locals sizes test inside in
       let may_step = optional_within globals locals sizes step inside in
-      let b0 = split (all_within (scopes first) declared) (may_test && (may_step && all_within (scopes body) inside)) b in
-      let b1 = split may_test (may_step && all_within (scopes body) inside) b0.1 in
-      let b2 = split may_step (all_within (scopes body) inside) b1.1 in
-      let ls = split (leading first u v) (leading body true true) l in
+      let b0 = and_cases (all_within (scopes first) declared) (may_test && (may_step && all_within (scopes body) inside)) b in
+      let b1 = and_cases may_test (may_step && all_within (scopes body) inside) b0.1 in
+      let b2 = and_cases may_step (all_within (scopes body) inside) b1.1 in
+      let ls = and_cases (leading first u v) (leading body true true) l in
       let code = (lowered body (in_body j)).code in
       let tested = test_and_body locals (lower_optional 1 test) (enclosed code ∷ []) in
       let stepped = (lower_optional 0 step locals).code in
@@ -220,7 +220,7 @@ module _ (globals : Globals) (locals : ℕ) (sizes : ℕ → Option ℕ) (void :
       (test_targets (lower_optional 1 test) (enclosed code ∷ []) (true ∷ r) (omega arith) (optional 1 inside test b1.0 (true ∷ r)) (body_targets body h.1 inside b2.1 u v ls.1 j r k)) (optional 0 inside step b2.0 (true ∷ r))))
   layer (stmt.Switch e arms) h declared b u v l j r k =
       let scoped = map (arm_scope globals locals sizes) arms in
-      let bs = split (is_within globals locals sizes declared e) (arms_within scoped declared) b in
+      let bs = and_cases (is_within globals locals sizes declared e) (arms_within scoped declared) b in
       let ls = arms_lowered arms in
       let place = arm_place (λ (a : LoweredArm). a.other) 0 ls in
       let tested = all_tests locals ls in

@@ -19,7 +19,6 @@ use Rattle.mv_lower_spec.specs.Lower.{lower_expr}
 use Rattle.mv_source_forms.specs.Names.{is_scalar}
 use Rattle.mv_lower_spec.specs.Statements.{Jumps, Placed, LoweredArm, in_body, in_arm, in_sequence, store_zeros, store_values, values_top, lower_clear, test_labels, test_arms, arm_place, all_tests, arm_code, arms_code, arms_top, lower_switch, break, enclosed, repeat, return_with, test_and_body}
 use Rattle.mv_lower_spec.specs.LowerStatements.{lower_optional, lower_stmt, lower_arm}
-use Rattle.mv_lower_spec.proofs.Expressions.{split, no}
 use Rattle.mv_source_forms.specs.Scopes.{with_local}
 use Rattle.mv_lower_shape.proofs.Asked.{Globals, Scope, ArmScope, all_within, all_behind, arms_within, is_within, all_exprs_within, optional_within, stmt_scope, arm_scope}
 use Rattle.mv_lower_shape.proofs.Rules.{Allowed}
@@ -30,6 +29,7 @@ use Rattle.mv_lower_shape.proofs.Passing as passing
 use Rattle.mv_lower_shape.proofs.Folds.{limited_stmts}
 use Rattle.mv_source_forms.proofs.StatementFolds.{StmtFolds, along_stmts}
 use Rattle.mv_source_forms.proofs.StatementInduction.{StmtChildren}
+use Rattle.mv_num.proofs.Booleans.{and_cases, from_falsity}
 
 -- a temporary that is live behind none of the places to which control may lead
 pub record IsShut (j : Jumps) (r : Around) : Type 0 where
@@ -120,7 +120,7 @@ module _ (globals : Globals) (locals : ℕ) (sizes : ℕ → Option ℕ) (void :
   all_dead [] h declared b k j top r q n = n k
   all_dead (s ∷ body) h declared b k j top r q n =
       let scope = stmt_scope globals locals sizes s in
-      let bs = split (scope.within declared) (all_within (scopes body) (scope.behind declared)) b in
+      let bs = and_cases (scope.within declared) (all_within (scopes body) (scope.behind declared)) b in
       let xs = (lower_stmt locals sizes void s j).code in
       let ys = (lowered body j).code in
       live_append u xs ys r ∙
@@ -151,7 +151,7 @@ module _ (globals : Globals) (locals : ℕ) (sizes : ℕ → Option ℕ) (void :
   own_cleared true known es j b k top r = set_dead (number 0) (store_values locals None u 0 (map lower_expr es)) r (number_reads 0)
   own_cleared false known [] j b k top r = set_dead (number 0) [] r (number_reads 0)
   own_cleared false known (e ∷ es) j b k top r =
-      let bs = split (is_within globals locals sizes known e) (all_exprs_within globals locals sizes es known) b in
+      let bs = and_cases (is_within globals locals sizes known e) (all_exprs_within globals locals sizes es known) b in
       by (nat_le (8 * 1) (92 * (1 - suc (length (map lower_expr es))))) (value known e bs.0 (k refl) (omega (arith, top)))
     where
       by : (z : Bool) → Valued (lower_expr e locals).code (lower_expr e locals).tree →
@@ -167,7 +167,7 @@ module _ (globals : Globals) (locals : ℕ) (sizes : ℕ → Option ℕ) (void :
 
   scalar_none : (size : Option ℕ) → is_scalar size ≡ true → size ≡ None
   scalar_none None e = refl
-  scalar_none (Some n) e = no e
+  scalar_none (Some n) e = from_falsity e
 
   clear_dead : (l : ℕ) (values : List Expr) (declared : ℕ → Bool) → nat_lt l locals ≡ true → (itself : Bool) → all_exprs_within globals locals sizes values (cond itself (with_local l declared) declared) ≡ true → declared u ≡ false →
       (j : Jumps) → values_top locals (map lower_expr values) ≤ room → (r : Around) → (with_local l declared u ≡ false → r.next ≡ false) → live_at u (lower_clear locals (sizes l) l itself (map lower_expr values) j).code r ≡ false
@@ -247,7 +247,7 @@ module _ (globals : Globals) (locals : ℕ) (sizes : ℕ → Option ℕ) (void :
         (r : Around) → IsShut (in_arm j) r → r.next ≡ false → live_at u (arms_code locals i (arms_lowered arms) j) r ≡ false
     arms_dead i [] h declared b k j top r q n = n
     arms_dead i (arm ∷ arms) h declared b k j top r q n =
-        let bs = split (arm_scope globals locals sizes arm declared) (arms_within (map (arm_scope globals locals sizes) arms) declared) b in
+        let bs = and_cases (arm_scope globals locals sizes arm declared) (arms_within (map (arm_scope globals locals sizes) arms) declared) b in
         let body = ((lower_arm locals sizes void arm).body (in_arm j)).code in
         both_dead (arm_code locals i body) (arms_code locals (suc i) (arms_lowered arms) j) r (arms_dead (suc i) arms h.1 declared bs.1 k j (omega (arith, top)) r q n)
         (λ r1 e1 n1. arm_dead i body r1 n1
@@ -291,7 +291,7 @@ module _ (globals : Globals) (locals : ℕ) (sizes : ℕ → Option ℕ) (void :
 
   optional : (v : ℕ) (e : Option Expr) (declared : ℕ → Bool) → optional_within globals locals sizes e declared ≡ true → declared u ≡ false → (lower_optional v e locals).top ≤ room →
       Valued (lower_optional v e locals).code (lower_optional v e locals).tree
-  optional v None declared b k top = record { passes = λ r n. n; writes = λ e. no (sym (number_reads v) ∙ e) }
+  optional v None declared b k top = record { passes = λ r n. n; writes = λ e. from_falsity (sym (number_reads v) ∙ e) }
   optional v (Some e) declared b k top = value declared e b k top
 
   -- ---- each form
@@ -304,35 +304,35 @@ module _ (globals : Globals) (locals : ℕ) (sizes : ℕ → Option ℕ) (void :
   layer (stmt.Block body) h declared b k j top r q n = within_dead body h declared b k j top r q (n k)
   layer (stmt.Clear l values) h declared b k j top r q n =
       let itself = any_of (map (names_local l) values) in
-      let bs = split (nat_lt l locals) (all_exprs_within globals locals sizes values (cond itself (with_local l declared) declared)) b in
+      let bs = and_cases (nat_lt l locals) (all_exprs_within globals locals sizes values (cond itself (with_local l declared) declared)) b in
       clear_dead l values declared bs.0 itself bs.1 k j top r n
   layer (stmt.Express e) h declared b k j top r q n = (value declared e b k top).passes r (n k)
   layer (stmt.If e yes_part no_part) h declared b k j top r q n =
-      let bs = split (is_within globals locals sizes declared e) (all_within (scopes yes_part) declared && all_within (scopes no_part) declared) b in
-      let cs = split (all_within (scopes yes_part) declared) (all_within (scopes no_part) declared) bs.1 in
+      let bs = and_cases (is_within globals locals sizes declared e) (all_within (scopes yes_part) declared && all_within (scopes no_part) declared) b in
+      let cs = and_cases (all_within (scopes yes_part) declared) (all_within (scopes no_part) declared) bs.1 in
       let t = (lower_expr e locals).tree in
       let yes = (lowered yes_part j).code in
       let other = (lowered no_part j).code in
       then_dead (lower_expr e locals).code (choose t yes other ∷ []) t (value declared e bs.0 k (omega (arith, top))) r
       (λ reads. choose_dead t yes other r reads (within_dead yes_part h.0 declared cs.0 k j (omega (arith, top)) r q (n k)) (within_dead no_part h.1 declared cs.1 k j (omega (arith, top)) r q (n k)))
   layer (stmt.While e body) h declared b k j top r q n =
-      let bs = split (is_within globals locals sizes declared e) (all_within (scopes body) declared) b in
+      let bs = and_cases (is_within globals locals sizes declared e) (all_within (scopes body) declared) b in
       let code = (lowered body (in_body j)).code in
       let r1 = around_loop r false in
       loop_dead (test_and_body locals (lower_expr e) (enclosed code ∷ [])) r
       (test_dead (lower_expr e) (enclosed code ∷ []) r1 (value declared e bs.0 k (omega (arith, top))) (n k)
       (block_dead code r1 (within_dead body h declared bs.1 k (in_body j) (omega (arith, top)) (around_block r1) (in_turn j r q (n k)) refl)))
   layer (stmt.Do body e) h declared b k j top r q n =
-      let bs = split (is_within globals locals sizes declared e) (all_within (scopes body) declared) b in
+      let bs = and_cases (is_within globals locals sizes declared e) (all_within (scopes body) declared) b in
       let code = (lowered body (in_body j)).code in
       let r1 = around_loop r false in
       loop_dead (enclosed code ∷ test_and_body locals (lower_expr e) []) r
       (front_dead (enclosed code) (test_and_body locals (lower_expr e) []) r1 (test_dead (lower_expr e) [] r1 (value declared e bs.0 k (omega (arith, top))) (n k) refl)
       (block_dead code r1 (within_dead body h declared bs.1 k (in_body j) (omega (arith, top)) (around_block r1) (in_turn j r q (n k)) refl)))
   layer (stmt.For first test step body) h declared b k j top r q n =
-      let b0 = split (all_within (scopes first) declared) (may_test && (may_step && all_within (scopes body) inside)) b in
-      let b1 = split may_test (may_step && all_within (scopes body) inside) b0.1 in
-      let b2 = split may_step (all_within (scopes body) inside) b1.1 in
+      let b0 = and_cases (all_within (scopes first) declared) (may_test && (may_step && all_within (scopes body) inside)) b in
+      let b1 = and_cases may_test (may_step && all_within (scopes body) inside) b0.1 in
+      let b2 = and_cases may_step (all_within (scopes body) inside) b1.1 in
       live_append u (lowered first j).code (repeat turn ∷ []) r ∙
       all_dead first h.0 declared b0.0 k j (omega (arith, top)) (with_after r (live_at u (repeat turn ∷ []) r)) (shut_after j r (live_at u (repeat turn ∷ []) r) q)
       (λ out.
@@ -361,7 +361,7 @@ module _ (globals : Globals) (locals : ℕ) (sizes : ℕ → Option ℕ) (void :
       r1 = around_loop r false
   layer (stmt.Switch e arms) h declared b k j top r q n =
       let scoped = map (arm_scope globals locals sizes) arms in
-      let bs = split (is_within globals locals sizes declared e) (arms_within scoped declared) b in
+      let bs = and_cases (is_within globals locals sizes declared e) (arms_within scoped declared) b in
       switch_dead e arms h declared bs.0 bs.1 k j top r q (n k)
   layer stmt.Break h declared b k j top r q n = break_dead j.leave r q.leave
   layer stmt.Continue h declared b k j top r q n = break_dead j.again r q.again

@@ -22,7 +22,6 @@ use Rattle.mv_source_forms.specs.Typing.{HasType, LvalueHasType, global_types, p
 use Rattle.mv_source_forms.proofs.TypedParts.{TypedForm, TypedTarget, TypedExpr, AllTyped, FormParts, TargetParts, form_parts, target_parts, expr_form, expr_node}
 use Rattle.mv_source_forms.specs.Lists.{all_of}
 use Rattle.mv_source_forms.specs.Names.{is_scalar, is_own_switch, names_form, names_target, names_layer, target_is_well_named, is_well_named}
-use Rattle.mv_lower_spec.proofs.Expressions.{split}
 use Rattle.mv_source_forms.proofs.ExpressionFolds.{ExprFolds, expr_fold, expr_folds, expr_family, along_exprs}
 use Rattle.mv_source_forms.proofs.ExpressionInduction.{FormChildren, TargetChildren}
 use Rattle.mv_source_forms.specs.Scopes.{form_in, target_in, layer_in, names_declared, target_names_declared}
@@ -32,6 +31,7 @@ use Rattle.mv_source_forms.specs.WellFormed.{IsWithinLimits}
 use Rattle.mv_lower_shape.specs.Reads.{LvalueReads, reads_layer, lvalue_reads, inner_reads, target_reads, expr_reads}
 use Rattle.mv_lower_shape.proofs.Asked.{Globals, Access, local_access, target_access, form_names_only, inner_names_only, target_is_within, is_within}
 use Rattle.mv_lower_shape.proofs.Holding as holding
+use Rattle.mv_num.proofs.Booleans.{and_cases}
 
 -- what holds of all items of a list holds of one
 pub at_index : {A : Type 0} (P : A → Type 0) (xs : List A) (i : ℕ) (x : A) → All P xs → slice_get xs i ≡ Some x → P x
@@ -121,9 +121,9 @@ module _ (p : Program) (own : ℕ) (fn : Function) (globals : Globals) (locals :
       Holds (any_reads es) → all_within es ≡ true
   all_good [] h t n d k r = refl
   all_good (e ∷ es) h t n d k r =
-      let ns = split (is_well_named p own locals sizes free e) (all_of (map (is_well_named p own locals sizes free) es)) n in
-      let ds = split (names_declared outer e) (all_of (map (names_declared outer) es)) d in
-      let ks = split (calls_known p e) (all_of (map (calls_known p) es)) k in
+      let ns = and_cases (is_well_named p own locals sizes free e) (all_of (map (is_well_named p own locals sizes free) es)) n in
+      let ds = and_cases (names_declared outer e) (all_of (map (names_declared outer) es)) d in
+      let ks = and_cases (calls_known p e) (all_of (map (calls_known p) es)) k in
       and_from (is_within globals locals sizes inner e) (all_within es)
       (h.0 (record { typed = t.0; named = ns.0; declared = ds.0; known = ks.0; held = holding.holds_left globals count is_own (λ s a. expr_reads s a e) (any_reads es) r }))
       (all_good es h.1 t.1 ns.1 ds.1 ks.1 (holding.holds_right globals count is_own (λ s a. expr_reads s a e) (any_reads es) r))
@@ -174,7 +174,7 @@ module _ (p : Program) (own : ℕ) (fn : Function) (globals : Globals) (locals :
 
   pair : (a b : Expr) → S a → S b → TypedExpr p fn a → TypedExpr p fn b → (N a && N b) ≡ true → (D a && (D b && true)) ≡ true → (K a && (K b && true)) ≡ true → Holds (λ s x. R a s x || R b s x) → (I a && I b) ≡ true
   pair a b ha hb ta tb n d k r =
-      let ns = split (N a) (N b) n in
+      let ns = and_cases (N a) (N b) n in
       let ds = two_hold (D a) (D b) d in
       let ks = two_hold (K a) (K b) k in
       and_from (I a) (I b) (ha (record { typed = ta; named = ns.0; declared = ds.0; known = ks.0; held = left (R a) (R b) r }))
@@ -191,21 +191,21 @@ module _ (p : Program) (own : ℕ) (fn : Function) (globals : Globals) (locals :
   layer (form.Both a b) h t g = pair a b h.0 h.1 g.typed.1.0 g.typed.1.1 g.named g.declared g.known g.held
   layer (form.Either a b) h t g = pair a b h.0 h.1 g.typed.1.0 g.typed.1.1 g.named g.declared g.known g.held
   layer (form.Choose c a b) h t g =
-      let ns = split (N c) (N a && N b) g.named in
-      let ds = split (D c) (D a && (D b && true)) g.declared in
-      let ks = split (K c) (K a && (K b && true)) g.known in
+      let ns = and_cases (N c) (N a && N b) g.named in
+      let ds = and_cases (D c) (D a && (D b && true)) g.declared in
+      let ks = and_cases (K c) (K a && (K b && true)) g.known in
       let others : holding.Reading = λ s x. R a s x || R b s x in
       and_from (I c) (I a && I b) (h.0 (record { typed = g.typed.1.0; named = ns.0; declared = ds.0; known = ks.0; held = left (R c) others g.held }))
       (pair a b h.1 h.2 g.typed.1.1 g.typed.1.2 ns.1 ds.1 ks.1 (right (R c) others g.held))
   layer (form.Convert a) h t g = h (record { typed = g.typed.1; named = g.named; declared = one_holds (D a) g.declared; known = one_holds (K a) g.known; held = g.held })
   layer (form.Set x a) h t g =
-      let ns = split (target_is_well_named p own locals sizes free x) (N a) g.named in
+      let ns = and_cases (target_is_well_named p own locals sizes free x) (N a) g.named in
       let ds = two_hold (target_names_declared outer x) (D a) g.declared in
       let ks = two_hold (target_known x) (K a) g.known in
       let reached = h.0 t (record { typed = (g.typed.0.0, g.typed.1.0); named = ns.0; declared = ds.0; known = ks.0; held = left (index x) (R a) g.held }) in
       and_from (place x).stored (I a) reached.stored (h.1 (record { typed = g.typed.1.1; named = ns.1; declared = ds.1; known = ks.1; held = right (index x) (R a) g.held }))
   layer (form.Change op kind x a) h t g =
-      let ns = split (target_is_well_named p own locals sizes free x) (N a) g.named in
+      let ns = and_cases (target_is_well_named p own locals sizes free x) (N a) g.named in
       let ds = two_hold (target_names_declared outer x) (D a) g.declared in
       let ks = two_hold (target_known x) (K a) g.known in
       let both : holding.Reading = λ s z. itself x s z || index x s z in
@@ -217,18 +217,18 @@ module _ (p : Program) (own : ℕ) (fn : Function) (globals : Globals) (locals :
       let reached = h t (record { typed = (g.typed.0.1, g.typed.1); named = g.named; declared = one_holds (target_names_declared outer x) g.declared; known = one_holds (target_known x) g.known; held = right (itself x) (index x) g.held }) in
       and_from (place x).read (place x).stored (reached.read (left (itself x) (index x) g.held)) reached.stored
   layer (form.Direct f args) h t g =
-      let ns = split _ (all_of (map N args)) g.named in
+      let ns = and_cases _ (all_of (map N args)) g.named in
       and_from (nat_lt (length (map I args)) 9) (all_within args) (few I args (parameters_few f g.typed.0.0 args g.typed.0.1 g.typed.0.3)) (all_good args h g.typed.1 ns.1 g.declared g.known g.held)
   layer (form.Through args callee) h t g =
-      let ns = split (all_of (map N args)) (N callee) g.named in
+      let ns = and_cases (all_of (map N args)) (N callee) g.named in
       let ds = last_apart (map D args) (D callee) g.declared in
       let ks = last_apart (map K args) (K callee) g.known in
       and_from (nat_lt (length (map I args)) 9) (all_within args && I callee) (few I args (signature_few g.typed.0.0 g.typed.0.1 args g.typed.0.3 g.typed.0.5))
       (and_from (all_within args) (I callee) (all_good args h.0 g.typed.1.0 ns.0 ds.0 ks.0 (left (any_reads args) (R callee) g.held))
       (h.1 (record { typed = g.typed.1.1; named = ns.1; declared = ds.1; known = ks.1; held = right (any_reads args) (R callee) g.held })))
   layer (form.Known k args) h t g =
-      let ks = split (known_is_there p k) (nat_eq (length (map K args)) (known_parameters k) && all_of (map K args)) g.known in
-      let js = split (nat_eq (length (map K args)) (known_parameters k)) (all_of (map K args)) ks.1 in
+      let ks = and_cases (known_is_there p k) (nat_eq (length (map K args)) (known_parameters k) && all_of (map K args)) g.known in
+      let js = and_cases (nat_eq (length (map K args)) (known_parameters k)) (all_of (map K args)) ks.1 in
       and_from (nat_eq (length (map I args)) (known_arguments k)) (all_within args) (as_many K I k args js.0) (all_good args h g.typed.1 g.named g.declared js.1 g.held)
 
   -- ---- places
@@ -243,12 +243,12 @@ module _ (p : Program) (own : ℕ) (fn : Function) (globals : Globals) (locals :
     stored = there g (below g t type);
   }
   target_layer (form.Local l) h t type parts n d k r =
-      let ns = split (nat_lt l locals) (free l && is_scalar (sizes l)) n in
-      let ms = split (free l) (is_scalar (sizes l)) ns.1 in
+      let ns = and_cases (nat_lt l locals) (free l && is_scalar (sizes l)) n in
+      let ms = and_cases (free l) (is_scalar (sizes l)) ns.1 in
       let b = and_from (nat_lt l locals) (inner l && is_scalar (sizes l)) ns.0 (and_from (inner l) (is_scalar (sizes l)) (narrow l ms.0 d) ms.1) in
       record { read = λ held. b; stored = b }
   target_layer (form.GlobalAt g e) h t type parts n d k r =
-      let ns = split (not (is_own g)) (N e) n in
+      let ns = and_cases (not (is_own g)) (N e) n in
       let i = h (record { typed = parts; named = ns.1; declared = d; known = one_holds (K e) k; held = r }) in
       let b = there g (below g t type.0) in
       record {
@@ -256,10 +256,10 @@ module _ (p : Program) (own : ℕ) (fn : Function) (globals : Globals) (locals :
         stored = and_from (globals.there g) (I e) b i;
       }
   target_layer (form.LocalAt l e) h t type parts n d k r =
-      let ns = split (nat_lt l locals) (free l && (not (is_scalar (sizes l)) && N e)) n in
-      let ms = split (free l) (not (is_scalar (sizes l)) && N e) ns.1 in
-      let os = split (not (is_scalar (sizes l))) (N e) ms.1 in
-      let ds = split (outer l) (D e) d in
+      let ns = and_cases (nat_lt l locals) (free l && (not (is_scalar (sizes l)) && N e)) n in
+      let ms = and_cases (free l) (not (is_scalar (sizes l)) && N e) ns.1 in
+      let os = and_cases (not (is_scalar (sizes l))) (N e) ms.1 in
+      let ds = and_cases (outer l) (D e) d in
       let i = h (record { typed = parts; named = os.1; declared = ds.1; known = one_holds (K e) k; held = r }) in
       let b = and_from (local_access globals locals sizes inner (not (is_scalar (sizes l))) l) (I e)
       (and_from (nat_lt l locals) (inner l && not (is_scalar (sizes l))) ns.0 (and_from (inner l) (not (is_scalar (sizes l))) (narrow l ms.0 ds.0) os.0)) i in

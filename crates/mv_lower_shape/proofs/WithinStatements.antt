@@ -16,7 +16,6 @@ use Rattle.mv_source_forms.specs.Typing.{HasTypedParts, IsTypedAt, IsTypedExpr, 
 use Rattle.mv_source_forms.proofs.TypedParts.{TypedStmt, TypedArm, AllStmts, AllArms, StmtParts, stmt_parts, stmt_node, arm_parts}
 use Rattle.mv_source_forms.specs.Lists.{all_of}
 use Rattle.mv_source_forms.specs.Names.{is_well_named, is_own_switch, but_for, named_option, stmt_named_layer, arm_named_layer, stmt_is_well_formed, arm_is_well_formed}
-use Rattle.mv_lower_spec.proofs.Expressions.{split, no}
 use Rattle.mv_source_forms.specs.Scopes.{Scope, Scoped, with_local, with_declared, all_scoped, scope_behind, names_declared, option_declared, scoped_layer, arm_scoped_layer, stmt_scoped, arm_scoped}
 use Rattle.mv_source_forms.specs.Uses.{calls_known, all_layer, all_arm_layer, all_expressions}
 use Rattle.mv_source_forms.specs.WellFormed.{IsWithinLimits}
@@ -29,13 +28,14 @@ use Rattle.mv_lower_shape.proofs.WithinExpressions as exprs
 use Rattle.mv_source_forms.proofs.Tests.{all_apart}
 use Rattle.mv_source_forms.proofs.StatementFolds.{StmtFolds, stmt_fold, stmt_folds, stmt_family, along_stmts}
 use Rattle.mv_source_forms.proofs.StatementInduction.{StmtChildren}
+use Rattle.mv_num.proofs.Booleans.{and_cases, from_falsity}
 
 -- a name of another local is declared without this one
 narrowed : (l : ℕ) (scope : Scope) (k : ℕ) → but_for l k ≡ true → with_local l scope k ≡ true → scope k ≡ true
 narrowed l scope k apart e = by (nat_eq k l) apart e
   where
     by : (z : Bool) → not z ≡ true → (z || scope k) ≡ true → scope k ≡ true
-    by true a b = no a
+    by true a b = from_falsity a
     by false a b = b
 
 module _ (p : Program) (own : ℕ) (fn : Function) (globals : Globals) (locals : ℕ) (sizes : ℕ → Option ℕ) (void : Bool) (limits : IsWithinLimits p) (there : (k : ℕ) → k < length p.globals → globals.there k ≡ true) where
@@ -74,7 +74,7 @@ module _ (p : Program) (own : ℕ) (fn : Function) (globals : Globals) (locals :
 
   -- of a statement's one expression, beside what stands in the statement
   first_known : (e : Expr) (b : Bool) → ((K e && true) && b) ≡ true → (K e ≡ true) × (b ≡ true)
-  first_known e b q = let s = split (K e && true) b q in ((split (K e) true s.0).0, s.1)
+  first_known e b q = let s = and_cases (K e && true) b q in ((and_cases (K e) true s.0).0, s.1)
 
   first_held : (e : Expr) (rest : holding.Reading) → Holds (λ s a. (R e s a || false) || rest s a) → Holds (R e)
   first_held e rest h = left (R e) (λ s a. false) (left (λ s a. R e s a || false) rest h)
@@ -82,7 +82,7 @@ module _ (p : Program) (own : ℕ) (fn : Function) (globals : Globals) (locals :
   optional : (scope : Scope) (o : Option Expr) → IsTypedOption p fn o → named_option p own locals sizes void o ≡ true → option_declared scope o ≡ true → all_of (map K (option_to_list o)) ≡ true →
       Holds (λ s a. any_of (map (expr_reads s a) (option_to_list o))) → optional_within globals locals sizes o scope ≡ true
   optional scope None t n d k r = refl
-  optional scope (Some e) t n d k r = expr scope e t n d (split (K e) true k).0 (left (R e) (λ s a. false) r)
+  optional scope (Some e) t n d k r = expr scope e t n d (and_cases (K e) true k).0 (left (R e) (λ s a. false) r)
 
   -- values, whose free names are declared further in too
   module _ (free outer inner : Scope) (narrow : (l : ℕ) → free l ≡ true → outer l ≡ true → inner l ≡ true) where
@@ -93,9 +93,9 @@ module _ (p : Program) (own : ℕ) (fn : Function) (globals : Globals) (locals :
         Holds (λ s a. any_of (map (expr_reads s a) es)) → all_exprs_within globals locals sizes es inner ≡ true
     values t typed [] ts n d k r = refl
     values t typed (e ∷ es) ts n d k r =
-        let ns = split (M e) (all_of (map M es)) n in
-        let ds = split (names_declared outer e) (all_of (map (names_declared outer) es)) d in
-        let ks = split (K e) (all_of (map K es)) k in
+        let ns = and_cases (M e) (all_of (map M es)) n in
+        let ds = and_cases (names_declared outer e) (all_of (map (names_declared outer) es)) d in
+        let ks = and_cases (K e) (all_of (map K es)) k in
         let rest : holding.Reading = λ s a. any_of (map (expr_reads s a) es) in
         let here = typed e (ts 0 e (omega arith)) in
         and_from (I inner e) (all_exprs_within globals locals sizes es inner)
@@ -167,9 +167,9 @@ module _ (p : Program) (own : ℕ) (fn : Function) (globals : Globals) (locals :
   all_inside [] h scope g = refl
   all_inside (s ∷ body) h scope g =
       let next = with_declared (stmt_scoped s).declares scope in
-      let fs = split (F s) (all_of (map F body)) g.formed in
-      let ss = split ((stmt_scoped s).holds scope) (all_scoped (map stmt_scoped body) next) g.scoped in
-      let ks = split (KS s) (all_of (map KS body)) g.known in
+      let fs = and_cases (F s) (all_of (map F body)) g.formed in
+      let ss = and_cases ((stmt_scoped s).holds scope) (all_scoped (map stmt_scoped body) next) g.scoped in
+      let ks = and_cases (KS s) (all_of (map KS body)) g.known in
       let one : holding.Reading = λ r a. stmt_reads r a s in
       let others : holding.Reading = λ r a. any_of (map (stmt_reads r a) body) in
       and_from ((scope_of s).within scope) (all_within (scopes body) ((scope_of s).behind scope))
@@ -180,9 +180,9 @@ module _ (p : Program) (own : ℕ) (fn : Function) (globals : Globals) (locals :
   arms_inside : (arms : List Arm) → Each A arms → (scope : Scope) → GoodArms arms scope → arms_within (map scope_of_arm arms) scope ≡ true
   arms_inside [] h scope g = refl
   arms_inside (arm ∷ arms) h scope g =
-      let fs = split (FA arm) (all_of (map FA arms)) g.formed in
-      let ss = split (arm_scoped arm scope) (all_of (map (λ (a : Scope → Bool). a scope) (map arm_scoped arms))) g.scoped in
-      let ks = split (KA arm) (all_of (map KA arms)) g.known in
+      let fs = and_cases (FA arm) (all_of (map FA arms)) g.formed in
+      let ss = and_cases (arm_scoped arm scope) (all_of (map (λ (a : Scope → Bool). a scope) (map arm_scoped arms))) g.scoped in
+      let ks = and_cases (KA arm) (all_of (map KA arms)) g.known in
       let one : holding.Reading = λ r a. arm_reads r a arm in
       let others : holding.Reading = λ r a. any_of (map (arm_reads r a) arms) in
       and_from (scope_of_arm arm scope) (arms_within (map scope_of_arm arms) scope)
@@ -215,8 +215,8 @@ module _ (p : Program) (own : ℕ) (fn : Function) (globals : Globals) (locals :
       (names_declared scope e && all_scoped (map stmt_scoped body) scope) ≡ true → ((K e && true) && all_of (map KS body)) ≡ true →
       Holds (λ r a. (R e r a || false) || reads_all body r a) → (I scope e && all_within (scopes body) scope) ≡ true
   tested e body h scope t ts f s k r =
-      let fs = split (N e) (all_of (map F body)) f in
-      let ss = split (names_declared scope e) (all_scoped (map stmt_scoped body) scope) s in
+      let fs = and_cases (N e) (all_of (map F body)) f in
+      let ss = and_cases (names_declared scope e) (all_scoped (map stmt_scoped body) scope) s in
       let ks = first_known e (all_of (map KS body)) k in
       and_from (I scope e) (all_within (scopes body) scope) (expr scope e t fs.0 ss.0 ks.0 (first_held e (reads_all body) r))
       (all_inside body h scope (record { typed = ts; formed = fs.1; scoped = ss.1; known = ks.1; held = right (λ r a. R e r a || false) (reads_all body) r }))
@@ -245,10 +245,10 @@ module _ (p : Program) (own : ℕ) (fn : Function) (globals : Globals) (locals :
   layer (stmt.Clear l values_of) h scope g =
       let names_itself = any_of (map (names_local l) values_of) in
       let apart = all_of (map (is_well_named p own locals sizes (but_for l)) values_of) in
-      let f0 = split (nat_lt l locals) (nat_le (length values_of) (words_of_size (sizes l)) && (all_of (map N values_of) && (names_itself || apart))) g.formed in
-      let f1 = split (nat_le (length values_of) (words_of_size (sizes l))) (all_of (map N values_of) && (names_itself || apart)) f0.1 in
-      let f2 = split (all_of (map N values_of)) (names_itself || apart) f1.1 in
-      let known = (split (all_of (map K values_of)) true g.known).0 in
+      let f0 = and_cases (nat_lt l locals) (nat_le (length values_of) (words_of_size (sizes l)) && (all_of (map N values_of) && (names_itself || apart))) g.formed in
+      let f1 = and_cases (nat_le (length values_of) (words_of_size (sizes l))) (all_of (map N values_of) && (names_itself || apart)) f0.1 in
+      let f2 = and_cases (all_of (map N values_of)) (names_itself || apart) f1.1 in
+      let known = (and_cases (all_of (map K values_of)) true g.known).0 in
       let held = left (reads_exprs values_of) (λ r a. false) g.held in
       let typed : (e : Expr) → IsTypedAt p fn g.typed.0.0 e → IsTypedExpr p fn e = λ e t. t.0 in
       and_from (nat_lt l locals) (all_exprs_within globals locals sizes values_of (cond names_itself (with_local l scope) scope)) f0.0 (by names_itself f2.1 known held typed f2.0)
@@ -259,10 +259,10 @@ module _ (p : Program) (own : ℕ) (fn : Function) (globals : Globals) (locals :
       by false e known held typed named = values (but_for l) (with_local l scope) scope (narrowed l scope) (IsTypedAt p fn g.typed.0.0) typed values_of g.typed.0.2 e g.scoped known held
   layer (stmt.Express e) h scope g = expr scope e g.typed.0 g.formed g.scoped (first_known e true g.known).0 (first_held e (λ r a. false) g.held)
   layer (stmt.If e yes_part no_part) h scope g =
-      let fs = split (N e) (all_of (map F yes_part) && all_of (map F no_part)) g.formed in
-      let f1 = split (all_of (map F yes_part)) (all_of (map F no_part)) fs.1 in
-      let ss = split (names_declared scope e) (all_scoped (map stmt_scoped yes_part) scope && all_scoped (map stmt_scoped no_part) scope) g.scoped in
-      let s1 = split (all_scoped (map stmt_scoped yes_part) scope) (all_scoped (map stmt_scoped no_part) scope) ss.1 in
+      let fs = and_cases (N e) (all_of (map F yes_part) && all_of (map F no_part)) g.formed in
+      let f1 = and_cases (all_of (map F yes_part)) (all_of (map F no_part)) fs.1 in
+      let ss = and_cases (names_declared scope e) (all_scoped (map stmt_scoped yes_part) scope && all_scoped (map stmt_scoped no_part) scope) g.scoped in
+      let s1 = and_cases (all_scoped (map stmt_scoped yes_part) scope) (all_scoped (map stmt_scoped no_part) scope) ss.1 in
       let ks = first_known e (all_of (map KS yes_part ++ map KS no_part)) g.known in
       let k1 = all_apart (map KS yes_part) (map KS no_part) ks.1 in
       let inner : holding.Reading = λ r a. any_of (map (stmt_reads r a) yes_part ++ map (stmt_reads r a) no_part) in
@@ -275,15 +275,15 @@ module _ (p : Program) (own : ℕ) (fn : Function) (globals : Globals) (locals :
   layer (stmt.Do body e) h scope g = tested e body h scope g.typed.0 g.typed.1 g.formed g.scoped g.known g.held
   layer (stmt.For first test step body) h scope g =
       let inner = scope_behind (map stmt_scoped first) scope in
-      let n0 = split (all_of (map F first)) (named_option p own locals sizes void test && (named_option p own locals sizes void step && all_of (map F body))) g.formed in
-      let n1 = split (named_option p own locals sizes void test) (named_option p own locals sizes void step && all_of (map F body)) n0.1 in
-      let n2 = split (named_option p own locals sizes void step) (all_of (map F body)) n1.1 in
-      let s0 = split (all_scoped (map stmt_scoped first) scope) (option_declared inner test && (option_declared inner step && all_scoped (map stmt_scoped body) inner)) g.scoped in
-      let s1 = split (option_declared inner test) (option_declared inner step && all_scoped (map stmt_scoped body) inner) s0.1 in
-      let s2 = split (option_declared inner step) (all_scoped (map stmt_scoped body) inner) s1.1 in
+      let n0 = and_cases (all_of (map F first)) (named_option p own locals sizes void test && (named_option p own locals sizes void step && all_of (map F body))) g.formed in
+      let n1 = and_cases (named_option p own locals sizes void test) (named_option p own locals sizes void step && all_of (map F body)) n0.1 in
+      let n2 = and_cases (named_option p own locals sizes void step) (all_of (map F body)) n1.1 in
+      let s0 = and_cases (all_scoped (map stmt_scoped first) scope) (option_declared inner test && (option_declared inner step && all_scoped (map stmt_scoped body) inner)) g.scoped in
+      let s1 = and_cases (option_declared inner test) (option_declared inner step && all_scoped (map stmt_scoped body) inner) s0.1 in
+      let s2 = and_cases (option_declared inner step) (all_scoped (map stmt_scoped body) inner) s1.1 in
       let tests = option_to_list test in
       let steps = option_to_list step in
-      let k0 = split (all_of (map K (tests ++ steps))) (all_of (map KS first ++ map KS body)) g.known in
+      let k0 = and_cases (all_of (map K (tests ++ steps))) (all_of (map KS first ++ map KS body)) g.known in
       let k1 = all_apart (map K tests) (map K steps) (sym (ap (λ bs. all_of bs) (map_append K tests steps)) ∙ k0.0) in
       let k2 = all_apart (map KS first) (map KS body) k0.1 in
       let rest : holding.Reading = λ r a. any_of (map (stmt_reads r a) first ++ map (stmt_reads r a) body) in
@@ -298,16 +298,16 @@ module _ (p : Program) (own : ℕ) (fn : Function) (globals : Globals) (locals :
       (all_inside first h.0 scope (record { typed = g.typed.1.0; formed = n0.0; scoped = s0.0; known = k2.0; held = r2.0 }))
       (ap (λ d. after d) (behind_all first h.0 scope) ∙ there_after)
   layer (stmt.Switch e arms) h scope g =
-      let fs = split (N e) (all_of (map FA arms)) g.formed in
+      let fs = and_cases (N e) (all_of (map FA arms)) g.formed in
       let scoped_arms = all_of (map (λ (a : Scope → Bool). a scope) (map arm_scoped arms)) in
-      let ss = split (names_declared scope e) scoped_arms g.scoped in
+      let ss = and_cases (names_declared scope e) scoped_arms g.scoped in
       let ks = first_known e (all_of (map KA arms)) g.known in
       and_from (I scope e) (arms_within (map scope_of_arm arms) scope) (expr scope e g.typed.0.0 fs.0 ss.0 ks.0 (first_held e (reads_arms arms) g.held))
       (arms_inside arms h scope (record { typed = g.typed.1; formed = fs.1; scoped = ss.1; known = ks.1; held = right (λ r a. R e r a || false) (reads_arms arms) g.held }))
   layer stmt.Break h scope g = refl
   layer stmt.Continue h scope g = refl
   layer (stmt.Return None) h scope g = refl
-  layer (stmt.Return (Some e)) h scope g = expr scope e g.typed.0.0 (split (not void) (N e) g.formed).1 g.scoped (first_known e true g.known).0 (first_held e (λ r a. false) g.held)
+  layer (stmt.Return (Some e)) h scope g = expr scope e g.typed.0.0 (and_cases (not void) (N e) g.formed).1 g.scoped (first_known e true g.known).0 (first_held e (λ r a. false) g.held)
 
   -- ---- by induction
 

@@ -30,7 +30,7 @@ use Rattle.mv_source_forms.specs.Labels.{ArmLabels, labels_layer, arm_labels_lay
 use Rattle.mv_lower_spec.specs.Correct as c
 use Rattle.mv_lower_spec.specs.Correct.{Ground, Held, declaring, resting, none, CorrectFor, Correct}
 use Rattle.mv_lower_spec.proofs.Sequences.{after_then, given}
-use Rattle.mv_lower_spec.proofs.Expressions.{expr_correct, no, split, denied}
+use Rattle.mv_lower_spec.proofs.Expressions.{expr_correct}
 use Rattle.mv_lower_spec.proofs.Showing as show
 use Rattle.mv_lower_spec.proofs.Forms as forms
 use Rattle.mv_lower_spec.proofs.Flows as flows
@@ -41,6 +41,7 @@ use Rattle.mv_lower_spec.proofs.Bare.{bare_of, bare, bare_arms, labelled_switch}
 use Rattle.mv_lower_spec.proofs.Switches as switches
 use Rattle.mv_lower_spec.proofs.Clears as clears
 use Rattle.mv_lower_spec.proofs.Clears.{only, only_there}
+use Rattle.mv_num.proofs.Booleans.{and_cases, from_falsity, not-true}
 
 module _ (ground : Ground) (void : Bool)
     (limit : ℕ) (calls : ℕ → Calls) (context : ℕ → Context) (fits : ground.locals ≤ ground.room)
@@ -72,11 +73,11 @@ module _ (ground : Ground) (void : Bool)
       clears.AllAt ground void held (at k) (map (value_of ground.p (context k)) es) (map lower_expr es)
   values_at held free frees k up [] b = tt
   values_at held free frees k up (e ∷ es) b =
-      let bs = split (is_well_named ground.p ground.own ground.locals ground.sizes free e) (all_of (map (is_well_named ground.p ground.own ground.locals ground.sizes free) es)) b in
+      let bs = and_cases (is_well_named ground.p ground.own ground.locals ground.sizes free e) (all_of (map (is_well_named ground.p ground.own ground.locals ground.sizes free) es)) b in
       (value_at held free frees k up e bs.0, values_at held free frees k up es bs.1)
 
   but_for_free : (l : ℕ) (both : List ℕ × List ℕ) (k : ℕ) → but_for l k ≡ true → only l both k ≡ None
-  but_for_free l both k e = only_there l both k (λ eq. no (sym (denied (nat_eq k l) e) ∙ eq-eqb k l eq))
+  but_for_free l both k e = only_there l both k (λ eq. from_falsity (sym (not-true (nat_eq k l) e) ∙ eq-eqb k l eq))
 
   -- ---- statements
 
@@ -116,8 +117,8 @@ module _ (ground : Ground) (void : Bool)
   all_correct : (body : List Stmt) → Each S body → formed body ≡ true → labelled body ≡ true → (j : Jumps) → (lowered body j).top ≤ ground.room → (k : ℕ) → k ≤ limit → CorrectAt j k (flow_of_all ground.p (context k) body) (lowered body j).code
   all_correct [] h b l j le k up = flows.nothing_to_do ground void j (at k)
   all_correct (s ∷ body) h b l j le k up =
-      let bs = split (stmt_is_well_formed ground.p ground.own ground.locals ground.sizes void s) (formed body) b in
-      let ls = split (stmt_labelled s) (labelled body) l in
+      let bs = and_cases (stmt_is_well_formed ground.p ground.own ground.locals ground.sizes void s) (formed body) b in
+      let ls = and_cases (stmt_labelled s) (labelled body) l in
       (λ f w st sh. flows.more ground void (out_of void j) (0 + 0) 0 (code ground (lowered (s ∷ body) j).code (at k) st) (flow_of_all ground.p (context k) (s ∷ body) f w) (omega arith)
       (flows.in_turn ground void j (at k) 0 0 (flow_of ground.p (context k) s) (flow_of_all ground.p (context k) body) (lower_stmt ground.locals ground.sizes void s j).code (lowered body j).code
       (once j k (flow_of ground.p (context k) s) (lower_stmt ground.locals ground.sizes void s j).code (h.0 bs.0 ls.0 j (omega (arith, le)) k up)) (all_correct body h.1 bs.1 ls.1 j (omega (arith, le)) k up) f w st sh))
@@ -137,8 +138,8 @@ module _ (ground : Ground) (void : Bool)
       flows.priced ground void (out_of void (in_arm j)) 0 0 (code ground [] (at k) st) (spend 0 (code ground [] (at k) st)) o refl
       (all_correct [] h b l (in_arm j) le k up f w st sh)
   all_pay (s ∷ body) h b l j le k up f w st sh =
-      let bs = split (stmt_is_well_formed ground.p ground.own ground.locals ground.sizes void s) (formed body) b in
-      let ls = split (stmt_labelled s) (labelled body) l in
+      let bs = and_cases (stmt_is_well_formed ground.p ground.own ground.locals ground.sizes void s) (formed body) b in
+      let ls = and_cases (stmt_labelled s) (labelled body) l in
       let first = h.0 bs.0 ls.0 (in_arm j) (omega (arith, le)) k up in
       let xs = (lowered (s ∷ body) (in_arm j)).code in
       let others = flow_of_all ground.p (context k) body in
@@ -191,8 +192,8 @@ module _ (ground : Ground) (void : Bool)
       switches.ArmsCorrect ground void (at k) j (map (arm_of ground.p (context k)) arms) (map (lower_arm ground.locals ground.sizes void) arms)
   arms_correct [] h b l j le k up = tt
   arms_correct (a ∷ arms) h b l j le k up =
-      let bs = split (arm_is_well_formed ground.p ground.own ground.locals ground.sizes void a) (all_of (map (arm_is_well_formed ground.p ground.own ground.locals ground.sizes void) arms)) b in
-      let ls = split (arm_labels a).holds (all_of (map (λ (z : ArmLabels). z.holds) (map arm_labels arms))) l in
+      let bs = and_cases (arm_is_well_formed ground.p ground.own ground.locals ground.sizes void a) (all_of (map (arm_is_well_formed ground.p ground.own ground.locals ground.sizes void) arms)) b in
+      let ls = and_cases (arm_labels a).holds (all_of (map (λ (z : ArmLabels). z.holds) (map arm_labels arms))) l in
       (h.0.labels k, h.0.other k, h.0.body bs.0 ls.0 j (omega (arith, le)) k up, arms_correct arms h.1 bs.1 ls.1 j (omega (arith, le)) k up)
 
   as_bare : (arms : List Arm) → switches.bare_arms (map (lower_arm ground.locals ground.sizes void) arms) ≡ bare_arms arms
@@ -212,9 +213,9 @@ module _ (ground : Ground) (void : Bool)
       let itself = any_of (map (names_local l) values) in
       let all = all_of (map (named ground.p ground.own ground.locals ground.sizes void) values) in
       let others = all_of (map (is_well_named ground.p ground.own ground.locals ground.sizes (but_for l)) values) in
-      let b0 = split (nat_lt l ground.locals) (nat_le (length values) (words_of_size (ground.sizes l)) && (all && (itself || others))) b in
-      let b1 = split (nat_le (length values) (words_of_size (ground.sizes l))) (all && (itself || others)) b0.1 in
-      let b2 = split all (itself || others) b1.1 in
+      let b0 = and_cases (nat_lt l ground.locals) (nat_le (length values) (words_of_size (ground.sizes l)) && (all && (itself || others))) b in
+      let b1 = and_cases (nat_le (length values) (words_of_size (ground.sizes l))) (all && (itself || others)) b0.1 in
+      let b2 = and_cases all (itself || others) b1.1 in
       counts j k (roll-Stmt x) (clear_local l itself (map (value_of ground.p (context k)) values)) (lower_stmt_layer ground.locals ground.sizes void (blocks x) j).code (flow_of-Clear ground.p (context k) (roll-Stmt x) l values (out-roll-Stmt x))
       (clears.clear_correct ground void j (at k) l itself (map (value_of ground.p (context k)) values) (map lower_expr values) (ltb-true l ground.locals b0.0) fits
       (length-map values (value_of ground.p (context k)) ∙ sym (length-map values lower_expr))
@@ -223,7 +224,7 @@ module _ (ground : Ground) (void : Bool)
       (λ e both. values_at (only l both) (but_for l) (but_for_free l both) k up values (left_over itself others b2.1 e)))
     where
       left_over : (a c : Bool) → (a || c) ≡ true → a ≡ false → c ≡ true
-      left_over true c e q = no (sym q)
+      left_over true c e q = from_falsity (sym q)
       left_over false c e q = e
   layer (stmt.Express e) h b l j le k up =
       let x : Stmt-F Stmt Arm = stmt.Express e in
@@ -231,16 +232,16 @@ module _ (ground : Ground) (void : Bool)
       (flows.effect ground void (out_of void j) Goes (at k) 72 0 (value_of ground.p (context k) e) (lower_expr e) (λ s. refl) (λ q. refl) (omega arith) le (value k up e b))
   layer (stmt.If e yes_part no_part) h b l j le k up =
       let x : Stmt-F Stmt Arm = stmt.If e yes_part no_part in
-      let bs = split (named ground.p ground.own ground.locals ground.sizes void e) (formed yes_part && formed no_part) b in
-      let cs = split (formed yes_part) (formed no_part) bs.1 in
-      let ls = split (labelled yes_part) (labelled no_part) l in
+      let bs = and_cases (named ground.p ground.own ground.locals ground.sizes void e) (formed yes_part && formed no_part) b in
+      let cs = and_cases (formed yes_part) (formed no_part) bs.1 in
+      let ls = and_cases (labelled yes_part) (labelled no_part) l in
       counts j k (roll-Stmt x) (bind (value_of ground.p (context k) e) (λ v. unless_zero v (flow_of_all ground.p (context k) no_part) (flow_of_all ground.p (context k) yes_part))) (lower_stmt_layer ground.locals ground.sizes void (blocks x) j).code (flow_of-If ground.p (context k) (roll-Stmt x) e yes_part no_part (out-roll-Stmt x))
       (raise j (0 + 0) 72 (at k) (bind (value_of ground.p (context k) e) (λ v. unless_zero v (flow_of_all ground.p (context k) no_part) (flow_of_all ground.p (context k) yes_part))) (lower_stmt_layer ground.locals ground.sizes void (blocks x) j).code (omega arith)
       (flows.tested ground void (out_of void j) (at k) 0 0 (value_of ground.p (context k) e) (flow_of_all ground.p (context k) yes_part) (flow_of_all ground.p (context k) no_part) (lower_expr e) (lowered yes_part j).code (lowered no_part j).code (omega (arith, le)) (value k up e bs.0)
       (all_correct yes_part h.0 cs.0 ls.0 j (omega (arith, le)) k up) (all_correct no_part h.1 cs.1 ls.1 j (omega (arith, le)) k up)))
   layer (stmt.While e body) h b l j le k up =
       let x : Stmt-F Stmt Arm = stmt.While e body in
-      let bs = split (named ground.p ground.own ground.locals ground.sizes void e) (formed body) b in
+      let bs = and_cases (named ground.p ground.own ground.locals ground.sizes void e) (formed body) b in
       let me : ℕ → Evaluation ℕ = λ i. value_of ground.p (context i) e in
       let mb : ℕ → Evaluation Flow = λ i. flow_of_all ground.p (context i) body in
       let turn = test_and_body ground.locals (lower_expr e) (enclosed (lowered body (in_body j)).code ∷ []) in
@@ -253,7 +254,7 @@ module _ (ground : Ground) (void : Bool)
       (λ i f w. ap (λ (m : Evaluation Flow). m f w) (flow_of-While ground.p (context i) (roll-Stmt x) e body (out-roll-Stmt x))) k up)
   layer (stmt.Do body e) h b l j le k up =
       let x : Stmt-F Stmt Arm = stmt.Do body e in
-      let bs = split (named ground.p ground.own ground.locals ground.sizes void e) (formed body) b in
+      let bs = and_cases (named ground.p ground.own ground.locals ground.sizes void e) (formed body) b in
       let me : ℕ → Evaluation ℕ = λ i. value_of ground.p (context i) e in
       let mb : ℕ → Evaluation Flow = λ i. flow_of_all ground.p (context i) body in
       let rest : ℕ → Evaluation Flow = λ i. bind (mb i) (λ flow. after_body flow (bind (me i) (λ v. unless_zero v (give Goes) (loop_of i (roll-Stmt x))))) in
@@ -266,10 +267,10 @@ module _ (ground : Ground) (void : Bool)
       let x : Stmt-F Stmt Arm = stmt.For first test step body in
       let again : Stmt-F Stmt Arm = stmt.For [] test step body in
       let turn = test_and_body ground.locals (lower_optional 1 test) (enclosed (lowered body (in_body j)).code ∷ []) ++ (lower_optional 0 step ground.locals).code in
-      let b0 = split (formed first) (named_option ground.p ground.own ground.locals ground.sizes void test && (named_option ground.p ground.own ground.locals ground.sizes void step && formed body)) b in
-      let b1 = split (named_option ground.p ground.own ground.locals ground.sizes void test) (named_option ground.p ground.own ground.locals ground.sizes void step && formed body) b0.1 in
-      let b2 = split (named_option ground.p ground.own ground.locals ground.sizes void step) (formed body) b1.1 in
-      let ls = split (labelled first) (labelled body) l in
+      let b0 = and_cases (formed first) (named_option ground.p ground.own ground.locals ground.sizes void test && (named_option ground.p ground.own ground.locals ground.sizes void step && formed body)) b in
+      let b1 = and_cases (named_option ground.p ground.own ground.locals ground.sizes void test) (named_option ground.p ground.own ground.locals ground.sizes void step && formed body) b0.1 in
+      let b2 = and_cases (named_option ground.p ground.own ground.locals ground.sizes void step) (formed body) b1.1 in
+      let ls = and_cases (labelled first) (labelled body) l in
       let me : ℕ → Evaluation ℕ = λ i. optional_value ground.p (context i) 1 test in
       let ms : ℕ → Evaluation ℕ = λ i. optional_value ground.p (context i) 0 step in
       let mb : ℕ → Evaluation Flow = λ i. flow_of_all ground.p (context i) body in
@@ -286,7 +287,7 @@ module _ (ground : Ground) (void : Bool)
       counted_given m f w = ap (after 1) (given Goes (λ begun. then_on begun m) f w)
   layer (stmt.Switch e arms) h b l j le k up =
       let x : Stmt-F Stmt Arm = stmt.Switch e arms in
-      let bs = split (named ground.p ground.own ground.locals ground.sizes void e) (all_of (map (arm_is_well_formed ground.p ground.own ground.locals ground.sizes void) arms)) b in
+      let bs = and_cases (named ground.p ground.own ground.locals ground.sizes void e) (all_of (map (arm_is_well_formed ground.p ground.own ground.locals ground.sizes void) arms)) b in
       let ls = labelled_switch arms l in
       counts j k (roll-Stmt x) (bind (value_of ground.p (context k) e) (λ v. switch_flow v (map (arm_of ground.p (context k)) arms))) (lower_stmt_layer ground.locals ground.sizes void (blocks x) j).code (flow_of-Switch ground.p (context k) (roll-Stmt x) e arms (out-roll-Stmt x))
       (switches.switch_correct ground void j (at k) (value_of ground.p (context k) e) (lower_expr e) (map (arm_of ground.p (context k)) arms) (map (lower_arm ground.locals ground.sizes void) arms) (omega (arith, le)) (omega (arith, le)) (omega (arith, as_bare arms, ls.few))
@@ -304,9 +305,9 @@ module _ (ground : Ground) (void : Bool)
       (flows.leaves ground void j (at k) j.around (Returns 0) (λ s. ap (λ z. cond z (Leaves j.around s) (Ends (Returned (Some 0) s.world))) b) refl))
   layer (stmt.Return (Some e)) h b l j le k up =
       let x : Stmt-F Stmt Arm = stmt.Return (Some e) in
-      let bs = split (not void) (named ground.p ground.own ground.locals ground.sizes void e) b in
+      let bs = and_cases (not void) (named ground.p ground.own ground.locals ground.sizes void e) b in
       counts j k (roll-Stmt x) (bind (value_of ground.p (context k) e) (λ v. give (Returns v))) (lower_stmt_layer ground.locals ground.sizes void (blocks x) j).code (flow_of-Return ground.p (context k) (roll-Stmt x) (Some e) (out-roll-Stmt x))
-      (flows.returns ground void j (at k) (value_of ground.p (context k) e) (lower_expr e) (denied void bs.0) le (value k up e bs.1))
+      (flows.returns ground void j (at k) (value_of ground.p (context k) e) (lower_expr e) (not-true void bs.0) le (value k up e bs.1))
 
   stmt_step : (x : Stmt-F Stmt Arm) → StmtChildren S A x → S (roll-Stmt x)
   stmt_step x h b l j =

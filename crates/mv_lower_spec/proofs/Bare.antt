@@ -6,7 +6,7 @@ use Rattle.mv_ast.specs.declared.program.Arm.{Arm, out-Arm, map-Arm, fold_out-Ar
 use Rattle.mv_ast.specs.Names.{any_of}
 use Rattle.mv_source_forms.specs.Lists.{all_of}
 use Rattle.mv_source_forms.specs.Labels.{at_most_one, has_label, ArmLabels, later_arms, arms_labelled, labels_layer, arm_labels_layer, stmt_labelled, arm_labels}
-use Rattle.mv_lower_spec.proofs.Expressions.{no, split, denied}
+use Rattle.mv_num.proofs.Booleans.{and_cases, from_falsity, not-true}
 
 -- 1 for an arm without labels
 abbrev pub bare_of : List ℕ → ℕ
@@ -41,29 +41,29 @@ not_bare a e d =
     by (out-Arm a).labels (out-Arm a).other (sym (ap (λ (z : ArmLabels). z.is_labelled) (labels_of a)) ∙ e) (sym (ap (λ (z : ArmLabels). z.is_default) (labels_of a)) ∙ d)
   where
     by : (ls : List ℕ) (other : Bool) → (has_label ls || other) ≡ true → other ≡ false → bare_of ls ≤ 0
-    by [] true e d = no (sym d)
-    by [] false e d = no e
+    by [] true e d = from_falsity (sym d)
+    by [] false e d = from_falsity e
     by (l ∷ ls) other e d = omega arith
 
 none_bare : (arms : List Arm) → labelled arms ≡ true → any_of (defaults arms) ≡ false → bare_arms arms ≤ 0
 none_bare [] h e = omega arith
 none_bare (a ∷ arms) h e =
-    let s = split (arm_labels a).is_labelled (labelled arms) h in
+    let s = and_cases (arm_labels a).is_labelled (labelled arms) h in
     by (arm_labels a).is_default e (not_bare a s.0) (none_bare arms s.1)
   where
     by : (d : Bool) → (d || any_of (defaults arms)) ≡ false → (d ≡ false → bare a ≤ 0) → (any_of (defaults arms) ≡ false → bare_arms arms ≤ 0) → bare a + bare_arms arms ≤ 0
-    by true e here rest = no (sym e)
+    by true e here rest = from_falsity (sym e)
     by false e here rest = let x = here refl in let y = rest e in omega (arith, x, y)
 
 one_bare : (arms : List Arm) → labelled arms ≡ true → at_most_one (defaults arms) ≡ true → bare_arms arms ≤ 1
 one_bare [] h e = omega arith
 one_bare (a ∷ arms) h e =
-    let s = split (arm_labels a).is_labelled (labelled arms) h in
+    let s = and_cases (arm_labels a).is_labelled (labelled arms) h in
     by (arm_labels a).is_default e (not_bare a s.0) (none_bare arms s.1) (one_bare arms s.1)
   where
     by : (d : Bool) → (if d then not (any_of (defaults arms)) else at_most_one (defaults arms)) ≡ true → (d ≡ false → bare a ≤ 0) → (any_of (defaults arms) ≡ false → bare_arms arms ≤ 0) →
         (at_most_one (defaults arms) ≡ true → bare_arms arms ≤ 1) → bare a + bare_arms arms ≤ 1
-    by true e here none one = let x = at_most_bare a in let y = none (denied (any_of (defaults arms)) e) in omega (arith, x, y)
+    by true e here none one = let x = at_most_bare a in let y = none (not-true (any_of (defaults arms)) e) in omega (arith, x, y)
     by false e here none one = let x = here refl in let y = one e in omega (arith, x, y)
 
 -- the first, and the `default`
@@ -72,7 +72,7 @@ two_bare [] h e = omega arith
 two_bare (a ∷ arms) h e = by (arm_labels a).is_default e
   where
     by : (d : Bool) → (if d then not (any_of (defaults arms)) else at_most_one (defaults arms)) ≡ true → bare a + bare_arms arms ≤ 2
-    by true e = let x = at_most_bare a in let y = none_bare arms h (denied (any_of (defaults arms)) e) in omega (arith, x, y)
+    by true e = let x = at_most_bare a in let y = none_bare arms h (not-true (any_of (defaults arms)) e) in omega (arith, x, y)
     by false e = let x = at_most_bare a in let y = one_bare arms h e in omega (arith, x, y)
 
 -- the arms of a `switch`: few have no label, and what is in each is labelled
@@ -84,6 +84,6 @@ pub labelled_switch : (arms : List Arm) → arms_labelled (map arm_labels arms) 
 labelled_switch arms e =
     let rest = all_of (map (λ (a : ArmLabels). a.is_labelled) (later_arms (map arm_labels arms))) in
     let inside = all_of (map (λ (a : ArmLabels). a.holds) (map arm_labels arms)) in
-    let s = split (at_most_one (defaults arms)) (rest && inside) e in
-    let t = split rest inside s.1 in
+    let s = and_cases (at_most_one (defaults arms)) (rest && inside) e in
+    let t = and_cases rest inside s.1 in
     record { few = two_bare arms t.0 s.0; inside = t.1 }

@@ -25,11 +25,14 @@ use Rattle.mv_lower_spec.specs.Correct.{Ground, Held, declaring, resting, none, 
 use Rattle.mv_lower_spec.proofs.Running as run
 use Rattle.mv_lower_spec.proofs.Running.{nodes_number}
 use Rattle.mv_lower_spec.proofs.Forms as forms
-use Rattle.mv_lower_spec.proofs.Forms.{words_is, word_is, with_word_is, with_word_same, with_word_other, other_word, with_word_count, with_word_lengths, stored_alike, held_is_none}
+use Rattle.mv_lower_spec.proofs.Forms.{word_is, with_word_is, with_word_same, with_word_other, other_word, with_word_count, with_word_lengths, stored_alike, held_is_none}
 use Rattle.mv_lower_spec.proofs.Elements as elements_proofs
 use Rattle.mv_lower_spec.proofs.Sequences.{after_zero}
 use Rattle.mv_lower_spec.proofs.Flows as flows
 use Rattle.mv_lower_spec.proofs.Flows.{code}
+use Rattle.mv_num.proofs.Numbers.{zeros_at}
+use Rattle.mv_num.proofs.Lists.{same_lists}
+use Rattle.mv_ast.proofs.Common.{objects_at}
 
 -- one local is being declared
 abbrev pub only : ℕ → List ℕ × List ℕ → Held
@@ -75,17 +78,6 @@ cleared (x ∷ xs) = ap (λ l. 0 ∷ l) (cleared xs)
 zeros_long : (n : ℕ) → length {A = ℕ} (replicate n 0) ≡ n
 zeros_long zero = refl
 zeros_long (suc n) = ap suc (zeros_long n)
-
-zeros_at : (n i : ℕ) → slice_index (replicate n 0) i ≡ 0
-zeros_at zero i = refl
-zeros_at (suc n) zero = refl
-zeros_at (suc n) (suc i) = zeros_at n i
-
-same_lists : (xs ys : List ℕ) → length xs ≡ length ys → ((i : ℕ) → i < length xs → slice_index xs i ≡ slice_index ys i) → xs ≡ ys
-same_lists [] [] e h = refl
-same_lists [] (y ∷ ys) e h = absurd (omega (arith, e))
-same_lists (x ∷ xs) [] e h = absurd (omega (arith, e))
-same_lists (x ∷ xs) (y ∷ ys) e h = ap (λ z. z ∷ xs) (h 0 (omega arith)) ∙ ap (λ l. y ∷ l) (same_lists xs ys (omega (arith, e)) (λ i lt. h (suc i) (omega (arith, lt))))
 
 module _ (ground : Ground) (void : Bool) where
   -- ---- into a declaration and out of it
@@ -491,7 +483,7 @@ module _ (ground : Ground) (void : Bool) where
       n = words_of_size (ground.sizes l)
 
       size_is : size_of f.locals l ≡ n
-      size_is = ap length (words_is f.locals l) ∙ h.words l lt
+      size_is = ap length (objects_at f.locals l) ∙ h.words l lt
 
       f1 : Frame
       f1 = record f { locals = slice_set f.locals l (replicate n 0) }

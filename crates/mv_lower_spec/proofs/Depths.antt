@@ -1,5 +1,5 @@
 -- No tree is deeper than 4.
-use Rattle.std.proofs.Common.{◌≡◌, ℕ, ◌+◌, ◌≤◌, Bool, true, false, cond, List, [], ◌∷◌, ◌++◌, map, max, Option, Some, refl, sym, ◌∙◌, subst, ap, arith, append_assoc}
+use Rattle.std.proofs.Common.{◌≡◌, ℕ, ◌+◌, ◌≤◌, Bool, true, false, cond, List, [], ◌∷◌, ◌++◌, map, max, Option, Some, refl, sym, ◌∙◌, subst, ap, arith}
 use Rattle.std.specs.Prelude.{◌&&◌}
 use Rattle.std.proofs.lemmas.Bool.{leb-true}
 use Rattle.mv_ir.specs.declared.tree.Tree.{Tree}
@@ -16,6 +16,8 @@ use Rattle.mv_ir.proofs.Keeping.{map_append}
 use Rattle.mv_ir.proofs.Rolls.{depth_roll, trees_roll}
 use Rattle.mv_lower_spec.specs.Lowered.{Lowered, Lowering, Arguments, number, temp, unary, set, set_global, divide, choose, check, read, write, call, known, truth, truth_in, is_empty, is_low, kept_if, first, second, lower_one, lower_two, lower_division, lower_both, lower_either, lower_choice, lower_set_local, lower_set_global, lower_all, place_of_result, result_tree, lower_call, but_last, last_of, lower_through, lower_known, index_in, lower_element, lower_read_element, lower_set_element}
 use Rattle.mv_ast.specs.declared.program.Known.{Known}
+use Rattle.mv_num.proofs.Booleans.{and_right}
+use Rattle.mv_ir.proofs.Lists.{joined_append}
 
 abbrev pub Shallow : Tree → Type 0
 Shallow t = depth t ≤ 4
@@ -36,10 +38,6 @@ depth_temp t = depth_roll (tree.Temp t)
 
 depth_number : (n : ℕ) → depth (number n) ≡ 1
 depth_number n = depth_roll (tree.Number n)
-
-pub joined_append : {A : Type 0} (xss yss : List (List A)) → joined (xss ++ yss) ≡ joined xss ++ joined yss
-joined_append [] yss = refl
-joined_append (xs ∷ xss) yss = ap (λ l. xs ++ l) (joined_append xss yss) ∙ sym (append_assoc xs (joined xss) (joined yss))
 
 pub both_parts : (xs ys : List Stm) → ShallowCode xs → ShallowCode ys → ShallowCode (xs ++ ys)
 both_parts xs ys h k =
@@ -74,19 +72,11 @@ pub low_kept : (keep : Bool) (n : ℕ) (l : Lowered) → (keep ≡ true → dept
 low_kept true n l h = h refl
 low_kept false n l h = omega (arith, depth_temp n)
 
-right_of : (a b : Bool) → (a && b) ≡ true → b ≡ true
-right_of true b e = e
-right_of false b e = absurd (subst Is e tt)
-  where
-    Is : Bool → Type 0
-    Is true = ⊥
-    Is false = Unit {0}
-
 low_second : (b : Lowering) (n : ℕ) → depth (second b n).tree ≤ 2
 low_second b n = low_kept (is_low (b (n + 1)).tree) (n + 1) (b (n + 1)) (λ e. leb-true (depth (b (n + 1)).tree) 2 e)
 
 low_first : (a b : Lowering) (n : ℕ) → depth (first a b n).tree ≤ 2
-low_first a b n = low_kept (is_empty (second b n).code && is_low (a n).tree) n (a n) (λ e. leb-true (depth (a n).tree) 2 (right_of (is_empty (second b n).code) (is_low (a n).tree) e))
+low_first a b n = low_kept (is_empty (second b n).code && is_low (a n).tree) n (a n) (λ e. leb-true (depth (a n).tree) 2 (and_right (is_empty (second b n).code) (is_low (a n).tree) e))
 
 -- ---- forms
 

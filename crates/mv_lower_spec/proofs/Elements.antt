@@ -36,7 +36,8 @@ use Rattle.mv_lower_spec.proofs.Operators.{converted_nodes}
 use Rattle.mv_lower_spec.proofs.Control as control
 use Rattle.mv_lower_spec.proofs.Sequences as sequences
 use Rattle.mv_lower_spec.proofs.Forms as forms
-use Rattle.mv_lower_spec.proofs.Forms.{words_is, word_is, with_word_same, with_word_other, other_word, with_word_count, with_word_lengths, held_is_none}
+use Rattle.mv_lower_spec.proofs.Forms.{word_is, with_word_same, with_word_other, other_word, with_word_count, with_word_lengths, held_is_none}
+use Rattle.mv_ast.proofs.Common.{objects_at}
 
 abbrev pub lvalue_in : Array → ℕ → Lvalue
 lvalue_in (array.Global g) i = lvalue.Global g i
@@ -83,9 +84,9 @@ module _ (scene : Scene) where
 
   pub element_is : (a : Array) (i : ℕ) (f : Frame) (w : World) (s : State) → IsArray scene.ground scene.held a → Shows scene f w s → element_of a i f w ≡ cond (ltb i (size_in scene.ground scene.held a)) (give (lvalue_in a i)) (stop (Trapped 2)) f w
   element_is (array.Global g) i f w s isa h =
-      ap (λ n. element_below n i (lvalue.Global g) f w) (ap length (words_is w.globals g) ∙ h.globals g)
+      ap (λ n. element_below n i (lvalue.Global g) f w) (ap length (objects_at w.globals g) ∙ h.globals g)
   element_is (array.Local l) i f w s isa h =
-      ap (λ n. element_below n i (lvalue.Local l) f w) (ap length (words_is f.locals l) ∙ h.words l isa.0)
+      ap (λ n. element_below n i (lvalue.Local l) f w) (ap length (objects_at f.locals l) ∙ h.words l isa.0)
 
   -- the test of an index, as the code makes it
   test_is : (a : Array) (i : Tree) (k : ℕ) (f : Frame) (w : World) (s : State) (z : Bool) → IsArray scene.ground scene.held a → Shows scene f w s → val scene i s ≡ k → ltb k (size_in scene.ground scene.held a) ≡ z → ltb (val scene i s) (length (elements a s)) ≡ z

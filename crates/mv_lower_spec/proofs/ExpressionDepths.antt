@@ -168,7 +168,7 @@ expr_shallow e =
     (λ x h. subst (λ (l : Place). ShallowPlace l) (sym (fold-roll-Target (CType → Lowering) Place Part lower_form place_of_layer lower_layer x)) (target_layer x h))
     (λ x h. subst (λ (l : Part). AlwaysShallow l.lower) (sym (fold-roll-Expr (CType → Lowering) Place Part lower_form place_of_layer lower_layer x)) (h x.ctype)) e
 
-deepest_up : (ts : List Tree) → Each Shallow ts → deepest_of ts ≤ 4
+pub deepest_up : (ts : List Tree) → Each Shallow ts → deepest_of ts ≤ 4
 deepest_up [] h = omega arith
 deepest_up (t ∷ ts) h = omega (arith, h.0, deepest_up ts h.1)
 

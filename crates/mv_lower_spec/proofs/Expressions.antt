@@ -41,29 +41,15 @@ use Rattle.mv_lower_spec.proofs.Elements.{element_of}
 use Rattle.mv_lower_spec.proofs.Arguments as arguments
 use Rattle.mv_lower_spec.proofs.Operators as operators
 use Rattle.mv_source_forms.proofs.ExpressionInduction.{FormChildren, TargetChildren, expr_ind}
-
-pub no : {A : Type 0} → false ≡ true → A
-no e = absurd (subst Is e tt)
-  where
-    Is : Bool → Type 0
-    Is true = ⊥
-    Is false = Unit {0}
-
-pub split : (a b : Bool) → (a && b) ≡ true → (a ≡ true) × (b ≡ true)
-split true b e = (refl, e)
-split false b e = no e
-
-pub denied : (a : Bool) → not a ≡ true → a ≡ false
-denied true e = no e
-denied false e = refl
+use Rattle.mv_num.proofs.Booleans.{and_cases, from_falsity, not-true}
 
 is_none : (o : Option ℕ) → is_scalar o ≡ true → o ≡ None
 is_none None e = refl
-is_none (Some n) e = no e
+is_none (Some n) e = from_falsity e
 
 is_some : (o : Option ℕ) → not (is_scalar o) ≡ true → o ≡ None → ⊥
-is_some None e h = no e
-is_some (Some n) e h = no (sym (ap is_scalar (sym h)))
+is_some None e h = from_falsity e
+is_some (Some n) e h = from_falsity (sym (ap is_scalar (sym h)))
 
 quotient_is : (z : Bool) (x y : ℕ) → cond z (word.div_u x y) (word.div_s x y) ≡ ir_tree.divide (cond z 1 0) x y
 unfolding ir_tree.divide
@@ -287,7 +273,7 @@ module _ (ground : Ground) (held : Held) (bound : Bound)
       AllCorrect (scene floor scratch) bound (map (denotation_of ground.p context) es) (map (λ (a : Part). a.lower) (map part_of es))
   all_correct [] h b floor scratch = tt
   all_correct (e ∷ es) h b floor scratch =
-      let bs = split (is_well_named ground.p ground.own ground.locals ground.sizes free e) (all_of (map (is_well_named ground.p ground.own ground.locals ground.sizes free) es)) b in
+      let bs = and_cases (is_well_named ground.p ground.own ground.locals ground.sizes free e) (all_of (map (is_well_named ground.p ground.own ground.locals ground.sizes free) es)) b in
       ((h.0 bs.0).0 floor scratch, all_correct es h.1 bs.1 floor scratch)
 
   abbrev denotations : Form-F Form Target Expr → Form-F (CType → Evaluation ℕ) (Evaluation Lvalue) Denotation
@@ -312,38 +298,38 @@ module _ (ground : Ground) (held : Held) (bound : Bound)
       forms.correct_one (scene floor scratch) bound 100 0 2 (unary_tree op) (unary_value op) (value_of ground.p context a) (lower_expr a) (omega arith)
       (operators.unary_same (scene floor scratch) op) (operators.unary_nodes op) ((h b).0 floor scratch)
   layer (form.Binary op a x) h t b floor scratch =
-      let bs = split (is_well_named ground.p ground.own ground.locals ground.sizes free a) (is_well_named ground.p ground.own ground.locals ground.sizes free x) b in
+      let bs = and_cases (is_well_named ground.p ground.own ground.locals ground.sizes free a) (is_well_named ground.p ground.own ground.locals ground.sizes free x) b in
       let ca = h.0 bs.0 in
       let cx = h.1 bs.1 in
       subst (λ k. CorrectFor (scene floor scratch) bound 100 (bind (value_of ground.p context a) (λ u. bind (value_of ground.p context x) (λ v. value_or_trap (binary_value op (denotation_of ground.p context a).ctype u v)))) (lower_binary false op k (lower_expr a) (lower_expr x))) (sym ca.1)
       (binary_correct (scene floor scratch) bound 100 0 0 false (value_of ground.p context a) (value_of ground.p context x) (lower_expr a) (lower_expr x) (omega arith) (ca.0 floor scratch) (cx.0 floor scratch) op (denotation_of ground.p context a).ctype)
   layer (form.Both a x) h t b floor scratch =
-      let bs = split (is_well_named ground.p ground.own ground.locals ground.sizes free a) (is_well_named ground.p ground.own ground.locals ground.sizes free x) b in
+      let bs = and_cases (is_well_named ground.p ground.own ground.locals ground.sizes free a) (is_well_named ground.p ground.own ground.locals ground.sizes free x) b in
       control.correct_both (scene floor scratch) bound (value_of ground.p context a) (value_of ground.p context x) (lower_expr a) (lower_expr x) ((h.0 bs.0).0 floor scratch) ((h.1 bs.1).0 floor scratch)
   layer (form.Either a x) h t b floor scratch =
-      let bs = split (is_well_named ground.p ground.own ground.locals ground.sizes free a) (is_well_named ground.p ground.own ground.locals ground.sizes free x) b in
+      let bs = and_cases (is_well_named ground.p ground.own ground.locals ground.sizes free a) (is_well_named ground.p ground.own ground.locals ground.sizes free x) b in
       control.correct_either (scene floor scratch) bound (value_of ground.p context a) (value_of ground.p context x) (lower_expr a) (lower_expr x) ((h.0 bs.0).0 floor scratch) ((h.1 bs.1).0 floor scratch)
   layer (form.Choose x y z) h t b floor scratch =
-      let bs = split (is_well_named ground.p ground.own ground.locals ground.sizes free x) (is_well_named ground.p ground.own ground.locals ground.sizes free y && is_well_named ground.p ground.own ground.locals ground.sizes free z) b in
-      let cs = split (is_well_named ground.p ground.own ground.locals ground.sizes free y) (is_well_named ground.p ground.own ground.locals ground.sizes free z) bs.1 in
+      let bs = and_cases (is_well_named ground.p ground.own ground.locals ground.sizes free x) (is_well_named ground.p ground.own ground.locals ground.sizes free y && is_well_named ground.p ground.own ground.locals ground.sizes free z) b in
+      let cs = and_cases (is_well_named ground.p ground.own ground.locals ground.sizes free y) (is_well_named ground.p ground.own ground.locals ground.sizes free z) bs.1 in
       control.correct_choice (scene floor scratch) bound (value_of ground.p context x) (value_of ground.p context y) (value_of ground.p context z) (lower_expr x) (lower_expr y) (lower_expr z) ((h.0 bs.0).0 floor scratch) ((h.1 cs.0).0 floor scratch) ((h.2 cs.1).0 floor scratch)
   layer (form.Convert a) h t b floor scratch =
       forms.correct_one (scene floor scratch) bound 100 0 1 (converted_tree t) (converted t) (value_of ground.p context a) (lower_expr a) (omega arith)
       (operators.converted_same (scene floor scratch) t) (operators.converted_nodes t) ((h b).0 floor scratch)
   layer (form.Set target a) h t b floor scratch =
-      let bs = split (target_is_well_named ground.p ground.own ground.locals ground.sizes free target) (is_well_named ground.p ground.own ground.locals ground.sizes free a) b in
+      let bs = and_cases (target_is_well_named ground.p ground.own ground.locals ground.sizes free target) (is_well_named ground.p ground.own ground.locals ground.sizes free a) b in
       set_correct (lvalue_of ground.p context target) (place_of target) (value_of ground.p context a) (lower_expr a) (h.0 bs.0) (h.1 bs.1).0 floor scratch
   layer (form.Change op kind target a) h t b floor scratch =
-      let bs = split (target_is_well_named ground.p ground.own ground.locals ground.sizes free target) (is_well_named ground.p ground.own ground.locals ground.sizes free a) b in
+      let bs = and_cases (target_is_well_named ground.p ground.own ground.locals ground.sizes free target) (is_well_named ground.p ground.own ground.locals ground.sizes free a) b in
       change_correct op kind t (lvalue_of ground.p context target) (place_of target) (value_of ground.p context a) (lower_expr a) (h.0 bs.0) (h.1 bs.1).0 floor scratch
   layer (form.After up target) h t b floor scratch = after_correct up t (lvalue_of ground.p context target) (place_of target) (h b) floor scratch
   layer (form.Direct g args) h t b floor scratch =
-      let bs = split (is_callable ground.p g (length args) (is_void t)) (all_of (map (is_well_named ground.p ground.own ground.locals ground.sizes free) args))
+      let bs = and_cases (is_callable ground.p g (length args) (is_void t)) (all_of (map (is_well_named ground.p ground.own ground.locals ground.sizes free) args))
       (sym (ap (λ k. is_callable ground.p g k (is_void t) && all_of (map (is_well_named ground.p ground.own ground.locals ground.sizes free) args)) (length-map args (is_well_named ground.p ground.own ground.locals ground.sizes free))) ∙ b) in
       arguments.correct_call (scene floor scratch) bound context (is_void t) g (map (denotation_of ground.p context) args) (map (λ (a : Part). a.lower) (map part_of args))
       (subst (λ k. is_callable ground.p g k (is_void t) ≡ true) (sym (args_long args)) bs.0) calls (all_correct args h bs.1 floor scratch)
   layer (form.Through args callee) h t b floor scratch =
-      let bs = split (all_of (map (is_well_named ground.p ground.own ground.locals ground.sizes free) args)) (is_well_named ground.p ground.own ground.locals ground.sizes free callee) b in
+      let bs = and_cases (all_of (map (is_well_named ground.p ground.own ground.locals ground.sizes free) args)) (is_well_named ground.p ground.own ground.locals ground.sizes free callee) b in
       arguments.correct_through (scene floor scratch) bound context strict t (map (denotation_of ground.p context) args) (denotation_of ground.p context callee) (map (λ (a : Part). a.lower) (map part_of args)) (lower_expr callee)
       calls (all_correct args h.0 bs.0 floor scratch) ((h.1 bs.1).0 floor scratch)
   layer (form.Known k args) h t b floor scratch =
@@ -368,16 +354,16 @@ module _ (ground : Ground) (held : Held) (bound : Bound)
       PlaceShown (target_lvalue (found_places x)) (place_of_layer (lowered_places x))
   target_layer (form.Global g) h b = refl
   target_layer (form.Local l) h b =
-      let bs = split (nat_lt l ground.locals) (free l && is_scalar (ground.sizes l)) b in
-      let cs = split (free l) (is_scalar (ground.sizes l)) bs.1 in
+      let bs = and_cases (nat_lt l ground.locals) (free l && is_scalar (ground.sizes l)) b in
+      let cs = and_cases (free l) (is_scalar (ground.sizes l)) bs.1 in
       (refl, ltb-true l ground.locals bs.0, (is_none (ground.sizes l) cs.1, frees l cs.0))
   target_layer (form.GlobalAt g e) h b =
-      let bs = split (not (is_own_switch ground.p (slice_get ground.p.functions ground.own) g)) (is_well_named ground.p ground.own ground.locals ground.sizes free e) b in
-      (value_of ground.p context e, refl, (λ bindings. no_switch ground.p ground.own g (slice_get ground.p.functions ground.own) bindings (denied (is_own_switch ground.p (slice_get ground.p.functions ground.own) g) bs.0)), (h bs.1).0)
+      let bs = and_cases (not (is_own_switch ground.p (slice_get ground.p.functions ground.own) g)) (is_well_named ground.p ground.own ground.locals ground.sizes free e) b in
+      (value_of ground.p context e, refl, (λ bindings. no_switch ground.p ground.own g (slice_get ground.p.functions ground.own) bindings (not-true (is_own_switch ground.p (slice_get ground.p.functions ground.own) g) bs.0)), (h bs.1).0)
   target_layer (form.LocalAt l e) h b =
-      let bs = split (nat_lt l ground.locals) (free l && (not (is_scalar (ground.sizes l)) && is_well_named ground.p ground.own ground.locals ground.sizes free e)) b in
-      let ds = split (free l) (not (is_scalar (ground.sizes l)) && is_well_named ground.p ground.own ground.locals ground.sizes free e) bs.1 in
-      let cs = split (not (is_scalar (ground.sizes l))) (is_well_named ground.p ground.own ground.locals ground.sizes free e) ds.1 in
+      let bs = and_cases (nat_lt l ground.locals) (free l && (not (is_scalar (ground.sizes l)) && is_well_named ground.p ground.own ground.locals ground.sizes free e)) b in
+      let ds = and_cases (free l) (not (is_scalar (ground.sizes l)) && is_well_named ground.p ground.own ground.locals ground.sizes free e) bs.1 in
+      let cs = and_cases (not (is_scalar (ground.sizes l))) (is_well_named ground.p ground.own ground.locals ground.sizes free e) ds.1 in
       (value_of ground.p context e, refl, (ltb-true l ground.locals bs.0, (is_some (ground.sizes l) cs.0, frees l ds.0)), (h cs.1).0)
 
   target_step : (x : Target-F Form Target Expr) → TargetChildren P Q S x → Q (roll-Target x)

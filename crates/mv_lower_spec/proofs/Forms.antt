@@ -24,21 +24,15 @@ use Rattle.mv_lower_spec.specs.Correct.{Scene, val, Shows, Shown, CorrectFor, Is
 use Rattle.mv_lower_spec.proofs.Running as run
 use Rattle.mv_lower_spec.proofs.Running.{nodes_number, nodes_temp, nodes_global, nodes_function}
 use Rattle.mv_lower_spec.proofs.Showing as show
+use Rattle.mv_ast.proofs.Common.{objects_at}
 
 -- ---- words of objects, read in both ways
 
-pub words_is : (xs : List (List ℕ)) (g : ℕ) → words_or_none (slice_get xs g) ≡ slice_index_or xs g []
-words_is xs g = by (slice_get xs g) ∙ unwrap_or-slice_get xs g []
-  where
-    by : (o : Option (List ℕ)) → words_or_none o ≡ unwrap_or o []
-    by None = refl
-    by (Some x) = refl
-
 pub word_is : (xs : List (List ℕ)) (g i : ℕ) → word_at xs g i ≡ slice_index (slice_index_or xs g []) i
-word_is xs g i = unwrap_or-slice_get (words_or_none (slice_get xs g)) i 0 ∙ ap (λ l. slice_index l i) (words_is xs g)
+word_is xs g i = unwrap_or-slice_get (words_or_none (slice_get xs g)) i 0 ∙ ap (λ l. slice_index l i) (objects_at xs g)
 
 pub with_word_is : (xs : List (List ℕ)) (g i v : ℕ) → with_word xs g i v ≡ slice_set xs g (slice_set (slice_index_or xs g []) i v)
-with_word_is xs g i v = ap (λ l. slice_set xs g (slice_set l i v)) (words_is xs g)
+with_word_is xs g i v = ap (λ l. slice_set xs g (slice_set l i v)) (objects_at xs g)
 
 -- ---- a word that is stored
 

@@ -15,3 +15,4 @@ pub mod Bare
 pub mod Switches
 pub mod Clears
 pub mod AllStatements
+pub mod Common

@@ -24,10 +24,10 @@ use Rattle.mv_lower_spec.proofs.Running as run
 use Rattle.mv_lower_spec.proofs.Running.{nodes_number, nodes_temp, nodes_binary}
 use Rattle.mv_lower_spec.proofs.Showing as show
 use Rattle.mv_lower_spec.proofs.Sequences.{under, assoc, given}
-use Rattle.mv_lower_spec.proofs.Expressions.{no}
 use Rattle.mv_lower_spec.proofs.Bare.{bare_of}
 use Rattle.mv_lower_spec.proofs.Flows as flows
 use Rattle.mv_lower_spec.proofs.Flows.{code}
+use Rattle.mv_num.proofs.Booleans.{from_falsity}
 
 -- ---- lists of statements
 
@@ -130,7 +130,7 @@ passed v (l ∷ ls) =
         (z : Bool) → x.found ≡ z → Passed (both_tried x (tried_labels v (lowered_labels ls))) (cond x.found 0 (arm_place (hits v) 1 ls)) (suc (length ls)) (bare_of l.labels + bare_arms ls)
     by rest true e =
         subst (λ z. Passed (cond z x (record { labels = x.labels + (tried_labels v (lowered_labels ls)).labels; found = (tried_labels v (lowered_labels ls)).found })) (cond z 0 (arm_place (hits v) 1 ls)) (suc (length ls)) (bare_of l.labels + bare_arms ls)) (sym e)
-        (record { to_arm = omega arith; to_end = λ q. no (sym q ∙ e) })
+        (record { to_arm = omega arith; to_end = λ q. from_falsity (sym q ∙ e) })
     by rest false e =
         subst (λ z. Passed (cond z x (record { labels = x.labels + (tried_labels v (lowered_labels ls)).labels; found = (tried_labels v (lowered_labels ls)).found })) (cond z 0 (arm_place (hits v) 1 ls)) (suc (length ls)) (bare_of l.labels + bare_arms ls)) (sym e)
         (record { to_arm = omega (arith, own l.labels, place_above (hits v) 0 ls, rest.to_arm); to_end = λ q. (let r = rest.to_end q in omega (arith, own l.labels, r)) })

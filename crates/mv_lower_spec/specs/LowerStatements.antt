@@ -1,5 +1,5 @@
 -- The lowering of statements (C11 6.8): a fold that gives, for each, its code where it stands.
-use Rattle.std.specs.Prelude.{ℕ, Bool, not, map, Option, Some, None}
+use Rattle.std.specs.Prelude.{ℕ, Bool, map, Option, Some, None}
 use Rattle.mv_ast.specs.declared.program.Expr.{Expr}
 use Rattle.mv_ast.specs.declared.program.Stmt.{Stmt, Stmt-F, fold-Stmt}
 use Rattle.mv_ast.specs.declared.program.Stmt.TheOpen as stmt

@@ -13,7 +13,7 @@ pub record Leaves (P : State → Type 0) (s : State) : Type 0 where
   pub carries : (room : Room) (actions : List Action) (plan : Planned) (answer : ℕ) → P (carried_out (record s { room = room; actions = actions }) plan answer)
   pub faults : P (stopped s (Fault cause.Call))
 
-either : (P : State → Type 0) (b : Bool) (x y : State) → P x → P y → P (if b then x else y)
+pub either : (P : State → Type 0) (b : Bool) (x y : State) → P x → P y → P (if b then x else y)
 either P true x y h k = h
 either P false x y h k = k
 

@@ -15,7 +15,7 @@ pub record IsFetchable (a : ℕ) : Type 0 where
   pub aligned : a % 4 ≡ 0
   pub text : IsInText a
 
-none_older : (n i : ℕ) → older_at (replicate n []) i ≡ []
+pub none_older : (n i : ℕ) → older_at (replicate n []) i ≡ []
 none_older zero i = refl
 none_older (suc n) zero = refl
 none_older (suc n) (suc i) = none_older n i

@@ -70,7 +70,7 @@ unfolding picked_step
 unfetched room pick regs pc none = ap (λ (words : List ℕ). step access (slice_get words pick) regs pc room) (nil_from_length (choices room.held pc) none)
 
 -- some input that fits what a source tells
-some_input : (left : Option (List ℕ)) → (later : List (Option ℕ)) × Tells left later
+pub some_input : (left : Option (List ℕ)) → (later : List (Option ℕ)) × Tells left later
 some_input None = ([], tt)
 some_input (Some bytes) = (bytes_to_come bytes, refl)
 

@@ -15,7 +15,7 @@ use Rattle.mv_patch.specs.declared.prepared.Pair.{Pair}
 use Rattle.mv_machine.specs.Runs.{stored_word, stored_words, spelled_pairs, plan_area}
 
 -- text ends before the data
-not_in_text : (a : ℕ) → 0x0010_0000 ≤ a → IsInText a → ⊥
+pub not_in_text : (a : ℕ) → 0x0010_0000 ≤ a → IsInText a → ⊥
 unfolding region_of
 not_in_text a ge h =
     let e : ltb a 0x1000 ≡ false = le-ltb a 0x1000 (omega (arith, ge)) in

@@ -7,6 +7,7 @@ use Rattle.mv_ast.specs.Plans.{is_same_binding, events_from}
 use Rattle.mv_probe.specs.Hearing.{Hearing, Becomes}
 use Rattle.mv_probe.specs.Fates.{Fates}
 use Rattle.mv_machine.specs.Engines.{change}
+use Rattle.mv_ast.proofs.Common.{events_from-end}
 
 -- these events and those of the bindings from a place on are all events
 abbrev pub IsTold : (old new : List Binding) (place : ℕ) → List Event → Type 0
@@ -30,13 +31,9 @@ told_next old new place sofar a b lt lt' told =
     step place old new a b lt lt' ∙ ap (λ (es : List Event). here ++ es) (next place (drop (place + 1) old) (drop (place + 1) new)) in
     append_assoc sofar here later ∙ ap (λ (es : List Event). sofar ++ es) (sym e) ∙ told
 
-events_end : (i : ℕ) (old : List Binding) → events_from i old [] ≡ []
-events_end i [] = refl
-events_end i (b ∷ old) = refl
-
 pub told_all : (old new : List Binding) (place : ℕ) (sofar : List Event) → length new ≤ place → IsTold old new place sofar → sofar ≡ events_from 0 old new
 told_all old new place sofar le told =
-    sym (append-nil sofar) ∙ ap (λ (es : List Event). sofar ++ es) (sym (ap (λ (ys : List Binding). events_from place (drop place old) ys) (drop_all place new le) ∙ events_end place (drop place old))) ∙ told
+    sym (append-nil sofar) ∙ ap (λ (es : List Event). sofar ++ es) (sym (ap (λ (ys : List Binding). events_from place (drop place old) ys) (drop_all place new le) ∙ events_from-end place (drop place old))) ∙ told
 
 -- what the probes were told of one binding
 module _ {P K : Type 0} (object : P → K) (of : P → Hearing) (function : ℕ) (old new : Binding) (was now : List P) where

@@ -1,5 +1,5 @@
 -- Walks of one instruction after the other.
-use Rattle.std.proofs.Common.{ℕ, zero, suc, ◌≡◌, ◌<◌, ◌≤◌, ◌+◌, inl, inr, List, [], ◌∷◌, ◌++◌, length, Option, Some, None, option_map, unwrap_or, slice_get, option_and_then, refl, sym, ap, ap₂, ◌∙◌, subst, arith, append-nil}
+use Rattle.std.proofs.Common.{ℕ, zero, suc, ◌≡◌, ◌<◌, ◌+◌, inl, inr, List, [], ◌∷◌, ◌++◌, length, Option, Some, None, option_map, unwrap_or, slice_get, option_and_then, refl, sym, ap, ap₂, ◌∙◌, subst, arith, append-nil}
 use Rattle.std.proofs.lemmas.List.{length-append}
 use Rattle.std.proofs.lemmas.Option.{none-some}
 use Rattle.mv_ast.specs.declared.world.Action.{Action}
@@ -12,7 +12,6 @@ use Rattle.mv_rv32.specs.Stepping.{access, picked_step, picked_target, word_targ
 use Rattle.mv_rv32.specs.declared.hart.Hart.{Hart}
 use Rattle.mv_rv32.specs.declared.hart.Stepped.{Stepped}
 use Rattle.mv_rv32.specs.declared.hart.Stepped.TheVariants as over
-use Rattle.mv_io.specs.Outside.{Rose}
 use Rattle.mv_probe.specs.Ways.{Way, Follows, way_after}
 use Rattle.mv_machine.specs.declared.engine.Engine.{Engine}
 use Rattle.mv_machine.specs.declared.machine.Stopped.{Stopped}
@@ -143,9 +142,6 @@ goes_more n x y z way v way' A B Before Behind Told joins g (inr t) = (
   way_more way v way' _ t.0 n g.2 t.2,
   meets_more x y z Going way v way' Before Behind Told joins g.0 t.0 n g.1 g.2 t.2 g.3 t.3,
 )
-
-pub rose_later : (a b c : ℕ) → a ≤ b → Rose b c → Rose a c
-rose_later a b c h r = omega arith
 
 -- the causes at the outside, seen from an earlier time
 pub turns_since : (r : Option Stopped) (x y : Seen) (way way' : Option Way) (A B A' B' : Type 0) (Told : List Event → Type 0) → (A → A') → (B → B') → Turns r x y way way' A B Told → Turns r x y way way' A' B' Told

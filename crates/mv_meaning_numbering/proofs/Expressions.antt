@@ -18,10 +18,10 @@ use Rattle.mv_meaning.proofs.Equations.{ctype_of_lem}
 use Rattle.mv_source_forms.specs.Typing.{IsInteger, IsConstantOf, IsNull, IsFunctionOf, TakesOne, TakesTwo, ConvertsTo, HasType, LvalueHasType, local_types, parameter_types, types_of}
 use Rattle.mv_meaning_numbering.proofs.Alike.{Setting, Same, SameValues, same_integer, integer_same, same_test, pointers_compare}
 use Rattle.mv_meaning_numbering.proofs.Outcomes.{Alike, AlikeOutcome, alike_give, alike_counted, alike_unless, alike_weaken, alike_bind}
-use Rattle.mv_meaning_numbering.proofs.Switches.{all_head, all_tail}
 use Rattle.mv_meaning_numbering.proofs.Leaves.{SameLvalue, alike_read, alike_store, alike_global, alike_local, alike_trap, alike_known}
 use Rattle.mv_meaning_numbering.proofs.Calls.{SameContext, alike_call, alike_through}
 use Rattle.mv_source_forms.proofs.TypedParts.{TypedForm, TypedTarget, TypedExpr, AllTyped, FormParts, TargetParts, form_parts, target_parts, expr_form, expr_node}
+use Rattle.mv_num.proofs.Lists.{all_tail, all_head}
 
 -- ---- operators
 

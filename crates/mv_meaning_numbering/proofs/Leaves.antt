@@ -22,7 +22,8 @@ use Rattle.mv_meaning.specs.Meaning.{value_in, read_lvalue, store_lvalue, elemen
 use Rattle.mv_source_forms.specs.Typing.{IsInteger, IsTypedFunction, global_types}
 use Rattle.mv_meaning_numbering.proofs.Alike.{Setting, Same, SameObjects, integer_same, word_alike, store_alike, size_alike}
 use Rattle.mv_meaning_numbering.proofs.Outcomes.{SameWorld, SameFrame, AlikeOutcome, Alike, alike_give, alike_stop, alike_either, with_globals, moved}
-use Rattle.mv_meaning_numbering.proofs.Switches.{all_head, all_tail, all_got, bound_integer, bindings_same}
+use Rattle.mv_meaning_numbering.proofs.Switches.{all_got, bound_integer, bindings_same}
+use Rattle.mv_num.proofs.Lists.{all_tail, all_head}
 
 module _ (x : Setting) (ts : List CType) where
   -- ---- lvalues

@@ -25,9 +25,10 @@ use Rattle.mv_source_forms.specs.Typing.{IsInteger, IsTypedFunction, IsFirstValu
 use Rattle.mv_meaning_numbering.proofs.Numbers.{Distinguishes}
 use Rattle.mv_meaning_numbering.proofs.Alike.{Setting, Same, SameWords, SameObjects, SameValues, same_null, same_integer, words_null}
 use Rattle.mv_meaning_numbering.proofs.Outcomes.{SameWorld, SameFrame, AlikeOutcome, Alike, alike_stop}
-use Rattle.mv_meaning_numbering.proofs.Switches.{all_head, all_tail, all_got}
+use Rattle.mv_meaning_numbering.proofs.Switches.{all_got}
 use Rattle.mv_meaning_numbering.proofs.Calls.{SameContext, SameFlow}
 use Rattle.mv_meaning_numbering.proofs.Statements.{alike_stmt, alike_body}
+use Rattle.mv_num.proofs.Lists.{all_tail, all_head}
 
 module _ (x : Setting) where
   -- ---- calls

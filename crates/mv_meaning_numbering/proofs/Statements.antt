@@ -22,11 +22,11 @@ use Rattle.mv_meaning.proofs.SwitchArms.{leads_to}
 use Rattle.mv_source_forms.specs.Typing.{HasTypedParts, IsTypedAt, IsTypedExpr, IsTypedOption, ReturnsTyped, local_types}
 use Rattle.mv_meaning_numbering.proofs.Alike.{Setting, Same, same_null, same_test, words_null, objects_set, size_alike, same_integer}
 use Rattle.mv_meaning_numbering.proofs.Outcomes.{SameFrame, Alike, AlikeOutcome, alike_give, alike_counted, alike_unless, alike_weaken, alike_bind}
-use Rattle.mv_meaning_numbering.proofs.Switches.{all_head, all_tail}
 use Rattle.mv_meaning_numbering.proofs.Leaves.{alike_store}
 use Rattle.mv_meaning_numbering.proofs.Calls.{SameContext, SameFlow}
 use Rattle.mv_source_forms.proofs.TypedParts.{TypedStmt, TypedArm, AllStmts, AllArms, StmtParts, stmt_parts, stmt_node, arm_parts}
 use Rattle.mv_meaning_numbering.proofs.Expressions.{alike_expr}
+use Rattle.mv_num.proofs.Lists.{all_tail, all_head}
 
 -- the same number in a test against zero
 abbrev pub SameTest : ℕ → ℕ → Type 0

@@ -10,14 +10,10 @@ use Rattle.mv_ast.specs.declared.world.Binding.{Binding}
 use Rattle.mv_ast.specs.Plans.{attributed_functions, attributed_before, switch_global, global_or_none, word_at, switch_words, all_in_domain, bound_to, free, committed, value_among, binding_value, bound_value, is_addressed, is_commit, ordered_from, bindings_after}
 use Rattle.mv_source_forms.specs.Typing.{IsInteger, IsIntegerSwitch, IsTypedFunction, global_types}
 use Rattle.mv_meaning_numbering.proofs.Alike.{Setting, SameObjects, same_integer, word_alike}
+use Rattle.mv_num.proofs.Booleans.{value_if_some}
+use Rattle.mv_num.proofs.Lists.{all_tail, all_head}
 
 -- ---- lists
-
-pub all_head : {A : Type 0} (P : A → Type 0) (x : A) (xs : List A) → All P (x ∷ xs) → P x
-all_head P x xs h = h 0 x (omega arith)
-
-pub all_tail : {A : Type 0} (P : A → Type 0) (x : A) (xs : List A) → All P (x ∷ xs) → All P xs
-all_tail P x xs h k d lt = h (suc k) d (omega (arith, lt))
 
 pub all_got : {A : Type 0} (P : A → Type 0) (xs : List A) (i : ℕ) (x : A) → All P xs → slice_get xs i ≡ Some x → P x
 all_got P xs i x h e = subst P (get_or_from_slice_get xs i x x e) (h i x (slice_get_within xs i x e))
@@ -26,10 +22,6 @@ all_got P xs i x h e = subst P (get_or_from_slice_get xs i x x e) (h i x (slice_
 
 pub switch_type : (p : Program) (s : ℕ) (h : IsIntegerSwitch p s) → slice_get (global_types p) (switch_global p s) ≡ Some h.ctype
 switch_type p s h = ap (λ o. slice_get (global_types p) (global_or_none o)) h.there ∙ h.global
-
-if_some : (b : Bool) (o : Option ℕ) (k : ℕ) → (if b then o else None) ≡ Some k → o ≡ Some k
-if_some true o k e = e
-if_some false o k e = cc
 
 module _ (p : Program) (g : ℕ) (t : CType) (typed : slice_get (global_types p) g ≡ Some t) where
   switch_integer : (s : ℕ) → IsIntegerSwitch p s → g ≡ switch_global p s → IsInteger t
@@ -55,13 +47,13 @@ module _ (p : Program) (g : ℕ) (t : CType) (typed : slice_get (global_types p)
 
   binding_integer : (f : Function) (b : Option Binding) (k : ℕ) → IsTypedFunction p f → binding_value p f b g ≡ Some k → IsInteger t
   binding_integer f None k h e = cc
-  binding_integer f (Some b) k h e = among_integer f.switches b.values k h.switches (if_some b.bound _ k e)
+  binding_integer f (Some b) k h e = among_integer f.switches b.values k h.switches (value_if_some b.bound _ k e)
 
   pub bound_integer : (bs : List Binding) (n : ℕ) (f : Option Function) (k : ℕ) → ((h : Function) → f ≡ Some h → IsTypedFunction p h) →
       bound_value p bs n f g ≡ Some k → IsInteger t
   bound_integer bs n None k h e = cc
   bound_integer bs n (Some f) k h e =
-      binding_integer f (slice_get bs (attributed_before p.functions n)) k (h f refl) (if_some f.attributed _ k e)
+      binding_integer f (slice_get bs (attributed_before p.functions n)) k (h f refl) (value_if_some f.attributed _ k e)
 
 -- ---- commits
 

@@ -6,7 +6,6 @@ use Rattle.mv_ir.specs.declared.stm.Callee.{Callee}
 use Rattle.mv_ast.specs.declared.program.Known.{Known}
 use Rattle.mv_ir.specs.declared.stm.Stm.{Stm, out-Stm}
 use Rattle.mv_ir.specs.declared.stm.Stm as at
-use Rattle.mv_ir.specs.declared.stm.Stm.TheOpen.{Stm-F}
 use Rattle.mv_ir.specs.declared.stm.Stm.TheOpen as stm
 use Rattle.mv_ir.specs.declared.stm.Stm.TheViews.{outs-Set, outs-SetGlobal, outs-Divide, outs-Check, outs-Read, outs-Write, outs-Zero, outs-If, outs-Loop, outs-Block, outs-Break, outs-Back, outs-Call, outs-Known, outs-Return}
 

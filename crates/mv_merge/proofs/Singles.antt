@@ -1,5 +1,5 @@
 -- A row of one list of values holds of that list alone.
-use Rattle.std.proofs.Common.{arith, ◌≡◌, ℕ, zero, suc, ◌+◌, ◌-◌, ◌^◌, ◌<◌, Bool, true, false, ◌&&◌, List, [], ◌∷◌, length, replicate, refl, sym, ◌∙◌, ap, subst, inl, inr}
+use Rattle.std.proofs.Common.{arith, ◌≡◌, ℕ, zero, suc, ◌+◌, ◌-◌, ◌^◌, ◌<◌, Bool, true, false, List, [], ◌∷◌, length, replicate, refl, sym, ◌∙◌, ap, subst, inl, inr}
 use Rattle.std.specs.Prelude.{slice_get, slice_index, slice_index_or, nat_lt, nat_le, if◌then◌else◌, Some}
 use Rattle.std.proofs.lemmas.Bool.Decides.{nat_tests}
 use Rattle.std.proofs.lemmas.List.{get_or_append_left, length-map}
@@ -18,6 +18,9 @@ use Rattle.mv_merge.specs.declared.rows.Guarded.{Guarded}
 use Rattle.mv_merge.specs.declared.rows.Variants.{Variants}
 use Rattle.mv_merge.specs.Guards.{kinds, domain_values, row_holds, AreValues, all_values, bodies_led_to, SomeHolds, AtMostOne, LeadsTo, EachLeads, IsClean, HasRanges, EachRow, IsMerged}
 use Rattle.mv_merge.specs.Grouping.{padded, single, Leads, HaveWords, IsGrouped}
+use Rattle.mv_num.proofs.Booleans.{and_right, and_left}
+use Rattle.mv_num.proofs.Lists.{same_lists}
+use Rattle.std.proofs.lemmas.Bool.{and_from}
 
 -- ---- values and their order
 
@@ -34,43 +37,21 @@ le_both m n h g = grind (arith, nat_tests)
 le_self : (m : ℕ) → nat_le m m ≡ true
 le_self m = grind (arith, nat_tests)
 
-and_left : (a b : Bool) → (a && b) ≡ true → a ≡ true
-and_left true b h = refl
-and_left false b h = h
-
-and_right : (a b : Bool) → (a && b) ≡ true → b ≡ true
-and_right true b h = h
-and_right false b h = absurd (let e : false ≡ true = h in cc)
-
-and_both : (a b : Bool) → a ≡ true → b ≡ true → (a && b) ≡ true
-and_both true b h g = g
-and_both false b h g = h
-
 between_only : (k a v : ℕ) → a < 2 ^ 32 → v < 2 ^ 32 → is_between k a a v ≡ true → a ≡ v
 between_only k a v la lv h =
     rank_apart (is_signed k) a v la lv (le_both (rank k a) (rank k v) (and_left (is_at_most k a v) (is_at_most k v a) h) (and_right (is_at_most k a v) (is_at_most k v a) h))
 
 between_self : (k a : ℕ) → is_between k a a a ≡ true
-between_self k a = and_both (is_at_most k a a) (is_at_most k a a) (le_self (rank k a)) (le_self (rank k a))
+between_self k a = and_from (is_at_most k a a) (is_at_most k a a) (le_self (rank k a)) (le_self (rank k a))
 
 -- ---- rows
-
--- two lists with the same items
-same_items : (us vs : List ℕ) → length us ≡ length vs → ((i : ℕ) → i < length us → slice_index us i ≡ slice_index vs i) → us ≡ vs
-same_items [] [] n h = refl
-same_items [] (v ∷ vs) n h = let c : 0 ≡ suc (length vs) = n in absurd (omega arith)
-same_items (u ∷ us) [] n h = let c : suc (length us) ≡ 0 = n in absurd (omega arith)
-same_items (u ∷ us) (v ∷ vs) n h =
-    let lengths : suc (length us) ≡ suc (length vs) = n in
-    let first : u ≡ v = h 0 (let lt : 0 < suc (length us) = omega arith in lt) in
-    ap (λ x. x ∷ us) first ∙ ap (λ l. v ∷ l) (same_items us vs (omega arith) (λ i lt. h (suc i) (let more : suc i < suc (length us) = omega (arith, lt) in more)))
 
 padded_at : (us : List ℕ) (i : ℕ) → i < length us → slice_index (padded us) i ≡ slice_index us i
 padded_at us i lt = get_or_append_left us (replicate (6 - length us) 0) 0 i lt
 
 holds_only : (ks us vs : List ℕ) → length us ≡ length ks → length vs ≡ length ks → AreWords us → AreWords vs → holds ks vs (single us) ≡ true → us ≡ vs
 unfolding holds
-holds_only ks us vs eu ev wu wv h = same_items us vs (eu ∙ sym ev) at
+holds_only ks us vs eu ev wu wv h = same_lists us vs (eu ∙ sym ev) at
   where
     at : (i : ℕ) → i < length us → slice_index us i ≡ slice_index vs i
     at i lt =

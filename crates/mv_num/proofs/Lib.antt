@@ -1,2 +1,6 @@
 pub mod ByteLaws
 pub mod Signed
+pub mod Booleans
+pub mod Numbers
+pub mod Lists
+pub mod Options

@@ -24,19 +24,7 @@ use Rattle.mv_operator.specs.declared.controls.Control.{Control}
 use Rattle.mv_operator.specs.Controls.{kind_of_type, control_of_global, controls_of, control_of_row, controls_in}
 use Rattle.mv_operator.specs.Operator.{is_of_kind, kind_of_switch, switch_named, flip_by, flip_from, flip_of, AreActions}
 use Rattle.mv_operator.proofs.Acting.{each_action}
-
-word_above : (n : ℕ) → n < 2 ^ 32 → word_of (pos n) ≡ n
-unfolding word_of
-word_above n h = omega (arith, h)
-
-word_below : (n : ℕ) → n < 2 ^ 32 → word_of (negsuc n) ≡ 2 ^ 32 - suc n
-unfolding word_of
-word_below n h = omega (arith, h)
-
-word_small : (z : ℤ) → word_of z < 2 ^ 32
-unfolding word_of
-word_small (pos n) = omega arith
-word_small (negsuc n) = omega arith
+use Rattle.mv_num.proofs.Numbers.{word_of_pos, word_small, word_of_negsuc}
 
 above : (kind : Kind) (n : ℕ) → is_of_kind kind (pos n) ≡ true → (n < 2 ^ 32) × (is_value (kind_number kind) n ≡ true)
 above kinds.Bool n h = (grind (arith, nat_tests, h), grind (arith, nat_tests, h))
@@ -57,8 +45,8 @@ below kinds.Int n h = (grind (arith, nat_tests, h), refl)
 below kinds.UInt n h = (grind (arith, nat_tests, h), refl)
 
 value_fits : (kind : Kind) (z : ℤ) → is_of_kind kind z ≡ true → is_value (kind_number kind) (word_of z) ≡ true
-value_fits kind (pos n) h = let a = above kind n h in ap (is_value (kind_number kind)) (word_above n a.0) ∙ a.1
-value_fits kind (negsuc n) h = let b = below kind n h in ap (is_value (kind_number kind)) (word_below n b.0) ∙ b.1
+value_fits kind (pos n) h = let a = above kind n h in ap (is_value (kind_number kind)) (word_of_pos n a.0) ∙ a.1
+value_fits kind (negsuc n) h = let b = below kind n h in ap (is_value (kind_number kind)) (word_of_negsuc n b.0) ∙ b.1
 
 -- ---- from the item to the switch
 

@@ -1,5 +1,5 @@
 -- Classes of terminals: what a test says of each terminal of a class.
-use Rattle.std.proofs.Common.{◌≡◌, ℕ, suc, ◌<◌, Bool, true, false, List, [], ◌∷◌, ◌⊎◌, inl, inr, refl, ap, ◌∙◌, arith}
+use Rattle.std.proofs.Common.{◌≡◌, ℕ, suc, ◌<◌, Bool, true, false, List, [], ◌∷◌, inl, inr, refl, ap, ◌∙◌, arith}
 use Rattle.std.specs.Prelude.{nat_eq, nat_le, ◌||◌, ◌&&◌, not}
 use Rattle.std.proofs.lemmas.Bool.{eqb-true, lt-leb}
 use Rattle.std.proofs.lemmas.Bool.Decides.{nat_tests}
@@ -9,6 +9,7 @@ use Rattle.mv_ast.specs.declared.token.Piece.TheVariants.{Keyword, Name, Number,
 use Rattle.mv_num.specs.declared.kind.Kind.{Kind}
 use Rattle.mv_num.specs.declared.kind.Kind.TheVariants.{Int}
 use Rattle.mv_parse_grammar.specs.Terminals.{Terminal, mark_of, is_mark, keyword_of, is_keyword, is_name, is_name_piece, is_number, is_number_piece, is_string, is_string_piece, rank, is_rank, within_rank, is_sign, is_step, is_type_word, is_type_part, is_specifier}
+use Rattle.mv_num.proofs.Booleans.{or_cases, and_cases}
 
 abbrev pub terminal_at : Place → List ℕ → Piece → Terminal
 terminal_at p s w = record { place = p; what = w; spelling = s }
@@ -17,21 +18,9 @@ terminal_at p s w = record { place = p; what = w; spelling = s }
 abbrev pub sample : Piece → Terminal
 sample p = terminal_at (record { line = 0; column = 0 }) [] p
 
-pub or_cases : (a b : Bool) → (a || b) ≡ true → (a ≡ true) ⊎ (b ≡ true)
-or_cases true b h = inl refl
-or_cases false b h = inr h
-
 pub or_none : (a b : Bool) → (a ≡ false) → (b ≡ false) → (a || b) ≡ false
 or_none true b h k = h
 or_none false b h k = k
-
-pub none_or : (a b : Bool) → (a || b) ≡ false → (a ≡ false) × (b ≡ false)
-none_or true b h = absurd (cc)
-none_or false b h = (refl, h)
-
-pub and_false : (v : Bool) → (v && false) ≡ false
-and_false true = refl
-and_false false = refl
 
 -- a terminal that is one of two classes
 abbrev pub either : (Terminal → Bool) → (Terminal → Bool) → Terminal → Bool
@@ -157,14 +146,10 @@ of_same true false h = absurd (cc)
 of_same false true h = absurd (cc)
 of_same false false h = refl
 
-both : (a b : Bool) → (a && b) ≡ true → (a ≡ true) × (b ≡ true)
-both true b h = (refl, h)
-both false b h = absurd (cc)
-
 of_each : (g : ℕ → Bool) (ms : List ℕ) (v : Bool) (n : ℕ) → each g ms v ≡ true → has n ms ≡ true → g n ≡ v
 of_each g [] v n e h = absurd (cc)
 of_each g (m ∷ ms) v n e h =
-    let u = both (same (g m) v) (each g ms v) e in
+    let u = and_cases (same (g m) v) (each g ms v) e in
     elim (or_cases (nat_eq n m) (has n ms) h) [ inl k ↦ ap g (eqb-true n m k) ∙ of_same (g m) v u.0 | inr k ↦ of_each g ms v n u.1 k ]
 
 of_held : (c a v : Bool) → held c (same a v) ≡ true → c ≡ true → a ≡ v
@@ -181,10 +166,10 @@ record Said (c : Class) (g : Piece → Bool) (n : ℕ) (k : Kind) (cs : List ℕ
 
 split : (a b c d e : Bool) → (a && (b && (c && (d && e)))) ≡ true → (a ≡ true) × (b ≡ true) × (c ≡ true) × (d ≡ true) × (e ≡ true)
 split a b c d e h =
-    let u = both a (b && (c && (d && e))) h in
-    let x = both b (c && (d && e)) u.1 in
-    let y = both c (d && e) x.1 in
-    let z = both d e y.1 in
+    let u = and_cases a (b && (c && (d && e))) h in
+    let x = and_cases b (c && (d && e)) u.1 in
+    let y = and_cases c (d && e) x.1 in
+    let z = and_cases d e y.1 in
     (u.0, x.0, y.0, z.0, z.1)
 
 said : (c : Class) (g : Piece → Bool) (n : ℕ) (k : Kind) (cs : List ℕ) (v : Bool) → says c g n k cs v ≡ true → Said c g n k cs v

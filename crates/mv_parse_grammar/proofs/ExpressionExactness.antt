@@ -17,11 +17,12 @@ use Rattle.mv_parse_grammar.specs.Expressions as G
 use Rattle.mv_parse_grammar.specs.Expressions.{Nonterminal, Expressions, Assign, Cond, Cast, Unary, no_specs, specs_at}
 use Rattle.mv_parse_grammar.specs.ExpressionReader as M
 use Rattle.mv_parse_grammar.specs.ExpressionReader.{Readers}
-use Rattle.mv_parse_grammar.proofs.Classes.{sample, either, but_two, or_none, and_false, at_mark, at_keyword, at_name, at_number, at_class, at_in, is_in, signs, steps, type_words, expression_starts, in_signs, in_steps, in_type_words, rank_apart, rank_wide, rank_narrow, rank_zero, zero_rank}
+use Rattle.mv_parse_grammar.proofs.Classes.{sample, either, but_two, or_none, at_mark, at_keyword, at_name, at_number, at_class, at_in, is_in, signs, steps, type_words, expression_starts, in_signs, in_steps, in_type_words, rank_apart, rank_wide, rank_narrow, rank_zero, zero_rank}
 use Rattle.mv_parse_grammar.proofs.Exact.{Exact, Any, Begins, Leads, leads_then, leads_marked, leads_or, exact_before, exact_deep, exact_same, exact_marked, none, none_next}
 use Rattle.mv_parse_grammar.proofs.Shapes.{Room, leads_first, leads_wider, given, taken, first, beyond, after, picked, later, stepped, eased, chained, repeated}
 use Rattle.mv_parse_grammar.proofs.Lists.{never_in_list, enclosed_exact}
 use Rattle.mv_parse_grammar.proofs.Peek.{Moves, exact_two, StartsAt, moves_exact, moves_token}
+use Rattle.mv_num.proofs.Booleans.{and_false}
 
 -- how an expression begins
 abbrev pub starts : Terminal → Bool

@@ -11,3 +11,4 @@ pub mod Sources
 pub mod StatementExactness
 pub mod UnitExactness
 pub mod Verdict
+pub mod Common

@@ -8,8 +8,9 @@ use Rattle.mv_parse_grammar.specs.Language.{IsThen}
 use Rattle.mv_parse_grammar.specs.Reader as R
 use Rattle.mv_parse_grammar.specs.Reader.{Read}
 use Rattle.mv_parse_grammar.proofs.Exact.{Exact, ExactIn, Any, Leads, none, leads_token, leads_then, leads_or, shorter, not_longer, exact_before, exact_same, exact_room, exact_deep, exact_then, exact_choice, exact_token, chain_once, chain_opened}
-use Rattle.mv_parse_grammar.proofs.Classes.{sample, either, all_but, or_none, none_or, at_mark}
+use Rattle.mv_parse_grammar.proofs.Classes.{sample, either, all_but, or_none, at_mark}
 use Rattle.mv_parse_grammar.proofs.Shapes.{Room, room_down, Apart, apart_none, apart_give, apart_leads, leads_first, leads_wider, given, taken, first, after_in, beyond_in, picked, later, repeated}
+use Rattle.std.proofs.lemmas.Bool.{or_parts}
 
 -- one phrase after another, regrouped
 
@@ -242,7 +243,7 @@ module _ {X : Type 0} (n b : ℕ) (never test : Terminal → Bool) (closing : (t
   closing_of (suc k) xs =
       exact_same (λ l. Room n b l × (l < suc k)) none none (Factored A xs) (Factored A' xs) (Tail A xs) (Tail A' xs) (R.closing (suc k) p xs) (λ _. none) (tail_of A xs) (opened_tail A' xs)
       (exact_choice (λ l. Room n b l × (l < suc k)) none none (is_mark 7) (either none (is_mark 7)) (Commad A xs) (Commad A' xs) (Closed xs) (Closed xs) _ _ (λ _. none)
-      (λ t h i. or_none (none t) (is_mark 7 t) h i) (λ t h. none_or (none t) (is_mark 7 t) h) (leads_first (is_mark 7))
+      (λ t h i. or_none (none t) (is_mark 7 t) h i) (λ t h. or_parts (none t) (is_mark 7 t) h) (leads_first (is_mark 7))
       (exact_then (λ l. Room n b l × (l < suc k)) (λ l. Room n b l × (l < k)) none none none (L.token (is_mark 7)) (L.token (is_mark 7)) (R.token (is_mark 7)) (λ _ _. false) _ _ _ (λ _. none)
       (exact_token (λ l. Room n b l × (l < suc k)) none none (is_mark 7) (sample (Mark 7)) refl (λ _ _. refl))
       (λ t. picked (leads_first (is_mark 5)) (closed_exact k xs none (λ _ _. refl))

@@ -5,7 +5,8 @@ use Rattle.mv_parse_grammar.specs.Language as L
 use Rattle.mv_parse_grammar.specs.Reader as R
 use Rattle.mv_parse_grammar.specs.Reader.{Read, next}
 use Rattle.mv_parse_grammar.proofs.Exact.{Exact, ExactIn, Free, Begins, Leads, none, none_next, leads_token, leads_then, leads_any, shorter, not_longer, exact_give, exact_token, exact_then, exact_room, exact_eased, exact_choice, exact_guarded, exact_chain, chain_opened}
-use Rattle.mv_parse_grammar.proofs.Classes.{either, or_none, none_or}
+use Rattle.mv_parse_grammar.proofs.Classes.{either, or_none}
+use Rattle.std.proofs.lemmas.Bool.{or_parts}
 
 -- The bound n is b above three times the number of terminals.
 pub record Room (n b l : ℕ) : Type 0 where
@@ -123,7 +124,7 @@ chosen {X} {K} {never} {before} {test} {A} {A'} {B} {B'} {p} {q} {more} wider wi
 -- the second where no terminal of the first class comes
 pub picked : {X : Type 0} {K : ℕ → Type 0} {never before test : Terminal → Bool} {A A' B B' : X → List Terminal → Type 0} {p q : List Terminal → Read X} {more : X → Terminal → Bool}
     → Leads test A' → ExactIn K never before A A' p more → ExactIn K never (either before test) B B' q more → ExactIn K never before (L.◌or◌ A B) (L.◌or◌ A' B') (R.choice test p q) more
-picked {X} {K} {never} {before} {test} l a b = chosen (either before test) (λ t h k. or_none (before t) (test t) h k) (λ t h. none_or (before t) (test t) h) l a b
+picked {X} {K} {never} {before} {test} l a b = chosen (either before test) (λ t h k. or_none (before t) (test t) h k) (λ t h. or_parts (before t) (test t) h) l a b
 
 -- a part that asks for less than there is to spare
 pub later : {X : Type 0} {n : ℕ} (a b : ℕ) {never before : Terminal → Bool} {A A' : X → List Terminal → Type 0} {p : List Terminal → Read X} {more : X → Terminal → Bool}

@@ -18,13 +18,14 @@ use Rattle.mv_parse_grammar.specs.Statements as G
 use Rattle.mv_parse_grammar.specs.Statements.{Lines, is_open, line_at}
 use Rattle.mv_parse_grammar.specs.StatementReader as M
 use Rattle.mv_parse_grammar.specs.StatementReader.{LineReader}
-use Rattle.mv_parse_grammar.proofs.Classes.{Class, sample, either, of_all_but, and_false, at_mark, at_keyword, at_class, at_in, is_in, wider, specifiers, expression_starts, in_specifiers}
+use Rattle.mv_parse_grammar.proofs.Classes.{Class, sample, either, of_all_but, at_mark, at_keyword, at_class, at_in, is_in, wider, specifiers, expression_starts, in_specifiers}
 use Rattle.mv_parse_grammar.proofs.Exact.{Exact, ExactIn, Any, Leads, leads_then, leads_marked, leads_or, leads_any, exact_before, exact_deep, exact_same, exact_marked, none, none_next}
 use Rattle.mv_parse_grammar.proofs.Shapes.{Room, apart_leads, leads_first, leads_wider, given, ended, taken, first, after, after_in, picked, later, stepped, chained, guarded}
 use Rattle.mv_parse_grammar.proofs.Lists.{comma_list_exact}
 use Rattle.mv_parse_grammar.proofs.ExpressionExactness.{starts, more, weight, deep, expression_exact, phrase_leads}
 use Rattle.mv_parse_grammar.proofs.DeclarationExactness.{declarator_class, declarator_starts, never_declared, never_in_parameters, specs_leads, declared_leads, specs_exact, declared_exact, params_exact}
 use Rattle.mv_parse_grammar.proofs.DanglingElse.{open_if, open_else, open_while, open_do, open_for, open_switch, open_block, open_declare, open_express, open_case, open_default, open_return, open_break, open_continue}
+use Rattle.mv_num.proofs.Booleans.{and_false}
 
 -- an `else` goes on from a statement that ends in an `if` without one
 abbrev pub more_line : Line → Terminal → Bool

@@ -1,6 +1,6 @@
 -- What is read tells what the tokens are: a unit and no other, or where they break off.
-use Rattle.std.proofs.Common.{◌≡◌, ℕ, zero, suc, ◌+◌, ◌-◌, ◌<◌, Bool, true, false, cond, Option, Some, None, List, [], ◌∷◌, ◌++◌, length, drop, refl, sym, ap, subst, ◌∙◌, arith, length-append}
-use Rattle.std.specs.Prelude.{nat_eq, nat_lt, ◌||◌}
+use Rattle.std.proofs.Common.{◌≡◌, ℕ, zero, suc, ◌+◌, ◌-◌, ◌<◌, true, false, cond, Option, Some, None, List, [], ◌∷◌, ◌++◌, length, drop, refl, sym, ap, subst, ◌∙◌, arith, length-append}
+use Rattle.std.specs.Prelude.{nat_eq, nat_lt}
 use Rattle.std.proofs.lemmas.List.{append-nil}
 use Rattle.std.proofs.Math.Seq.{drop-append_seam}
 use Rattle.std.proofs.lemmas.Bool.Decides.{nat_tests}
@@ -19,6 +19,7 @@ use Rattle.mv_parse_grammar.specs.Reading.{Reads, Exactly, Ends, Breaks, BreaksA
 use Rattle.mv_parse_grammar.proofs.Exact.{Got, Lost, Found, none_next}
 use Rattle.mv_parse_grammar.proofs.ExpressionExactness.{deep}
 use Rattle.mv_parse_grammar.proofs.UnitExactness.{unit_exact}
+use Rattle.std.proofs.lemmas.Bool.{or_left, or_from}
 
 nothing_left : (r : List Terminal) → next (λ _. true) r ≡ false → r ≡ []
 nothing_left [] h = refl
@@ -97,14 +98,6 @@ pub length_terminals : (text : List ℕ) (ts : List Token) → length (terminals
 length_terminals text [] = refl
 length_terminals text (t ∷ ts) = ap suc (length_terminals text ts)
 
-first_true : (a b : Bool) → a ≡ true → (a || b) ≡ true
-first_true true b h = refl
-first_true false b h = absurd (cc)
-
-both_false : (a b : Bool) → a ≡ false → b ≡ false → (a || b) ≡ false
-both_false true b h k = absurd (cc)
-both_false false b h k = k
-
 none_left : (left : ℕ) → left ≡ 0 → nat_eq left 0 ≡ true
 none_left left h = grind (arith, nat_tests)
 
@@ -126,13 +119,13 @@ dropped text (suc k) (t ∷ ts) end = dropped text k ts end
 
 placed : (text : List ℕ) (items : List Token) (before rest : List Terminal) (left : ℕ) (end : Place) → terminals text items ≡ before ++ rest → left ≡ length rest → place_left items left end ≡ place_or rest end
 placed text items before [] left end w e =
-    ap (λ v. cond v end (place_or_end (drop (length items - left) items) end)) (first_true (nat_eq left 0) (nat_lt (length items) left) (none_left left e))
+    ap (λ v. cond v end (place_or_end (drop (length items - left) items) end)) (or_left (nat_eq left 0) (nat_lt (length items) left) (none_left left e))
 placed text items before (t ∷ q) left end w e =
     let l : length (terminals text items) ≡ length before + length (t ∷ q) = ap length w ∙ length-append before (t ∷ q) in
     let s : length (terminals text items) ≡ length items = length_terminals text items in
     let k : (nat_eq left 0 ≡ false) × (nat_lt (length items) left ≡ false) = some_left left (length items) (omega arith) (omega arith) in
     let m : length items - left ≡ length before = omega arith in
-    ap (λ v. cond v end (place_or_end (drop (length items - left) items) end)) (both_false (nat_eq left 0) (nat_lt (length items) left) k.0 k.1)
+    ap (λ v. cond v end (place_or_end (drop (length items - left) items) end)) (or_from (nat_eq left 0) (nat_lt (length items) left) k.0 k.1)
     ∙ (ap (λ n. place_or_end (drop n items) end) m
     ∙ (dropped text (length before) items end
     ∙ (ap (λ z. place_or (drop (length before) z) end) w

@@ -16,7 +16,9 @@ use Rattle.mv_select.specs.declared.error.SelectError.{SelectError}
 use Rattle.mv_select.specs.declared.error.SelectError.TheVariants.{Frame, Memory}
 use Rattle.mv_select.specs.Selected.{OnFrame}
 use Rattle.mv_parts.specs.Codes.{AreGenerics, IsGeneric, HasCode, FramesFit, PassesFrame, PassesFirstFrame, frame_size}
-use Rattle.mv_parts.proofs.Lists.{some_at, some_same, each_push, map_at}
+use Rattle.mv_parts.proofs.Lists.{each_push, map_at}
+use Rattle.mv_num.proofs.Lists.{there_at}
+use Rattle.mv_num.proofs.Options.{some_same}
 
 -- ---- bodies
 
@@ -30,7 +32,7 @@ module _ (p : Program) where
   pub lowered_at : (bodies : List Body) (i : ℕ) (body : Body) → bodies ≡ map (lower_function p) p.functions → i < length bodies → body ≡ get_or bodies i body → IsLowered p i body
   lowered_at bodies i body e below is =
       let long = ap length e ∙ length-map p.functions (lower_function p) in
-      let g = some_at p.functions i (omega (arith, below, long)) in
+      let g = there_at p.functions i (omega (arith, below, long)) in
       let here : slice_get bodies i ≡ Some body = slice_get-get_or bodies i body below ∙ ap Some (sym is) in
       let there : slice_get bodies i ≡ Some (lower_function p g.0) = ap (λ xs. slice_get xs i) e ∙ map_at (lower_function p) p.functions i g.0 g.1 in
       record { function = g.0; there = g.1; is = some_same body (lower_function p g.0) (sym here ∙ there) }
@@ -64,7 +66,7 @@ module _ (p : Program) where
 
   pub generic_at : (bodies : List Body) → AreGenerics p bodies → (i : ℕ) (body : Body) → i < length bodies → body ≡ get_or bodies i body → IsGeneric p i body
   generic_at bodies are i body below is =
-      let g = some_at p.functions i (omega (arith, below, are.one_each)) in
+      let g = there_at p.functions i (omega (arith, below, are.one_each)) in
       let here = slice_get-get_or bodies i body below ∙ ap Some (sym is) in
       record { function = g.0; there = g.1; renamed = are.each i g.0 body g.1 here }
 
@@ -94,8 +96,8 @@ module _ (p : Program) where
     -- the functions that have code have frames that are small enough
     pub frames_before : (codes : List Labelled) → EachCode codes → (n : ℕ) → length codes ≡ n → n ≤ length bodies → FramesFit p n
     frames_before codes each n count within f g below there =
-        let body = some_at bodies f (omega (arith, below, within)) in
-        let code = some_at codes f (omega (arith, count, below)) in
+        let body = there_at bodies f (omega (arith, below, within)) in
+        let code = there_at codes f (omega (arith, count, below)) in
         let has = each f body.0 code.0 body.1 code.1 in
         subst (λ (k : Function). frame_size p k ≤ frame_limit) (some_same has.function g (sym has.there ∙ there)) has.frame
 

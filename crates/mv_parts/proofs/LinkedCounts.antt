@@ -23,9 +23,11 @@ use Rattle.mv_linker.specs.Tables.{is_slot, slot_count}
 use Rattle.mv_variants.specs.declared.variant.Variant.{Variant}
 use Rattle.mv_parts.specs.Laws.{PartsAreCounted}
 use Rattle.mv_parts.specs.Parts.{AreCodesOf}
-use Rattle.mv_parts.proofs.Lists.{some_at, some_same, all_by_index, map_at}
+use Rattle.mv_parts.proofs.Lists.{all_by_index, map_at}
 use Rattle.mv_parts.proofs.LinkedParts.{IsOwnCode, IsAttributedPart, variant_part, own_code, as_many_parts, attributed_part}
 use Rattle.mv_parts.proofs.LinkedVariants.{made_variant, few_variants}
+use Rattle.mv_num.proofs.Lists.{there_at}
+use Rattle.mv_num.proofs.Options.{some_same}
 
 -- ---- slots
 
@@ -126,7 +128,7 @@ module _ (made : BodiesAreMade) (fit : GroupsFit) (p : Program) (bodies : List B
         few = let few = variants_few fit p n a (part n a is) in omega (arith, few, long);
         each = λ i code at.
             let within = slice_get_within (variant_codes a.variants) i code at in
-            let (v, there) = some_at a.variants i (omega (arith, within, long)) in
+            let (v, there) = there_at a.variants i (omega (arith, within, long)) in
             subst (source.IsCodeOf p (part n a is).function) (some_same v.code code (sym (map_at (λ (x : PartVariant). x.code) a.variants i v there) ∙ at))
             (variant_is made p n a (part n a is) i v there);
       }
@@ -137,7 +139,7 @@ module _ (made : BodiesAreMade) (fit : GroupsFit) (p : Program) (bodies : List B
         one_each = long ∙ as_many_parts p bodies tables functions attributed are;
         each = λ n g cs there at.
             let within = slice_get_within (variant_lists attributed) n cs at in
-            let (a, is) = some_at attributed n (omega (arith, within, long)) in
+            let (a, is) = there_at attributed n (omega (arith, within, long)) in
             let codes = some_same (variant_codes a.variants) cs (sym (map_at (λ (x : PartFunction). variant_codes x.variants) attributed n a is) ∙ at) in
             subst (λ (ds : List Labelled). source.AreVariantCodes p g ds) codes
             (subst (λ (k : Function). source.AreVariantCodes p k (variant_codes a.variants)) (same_function n g a there is) (are_variant_codes n a is));

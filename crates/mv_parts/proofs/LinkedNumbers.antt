@@ -6,7 +6,7 @@ use Rattle.mv_ast.specs.declared.program.Function.{Function}
 use Rattle.mv_ast.specs.Counts.{is_attributed}
 use Rattle.mv_variants.proofs.Functions.{attributed_there}
 use Rattle.mv_parts.specs.Numbers.{attributed_from, attributed_numbers}
-use Rattle.mv_parts.proofs.Lists.{some_same}
+use Rattle.mv_num.proofs.Options.{some_same}
 
 abbrev chosen : List Function → List Function
 chosen gs = filter (λ (g : Function). g.attributed) gs

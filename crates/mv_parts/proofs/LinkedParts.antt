@@ -16,10 +16,10 @@ use Rattle.mv_variants.specs.Variants.{AreVariants}
 use Rattle.mv_parts.specs.Codes.{IsCodeOf}
 use Rattle.mv_parts.specs.Numbers.{attributed_numbers}
 use Rattle.mv_parts.specs.Parts.{IsPartVariant, ArePartVariants, IsPartFunction, AreCodesOf}
-use Rattle.mv_parts.proofs.Lists.{some_at}
 use Rattle.mv_ir_worlds.proofs.Functions.{attributed_at as nth_attributed}
 use Rattle.mv_parts.proofs.LinkedNumbers.{as_many}
 use Rattle.mv_parts.proofs.Numbers.{attributed_at, place_of}
+use Rattle.mv_num.proofs.Lists.{there_at}
 
 -- the code of the function with a number, and the body that it is selected for
 pub record IsOwnCode (p : Program) (f : ℕ) (code : Labelled) : Type 0 where
@@ -51,7 +51,7 @@ pub variant_part : (variants : List Variant) (parts : List PartVariant) → AreP
 variant_part variants parts h j part is =
     let within = slice_get_within parts j part is in
     let count = h.one_each in
-    let (v, there) = some_at variants j (omega (arith, within, count)) in
+    let (v, there) = there_at variants j (omega (arith, within, count)) in
     record { variant = v; there = there; is = h.each j v part there is }
 
 module _ (p : Program) (bodies : List Body) (tables : List (List Variant)) (functions : List Labelled) (attributed : List PartFunction)
@@ -61,7 +61,7 @@ module _ (p : Program) (bodies : List Body) (tables : List (List Variant)) (func
       let within = slice_get_within functions f code is in
       let count = are.code.one_each in
       let bodies_count = are.generics.one_each in
-      let (b, of) = some_at bodies f (omega (arith, within, count, bodies_count)) in
+      let (b, of) = there_at bodies f (omega (arith, within, count, bodies_count)) in
       let has = are.code.each f b code of is in
       record { function = has.function; there = has.there; body = b; renamed = are.generics.each f has.function b has.there of; is_code = has.is_code }
 
@@ -76,8 +76,8 @@ module _ (p : Program) (bodies : List Body) (tables : List (List Variant)) (func
       let within = slice_get_within attributed n a is in
       let count = part_count in
       let tables_count = are.are_tables.one_each in
-      let (f, among) = some_at (attributed_numbers p) n (omega (arith, within, count)) in
-      let (variants, table) = some_at tables n (omega (arith, within, count, tables_count)) in
+      let (f, among) = there_at (attributed_numbers p) n (omega (arith, within, count)) in
+      let (variants, table) = there_at tables n (omega (arith, within, count, tables_count)) in
       let at = attributed_at p n f among in
       record {
         number = f;

@@ -24,8 +24,10 @@ use Rattle.mv_variants.specs.Domains.{integer_kind, kind_or_int, switch_kind, do
 use Rattle.mv_parts.specs.Switches.{name_or_none, word_of, part_switch, part_switches}
 use Rattle.mv_parts.specs.Laws.{SwitchesAreThere, DataIsCounted}
 use Rattle.mv_parts.proofs.LinkedLists.{one_in}
-use Rattle.mv_parts.proofs.Lists.{some_at, some_same, map_at, one_of_all}
+use Rattle.mv_parts.proofs.Lists.{map_at, one_of_all}
 use Rattle.mv_parts.proofs.LinkedNames.{name_fits}
+use Rattle.mv_num.proofs.Lists.{there_at}
+use Rattle.mv_num.proofs.Options.{some_same}
 
 -- ---- data
 
@@ -91,7 +93,7 @@ pub record IsSwitchOf (p : Program) (n : ℕ) : Type 0 where
 
 pub switch_of : (p : Program) → HasTableFacts p → (n : ℕ) → n < length p.switches → IsSwitchOf p n
 switch_of p facts n below =
-    let (s, is) = some_at p.switches n below in record { switch = s; there = is; table = one_of_all (IsTableSwitch p) p.switches facts.switches n s is }
+    let (s, is) = there_at p.switches n below in record { switch = s; there = is; table = one_of_all (IsTableSwitch p) p.switches facts.switches n s is }
 
 -- its kind in the table is that of its domain
 same_kind : (p : Program) (n : ℕ) → IsSwitchOf p n → kind_in (slice_get (part_switches p) n) ≡ kind_number (switch_kind p n)
@@ -138,7 +140,7 @@ range_fits domains all row ranges clean = record {
     long = length-map domains (λ (d : Domain). kind_number d.kind)
 
     there : (i : ℕ) → i < length (kinds domains) → (d : Domain) × (slice_get domains i ≡ Some d)
-    there i below = some_at domains i (omega (arith, below, long))
+    there i below = there_at domains i (omega (arith, below, long))
 
     kind_at : (i : ℕ) (d : Domain) → slice_get domains i ≡ Some d → slice_index (kinds domains) i ≡ kind_number d.kind
     kind_at i d at = get_or_from_slice_get (kinds domains) i (kind_number d.kind) 0 (map_at (λ (x : Domain). kind_number x.kind) domains i d at)

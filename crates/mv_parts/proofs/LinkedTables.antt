@@ -47,7 +47,7 @@ use Rattle.mv_parts.proofs.LinkedVariants.{made_variant, some_variant, group_of,
 
 -- ---- the functions that are first values
 
-first_value : (p : Program) (t : CType) (v : ℕ) → IsFirstValue p t v → IsFirstValueAmong (length p.functions) t v
+pub first_value : (p : Program) (t : CType) (v : ℕ) → IsFirstValue p t v → IsFirstValueAmong (length p.functions) t v
 first_value p Void v h = tt
 first_value p (Scalar kind) v h = tt
 first_value p (Pointer s) v h =

@@ -28,7 +28,8 @@ use Rattle.mv_variants.specs.Domains.{switch_kind, domain}
 use Rattle.mv_variants.specs.Variants.{guards_of, AreVariants}
 use Rattle.mv_ir_worlds.proofs.Functions.{combination_length}
 use Rattle.mv_parts.proofs.LinkedLists.{in_at, in_map}
-use Rattle.mv_parts.proofs.Lists.{some_at, map_at}
+use Rattle.mv_parts.proofs.Lists.{map_at}
+use Rattle.mv_num.proofs.Lists.{there_at}
 
 -- ---- combinations of words
 
@@ -85,7 +86,7 @@ module _ (p : Program) (g : Function) (variants : List Variant) (are : AreVarian
   pub some_variant : GroupedIsLed → 1 ≤ assignments p g → 1 ≤ length variants
   some_variant grouped some =
       let count = are.count in
-      let (r, at) = some_at are.rows 0 (omega (arith, some, count)) in
+      let (r, at) = there_at are.rows 0 (omega (arith, some, count)) in
       let vs = r.assignment.values in
       let c = are.all.only vs (in_map (λ (x : Bound). x.assignment.values) are.rows r (in_at are.rows 0 r at)) in
       let same = values_are p g.switches in

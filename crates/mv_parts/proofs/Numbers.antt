@@ -8,7 +8,7 @@ use Rattle.mv_ast.specs.declared.program.Function.{Function}
 use Rattle.mv_ast.specs.Plans.{attributed_before}
 use Rattle.mv_variants.proofs.Functions.{IsAttributed}
 use Rattle.mv_parts.specs.Numbers.{attributed_from, attributed_numbers}
-use Rattle.mv_parts.proofs.Lists.{some_same}
+use Rattle.mv_num.proofs.Options.{some_same}
 
 -- ---- one more
 

@@ -12,8 +12,9 @@ use Rattle.mv_variants.specs.declared.variant.Variant.{Variant}
 use Rattle.mv_variants.specs.Variants.{AreVariantsOf, IsLoweredFrom}
 use Rattle.mv_parts.specs.Numbers.{attributed_numbers}
 use Rattle.mv_parts.specs.Parts.{AreTables, IsPartVariant, IsPartFunction}
-use Rattle.mv_parts.proofs.Lists.{some_same, each_push, map_at}
+use Rattle.mv_parts.proofs.Lists.{each_push, map_at}
 use Rattle.mv_parts.proofs.Numbers.{attributed_at}
+use Rattle.mv_num.proofs.Options.{some_same}
 
 -- ---- tables
 

@@ -23,10 +23,12 @@ use Rattle.mv_select_bodies.specs.SelectedBodies.{AreRooms, AreWords, HasWords, 
 use Rattle.mv_linker.specs.declared.parts.Parts.{Parts}
 use Rattle.mv_variants.specs.declared.variant.Variant.{Variant}
 use Rattle.mv_parts.specs.Codes.{HasCode, IsCodeOf}
-use Rattle.mv_parts.proofs.Lists.{one_of_all, some_at, some_same}
+use Rattle.mv_parts.proofs.Lists.{one_of_all}
 use Rattle.mv_parts_bodies.specs.ProgramBodies.{AreLaidOut, IsOwnCode, IsWritten}
 use Rattle.mv_parts_bodies.proofs.Facts.{Laws}
 use Rattle.mv_parts_bodies.proofs.Rooms.{rooms_are}
+use Rattle.mv_num.proofs.Lists.{there_at}
+use Rattle.mv_num.proofs.Options.{some_same}
 
 -- the code that is selected for a body is within the limits of selection
 pub is_within : (attributed : Bool) (body : Body) (code : Labelled) → IsCodeOf attributed body code → IsWithin attributed body
@@ -69,7 +71,7 @@ module _ (laws : Laws) (p : Program) (bodies : List Body) (tables : List (List V
   own : (body : Body) × (slice_get bodies f ≡ Some body)
   own =
       let within = slice_get_within p.functions f g there in
-      let count = out.parts_are.codes.generics.one_each in some_at bodies f (omega (arith, count, within))
+      let count = out.parts_are.codes.generics.one_each in there_at bodies f (omega (arith, count, within))
 
   abbrev body : Body
   body = own.0
@@ -123,5 +125,5 @@ module _ (laws : Laws) (p : Program) (bodies : List Body) (tables : List (List V
   has_own_code =
       let within = slice_get_within p.functions f g there in
       let count = out.parts_are.codes.code.one_each in
-      let code = some_at parts.functions f (omega (arith, count, within)) in
+      let code = there_at parts.functions f (omega (arith, count, within)) in
       (code.0, code.1, own_code code.0 (code_of code.0 (out.parts_are.codes.code.each f body code.0 own.1 code.1)))

@@ -1,8 +1,8 @@
 -- The variants of a program's attributed functions, and their code.
-use Rattle.std.proofs.Common.{◌≡◌, ℕ, ◌<◌, true, false, List, Some, None, length, map, slice_get, All, Contains, sym, ap, ◌∙◌, subst, arith}
+use Rattle.std.proofs.Common.{◌≡◌, ℕ, ◌<◌, true, false, List, Some, None, length, map, slice_get, sym, ap, ◌∙◌, subst, arith}
 use Rattle.std.specs.List.{zip}
 use Rattle.std.proofs.lemmas.List.{length-map}
-use Rattle.std.proofs.lemmas.List.Elements.{All-append, All-contains, All-contains_itself, All-weaker}
+use Rattle.std.proofs.lemmas.List.Elements.{All-append, All-weaker}
 use Rattle.std.proofs.lemmas.Option.{slice_get_within}
 use Rattle.mv_ast.specs.declared.program.Program.{Program}
 use Rattle.mv_ast.specs.declared.program.Function.{Function}
@@ -32,15 +32,13 @@ use Rattle.mv_parts.specs.Numbers.{attributed_numbers}
 use Rattle.mv_parts.specs.Parts.{IsPartFunction, IsPartVariant}
 use Rattle.mv_parts.proofs.LinkedLists.{in_map}
 use Rattle.mv_parts.proofs.LinkedVariants.{made_variant}
-use Rattle.mv_parts.proofs.Lists.{map_at, some_at}
+use Rattle.mv_parts.proofs.Lists.{map_at}
 use Rattle.mv_parts_bodies.specs.ProgramBodies.{AreLaidOut, IsLinkedVariant, IsVariantAt, IsVariantCode}
 use Rattle.mv_parts_bodies.proofs.Facts.{VariantLaws}
 use Rattle.mv_parts_bodies.proofs.Own.{functions_there, is_within, is_written, may_ask, of_program, rooms, words}
 use Rattle.mv_parts_bodies.proofs.Places.{code_of_variant}
 use Rattle.mv_parts_bodies.proofs.ReadGlobals.{among_all, not_found, reads_no_more}
-
-contains_all : {A : Type 0} (P : A → Type 0) (xs ys : List A) → ((x : A) → Contains ys x → Contains xs x) → All P xs → All P ys
-contains_all P xs ys h all = All-weaker (Contains ys) P (λ x c. All-contains P xs x all (h x c)) ys (All-contains_itself ys)
+use Rattle.mv_num.proofs.Lists.{there_at, contains_all}
 
 -- a body that is made of a function's lowered one, under a value for each of its switches
 record IsMade (p : Program) (g : Function) (result : Body) : Type 0 where
@@ -59,7 +57,7 @@ module _ (laws : VariantLaws) (p : Program) (bodies : List Body) (tables : List 
   function =
       let numbers_are = out.parts_are.codes.variants.numbers in
       let count : length parts.attributed ≡ length (attributed_numbers p) = sym (length-map parts.attributed (λ (a : PartFunction). a.function)) ∙ ap length numbers_are in
-      let within = slice_get_within (attributed_numbers p) n f at.number in some_at parts.attributed n (omega (arith, count, within))
+      let within = slice_get_within (attributed_numbers p) n f at.number in there_at parts.attributed n (omega (arith, count, within))
 
   is_function : IsPartFunction g f at.variants function.0
   is_function = out.parts_are.codes.variants.each n f g at.variants function.0 at.number at.there at.table function.1
@@ -67,7 +65,7 @@ module _ (laws : VariantLaws) (p : Program) (bodies : List Body) (tables : List 
   part : (x : PartVariant) × (slice_get function.0.variants j ≡ Some x)
   part =
       let count = is_function.variants_are.one_each in
-      let within = slice_get_within at.variants j v at.at in some_at function.0.variants j (omega (arith, count, within))
+      let within = slice_get_within at.variants j v at.at in there_at function.0.variants j (omega (arith, count, within))
 
   is_part : IsPartVariant v part.0
   is_part = is_function.variants_are.each j v part.0 at.at part.1

@@ -1,5 +1,5 @@
 -- A variant has no more slots than its function has calls of attributed functions.
-use Rattle.std.proofs.Common.{arith, ◌≡◌, ℕ, suc, ◌+◌, ◌*◌, ◌<◌, ◌≤◌, length, get_or, ◌⊎◌, inl, inr, Bool, true, false, cond, eqb, ◌&&◌, ◌||◌, List, [], ◌∷◌, refl, sym, ◌∙◌, subst, ap}
+use Rattle.std.proofs.Common.{arith, ◌≡◌, ℕ, suc, ◌+◌, ◌*◌, ◌<◌, ◌≤◌, length, get_or, ◌⊎◌, inl, inr, Bool, true, false, cond, eqb, ◌&&◌, ◌||◌, List, [], ◌∷◌, sym, ◌∙◌, subst, ap}
 use Rattle.std.specs.Prelude.{slice_get, sum_by}
 use Rattle.std.proofs.lemmas.Bool.{eqb-true}
 use Rattle.mv_ast.specs.declared.program.Program.{Program}
@@ -36,6 +36,8 @@ use Rattle.mv_parts_bound.proofs.Groups.{groups_fit}
 use Rattle.mv_parts_bound.proofs.Weights.{w_roll, renamed_weight}
 use Rattle.mv_parts_bound.proofs.Variants.{made_calls, worked_calls}
 use Rattle.mv_parts_bound.proofs.Slots.{slots_are_calls}
+use Rattle.mv_num.proofs.Booleans.{and_left}
+use Rattle.mv_parts_bound.proofs.Fitting.{bool_cases}
 
 -- ---- greater weights
 
@@ -73,14 +75,6 @@ module _ (d d' : ℕ → ℕ) (le : (f : ℕ) → d f ≤ d' f) where
 
 -- ---- marked functions are attributed
 
-and_first : (a b : Bool) → (a && b) ≡ true → a ≡ true
-and_first true b e = refl
-and_first false b e = absurd cc
-
-bool_cases : (b : Bool) → (b ≡ true) ⊎ (b ≡ false)
-bool_cases true = inl refl
-bool_cases false = inr refl
-
 abbrev pub Among : ℕ → ℕ → List Function → Type 0
 Among f k gs = (i : ℕ) × (f ≡ k + i) × (is_attributed (slice_get gs i) ≡ true)
 
@@ -95,7 +89,7 @@ marked_among is_called f k (g ∷ gs) e = by (bool_cases (g.attributed && is_cal
     by (inl t) rest =
         let e' : (eqb k f || is_marked (marked_from is_called (suc k) gs) f) ≡ true = subst (λ b. is_marked (cond b (k ∷ marked_from is_called (suc k) gs) (marked_from is_called (suc k) gs)) f ≡ true) t e in
         elim (bool_cases (eqb k f)) [
-          | inl same ↦ (0, let here = eqb-true k f same in omega (arith, here), and_first g.attributed (is_called k) t)
+          | inl same ↦ (0, let here = eqb-true k f same in omega (arith, here), and_left g.attributed (is_called k) t)
           | inr other ↦ later f k g gs (rest (let e'' : (false || is_marked (marked_from is_called (suc k) gs) f) ≡ true = subst (λ b. (b || is_marked (marked_from is_called (suc k) gs) f) ≡ true) other e' in e''))
         ]
     by (inr t) rest = later f k g gs (rest (subst (λ b. is_marked (cond b (k ∷ marked_from is_called (suc k) gs) (marked_from is_called (suc k) gs)) f ≡ true) t e))

@@ -17,7 +17,7 @@ use Rattle.mv_merge.specs.declared.rows.Guarded.{Guarded}
 use Rattle.mv_merge.specs.Guards.{kinds, all_values, SomeHolds, LeadsTo, EachLeads}
 use Rattle.mv_parts_bound.specs.Rows.{rows_of, groups_from, groups, AreCounted, counting, Leads, FittingIsLed, GroupedIsLed}
 
-bool_cases : (b : Bool) → (b ≡ true) ⊎ (b ≡ false)
+pub bool_cases : (b : Bool) → (b ≡ true) ⊎ (b ≡ false)
 bool_cases true = inl refl
 bool_cases false = inr refl
 

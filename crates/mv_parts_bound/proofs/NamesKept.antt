@@ -12,10 +12,12 @@ use Rattle.mv_fold.specs.Needed.{needed_code}
 use Rattle.mv_fold.specs.Folded.{simple_body}
 use Rattle.mv_parts_bound.specs.Names.{NamesNoMore, BindingNamesNoMore, FoldingNamesNoMore}
 use Rattle.mv_parts_bound.proofs.Words.{unary_word, binary_word, narrow_word, divide_word}
-use Rattle.mv_parts_bound.proofs.Naming.{CodeNames, code_functions, code_knowns, code_constants, code_of, each_all, all_each}
+use Rattle.mv_parts_bound.proofs.Naming.{CodeNames, code_functions, code_knowns, code_constants, code_of}
 use Rattle.mv_parts_bound.proofs.BoundNames.{bound_names}
 use Rattle.mv_parts_bound.proofs.FoldedNames.{IsClosed, folded_names}
 use Rattle.mv_parts_bound.proofs.RenamedNames.{renamed_names}
+use Rattle.mv_ir.proofs.Common.{each_is_all}
+use Rattle.mv_select_bodies.proofs.Lists.{each_all}
 
 abbrev Anything : ℕ → Type 0
 Anything n = Unit {0}
@@ -40,18 +42,18 @@ module _ (code result : List Stm) where
 
   own : Named code
   own = code_of (Contains (functions code)) (Contains (knowns code)) Anything code
-      (all_each (Contains (functions code)) (functions code) (All-contains_itself (functions code))) (all_each (Contains (knowns code)) (knowns code) (All-contains_itself (knowns code))) (anything (constants code))
+      (each_all (Contains (functions code)) (functions code) (All-contains_itself (functions code))) (each_all (Contains (knowns code)) (knowns code) (All-contains_itself (knowns code))) (anything (constants code))
 
   words_in : HasWords code → Words code
-  words_in h = code_of Anything IsOrder IsWord code (anything (functions code)) (all_each IsOrder (knowns code) h.orders) (all_each IsWord (constants code) h.constants)
+  words_in h = code_of Anything IsOrder IsWord code (anything (functions code)) (each_all IsOrder (knowns code) h.orders) (each_all IsWord (constants code) h.constants)
 
   no_more : (Named code → Named result) → (Words code → Words result) → NamesNoMore code result
   no_more h k = record {
-    functions = λ f. All-contains (Contains (functions code)) (functions result) f (each_all (Contains (functions code)) (functions result) (code_functions (Contains (functions code)) (Contains (knowns code)) Anything result (h own)));
-    knowns = λ f. All-contains (Contains (knowns code)) (knowns result) f (each_all (Contains (knowns code)) (knowns result) (code_knowns (Contains (functions code)) (Contains (knowns code)) Anything result (h own)));
+    functions = λ f. All-contains (Contains (functions code)) (functions result) f (each_is_all (Contains (functions code)) (functions result) (code_functions (Contains (functions code)) (Contains (knowns code)) Anything result (h own)));
+    knowns = λ f. All-contains (Contains (knowns code)) (knowns result) f (each_is_all (Contains (knowns code)) (knowns result) (code_knowns (Contains (functions code)) (Contains (knowns code)) Anything result (h own)));
     words = λ w. record {
-      constants = each_all IsWord (constants result) (code_constants Anything IsOrder IsWord result (k (words_in w)));
-      orders = each_all IsOrder (knowns result) (code_knowns Anything IsOrder IsWord result (k (words_in w)));
+      constants = each_is_all IsWord (constants result) (code_constants Anything IsOrder IsWord result (k (words_in w)));
+      orders = each_is_all IsOrder (knowns result) (code_knowns Anything IsOrder IsWord result (k (words_in w)));
     };
   }
 

@@ -1,7 +1,5 @@
 -- Code that names only functions, known functions and constants of some kinds, level by level.
-use Rattle.std.proofs.Common.{◌≡◌, ℕ, List, [], ◌∷◌, ◌++◌, map, sym, ◌∙◌, ap, subst}
-use Rattle.std.specs.Prelude.{All}
-use Rattle.std.proofs.lemmas.List.Elements.{All-nil, All-cons, All-head, All-tail}
+use Rattle.std.proofs.Common.{ℕ, List, [], ◌∷◌, ◌++◌, sym, subst}
 use Rattle.mv_ast.specs.declared.program.Known.{Known}
 use Rattle.mv_ir.specs.declared.tree.Tree.{Tree}
 use Rattle.mv_ir.specs.declared.tree.Tree.TheOpen.{Tree-F}
@@ -15,10 +13,8 @@ use Rattle.mv_ir.specs.declared.stm.Stm.TheOpen.{Stm-F}
 use Rattle.mv_ir.specs.declared.stm.Stm.TheOpen as stm
 use Rattle.mv_ir.specs.declared.stm.Stm.TheViews.{roll-Stm}
 use Rattle.mv_ir.specs.declared.stm.Stm.TheFolds.{map-Stm}
-use Rattle.mv_ir.specs.Measures.{joined, layer_trees, stm_trees, trees}
+use Rattle.mv_ir.specs.Measures.{layer_trees, stm_trees, trees}
 use Rattle.mv_ir.proofs.Induction.{Each, each_append}
-use Rattle.mv_ir.proofs.Keeping.{map_append}
-use Rattle.mv_ir.proofs.Lists.{joined_append}
 use Rattle.mv_ir.proofs.Rolls.{trees_roll}
 use Rattle.mv_select_control.specs.Labels.{functions_layer, tree_functions, functions_of_all, named_layer, stm_functions, functions}
 use Rattle.mv_select_control.proofs.TreeNames.{functions_roll}
@@ -26,29 +22,12 @@ use Rattle.mv_select_control.proofs.TargetsStand.{named_roll}
 use Rattle.mv_select_bodies.specs.SelectedBodies.{constants_layer, tree_constants, constants_of_all, constants, knowns_layer, stm_knowns, knowns}
 use Rattle.mv_select_bodies.proofs.NamedTrees.{constants_roll}
 use Rattle.mv_select_bodies.proofs.FineCode.{knowns_roll}
+use Rattle.mv_ir.proofs.Common.{each_first, each_right}
+use Rattle.mv_select_bodies.proofs.Common.{constants_append}
 
 -- ---- lists
 
-pub each_left : {A : Type 0} (P : A → Type 0) (xs ys : List A) → Each P (xs ++ ys) → Each P xs
-each_left P [] ys h = tt
-each_left P (x ∷ xs) ys h = (h.0, each_left P xs ys h.1)
-
-pub each_right : {A : Type 0} (P : A → Type 0) (xs ys : List A) → Each P (xs ++ ys) → Each P ys
-each_right P [] ys h = h
-each_right P (x ∷ xs) ys h = each_right P xs ys h.1
-
-pub each_all : {A : Type 0} (P : A → Type 0) (xs : List A) → Each P xs → All P xs
-each_all P [] h = All-nil P
-each_all P (x ∷ xs) h = All-cons P x xs h.0 (each_all P xs h.1)
-
-pub all_each : {A : Type 0} (P : A → Type 0) (xs : List A) → All P xs → Each P xs
-all_each P [] h = tt
-all_each P (x ∷ xs) h = (All-head P x xs h, all_each P xs (All-tail P x xs h))
-
 -- ---- one level at a time
-
-constants_append : (xs ys : List Tree) → constants_of_all (xs ++ ys) ≡ constants_of_all xs ++ constants_of_all ys
-constants_append xs ys = ap joined (map_append tree_constants xs ys) ∙ joined_append (map tree_constants xs) (map tree_constants ys)
 
 -- ---- what names only what is of a kind
 
@@ -99,7 +78,7 @@ module _ (F : ℕ → Type 0) (K : Known → Type 0) (C : ℕ → Type 0) where
       by (tree.Function f) h k = h.0
       by (tree.Unary o a) h k = record { functions = h; constants = k }
       by (tree.Binary o a b) h k = (
-        record { functions = each_left F (tree_functions a) (tree_functions b) h; constants = each_left C (tree_constants a) (tree_constants b) k },
+        record { functions = each_first F (tree_functions a) (tree_functions b) h; constants = each_first C (tree_constants a) (tree_constants b) k },
         record { functions = each_right F (tree_functions a) (tree_functions b) h; constants = each_right C (tree_constants a) (tree_constants b) k },
       )
       by (tree.Narrow o a) h k = record { functions = h; constants = k }
@@ -117,7 +96,7 @@ module _ (F : ℕ → Type 0) (K : Known → Type 0) (C : ℕ → Type 0) where
   trees_of : (ts : List Tree) → Each F (functions_of_all ts) → Each C (constants_of_all ts) → Each TreeNames ts
   trees_of [] h k = tt
   trees_of (t ∷ ts) h k = (
-    record { functions = each_left F (tree_functions t) (functions_of_all ts) h; constants = each_left C (tree_constants t) (constants_of_all ts) k },
+    record { functions = each_first F (tree_functions t) (functions_of_all ts) h; constants = each_first C (tree_constants t) (constants_of_all ts) k },
     trees_of ts (each_right F (tree_functions t) (functions_of_all ts) h) (each_right C (tree_constants t) (constants_of_all ts) k),
   )
 
@@ -133,7 +112,7 @@ module _ (F : ℕ → Type 0) (K : Known → Type 0) (C : ℕ → Type 0) where
   constants_both ts us h k = subst (Each C) (sym (constants_append ts us)) (each_append C (constants_of_all ts) (constants_of_all us) h k)
 
   constants_left : (ts us : List Tree) → Each C (constants_of_all (ts ++ us)) → Each C (constants_of_all ts)
-  constants_left ts us h = each_left C (constants_of_all ts) (constants_of_all us) (subst (Each C) (constants_append ts us) h)
+  constants_left ts us h = each_first C (constants_of_all ts) (constants_of_all us) (subst (Each C) (constants_append ts us) h)
 
   constants_right : (ts us : List Tree) → Each C (constants_of_all (ts ++ us)) → Each C (constants_of_all us)
   constants_right ts us h = each_right C (constants_of_all ts) (constants_of_all us) (subst (Each C) (constants_append ts us) h)
@@ -145,7 +124,7 @@ module _ (F : ℕ → Type 0) (K : Known → Type 0) (C : ℕ → Type 0) where
   pub code_of : (xs : List Stm) → Each F (functions xs) → Each K (knowns xs) → Each C (constants xs) → CodeNames xs
   code_of [] f k c = tt
   code_of (s ∷ xs) f k c = (
-    record { functions = each_left F (stm_functions s) (functions xs) f; knowns = each_left K (stm_knowns s) (knowns xs) k; constants = constants_left (stm_trees s) (trees xs) c },
+    record { functions = each_first F (stm_functions s) (functions xs) f; knowns = each_first K (stm_knowns s) (knowns xs) k; constants = constants_left (stm_trees s) (trees xs) c },
     code_of xs (each_right F (stm_functions s) (functions xs) f) (each_right K (stm_knowns s) (knowns xs) k) (constants_right (stm_trees s) (trees xs) c),
   )
 
@@ -210,11 +189,11 @@ module _ (F : ℕ → Type 0) (K : Known → Type 0) (C : ℕ → Type 0) where
   stm_out x n = by x (subst (Each F) (named_roll x) n.functions) (subst (Each K) (knowns_roll x) n.knowns) (subst (λ ts. Each C (constants_of_all ts)) (trees_roll x) n.constants)
     where
       one : (v : Tree) → Each F (tree_functions v) → Each C (constants_of_all (v ∷ [])) → TreeNames v
-      one v f c = record { functions = f; constants = each_left C (tree_constants v) [] c }
+      one v f c = record { functions = f; constants = each_first C (tree_constants v) [] c }
 
       pair : (a b : Tree) → Each F (tree_functions a ++ tree_functions b) → Each C (constants_of_all (a ∷ b ∷ [])) → TreeNames a × TreeNames b
       pair a b f c = (
-        record { functions = each_left F (tree_functions a) (tree_functions b) f; constants = each_left C (tree_constants a) (constants_of_all (b ∷ [])) c },
+        record { functions = each_first F (tree_functions a) (tree_functions b) f; constants = each_first C (tree_constants a) (constants_of_all (b ∷ [])) c },
         one b (each_right F (tree_functions a) (tree_functions b) f) (each_right C (tree_constants a) (constants_of_all (b ∷ [])) c),
       )
 
@@ -230,8 +209,8 @@ module _ (F : ℕ → Type 0) (K : Known → Type 0) (C : ℕ → Type 0) where
       by (stm.If t a b) f k c =
           let f' = each_right F (tree_functions t) (functions a ++ functions b) f in
           let c' = each_right C (tree_constants t) (constants_of_all (trees a ++ trees b)) c in (
-            record { functions = each_left F (tree_functions t) (functions a ++ functions b) f; constants = each_left C (tree_constants t) (constants_of_all (trees a ++ trees b)) c },
-            code_of a (each_left F (functions a) (functions b) f') (each_left K (knowns a) (knowns b) k) (constants_left (trees a) (trees b) c'),
+            record { functions = each_first F (tree_functions t) (functions a ++ functions b) f; constants = each_first C (tree_constants t) (constants_of_all (trees a ++ trees b)) c },
+            code_of a (each_first F (functions a) (functions b) f') (each_first K (knowns a) (knowns b) k) (constants_left (trees a) (trees b) c'),
             code_of b (each_right F (functions a) (functions b) f') (each_right K (knowns a) (knowns b) k) (constants_right (trees a) (trees b) c'),
           )
       by (stm.Loop b) f k c = code_of b f k c

@@ -3,14 +3,11 @@ use Rattle.std.proofs.Common.{arith, ◌≡◌, ℕ, suc, ◌+◌, ◌*◌, ◌�
 use Rattle.std.specs.Prelude.{sum}
 use Rattle.std.specs.List.{filter}
 use Rattle.std.proofs.Math.Nat.{mul_comm, suc-mul}
-use Rattle.std.proofs.lemmas.List.Sums.{sum_by-cons}
 use Rattle.mv_ast.specs.declared.program.Function.{Function}
 use Rattle.mv_ast.specs.Counts as counts
 use Rattle.mv_ast.specs.Plans.{attributed_functions}
 use Rattle.mv_parts_bound.specs.Slots.{AtMost, SlotsArePatchable}
-
-sum_cons : (n : ℕ) (ns : List ℕ) → sum (n ∷ ns) ≡ n + sum ns
-sum_cons n ns = sum_by-cons (λ (k : ℕ). k) n ns
+use Rattle.mv_num.proofs.Lists.{sum_cons}
 
 sum_most : (f : Function → ℕ) (gs : List Function) (ns : List ℕ) → AtMost f gs ns → sum ns ≤ sum (map f gs)
 sum_most f [] [] h = omega arith

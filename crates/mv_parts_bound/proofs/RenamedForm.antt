@@ -5,13 +5,13 @@ use Rattle.mv_ir.specs.declared.tree.Tree.{Tree, out-Tree}
 use Rattle.mv_ir.specs.declared.tree.Tree.TheOpen.{Tree-F}
 use Rattle.mv_ir.specs.declared.tree.Tree.TheOpen as tree
 use Rattle.mv_ir.specs.declared.tree.Tree.TheViews.{roll-Tree, roll-out-Tree}
-use Rattle.mv_ir.specs.declared.tree.Tree.TheFolds.{fold-roll-Tree, map-Tree}
+use Rattle.mv_ir.specs.declared.tree.Tree.TheFolds.{map-Tree}
 use Rattle.mv_ir.specs.declared.stm.Callee.TheVariants as callee
 use Rattle.mv_ir.specs.declared.stm.Stm.{Stm}
 use Rattle.mv_ir.specs.declared.stm.Stm.TheOpen.{Stm-F}
 use Rattle.mv_ir.specs.declared.stm.Stm.TheOpen as stm
 use Rattle.mv_ir.specs.declared.stm.Stm.TheViews.{roll-Stm}
-use Rattle.mv_ir.specs.declared.stm.Stm.TheFolds.{fold-roll-Stm, map-Stm}
+use Rattle.mv_ir.specs.declared.stm.Stm.TheFolds.{map-Stm}
 use Rattle.mv_ir.specs.Measures.{total, layer_trees, stm_trees, trees}
 use Rattle.mv_ir.specs.Live.{reads_temp, any_reads}
 use Rattle.mv_ir.proofs.Induction.{Each, TreeChildren, tree_ind, StmChildren, stm_ind, stms_ind}
@@ -20,19 +20,12 @@ use Rattle.mv_ir.proofs.Rolls.{trees_roll, reads_temp_roll}
 use Rattle.mv_fold.specs.Simple.{constant}
 use Rattle.mv_fold.specs.Form.{layer_foldable, foldable, all_foldable, is_division, is_constant, layer_decided, decided, behind, layer_unreached, unreached, layer_unread, unread}
 use Rattle.mv_fold.proofs.SimpleKept.{constant_roll}
-use Rattle.mv_fold.proofs.FormKept.{decided_roll, unreached_roll}
+use Rattle.mv_fold.proofs.FormKept.{decided_roll, unreached_roll, foldable_roll}
 use Rattle.mv_regalloc.specs.Rename.{renamed_node, renamed_tree, renamed_stm, renamed_code}
 use Rattle.mv_regalloc.proofs.RenamedTrees.{renamed_tree_roll, renamed_stm_roll}
 use Rattle.mv_parts_bound.specs.Meant.{RenamingKeepsForm}
 use Rattle.mv_parts_bound.proofs.Weights.{renamed_parts}
-
-foldable_roll : (x : Tree-F Tree) → foldable (roll-Tree x) ≡ layer_foldable (map-Tree Tree (Bool × ℕ) foldable x)
-unfolding foldable
-foldable_roll x = fold-roll-Tree (Bool × ℕ) layer_foldable x
-
-unread_roll : (all : List Tree) (x : Stm-F Stm) → unread all (roll-Stm x) ≡ layer_unread all (map-Stm Stm ℕ (unread all) x)
-unfolding unread
-unread_roll all x = fold-roll-Stm ℕ (layer_unread all) x
+use Rattle.mv_fold.proofs.SetsNeeded.{unread_roll}
 
 or_both : (a b a' b' : Bool) → (a ≡ true → a' ≡ true) → (b ≡ true → b' ≡ true) → (a || b) ≡ true → (a' || b') ≡ true
 or_both true b a' b' f g h = ap (λ x. x || b') (f refl)

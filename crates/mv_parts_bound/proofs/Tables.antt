@@ -1,5 +1,5 @@
 -- The rows of one function among those of all.
-use Rattle.std.proofs.Common.{arith, ◌≡◌, ℕ, zero, suc, ◌+◌, ◌<◌, ◌≤◌, List, [], ◌∷◌, ◌++◌, length, take, drop, refl, sym, ◌∙◌, ap, subst, append_assoc, length-append}
+use Rattle.std.proofs.Common.{arith, ◌≡◌, ℕ, zero, suc, ◌+◌, ◌<◌, ◌≤◌, List, [], ◌∷◌, ◌++◌, length, take, drop, refl, sym, ◌∙◌, ap, subst, length-append}
 use Rattle.std.specs.Prelude.{slice_get, Some, sum_by}
 use Rattle.std.proofs.Math.Seq.{drop-append_seam}
 use Rattle.std.proofs.lemmas.List.Sums.{sum_by-cons}
@@ -14,12 +14,9 @@ use Rattle.mv_merge.specs.declared.rows.Variants.{Variants}
 use Rattle.mv_parts_bound.specs.Rows.{groups_from, groups, AreCounted, Leads}
 use Rattle.mv_parts_bound.specs.Tables.{HaveVariants, HasTables, VariantsAreLed}
 use Rattle.mv_parts_bound.proofs.Fitting.{is_led}
+use Rattle.mv_ir.proofs.Lists.{joined_append}
 
 -- ---- lists of lists
-
-pub joined_append : {A : Type 0} (xs ys : List (List A)) → joined (xs ++ ys) ≡ joined xs ++ joined ys
-joined_append [] ys = refl
-joined_append (x ∷ xs) ys = ap (λ l. x ++ l) (joined_append xs ys) ∙ sym (append_assoc x (joined xs) (joined ys))
 
 -- a list is what is before an item, the item, and the rest
 split_at : {A : Type 0} (xs : List A) (n : ℕ) (x : A) → slice_get xs n ≡ Some x → xs ≡ take n xs ++ (x ∷ drop (suc n) xs)

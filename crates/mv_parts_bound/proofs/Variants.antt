@@ -1,7 +1,5 @@
 -- A body that is bound, folded and renamed is one that code can be selected for.
 use Rattle.std.proofs.Common.{arith, ◌≡◌, ℕ, ◌+◌, ◌*◌, ◌/◌, ◌<◌, ◌≤◌, true, None, List, length, sym, ap, subst, Contains}
-use Rattle.std.specs.Prelude.{All}
-use Rattle.std.proofs.lemmas.List.Elements.{All-contains, All-contains_itself, All-weaker}
 use Rattle.mv_ir.specs.declared.stm.Stm.{Stm}
 use Rattle.mv_ir.specs.declared.body.Body.{Body}
 use Rattle.mv_ir.specs.Measures.{total, arrays_read}
@@ -19,6 +17,7 @@ use Rattle.mv_parts_bound.specs.Variants.{MadeNameNoMore, MadeCallNoMore, MadeAr
 use Rattle.mv_parts_bound.proofs.Meant.{made}
 use Rattle.mv_parts_bound.proofs.NamesKept.{binding_names, folding_names, renaming_names}
 use Rattle.mv_parts_bound.proofs.Weights.{bound_weight, folded_weight, renamed_weight}
+use Rattle.mv_num.proofs.Lists.{contains_all}
 
 -- ---- names
 
@@ -70,9 +69,6 @@ made_frames ps body own result is_own m =
     omega (arith, less, first, second)
 
 -- ---- in a program
-
-contains_all : {A : Type 0} (P : A → Type 0) (xs ys : List A) → ((x : A) → Contains ys x → Contains xs x) → All P xs → All P ys
-contains_all P xs ys h all = All-weaker (Contains ys) P (λ x c. All-contains P xs x all (h x c)) ys (All-contains_itself ys)
 
 -- the passes leave the arrays that are read, or fewer
 arrays_less : (ps : List (ℕ × ℕ)) (body result : Body) (m : IsMadeUnder ps body result) (g : ℕ) → Contains (arrays_read result.code) g → Contains (arrays_read body.code) g

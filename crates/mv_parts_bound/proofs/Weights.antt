@@ -23,10 +23,7 @@ use Rattle.mv_fold.proofs.Shortening.{shortened_is}
 use Rattle.mv_regalloc.specs.Rename.{renamed_callee, renamed_layer, renamed_stm, renamed_code}
 use Rattle.mv_regalloc.proofs.RenamedTrees.{renamed_stm_roll}
 use Rattle.mv_lower_shape.specs.Calls.{callee_weight, layer_weight, stm_weight, code_weight}
-
-total_append : (ns ms : List ℕ) → total (ns ++ ms) ≡ total ns + total ms
-total_append [] ms = omega arith
-total_append (n ∷ ns) ms = omega (arith, total_append ns ms)
+use Rattle.mv_ir.proofs.Joining.{total_append}
 
 -- a statement whose parts are bound, and one whose parts are renamed
 abbrev pub bound_parts : List (ℕ × ℕ) → Stm-F Stm → Stm-F Stm

@@ -5,8 +5,9 @@ use Rattle.mv_num.specs.declared.kind.Kind.{Kind}
 use Rattle.mv_num.specs.declared.kind.Kind.TheVariants as kind
 use Rattle.mv_num.specs.Words.{word_of, rem_u, lt_s, lt_u, narrow, sign_extend}
 use Rattle.mv_ir.specs.Trees.{unary, binary, divide}
-use Rattle.mv_select_trees.proofs.Words.{word_below, add_below, sub_below, mul_below, and_below, shl_below, shr_s_below, shr_u_below, flag_below}
+use Rattle.mv_select_trees.proofs.Words.{add_below, sub_below, mul_below, and_below, shl_below, shr_s_below, shr_u_below, flag_below}
 use Rattle.mv_select_statements.proofs.Divisions.{div_s_below, rem_s_below, div_u_below}
+use Rattle.mv_num.proofs.Numbers.{word_small}
 
 pub unary_word : (o a : ℕ) → unary o a < 2 ^ 32
 unfolding unary
@@ -50,11 +51,11 @@ choose_word false n m p q = q
 
 byte_word : (a : ℕ) → sign_extend 8 a < 2 ^ 32
 unfolding sign_extend
-byte_word a = choose_word (ltb (a % 2 ^ 8) (2 ^ (8 - 1))) (a % 2 ^ 8) (word_of (pos (a % 2 ^ 8) -ℤ pos (2 ^ 8))) (omega arith) (word_below (pos (a % 2 ^ 8) -ℤ pos (2 ^ 8)))
+byte_word a = choose_word (ltb (a % 2 ^ 8) (2 ^ (8 - 1))) (a % 2 ^ 8) (word_of (pos (a % 2 ^ 8) -ℤ pos (2 ^ 8))) (omega arith) (word_small (pos (a % 2 ^ 8) -ℤ pos (2 ^ 8)))
 
 half_word : (a : ℕ) → sign_extend 16 a < 2 ^ 32
 unfolding sign_extend
-half_word a = choose_word (ltb (a % 2 ^ 16) (2 ^ (16 - 1))) (a % 2 ^ 16) (word_of (pos (a % 2 ^ 16) -ℤ pos (2 ^ 16))) (omega arith) (word_below (pos (a % 2 ^ 16) -ℤ pos (2 ^ 16)))
+half_word a = choose_word (ltb (a % 2 ^ 16) (2 ^ (16 - 1))) (a % 2 ^ 16) (word_of (pos (a % 2 ^ 16) -ℤ pos (2 ^ 16))) (omega arith) (word_small (pos (a % 2 ^ 16) -ℤ pos (2 ^ 16)))
 
 pub narrow_word : (k : Kind) (a : ℕ) → a < 2 ^ 32 → narrow k a < 2 ^ 32
 unfolding narrow

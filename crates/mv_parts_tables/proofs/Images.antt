@@ -46,7 +46,7 @@ use Rattle.mv_parts.specs.Numbers.{attributed_numbers}
 use Rattle.mv_parts.specs.Parts.{ArePartsOf}
 use Rattle.mv_parts.specs.Switches.{part_switch, part_switches}
 use Rattle.mv_parts.proofs.LinkedNumbers.{as_many, number_of}
-use Rattle.mv_parts.proofs.Lists.{map_at, one_of_all, some_at, some_same}
+use Rattle.mv_parts.proofs.Lists.{map_at, one_of_all}
 use Rattle.mv_parts.proofs.Numbers as numbers
 use Rattle.mv_refine_commits.specs.Tabled.{IsTabled}
 use Rattle.mv_parts_tables.specs.Leads.{LeadsToVariants}
@@ -54,6 +54,8 @@ use Rattle.mv_parts_tables.specs.Rows.{IsNth}
 use Rattle.mv_parts_tables.specs.Laws.{AttributedAreTabled, HaveTables, RowsLeadToVariants}
 use Rattle.mv_parts_tables.proofs.Lists.{same_for_all}
 use Rattle.mv_parts_tables.proofs.Tabled.{entry, own_row, part_count, part_there, switch_rows, switches_there}
+use Rattle.mv_num.proofs.Lists.{there_at as some_at}
+use Rattle.mv_num.proofs.Options.{some_same}
 
 -- ---- attributed functions and their tables
 

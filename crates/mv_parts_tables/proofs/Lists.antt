@@ -1,5 +1,5 @@
 -- Elements of lists by their index.
-use Rattle.std.proofs.Common.{◌≡◌, ℕ, zero, suc, ◌+◌, List, [], ◌∷◌, ◌++◌, Some, length, map, replicate, slice_get, refl, ap, ap₂, subst, arith}
+use Rattle.std.proofs.Common.{◌≡◌, ℕ, suc, List, [], ◌∷◌, Some, length, map, replicate, slice_get, refl, ap, ap₂, arith}
 
 -- two lists of one length, with elements that are made to the same
 pub map_same : {X Y Z : Type 0} (f : X → Z) (g : Y → Z) (xs : List X) (ys : List Y) → length xs ≡ length ys →
@@ -10,16 +10,6 @@ map_same f g (x ∷ xs) [] e h = absurd (omega (arith, e))
 map_same f g (x ∷ xs) (y ∷ ys) e h = ap₂ ◌∷◌ (h 0 x y refl refl) (map_same f g xs ys (omega (arith, e)) (λ i a b there is. h (suc i) a b there is))
 
 -- an element of the first of two lists, one behind the other, and one of the second
-
-pub at_left : {X : Type 0} (xs ys : List X) (i : ℕ) (x : X) → slice_get xs i ≡ Some x → slice_get (xs ++ ys) i ≡ Some x
-at_left [] ys i x e = absurd (let bad : ⊥ = cc in bad)
-at_left (z ∷ xs) ys zero x e = e
-at_left (z ∷ xs) ys (suc i) x e = at_left xs ys i x e
-
-pub at_right : {X : Type 0} (xs ys : List X) (i : ℕ) (x : X) → slice_get ys i ≡ Some x → slice_get (xs ++ ys) (length xs + i) ≡ Some x
-at_right [] ys i x e = let none : i ≡ 0 + i = omega arith in subst (λ k. slice_get ys k ≡ Some x) none e
-at_right (z ∷ xs) ys i x e =
-    let one : suc (length xs + i) ≡ suc (length xs) + i = omega arith in subst (λ k. slice_get (z ∷ (xs ++ ys)) k ≡ Some x) one (at_right xs ys i x e)
 
 -- the same for each element
 pub same_for_all : {X Y : Type 0} (y : Y) (xs : List X) → map (λ x. y) xs ≡ replicate (length xs) y

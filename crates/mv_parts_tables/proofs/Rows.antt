@@ -25,12 +25,13 @@ use Rattle.mv_linker.specs.Tables.{function_row, variant_row, variant_rows}
 use Rattle.mv_linker.specs.Outcome.{IsLinked}
 use Rattle.mv_variants.specs.declared.variant.Variant.{Variant}
 use Rattle.mv_parts.specs.Parts.{ArePartsOf, ArePartVariants, IsPartVariant}
-use Rattle.mv_parts.proofs.Lists.{one_of_all, some_at, some_same}
+use Rattle.mv_parts.proofs.Lists.{one_of_all}
 use Rattle.mv_parts_tables.specs.Leads.{IsLedTo}
 use Rattle.mv_parts_tables.specs.Rows.{IsNth, RowShows, HasRowOf}
-use Rattle.mv_parts_tables.proofs.Lists.{at_left, at_right}
 use Rattle.mv_parts_tables.proofs.Tabled.{part_at, part_there}
 use Rattle.mv_parts_bound.proofs.Led.{under_is}
+use Rattle.mv_num.proofs.Lists.{slice_get-left, slice_get-right, there_at}
+use Rattle.mv_num.proofs.Options.{some_same}
 
 abbrev counted : FunctionRow → ℕ
 counted row = row.variants
@@ -46,14 +47,14 @@ found_at entry (b ∷ rest) zero j a v at there =
     let same = some_same b a at in
     let none : j ≡ 0 + j = omega arith in
     subst (λ k. slice_get (b.variants ++ function_variants rest) k ≡ Some v) none
-    (at_left b.variants (function_variants rest) j v (subst (λ (x : PartFunction). slice_get x.variants j ≡ Some v) (sym same) there))
+    (slice_get-left b.variants (function_variants rest) j v (subst (λ (x : PartFunction). slice_get x.variants j ≡ Some v) (sym same) there))
 found_at entry (b ∷ rest) (suc n) j a v at there =
     let rows = take n (map (function_row entry) rest) in
     let before = sum_by counted rows in
     let count = sum_by-cons counted (function_row entry b) rows in
     let index : length b.variants + (before + j) ≡ sum_by counted (function_row entry b ∷ rows) + j = omega (arith, count) in
     subst (λ k. slice_get (b.variants ++ function_variants rest) k ≡ Some v) index
-    (at_right b.variants (function_variants rest) (before + j) v (found_at entry rest n j a v at there))
+    (slice_get-right b.variants (function_variants rest) (before + j) v (found_at entry rest n j a v at there))
 
 -- the rows of the first functions count their variants
 same_count : (entry : ℕ → ℕ) (attributed : List PartFunction) (n : ℕ) → sum_by counted (take n (map (function_row entry) attributed)) ≡ sum_by many (take n attributed)
@@ -93,7 +94,7 @@ variant_linked : (variants : List Variant) (vs : List PartVariant) → ArePartVa
 variant_linked variants vs are j v at =
     let within = slice_get_within variants j v at in
     let count = are.one_each in
-    let found = some_at vs j (omega (arith, within, count)) in (found.0, found.1, are.each j v found.0 at found.1)
+    let found = there_at vs j (omega (arith, within, count)) in (found.0, found.1, are.each j v found.0 at found.1)
 
 module _ (fit : InlineFits) (same : InlineIsTheSame) (p : Program) (formed : IsWellFormed p) (bodies : List Body) (tables : List (List Variant)) (parts : Parts)
     (are : ArePartsOf p bodies tables parts) (image : Fields) (linked : IsLinked parts image) (n f : ℕ) (g : Function) (variants : List Variant) (nth : IsNth p tables n f g variants)

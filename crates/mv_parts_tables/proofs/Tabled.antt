@@ -31,10 +31,11 @@ use Rattle.mv_variants.specs.Variants.{guards_of}
 use Rattle.mv_parts.specs.Numbers.{attributed_numbers}
 use Rattle.mv_parts.specs.Parts.{ArePartsOf, ArePartVariants, IsPartFunction}
 use Rattle.mv_parts.specs.Switches.{part_switch, part_switches}
-use Rattle.mv_parts.proofs.Lists.{map_at, one_of_all, some_at}
+use Rattle.mv_parts.proofs.Lists.{map_at, one_of_all}
 use Rattle.mv_parts.proofs.Numbers.{attributed_at}
 use Rattle.mv_parts_tables.specs.Rows.{IsNth}
 use Rattle.mv_parts_tables.proofs.Lists.{map_same}
+use Rattle.mv_num.proofs.Lists.{there_at}
 
 -- ---- the guard rows of variants that are linked
 
@@ -78,7 +79,7 @@ kinds_there p image rows [] below = tt
 kinds_there p image rows (s ∷ switches) below = (one, kinds_there p image rows switches (All-tail (λ k. k < length p.switches) s switches below))
   where
     found : (x : Switch) × (slice_get p.switches s ≡ Some x)
-    found = some_at p.switches s (All-head (λ k. k < length p.switches) s switches below)
+    found = there_at p.switches s (All-head (λ k. k < length p.switches) s switches below)
 
     one : (row : SwitchRow) × (slice_get image.switches s ≡ Some row) × (row.kind ≡ switch_kind p s)
     one = (
@@ -95,7 +96,7 @@ module _ (p : Program) (bodies : List Body) (tables : List (List Variant)) (part
   part_count = sym (length-map parts.attributed (λ (a : PartFunction). a.function)) ∙ ap length are.codes.variants.numbers
 
   pub part_there : (n f : ℕ) → slice_get (attributed_numbers p) n ≡ Some f → (a : PartFunction) × (slice_get parts.attributed n ≡ Some a)
-  part_there n f number = let within = slice_get_within (attributed_numbers p) n f number in some_at parts.attributed n (omega (arith, part_count, within))
+  part_there n f number = let within = slice_get_within (attributed_numbers p) n f number in there_at parts.attributed n (omega (arith, part_count, within))
 
   pub part_at : (n f : ℕ) (g : Function) (variants : List Variant) → IsNth p tables n f g variants → (a : PartFunction) → slice_get parts.attributed n ≡ Some a → IsPartFunction g f variants a
   part_at n f g variants nth a is = are.codes.variants.each n f g variants a nth.number nth.there nth.table is

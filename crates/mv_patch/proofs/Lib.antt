@@ -12,3 +12,4 @@ pub mod Words
 pub mod Switches
 pub mod Fits
 pub mod Filled
+pub mod Common

@@ -1,6 +1,6 @@
 -- The addresses of the tables one after the other.
-use Rattle.std.proofs.Common.{◌≡◌, ◌⊎◌, inl, inr, ⊎_elim, ℕ, zero, suc, ◌+◌, ◌*◌, ◌/◌, ◌<◌, ◌≤◌, Bool, true, false, ◌&&◌, ◌||◌, ltb, leb, List, [], ◌∷◌, ◌++◌, length, drop, get_or, slice_get, Some, refl, sym, ap, ap₂, ◌∙◌, arith, append_assoc, drop-cons}
-use Rattle.std.proofs.lemmas.Bool.{lt-ltb, le-ltb, ltb-true, ltb-false, leb-true, leb-false, cases_lt, or_cases}
+use Rattle.std.proofs.Common.{◌≡◌, ◌⊎◌, inl, inr, ⊎_elim, ℕ, zero, suc, ◌+◌, ◌*◌, ◌/◌, ◌<◌, ◌≤◌, true, false, ◌&&◌, ◌||◌, ltb, leb, List, [], ◌∷◌, ◌++◌, length, drop, get_or, slice_get, Some, refl, sym, ap, ap₂, ◌∙◌, arith, append_assoc, drop-cons}
+use Rattle.std.proofs.lemmas.Bool.{lt-ltb, le-ltb, ltb-true, ltb-false, leb-true, leb-false, cases_lt, or_cases, or_parts}
 use Rattle.std.proofs.lemmas.List.{drop_all, get_or-drop, length-map}
 use Rattle.std.proofs.lemmas.Option.{get_or_from_slice_get, slice_get_within}
 use Rattle.mv_descriptors.specs.declared.rows.FunctionRow.{FunctionRow}
@@ -10,6 +10,7 @@ use Rattle.mv_image.specs.Spelling.{Fields}
 use Rattle.mv_image.specs.Patched.{Bindings, text_of}
 use Rattle.mv_patch.specs.Tables.{entries, site_words, merged, word_of, change, change_at, is_entry_next, pairs_at}
 use Rattle.mv_patch.proofs.TablePlaces.{length_sites}
+use Rattle.mv_num.proofs.Booleans.{and_cases}
 
 -- ---- the first of two lists
 
@@ -58,17 +59,9 @@ none_next xs ys i j no_first no_second = rw (drop_all i xs no_first, drop_all j 
 
 -- ---- which of both comes next
 
-and_both : (p q : Bool) → (p && q) ≡ true → (p ≡ true) × (q ≡ true)
-and_both true q h = (refl, h)
-and_both false q h = absurd (cc)
-
-or_none : (p q : Bool) → (p || q) ≡ false → (p ≡ false) × (q ≡ false)
-or_none true q h = absurd (cc)
-or_none false q h = (refl, h)
-
 pub entry_told : (f w n m a b : ℕ) → (ltb f n && (leb m w || ltb a b)) ≡ true → (f < n) × ((m ≤ w) ⊎ (a < b))
 entry_told f w n m a b h =
-    let both = and_both (ltb f n) (leb m w || ltb a b) h in (
+    let both = and_cases (ltb f n) (leb m w || ltb a b) h in (
       ltb-true f n both.0,
       ⊎_elim (λ (e : leb m w ≡ true). inl (leb-true m w e)) (λ (e : ltb a b ≡ true). inr (ltb-true a b e)) (or_cases (leb m w) (ltb a b) both.1),
     )
@@ -77,7 +70,7 @@ pub site_told : (f w n m a b : ℕ) → f ≤ n → f + w < n + m → (ltb f n &
 site_told f w n m a b few left h = ⊎_elim
     (λ (lt : f < n). (
     let rest : (leb m w || ltb a b) ≡ false = (let t = lt-ltb f n lt in rw t at h) in
-    let none = or_none (leb m w) (ltb a b) rest in
+    let none = or_parts (leb m w) (ltb a b) rest in
     (leb-false m w none.0, inr (ltb-false a b none.1))))
     (λ (le : n ≤ f). (omega (arith, few, left, le), inl le))
     (cases_lt f n)

@@ -1,5 +1,5 @@
 -- The bindings behind an order, one after the other.
-use Rattle.std.proofs.Common.{◌≡◌, ℕ, suc, ◌+◌, ◌<◌, ◌≤◌, Bool, true, false, cond, ◌&&◌, List, [], ◌∷◌, ◌++◌, length, take, drop, set, slice_get, Some, refl, sym, ap, ap₂, ◌∙◌, arith, append_assoc, append-nil, drop-cons}
+use Rattle.std.proofs.Common.{◌≡◌, ℕ, suc, ◌+◌, ◌<◌, ◌≤◌, Bool, cond, ◌&&◌, List, [], ◌∷◌, ◌++◌, length, take, drop, set, slice_get, Some, refl, sym, ap, ap₂, ◌∙◌, arith, append_assoc, append-nil, drop-cons}
 use Rattle.std.proofs.Math.Seq.{take-suc-set}
 use Rattle.std.proofs.lemmas.List.{drop_all, take_all}
 use Rattle.std.proofs.lemmas.Option.{slice_get_within, get_or_from_slice_get}
@@ -35,10 +35,6 @@ ordered_count addressed next i (row ∷ rows) [] e = absurd (omega (arith, e))
 ordered_count addressed next i (row ∷ rows) (b ∷ old) e = ap suc (ordered_count addressed next (suc i) rows old (omega (arith, e)))
 
 -- ---- how many are bound
-
-pub one_or_none : (t : Bool) → cond t 1 0 ≤ 1
-one_or_none true = omega arith
-one_or_none false = omega arith
 
 pub one_counted : (addressed : ℕ → FunctionRow → Bool) (rows : List FunctionRow) (bs : List Binding) (i count n : ℕ) (row : FunctionRow) (b : Binding) → slice_get rows i ≡ Some row → slice_get bs i ≡ Some b
     → n ≡ cond (addressed i row && b.bound) 1 0 → (count + n) + bound_rows addressed (i + 1) (drop (i + 1) rows) (drop (i + 1) bs) ≡ count + bound_rows addressed i (drop i rows) (drop i bs)

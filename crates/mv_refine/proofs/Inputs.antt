@@ -57,11 +57,6 @@ parted bytes s leaves =
       front = ap₂ take count parts.whole ∙ take-append_seam parts.taken parts.rest;
     }
 
--- an input that is what the source tells as still to come
-pub some_later : (now : Option (List ℕ)) → (later : List (Option ℕ)) × Tells now later
-some_later None = ([], tt)
-some_later (Some bytes) = (bytes_to_come bytes, refl)
-
 -- a source that tells bytes has lost those that a run has taken, where the run has left what it tells then
 pub lost : (bytes : List ℕ) (s : State) (now : Option (List ℕ)) → Leaves (bytes_to_come bytes) s.input →
     ((later : List (Option ℕ)) → Tells now later → s.input ≡ later) → Lost (Some bytes) now (take (taken_of bytes s) bytes)

@@ -14,12 +14,9 @@ use Rattle.mv_probe.specs.Ways.{way_after}
 use Rattle.mv_refine.specs.Environment.{Environment, ReadFailed, WriteFailed}
 use Rattle.mv_refine.specs.Run.{IsDone, Stands, RanTo, StandsBefore, Runs}
 use Rattle.mv_refine.proofs.Leaves.{runs_leave}
-use Rattle.mv_refine.proofs.Inputs.{some_later, lost}
-
--- a machine that was just started goes on from the image's first state
-begun : (image : Fields) (input : List (Option ℕ)) (actions : List Action) → resumed (kept (first image [] []) None) input actions ≡ first image input actions
-unfolding resumed kept first
-begun image input actions = refl
+use Rattle.mv_refine.proofs.Inputs.{lost}
+use Rattle.mv_machine.proofs.Resumed.{some_input}
+use Rattle.mv_machine.proofs.Starts.{first_state}
 
 unless_fresh : (m : Snapshot) (s : State) (ran : Type 0) → m ≡ kept s None → Unless m.last ran → ran
 unfolding kept
@@ -66,10 +63,10 @@ module _ (image : Fields) (actions : List Action) (before after : Environment) (
 
   -- one input and what it leads to
   abbrev now : List (Option ℕ)
-  now = (some_later after.input.left).0
+  now = (some_input after.input.left).0
 
   abbrev now_tells : Tells after.input.left now
-  now_tells = (some_later after.input.left).1
+  now_tells = (some_input after.input.left).1
 
   done : (n : ℕ) (stop : Stop) → (always : Always n stop) → IsDone image actions before after Told is (always now now_tells).0 picks n
   done n stop always =
@@ -114,7 +111,7 @@ module _ (image : Fields) (actions : List Action) (before after : Environment) (
   leads : Leads stopped
   leads later tells =
       let r = ran.run later tells in
-      let start : resumed was r.0 actions ≡ first image r.0 actions = ap (λ (m : Snapshot). resumed m r.0 actions) fresh ∙ begun image r.0 actions in
+      let start : resumed was r.0 actions ≡ first image r.0 actions = ap (λ (m : Snapshot). resumed m r.0 actions) fresh ∙ first_state image r.0 actions in
       (r.0, r.1, subst (λ (s : State). Under before.way s picks) start r.2.0, subst (λ (s : State). AnsweredFrom s later stopped) start r.2.1)
 
   whole : (stop : Stop) → ((later : List (Option ℕ)) → Tells after.input.left later → (input : List (Option ℕ)) × Tells before.input.left input

@@ -6,7 +6,7 @@ use Rattle.mv_image.specs.Spelling.{Fields}
 use Rattle.mv_refine_runs.specs.Behaves.{taken_of}
 use Rattle.mv_machine.specs.declared.machine.Stopped.{Stopped}
 use Rattle.mv_machine.specs.declared.machine.Stopped.TheVariants.{Ended, Trapped, Steps, InputFault, OutputFault, Fault, Memory}
-use Rattle.mv_machine.specs.Runs.{State, Stop, Going, Exit, Trap, Request, Reads, Writes, first, runs, executed}
+use Rattle.mv_machine.specs.Runs.{State, Stop, Going, Exit, Trap, Reads, Writes, first, runs, executed}
 use Rattle.mv_machine.specs.Runs as run
 use Rattle.mv_machine.specs.Snapshots.{Snapshot, kept, Tells, Under, Asks, WantsMemory}
 use Rattle.mv_probe.specs.Ways.{way_after}

@@ -9,6 +9,7 @@ use Rattle.mv_rv32.specs.Stepping.{access, with_held}
 use Rattle.mv_machine.specs.Runs.{plan_area, stored_word, stored_words}
 use Rattle.mv_refine_commits.specs.Watched.{plan_words}
 use Rattle.mv_refine_machine.proofs.Memory.{whole_word}
+use Rattle.mv_num.proofs.Lists.{get_set_same, get_set_other}
 
 plan_region : (a : ℕ) → 0x0040_0000 ≤ a → a < 0x0048_0000 → region_of a ≡ region_of 0x0040_0000
 unfolding region_of
@@ -55,18 +56,6 @@ there_at : (xs : List ℕ) (n : ℕ) → n < length xs → (x : ℕ) × (slice_g
 there_at [] n lt = absurd (omega (arith, lt))
 there_at (x ∷ xs) zero lt = (x, refl)
 there_at (x ∷ xs) (suc n) lt = there_at xs n (omega (arith, lt))
-
-get_set_same : (xs : List ℕ) (k v w : ℕ) → slice_get xs k ≡ Some w → slice_get (set xs k v) k ≡ Some v
-get_set_same [] k v w h = absurd (cc)
-get_set_same (x ∷ xs) zero v w h = refl
-get_set_same (x ∷ xs) (suc k) v w h = get_set_same xs k v w h
-
-get_set_other : (xs : List ℕ) (k j v : ℕ) → j ≢ k → slice_get (set xs k v) j ≡ slice_get xs j
-get_set_other [] k j v ne = refl
-get_set_other (x ∷ xs) zero zero v ne = absurd (ne refl)
-get_set_other (x ∷ xs) zero (suc j) v ne = refl
-get_set_other (x ∷ xs) (suc k) zero v ne = refl
-get_set_other (x ∷ xs) (suc k) (suc j) v ne = get_set_other xs k j v (λ e. ne (ap suc e))
 
 -- ---- one store
 

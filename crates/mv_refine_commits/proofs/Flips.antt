@@ -1,5 +1,5 @@
 -- A word of a global is stored.
-use Rattle.std.proofs.Common.{◌≡◌, ◌≢◌, ⊎_elim, inr, ℕ, zero, suc, ◌+◌, ◌*◌, ◌^◌, ◌<◌, ◌≤◌, List, [], ◌∷◌, length, slice_get, slice_set, slice_index, slice_index_or, Some, refl, sym, ap, ◌∙◌, subst, arith, length-set}
+use Rattle.std.proofs.Common.{◌≡◌, ◌≢◌, ⊎_elim, inr, ℕ, ◌+◌, ◌*◌, ◌^◌, ◌<◌, ◌≤◌, List, [], length, slice_get, slice_set, slice_index, slice_index_or, Some, refl, sym, ap, ◌∙◌, subst, arith, length-set}
 use Rattle.std.proofs.lemmas.Bool.{cases_eq, cases_lt}
 use Rattle.std.proofs.lemmas.List.{get_or-set_same, get_or-set_other}
 use Rattle.mv_ast.specs.Plans.{words_or_none, with_word}
@@ -10,20 +10,12 @@ use Rattle.mv_select_calls.specs.Convention.{Layout, HoldsGlobals}
 use Rattle.mv_select_functions.specs.Functions.{IsLaid, Kept}
 use Rattle.mv_refine_commits.specs.Watched.{Watched}
 use Rattle.mv_ast.specs.Plans as source
+use Rattle.mv_ast.proofs.Common.{objects_at}
+use Rattle.mv_num.proofs.Lists.{index_beyond}
 
 -- the world in which the first word of a global is changed, as a flip does it
 abbrev pub with_switch : World → (global value : ℕ) → World
 with_switch w g v = record w { globals = source.with_word w.globals g 0 v }
-
-pub objects_at : (objects : List (List ℕ)) (k : ℕ) → words_or_none (slice_get objects k) ≡ slice_index_or objects k []
-objects_at [] k = refl
-objects_at (x ∷ objects) zero = refl
-objects_at (x ∷ objects) (suc k) = objects_at objects k
-
-past : (objects : List (List ℕ)) (k : ℕ) → length objects ≤ k → slice_index_or objects k [] ≡ []
-past [] k le = refl
-past (x ∷ objects) zero le = absurd (omega (arith, le))
-past (x ∷ objects) (suc k) le = past objects k (omega (arith, le))
 
 module _ (access : Access Watched) (y : Layout) (laid : IsLaid y) (machine : Machine Watched) (budget far : ℕ) (w : World) (m : Watched) (h : HoldsGlobals access y machine budget far w m)
     (g v : ℕ) (some : 0 < y.size g) (small : v < 2 ^ 32) (kept : Kept access y m (y.place g + 4 * 0) v) where
@@ -36,7 +28,7 @@ module _ (access : Access Watched) (y : Layout) (laid : IsLaid y) (machine : Mac
   there : g < length w.globals
   there = ⊎_elim
       (λ (lt : g < length w.globals). lt)
-      (λ (le : length w.globals ≤ g). let e = ap length (past w.globals g le) in let size = h.sizes g in absurd (omega (arith, e, size, some)))
+      (λ (le : length w.globals ≤ g). let e = ap length (index_beyond w.globals g le) in let size = h.sizes g in absurd (omega (arith, e, size, some)))
       (cases_lt g (length w.globals))
 
   at_same : new g ≡ slice_set (old g) 0 v

@@ -9,8 +9,7 @@ use Rattle.mv_isa.specs.Execution.{reg}
 use Rattle.mv_image.specs.Spelling.{Fields}
 use Rattle.mv_patch.specs.Orders.{is_known_order}
 use Rattle.mv_machine.specs.Runs.{State, Fault, Request, Exits, Reads, Writes, Traps, Plans, Polls, Unknown, argument, answered, stopped, live_frames, refused, ordered, planned, act, acted, polled, environment_call, runs_from, first}
-use Rattle.mv_machine.proofs.Leaving.{Leaves, planned_leaves, polled_leaves}
-use Rattle.mv_refine_machine.proofs.Keeping.{either}
+use Rattle.mv_machine.proofs.Leaving.{Leaves, planned_leaves, polled_leaves, either}
 use Rattle.mv_refine_machine.proofs.Keeping as keeping
 use Rattle.mv_ast.specs.Actions.{IsOfWord}
 

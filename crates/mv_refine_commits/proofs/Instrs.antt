@@ -7,10 +7,7 @@ use Rattle.mv_isa.specs.declared.instr.Instr.TheVariants.{Lui, Jal, Jalr, Beq, L
 use Rattle.mv_isa.specs.Execution.{Access, Goes, reg, put, upper, sets, jumps, branches, loaded, stored, loads, stores, execute}
 use Rattle.mv_select_trees.proofs.Registers.{reg_zero}
 use Rattle.mv_select_control.proofs.Walk.{put_zero}
-
-pub add_four : (pc : ℕ) → pc < 2 ^ 31 → add pc 4 ≡ pc + 4
-unfolding add
-add_four pc h = omega arith
+use Rattle.mv_isa.proofs.LineSteps.{add_four}
 
 pub add_pos : (a n : ℕ) → a + n < 2 ^ 32 → add a (word_of (pos n)) ≡ a + n
 unfolding add word_of

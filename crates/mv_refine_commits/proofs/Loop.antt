@@ -31,15 +31,12 @@ use Rattle.mv_refine_commits.proofs.PlanWords.{plan_address, plan_word}
 use Rattle.mv_refine_commits.proofs.Instrs.{add_pos, lui_goes, lw_goes, sw_goes, addi_goes, less_goes, stays_goes, leaves_goes, back_goes, fence_goes}
 use Rattle.mv_refine_commits.proofs.Stands.{StubStands}
 use Rattle.mv_refine_commits.proofs.Steps.{stored, mid_sound, mid_goes, mid_under, steps}
+use Rattle.mv_num.proofs.Booleans.{not_and_false}
 
 -- an element in the middle
 middle : (P : Pair → Type 0) (done later : List Pair) (pair : Pair) → All P (done ++ pair ∷ later) → P pair
 middle P [] later pair h = All-head P pair later h
 middle P (q ∷ done) later pair h = middle P done later pair (All-tail P q (done ++ pair ∷ later) h)
-
-never : (b : Bool) → not (b && false) ≡ true
-never true = refl
-never false = refl
 
 module _ (between : TextIsBetween) (tested : BetweenIsTested) (differ : PairsAreDifferences) (ranges : PairsAreInRange)
     (closed : (pc address : ℕ) → Bool) (texts : List Binding → List ℕ) (first : State) (picks : List ℕ) (word : ℕ → Option ℕ) (old new : List Binding) (start : ℕ)
@@ -161,7 +158,7 @@ module _ (between : TextIsBetween) (tested : BetweenIsTested) (differ : PairsAre
       let c4 : In (b + 4 * 7) (done ++ pair ∷ []) left r2 (i + 1 + 1 + 1 + 1) =
       line 6 7 (b + 4 * 6 + 4) (Sw 7 28 (pos 0)) done (pair ∷ left) (done ++ pair ∷ []) left r2 r2 (i + 1 + 1 + 1) refl (omega arith)
       (sw_goes access (room done) r2 (b + 4 * 6) (small 6 (omega arith)) 7 28 pair.address pair.word (room (done ++ pair ∷ [])) to what fits.address (facts.next pair left refl ∙ ap (λ ps. Some (stored_all begun ps)) (append_assoc before done (pair ∷ [])))) refl
-      (ap (λ z. not (into_text (Some (add (reg r2 7) (word_of (pos 0)))) && z)) spare ∙ never (into_text (Some (add (reg r2 7) (word_of (pos 0)))))) (λ s u. refl) q' c3.registers (λ n o. refl) c3 in
+      (ap (λ z. not (into_text (Some (add (reg r2 7) (word_of (pos 0)))) && z)) spare ∙ not_and_false (into_text (Some (add (reg r2 7) (word_of (pos 0)))))) (λ s u. refl) q' c3.registers (λ n o. refl) c3 in
       let p5 : reg r2 5 ≡ 0x0040_0000 + 8 * length done = put_other r1 28 5 pair.word (omega arith) (λ e. omega (arith, e)) ∙ put_other r0 7 5 pair.address (omega arith) (λ e. omega (arith, e)) ∙ h.pointer in
       let c5 : In (b + 4 * 8) (done ++ pair ∷ []) left r3 (i + 1 + 1 + 1 + 1 + 1) =
       sets 7 5 (0x0040_0000 + 8 * length done + 8) (Addi 5 5 (pos 8)) (done ++ pair ∷ []) left r2 (i + 1 + 1 + 1 + 1) (omega arith) refl (inl refl) (omega (arith, few))

@@ -1,5 +1,5 @@
 -- What calls for plans and polls leave: the plan of what they do, in the plan area.
-use Rattle.std.proofs.Common.{◌≡◌, ℕ, ◌+◌, ◌*◌, cond, List, [], ◌∷◌, length, Option, refl, sym, ap, ◌∙◌, subst, arith, eq-eqb}
+use Rattle.std.proofs.Common.{◌≡◌, ℕ, ◌+◌, ◌*◌, List, [], length, Option, refl, sym, ap, ◌∙◌, subst, arith}
 use Rattle.mv_num.specs.Words.{add}
 use Rattle.mv_ast.specs.declared.world.Binding.{Binding}
 use Rattle.mv_isa.specs.Execution.{put}
@@ -9,7 +9,6 @@ use Rattle.mv_image.specs.Spelling.{Fields}
 use Rattle.mv_image.specs.Faults.{Rules}
 use Rattle.mv_patch.specs.declared.prepared.Pair.{Pair}
 use Rattle.mv_patch.specs.Orders.{values_of, plan_between}
-use Rattle.mv_patch.specs.Pairs.{differing, pair_of}
 use Rattle.mv_ir.specs.World.{World}
 use Rattle.mv_machine.specs.Runs.{State, plan_area, with_plan, bytes_to_come}
 use Rattle.mv_refine_commits.specs.Watch.{texts_of}
@@ -19,12 +18,7 @@ use Rattle.mv_refine_commits.specs.Served.{IsPlanned}
 use Rattle.mv_refine_commits.proofs.Known.{Known}
 use Rattle.mv_refine_commits.proofs.Areas.{Writes, writes}
 use Rattle.mv_refine_commits.proofs.PlanWords.{pairs_size, plan_small}
-
--- a text has no differences from itself
-pub none_differ : (a : ℕ) (xs : List ℕ) → differing a xs xs ≡ []
-unfolding differing
-none_differ a [] = refl
-none_differ a (x ∷ xs) = ap (λ b. cond b (differing (a + 4) xs xs) (pair_of a x ∷ differing (a + 4) xs xs)) (eq-eqb x x refl) ∙ none_differ (a + 4) xs
+use Rattle.mv_patch.proofs.Common.{none_differ}
 
 -- so the plan from bindings to themselves has no pair
 pub no_pairs : (image : Fields) (bs : List Binding) → plan_between image bs bs ≡ []

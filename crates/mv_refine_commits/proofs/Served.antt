@@ -25,7 +25,6 @@ use Rattle.mv_ir.specs.World.{World}
 use Rattle.mv_machine.specs.Runs.{State, request_of, environment_call}
 use Rattle.mv_machine.specs.Commits.{opens, is_some_pair, after_instr, commit_from, where_it_goes}
 use Rattle.mv_machine.proofs.Turns.{runs_more, turn_by}
-use Rattle.mv_refine_machine.proofs.Starts.{none_older}
 use Rattle.mv_select_trees.specs.View.{AreRegisters}
 use Rattle.mv_select_trees.proofs.Registers.{put_same, put_other, put_registers}
 use Rattle.mv_select_control.proofs.Walk.{before_next}
@@ -44,8 +43,10 @@ use Rattle.mv_refine_commits.specs.Laws.{StubServes}
 use Rattle.mv_refine_commits.proofs.Known.{Known}
 use Rattle.mv_refine_commits.proofs.Stands.{StubStands, stub_stands}
 use Rattle.mv_refine_commits.proofs.Fetched.{executes, instr_is, plainly_sound, target_is}
-use Rattle.mv_refine_commits.proofs.Instrs.{add_four, return_goes}
+use Rattle.mv_refine_commits.proofs.Instrs.{return_goes}
 use Rattle.mv_refine_commits.proofs.Loop.{Commits, commits}
+use Rattle.mv_machine.proofs.Plain.{none_older}
+use Rattle.mv_isa.proofs.LineSteps.{add_four}
 
 -- ---- memory outside text
 

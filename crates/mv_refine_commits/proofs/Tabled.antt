@@ -1,5 +1,5 @@
 -- Orders do by the tables what they do in the source.
-use Rattle.std.proofs.Common.{◌≡◌, ◌≢◌, inr, ℕ, zero, suc, ◌+◌, ◌*◌, ◌%◌, ◌^◌, ◌<◌, ◌≤◌, Bool, true, false, ◌&&◌, ◌||◌, cond, eqb, ltb, List, [], ◌∷◌, length, map, take, slice_get, slice_index, slice_index_or, is_some, unwrap_or, option_map, Option, Some, None, Err, refl, sym, ap, ap₂, ◌∙◌, subst, arith}
+use Rattle.std.proofs.Common.{◌≡◌, ◌≢◌, inr, ℕ, suc, ◌+◌, ◌*◌, ◌%◌, ◌^◌, ◌<◌, ◌≤◌, Bool, true, false, ◌&&◌, ◌||◌, cond, eqb, ltb, List, [], ◌∷◌, length, map, take, slice_get, slice_index, slice_index_or, is_some, unwrap_or, option_map, Option, Some, None, Err, refl, sym, ap, ap₂, ◌∙◌, subst, arith}
 use Rattle.std.specs.List.{All}
 use Rattle.std.specs.Result.{result_ok}
 use Rattle.std.proofs.lemmas.Option.{unwrap_or-slice_get}
@@ -35,17 +35,14 @@ use Rattle.mv_refine_machine.specs.MachineRuns.{with_room}
 use Rattle.mv_refine_machine.proofs.Whole as whole
 use Rattle.mv_refine_commits.specs.Watched.{Watched, access, put_room}
 use Rattle.mv_refine_commits.specs.Tabled.{IsTabled}
-use Rattle.mv_refine_commits.proofs.Flips.{with_switch, flips_hold, objects_at}
+use Rattle.mv_refine_commits.proofs.Flips.{with_switch, flips_hold}
 use Rattle.mv_refine_commits.proofs.Planned.{KeepsAll}
 use Rattle.mv_refine_commits.proofs.Planning.{OrderAgrees, FlipAgrees}
 use Rattle.mv_refine_commits.proofs.Served.{in_globals}
+use Rattle.mv_ast.proofs.Common.{objects_at}
+use Rattle.mv_num.proofs.Lists.{there_at}
 
 -- ---- lists
-
-there_at : {A : Type 0} (xs : List A) (n : ℕ) → n < length xs → (x : A) × (slice_get xs n ≡ Some x)
-there_at [] n lt = absurd (omega (arith, lt))
-there_at (x ∷ xs) zero lt = (x, refl)
-there_at (x ∷ xs) (suc n) lt = there_at xs n (omega (arith, lt))
 
 -- ---- the words of switches
 

@@ -1,5 +1,5 @@
 -- What a sound place tells.
-use Rattle.std.proofs.Common.{◌≡◌, ◌≢◌, List, [], ◌∷◌, ⊎_elim, ℕ, ◌%◌, ◌<◌, ◌≤◌, Bool, true, false, ◌&&◌, not, cond, eqb, ltb, length, Option, Some, None, refl, sym, ap, ◌∙◌, subst, arith, eq-eqb}
+use Rattle.std.proofs.Common.{◌≡◌, ◌≢◌, List, [], ◌∷◌, ⊎_elim, ℕ, ◌%◌, ◌<◌, ◌≤◌, true, false, ◌&&◌, not, eqb, ltb, length, Option, Some, None, refl, sym, ap, ◌∙◌, subst, arith, eq-eqb}
 use Rattle.std.specs.Prelude.{IsSomeAnd}
 use Rattle.std.proofs.lemmas.Bool.{and_parts, cases_lt, lt-ltb, le-ltb, eqb-true}
 use Rattle.mv_fetch.specs.Held.{IsInText, region_of, choices}
@@ -14,31 +14,19 @@ use Rattle.mv_ast.specs.declared.world.Binding.{Binding}
 use Rattle.mv_patch.specs.declared.prepared.Pair.{Pair}
 use Rattle.mv_patch.specs.Pairs.{pairs_between}
 use Rattle.mv_machine.specs.Runs.{State}
+use Rattle.mv_machine.proofs.Storing.{not_in_text}
 
 -- an address of text, told by its region
 not_low : (a : ℕ) → a < 0x1000 → IsInText a → ⊥
 unfolding region_of
 not_low a lt h = let e : ltb a 0x1000 ≡ true = lt-ltb a 0x1000 lt in absurd (let k = rw e at h in cc)
 
-not_high : (a : ℕ) → 0x0010_0000 ≤ a → IsInText a → ⊥
-unfolding region_of
-not_high a ge h =
-    let e : ltb a 0x1000 ≡ false = le-ltb a 0x1000 (omega (arith, ge)) in
-    let f : ltb a 0x0010_0000 ≡ false = le-ltb a 0x0010_0000 ge in
-    by_tests (ltb a 0x0020_0000) (ltb a 0x0040_0000) (ltb a 0x0048_0000) (rw (e, f) at h)
-  where
-    by_tests : (x y z : Bool) → cond x (region_of 0x0010_0000) (cond y (region_of 0x0020_0000) (cond z (region_of 0x0040_0000) (region_of 0))) ≡ region_of 0x1000 → ⊥
-    by_tests true y z k = absurd (cc)
-    by_tests false true z k = absurd (cc)
-    by_tests false false true k = absurd (cc)
-    by_tests false false false k = absurd (cc)
-
 into_is : (a : ℕ) → IsInText a → into_text (Some a) ≡ true
 into_is a h = ⊎_elim
     (λ (lt : a < 0x1000). absurd (not_low a lt h))
     (λ (ge : 0x1000 ≤ a). ⊎_elim
     (λ (lt : a < 0x0010_0000). let e : ltb a 0x1000 ≡ false = le-ltb a 0x1000 ge in let f : ltb a 0x0010_0000 ≡ true = lt-ltb a 0x0010_0000 lt in rw (e, f) refl)
-    (λ (big : 0x0010_0000 ≤ a). absurd (not_high a big h))
+    (λ (big : 0x0010_0000 ≤ a). absurd (not_in_text a big h))
     (cases_lt a 0x0010_0000))
     (cases_lt a 0x1000)
 

@@ -22,10 +22,7 @@ use Rattle.mv_linker.specs.Linked.{codes}
 use Rattle.mv_refine_programs.specs.Hosts.{IsOpenIn}
 use Rattle.mv_refine_images.specs.Closed.{is_closed_to_function, is_closed_to_variant, is_closed_to_variants_of, closed_to_codes, is_data_of, is_data_among, is_data_where, is_word_of, is_closed_from, is_closed_beside, closed}
 use Rattle.mv_refine_images.specs.Layouts.{address_of, layout_of}
-
-never : (b : Bool) → (b && false) ≡ false
-never true = refl
-never false = refl
+use Rattle.mv_num.proofs.Booleans.{and_false}
 
 -- ---- globals
 
@@ -171,7 +168,7 @@ module _ (image : Fields) (parts : Parts) (sizing : List ℕ) (p : Program) (out
             let last = ne_eqb (suc k) count (λ e. omega (arith, e, lt, within)) in
             let behind = le-ltb pc (address_of parts sizing (suc k)) (upper lt) in
             ap (λ c. leb (address_of parts sizing k) pc && (c || ltb pc (address_of parts sizing (suc k)))) last
-            ∙ ap (λ c. leb (address_of parts sizing k) pc && c) behind ∙ never (leb (address_of parts sizing k) pc)
+            ∙ ap (λ c. leb (address_of parts sizing k) pc && c) behind ∙ and_false (leb (address_of parts sizing k) pc)
 
         later : f ≤ k → is_word_of image parts sizing p k pc ≡ false
         later le =
@@ -190,7 +187,7 @@ module _ (image : Fields) (parts : Parts) (sizing : List ℕ) (p : Program) (out
         by : (k : ℕ) (x : ℕ → Bool) → slice_get (closed_to_codes p parts) k ≡ Some x → (k ≡ f) ⊎ (k ≡ f → ⊥) → (is_word_of image parts sizing p (0 + k) pc && is_data_where image parts sizing p x a) ≡ false
         by k x e (inl is) =
             let same : x ≡ test = some_same x test (sym e ∙ ap (slice_get (closed_to_codes p parts)) is ∙ here) in
-            ap (λ c. is_word_of image parts sizing p (0 + k) pc && c) (subst (λ (t : ℕ → Bool). shuts t a) (sym same) free) ∙ never (is_word_of image parts sizing p (0 + k) pc)
+            ap (λ c. is_word_of image parts sizing p (0 + k) pc && c) (subst (λ (t : ℕ → Bool). shuts t a) (sym same) free) ∙ and_false (is_word_of image parts sizing p (0 + k) pc)
         by k x e (inr ne) =
             let zero_more : k ≡ 0 + k = omega arith in
             let lt = slice_get_within (closed_to_codes p parts) k x e in
@@ -203,7 +200,7 @@ module _ (image : Fields) (parts : Parts) (sizing : List ℕ) (p : Program) (out
         let h = beside image pc word stands in
         ap₂ (λ (s t : Option SiteRow). eqb (pc % 4) 0 && is_closed_beside image parts sizing p s t pc a) h.first h.second
         ∙ ap (λ c. eqb (pc % 4) 0 && c) (open_from pc a (omega (arith, low, ge)) lt (none_read y out a test b reads may (length p.globals)))
-        ∙ never (eqb (pc % 4) 0)
+        ∙ and_false (eqb (pc % 4) 0)
 
   -- ---- sites
 
@@ -247,7 +244,7 @@ module _ (image : Fields) (parts : Parts) (sizing : List ℕ) (p : Program) (out
 
   -- none of it is closed to any code
   pub plan_open : (stub : ℕ) → IsPlanOpen (closed image parts sizing p) stub
-  plan_open stub pc a ge lt plan = ap (λ c. eqb (pc % 4) 0 && c) (all_open (site_at image pc) (site_before image pc)) ∙ never (eqb (pc % 4) 0)
+  plan_open stub pc a ge lt plan = ap (λ c. eqb (pc % 4) 0 && c) (all_open (site_at image pc) (site_before image pc)) ∙ and_false (eqb (pc % 4) 0)
     where
       none : (test : ℕ → Bool) → shuts test a
       none test = none_behind y out a test (omega (arith, plan)) (length p.globals)
@@ -256,4 +253,4 @@ module _ (image : Fields) (parts : Parts) (sizing : List ℕ) (p : Program) (out
       all_open (Some s) t = none (is_closed_to_variants_of p (slice_get (attributed_functions p) s.function))
       all_open None (Some t) = none (is_closed_to_variants_of p (slice_get (attributed_functions p) t.function))
       all_open None None =
-          from_shut (closed_to_codes p parts) 0 pc a (λ k test e. ap (λ c. is_word_of image parts sizing p (0 + k) pc && c) (none test) ∙ never (is_word_of image parts sizing p (0 + k) pc))
+          from_shut (closed_to_codes p parts) 0 pc a (λ k test e. ap (λ c. is_word_of image parts sizing p (0 + k) pc && c) (none test) ∙ and_false (is_word_of image parts sizing p (0 + k) pc))

@@ -25,12 +25,14 @@ use Rattle.mv_link_text.specs.Laws.{CodesFollow}
 use Rattle.mv_link_data.specs.FirstData.{data_words, global_sizes}
 use Rattle.mv_link_data.specs.Laws.{AreAddresses}
 use Rattle.mv_parts.proofs.LinkedLists.{all_variants}
-use Rattle.mv_parts.proofs.Lists.{one_of_all, some_at, some_same}
+use Rattle.mv_parts.proofs.Lists.{one_of_all}
 use Rattle.mv_parts_bodies.specs.ProgramBodies.{AreLaidOut, IsOwnCode}
 use Rattle.mv_refine_images.proofs.LinkedProgram.{linked_program}
 use Rattle.mv_refine_images.specs.Built.{HasWordsOfGlobals, IsBuilt}
 use Rattle.mv_refine_images.proofs.Facts.{Laws}
 use Rattle.mv_refine_images.proofs.Listed.{in_either}
+use Rattle.mv_num.proofs.Lists.{there_at}
+use Rattle.mv_num.proofs.Options.{some_same}
 
 -- the size of a global by its number
 pub size_is : (xs : List Global) (g : ℕ) → get_or (map (λ (x : Global). words_of_size x.size) xs) g 0 ≡ words_of_global (slice_get xs g)
@@ -129,7 +131,7 @@ module _ (laws : Laws) (p : Program) (image : Fields) (formed : IsWellFormed p) 
   own_begins f code found =
       let lt = slice_get_within parts.functions f code found in
       let same = as_many in
-      let g = some_at p.functions f (omega (arith, lt, same)) in
+      let g = there_at p.functions f (omega (arith, lt, same)) in
       let o = own f g.0 g.1 in
       let is : o.0 ≡ code = some_same o.0 code (sym o.1 ∙ found) in
       subst BeginsWithWords is (record {
@@ -147,7 +149,7 @@ module _ (laws : Laws) (p : Program) (image : Fields) (formed : IsWellFormed p) 
 
   pub ascend : (h k : ℕ) → h < k → k < length (codes parts) → at h < at k
   ascend h k lt within =
-      let code = some_at (codes parts) h (omega (arith, lt, within)) in follow.ascend h k code.0 code.1 (begins h code.0 code.1) lt within
+      let code = there_at (codes parts) h (omega (arith, lt, within)) in follow.ascend h k code.0 code.1 (begins h code.0 code.1) lt within
 
   more_codes : length parts.functions ≤ length (codes parts)
   more_codes = let joined = length-append parts.functions (variant_codes (function_variants parts.attributed)) in omega (arith, joined)

@@ -11,15 +11,12 @@ use Rattle.mv_linker.specs.declared.parts.PartFunction.{PartFunction}
 use Rattle.mv_linker.specs.declared.parts.PartVariant.{PartVariant}
 use Rattle.mv_linker.specs.Linked.{codes, function_variants, variant_codes}
 use Rattle.mv_linker.specs.Tables.{function_row}
-use Rattle.mv_parts.proofs.Lists.{map_at, some_same}
+use Rattle.mv_parts.proofs.Lists.{map_at}
 use Rattle.mv_refine_images.specs.Closed.{is_closed_to_function, is_closed_to_variants_of, closed_to_variants, closed_to_codes}
+use Rattle.mv_num.proofs.Lists.{slice_get-left}
+use Rattle.mv_num.proofs.Options.{some_same}
 
 -- ---- elements of joined lists
-
-pub at_front : {X : Type 0} (xs ys : List X) (i : ℕ) (x : X) → slice_get xs i ≡ Some x → slice_get (xs ++ ys) i ≡ Some x
-at_front [] ys i x e = absurd (cc e)
-at_front (z ∷ xs) ys zero x e = e
-at_front (z ∷ xs) ys (suc i) x e = at_front xs ys i x e
 
 pub behind_front : {X : Type 0} (xs ys : List X) (n i : ℕ) → n ≡ length xs + i → slice_get (xs ++ ys) n ≡ slice_get ys i
 behind_front [] ys n i e = let same : n ≡ i = omega (arith, e) in ap (slice_get ys) same
@@ -72,7 +69,7 @@ module _ (p : Program) where
 
   -- that of a function stands at its number
   pub test_of_function : (parts : Parts) (f : ℕ) (g : Function) → slice_get p.functions f ≡ Some g → slice_get (closed_to_codes p parts) f ≡ Some (is_closed_to_function p g)
-  test_of_function parts f g here = at_front (map (is_closed_to_function p) p.functions) (tests parts.attributed) f (is_closed_to_function p g) (map_at (is_closed_to_function p) p.functions f g here)
+  test_of_function parts f g here = slice_get-left (map (is_closed_to_function p) p.functions) (tests parts.attributed) f (is_closed_to_function p g) (map_at (is_closed_to_function p) p.functions f g here)
 
   among : (attributed : List PartFunction) (n j : ℕ) (a : PartFunction) (v : PartVariant) → slice_get attributed n ≡ Some a → slice_get a.variants j ≡ Some v →
       slice_get (tests attributed) (variants_of (take n attributed) + j) ≡ Some (is_closed_to_variants_of p (slice_get p.functions a.function))
@@ -82,7 +79,7 @@ module _ (p : Program) where
       let test = λ (w : PartVariant). is_closed_to_variants_of p (slice_get p.functions a.function) in
       let none : 0 + j ≡ j = omega arith in
       subst (λ (c : PartFunction). slice_get (closed_to_variants p c ++ tests attributed) (0 + j) ≡ Some (is_closed_to_variants_of p (slice_get p.functions a.function))) (sym same)
-      (ap (slice_get (closed_to_variants p a ++ tests attributed)) none ∙ at_front (closed_to_variants p a) (tests attributed) j (test v) (map_at test a.variants j v at))
+      (ap (slice_get (closed_to_variants p a ++ tests attributed)) none ∙ slice_get-left (closed_to_variants p a) (tests attributed) j (test v) (map_at test a.variants j v at))
   among (b ∷ attributed) (suc n) j a v e at =
       let sum = sum_by-cons (λ (c : PartFunction). length c.variants) b (take n attributed) in
       let count = length-map b.variants (λ (w : PartVariant). is_closed_to_variants_of p (slice_get p.functions b.function)) in

@@ -1,7 +1,7 @@
 -- What is closed to a variant's code is so to its function's switches: so none is loaded there.
 use Rattle.std.proofs.Common.{◌≡◌, ◌⊎◌, inl, inr, ⊎_elim, ℕ, zero, suc, ◌+◌, ◌-◌, ◌*◌, ◌%◌, ◌<◌, ◌≤◌, Bool, true, false, cond, ◌&&◌, ◌||◌, eqb, leb, ltb, List, [], ◌∷◌, Option, Some, None, length, map, take, slice_get, refl, sym, ap, ◌∙◌, subst, arith, eq-eqb}
 use Rattle.std.specs.Prelude.{Contains, nat_eq}
-use Rattle.std.proofs.lemmas.Bool.{and_from, cases_eq, cases_lt, le-leb, lt-ltb}
+use Rattle.std.proofs.lemmas.Bool.{and_from, cases_eq, cases_lt, le-leb, lt-ltb, or_right, or_left}
 use Rattle.std.proofs.lemmas.List.{length-append, length-map}
 use Rattle.std.proofs.lemmas.List.Sums.{sum_by_more}
 use Rattle.std.proofs.lemmas.Option.{get_or_from_slice_get, slice_get_within}
@@ -27,7 +27,7 @@ use Rattle.mv_linker.specs.declared.parts.PartFunction.{PartFunction}
 use Rattle.mv_linker.specs.declared.parts.PartVariant.{PartVariant}
 use Rattle.mv_linker.specs.Linked.{codes, function_variants, variant_codes}
 use Rattle.mv_linker.specs.Tables.{variant_rows}
-use Rattle.mv_parts.proofs.Lists.{map_at, some_at, some_same}
+use Rattle.mv_parts.proofs.Lists.{map_at}
 use Rattle.mv_parts.proofs.Numbers as numbered
 use Rattle.mv_refine_images.proofs.LinkedProgram.{linked_program}
 use Rattle.mv_refine_images.specs.Built.{HasWordsOfGlobals, IsBuilt}
@@ -37,22 +37,17 @@ use Rattle.mv_refine_images.proofs.Data.{as_many}
 use Rattle.mv_refine_images.proofs.Facts.{Laws}
 use Rattle.mv_refine_images.proofs.Host.{tables}
 use Rattle.mv_refine_images.proofs.Listed.{rows_count, test_of_variant, variants_of}
+use Rattle.mv_num.proofs.Lists.{there_at}
+use Rattle.mv_num.proofs.Options.{some_same}
 
 -- ---- tests that hold
-
-later : (b c : Bool) → c ≡ true → (b || c) ≡ true
-later true c h = refl
-later false c h = h
-
-first : (b c : Bool) → b ≡ true → (b || c) ≡ true
-first b c h = ap (λ d. d || c) h
 
 -- a test holds of an address in the data words of a global that passes it
 in_data : (y : Layout) (test : ℕ → Bool) (x a : ℕ) → (is_data_of y x a && test x) ≡ true → (count : ℕ) → x < count → is_data_among y test count a ≡ true
 in_data y test x a h zero lt = absurd (omega (arith, lt))
 in_data y test x a h (suc c) lt = ⊎_elim
-    (λ (e : x ≡ c). first (is_data_of y c a && test c) (is_data_among y test c a) (subst (λ z. (is_data_of y z a && test z) ≡ true) e h))
-    (λ (ne : x ≡ c → ⊥). later (is_data_of y c a && test c) (is_data_among y test c a) (in_data y test x a h c (less ne)))
+    (λ (e : x ≡ c). or_left (is_data_of y c a && test c) (is_data_among y test c a) (subst (λ z. (is_data_of y z a && test z) ≡ true) e h))
+    (λ (ne : x ≡ c → ⊥). or_right (is_data_of y c a && test c) (is_data_among y test c a) (in_data y test x a h c (less ne)))
     (cases_eq x c)
   where
     less : (x ≡ c → ⊥) → x < c
@@ -61,8 +56,8 @@ in_data y test x a h (suc c) lt = ⊎_elim
 -- an element is among what its list is mapped to
 is_mapped : (f : ℕ → ℕ) (ss : List ℕ) (i s : ℕ) → slice_get ss i ≡ Some s → is_among (f s) (map f ss) ≡ true
 is_mapped f [] i s e = absurd (cc e)
-is_mapped f (z ∷ ss) zero s e = let same : z ≡ s = some_same z s e in first (nat_eq (f s) (f z)) (is_among (f s) (map f ss)) (eq-eqb (f s) (f z) (ap f (sym same)))
-is_mapped f (z ∷ ss) (suc i) s e = later (nat_eq (f s) (f z)) (is_among (f s) (map f ss)) (is_mapped f ss i s e)
+is_mapped f (z ∷ ss) zero s e = let same : z ≡ s = some_same z s e in or_left (nat_eq (f s) (f z)) (is_among (f s) (map f ss)) (eq-eqb (f s) (f z) (ap f (sym same)))
+is_mapped f (z ∷ ss) (suc i) s e = or_right (nat_eq (f s) (f z)) (is_among (f s) (map f ss)) (is_mapped f ss i s e)
 
 -- the address of a variant's row is that of its code
 row_at : (address : ℕ → ℕ) (vs : List PartVariant) (number k : ℕ) (row : VariantRow) → slice_get (variant_rows address number vs) k ≡ Some row → row.address ≡ address (number + k)
@@ -101,7 +96,7 @@ module _ (laws : Laws) (p : Program) (image : Fields) (formed : IsWellFormed p) 
   function_at : (n a : ℕ) → IsOwnSwitch image n a → (g : Function) × (slice_get (attributed_functions p) n ≡ Some g)
   function_at n a o =
       let lt = slice_get_within image.functions n o.function o.there in
-      let same = tabled.functions in some_at (attributed_functions p) n (omega (arith, lt, same))
+      let same = tabled.functions in there_at (attributed_functions p) n (omega (arith, lt, same))
 
   -- ---- its switches are closed to its variants
 
@@ -116,7 +111,7 @@ module _ (laws : Laws) (p : Program) (image : Fields) (formed : IsWellFormed p) 
   own_closed n a o g here =
       let lt = slice_get_within image.switches o.number o.switch o.is_switch in
       let same = tabled.switches in
-      let s = some_at p.switches o.number (omega (arith, lt, same)) in
+      let s = there_at p.switches o.number (omega (arith, lt, same)) in
       let x = s.0.global in
       let number : slice_get g.switches o.place ≡ Some o.number = ap (λ (l : List ℕ). slice_get l o.place) (sym (tabled.function n g o.function here o.there)) ∙ o.is_own in
       let is : switch_global p o.number ≡ x = ap global_or_none s.1 in
@@ -126,7 +121,7 @@ module _ (laws : Laws) (p : Program) (image : Fields) (formed : IsWellFormed p) 
       let from = o.from in let to = o.to in
       let inside : is_data_of y x a ≡ true =
       and_from (leb (y.place x) a) (ltb a (y.place x + 4 * y.size x)) (le-leb (y.place x) a (omega (arith, from, place))) (lt-ltb a (y.place x + 4 * y.size x) (omega (arith, to, place, some))) in
-      in_data y (is_closed_to_variant p g) x a (and_from (is_data_of y x a) (is_closed_to_variant p g x) inside (first (is_among x (lower_function p g).switches) _ among)) (length p.globals) (a_global x some)
+      in_data y (is_closed_to_variant p g) x a (and_from (is_data_of y x a) (is_closed_to_variant p g x) inside (or_left (is_among x (lower_function p g).switches) _ among)) (length p.globals) (a_global x some)
 
   -- ---- code of its variants
 
@@ -136,12 +131,12 @@ module _ (laws : Laws) (p : Program) (image : Fields) (formed : IsWellFormed p) 
   from_closed (t ∷ tests) f zero pc a test e word holds =
       let same : t ≡ test = some_same t test e in
       let none : f + 0 ≡ f = omega arith in
-      first (is_word_of image parts sizing p f pc && is_data_where image parts sizing p t a) (is_closed_from image parts sizing p (suc f) tests pc a)
+      or_left (is_word_of image parts sizing p f pc && is_data_where image parts sizing p t a) (is_closed_from image parts sizing p (suc f) tests pc a)
       (and_from (is_word_of image parts sizing p f pc) (is_data_where image parts sizing p t a) (subst (λ z. is_word_of image parts sizing p z pc ≡ true) none word)
       (subst (λ (u : ℕ → Bool). is_data_where image parts sizing p u a ≡ true) (sym same) holds))
   from_closed (t ∷ tests) f (suc k) pc a test e word holds =
       let one : f + suc k ≡ suc f + k = omega arith in
-      later (is_word_of image parts sizing p f pc && is_data_where image parts sizing p t a) (is_closed_from image parts sizing p (suc f) tests pc a)
+      or_right (is_word_of image parts sizing p f pc && is_data_where image parts sizing p t a) (is_closed_from image parts sizing p (suc f) tests pc a)
       (from_closed tests (suc f) k pc a test e (subst (λ z. is_word_of image parts sizing p z pc ≡ true) one word) holds)
 
   module _ (n a pc : ℕ) (o : IsOwnSwitch image n a) where
@@ -166,7 +161,7 @@ module _ (laws : Laws) (p : Program) (image : Fields) (formed : IsWellFormed p) 
       part =
           let lt = slice_get_within image.functions n o.function o.there in
           let count : length image.functions ≡ length parts.attributed = ap (λ (i : Fields). length i.functions) built.linked.image_is ∙ length-map parts.attributed _ in
-          some_at parts.attributed n (omega (arith, lt, count))
+          there_at parts.attributed n (omega (arith, lt, count))
 
       -- its place among the function's own
       j : ℕ
@@ -182,7 +177,7 @@ module _ (laws : Laws) (p : Program) (image : Fields) (formed : IsWellFormed p) 
       variant =
           let from = v.from in let to = v.to in
           let low = before_is n in let high = before_is (n + 1) in
-          some_at part.0.variants (v.variant - variants_of (take n parts.attributed)) (omega (arith, from, to, low, high, counted))
+          there_at part.0.variants (v.variant - variants_of (take n parts.attributed)) (omega (arith, from, to, low, high, counted))
 
       abbrev number : ℕ
       number = length parts.functions + variants_of (take n parts.attributed) + j
@@ -209,15 +204,15 @@ module _ (laws : Laws) (p : Program) (image : Fields) (formed : IsWellFormed p) 
 
       ends : (v.variant + 1 < length image.variants) ⊎ (length image.variants ≤ v.variant + 1) → (last || below) ≡ true
       ends (inl more) =
-          let next = some_at image.variants (v.variant + 1) more in
+          let next = there_at image.variants (v.variant + 1) more in
           let address = address_is (v.variant + 1) next.0 next.1 in
           let same : length parts.functions + (v.variant + 1) ≡ suc (length parts.functions + v.variant) = omega arith in
           let behind = v.ends next.0 next.1 in
-          later last below (lt-ltb pc (at (suc (length parts.functions + v.variant))) (subst (λ z. pc < z) (address ∙ ap at same) behind))
+          or_right last below (lt-ltb pc (at (suc (length parts.functions + v.variant))) (subst (λ z. pc < z) (address ∙ ap at same) behind))
       ends (inr end) =
           let lt = slice_get_within image.variants v.variant v.row v.there in
           let count = many in
-          first last below (eq-eqb (suc (length parts.functions + v.variant)) (length (codes parts)) (omega (arith, end, lt, count)))
+          or_left last below (eq-eqb (suc (length parts.functions + v.variant)) (length (codes parts)) (omega (arith, end, lt, count)))
 
       is_its_word : is_word_of image parts sizing p (length parts.functions + v.variant) pc ≡ true
       is_its_word =

@@ -30,7 +30,7 @@ use Rattle.mv_linker.specs.Linked.{codes, linked_lines}
 use Rattle.mv_parts_bound.specs.Meant.{IsVariantOf}
 use Rattle.mv_variants.specs.declared.variant.Variant.{Variant}
 use Rattle.mv_parts.specs.Numbers as source
-use Rattle.mv_parts.proofs.Lists.{map_at, some_same}
+use Rattle.mv_parts.proofs.Lists.{map_at}
 use Rattle.mv_parts.proofs.Numbers as numbered
 use Rattle.mv_link_text.specs.Text.{IsAttributed, IsPlacedCode}
 use Rattle.mv_link_text.specs.Text as text
@@ -47,6 +47,7 @@ use Rattle.mv_refine_images.proofs.Data.{as_many, laid_out, set_out, follow, own
 use Rattle.mv_refine_images.proofs.Facts.{Laws}
 use Rattle.mv_refine_images.proofs.Listed.{one_each, rows_count, test_of_function, test_of_variant}
 use Rattle.mv_refine_images.proofs.Patched.{patched_functions_stand}
+use Rattle.mv_num.proofs.Options.{some_same}
 
 module _ (laws : Laws) (p : Program) (image : Fields) (formed : IsWellFormed p) (have_words : HasWordsOfGlobals p) (built : IsBuilt p image) where
   open linked_program p image built use {parts, sizing, y, numbers, at, attributed, shut}

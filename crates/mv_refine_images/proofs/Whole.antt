@@ -1,15 +1,12 @@
 -- The run of a built image does what its program means.
-use Rattle.std.proofs.Common.{◌≡◌, ⊎_elim, ℕ, ◌+◌, ◌*◌, ◌<◌, ◌^◌, ◌%◌, List, [], Option, Some, None, map, take, sum, length, get_or, slice_get, All, refl, sym, ap, ◌∙◌, subst, arith}
+use Rattle.std.proofs.Common.{◌≡◌, ℕ, ◌+◌, ◌*◌, ◌<◌, ◌^◌, ◌%◌, List, [], Option, Some, None, map, take, sum, length, get_or, slice_get, All, refl, sym, ap, ◌∙◌, subst, arith}
 use Rattle.std.specs.Prelude.{IsTrue}
 use Rattle.std.specs.List.{flat_map}
 use Rattle.std.proofs.Math.ListN as lists
 use Rattle.std.proofs.lemmas.List.{length-map}
 use Rattle.std.proofs.lemmas.List.Elements.{All-from_get_or, All-weaker}
-use Rattle.std.proofs.lemmas.Option.{slice_get_within}
 use Rattle.mv_ast.specs.declared.program.Program.{Program}
 use Rattle.mv_ast.specs.declared.program.Global.{Global}
-use Rattle.mv_ast.specs.declared.program.CType.{CType}
-use Rattle.mv_ast.specs.declared.program.CType.TheVariants.{Void, Scalar, Pointer}
 use Rattle.mv_ast.specs.declared.world.Action.{Action}
 use Rattle.mv_ast.specs.Actions.{fits, IsOfWord}
 use Rattle.mv_source_forms.specs.Typing.{IsFirstValue}
@@ -44,6 +41,7 @@ use Rattle.mv_refine_images.proofs.Data.{addresses, numbering, size_is, sizes_co
 use Rattle.mv_refine_images.proofs.Facts.{Laws}
 use Rattle.mv_refine_images.proofs.Host.{loaded, stubs, tables}
 use Rattle.mv_refine_images.proofs.Own.{no_own_switch}
+use Rattle.mv_parts.proofs.LinkedTables.{first_value}
 
 -- the run of a lowered program ends so, also where it has no main
 run_reached : EndsAreReached → (p : Program) (numbers : List ℕ) (codes : List Code) (main : Option Code) (bound : ℕ) (w : World) → IsReached w (call_of_main (setting_of numbers p) codes main bound w).end
@@ -51,12 +49,6 @@ run_reached reached p numbers codes None bound w = tt
 run_reached reached p numbers codes (Some main) bound w = reached p numbers codes main bound w
 
 -- ---- the functions that are first values
-
-first_value : (p : Program) (t : CType) (v : ℕ) → IsFirstValue p t v → IsFirstValueAmong (length p.functions) t v
-first_value p Void v h = tt
-first_value p (Scalar kind) v h = tt
-first_value p (Pointer s) v h =
-    ⊎_elim (λ none. omega (arith, none)) (λ some. let within = slice_get_within p.functions some.0 some.2.function some.2.defined in omega (arith, some.1, within)) h
 
 first_values : (p : Program) → All (λ (g : Global). All (IsFirstValue p g.ctype) g.first) p.globals → HasFirstValues p
 first_values p = All-weaker (λ (g : Global). All (IsFirstValue p g.ctype) g.first) (λ (g : Global). All (IsFirstValueAmong (length p.functions) g.ctype) g.first)

@@ -8,6 +8,7 @@ use Rattle.mv_isa.specs.Code.{IsPlace, distance, nop}
 use Rattle.mv_isa.specs.Standing.{InstrStands}
 use Rattle.mv_image.specs.Jumps as image
 use Rattle.mv_refine_machine.specs.Laws.{IsWordOf, BoundWordsAreInstructions}
+use Rattle.mv_image.proofs.Common.{jal_is}
 
 low_distance : (from to : ℕ) → IsPlace from → IsPlace to → low_in (2 ^ 21) (distance from to) ≡ image.distance from to
 unfolding low_in
@@ -15,9 +16,6 @@ low_distance from to p q =
     let ends = p.1 in
     let e : distance from to +ℤ pos (1 * 2 ^ 21) ≡ pos (to + 2 ^ 21 - from) = omega (arith, ints, ends) in
     ap unsigned_abs (int_rem_euclid_is (distance from to) (pos (2 ^ 21)) (2 ^ 21) 1 (to + 2 ^ 21 - from) (omega arith) refl e)
-
-jal_is : (rd : ℕ) (x : ℕ) → x < 2 ^ 21 → 0x6f + rd * 2 ^ 7 + x / 2 ^ 12 % 2 ^ 8 * 2 ^ 12 + x / 2 ^ 11 % 2 * 2 ^ 20 + x / 2 % 2 ^ 10 * 2 ^ 21 + x / 2 ^ 20 * 2 ^ 31 ≡ image.jal_word rd x
-jal_is rd x h = omega (arith, h)
 
 jump_is : (rd from to : ℕ) → IsPlace from → IsPlace to → image.jump rd from to ≡ encode (Jal rd (distance from to))
 unfolding image.jump encode j_word

@@ -1,13 +1,9 @@
 -- What each step keeps of a state, a run keeps.
-use Rattle.std.proofs.Common.{ℕ, zero, suc, Bool, true, false, if◌then◌else◌, List, slice_index}
+use Rattle.std.proofs.Common.{ℕ, zero, suc, List, slice_index}
 use Rattle.mv_isa.specs.declared.instr.Cause.{Cause}
 use Rattle.mv_isa.specs.Execution.{Outcome, Goes, Calls, Faults, reg}
 use Rattle.mv_fetch.specs.Held.{Room}
 use Rattle.mv_machine.specs.Runs.{State, Stop, Going, Exit, Trap, Fault, Request, request_of, environment_call, fetched_step, after, where_going, turn, runs_from}
-
-pub either : (P : State → Type 0) (b : Bool) (x y : State) → P x → P y → P (if b then x else y)
-either P true x y h k = h
-either P false x y h k = k
 
 pub record StepsKeep (P : State → Type 0) : Type 0 where
   pub goes : (regs : List ℕ) (pc : ℕ) (room : Room) (s : State) → P s → P (after (Goes regs pc room) s)

@@ -9,6 +9,8 @@ use Rattle.mv_rv32.specs.Stepping.{access as room_access, with_held}
 use Rattle.mv_refine_machine.specs.Calm.{Rest, stack_words}
 use Rattle.mv_refine_machine.specs.MachineRuns.{access, with_room}
 use Rattle.mv_refine_machine.specs.Layout.{IsOutsideText}
+use Rattle.mv_num.proofs.Lists.{get_set_same}
+use Rattle.mv_fetch.proofs.Places.{stack_index}
 
 -- ---- where an address lies
 
@@ -106,11 +108,6 @@ lies a = ⊎_elim (λ (l : a < 0x1000). (Nowhere, in_none a (inl l))) from_text 
     from_text ge = ⊎_elim (λ (l : a < 0x0010_0000). (Text, in_text a ge l)) from_globals (cases_lt a 0x0010_0000)
 
 -- ---- words of lists
-
-get_set_same : (xs : List ℕ) (k v w : ℕ) → slice_get xs k ≡ Some w → slice_get (set xs k v) k ≡ Some v
-get_set_same [] k v w h = absurd (cc)
-get_set_same (x ∷ xs) zero v w h = refl
-get_set_same (x ∷ xs) (suc k) v w h = get_set_same xs k v w h
 
 get_set_other : (xs : List ℕ) (k j v : ℕ) → (j ≡ k → ⊥) → slice_get (set xs k v) j ≡ slice_get xs j
 get_set_other [] k j v ne = refl
@@ -284,9 +281,6 @@ load_word m a w h =
     let l = load_finds m a w h in
     let e : part a 4 l.word ≡ w = ap (λ o. unwrap_or o 0) (sym (load_is m a l.word l.aligned l.there) ∙ h) in
     omega (arith, e)
-
-stack_index : (a : ℕ) → 0x0020_0000 ≤ a → a < 0x0040_0000 → index_of a ≡ (a - 0x0020_0000) / 4
-stack_index a ge lt = ⊎_elim (λ (e : Stack ≡ Nowhere). absurd (cc)) (λ (e : index_of a ≡ (a - 0x0020_0000) / 4). e) (in_stack a ge lt).told
 
 stack_region : (h : Held) → words_of h (region_of (begin Stack)) ≡ h.stack
 unfolding region_of

@@ -13,11 +13,11 @@ use Rattle.mv_image.proofs.PatchLaws.{free_text}
 use Rattle.mv_patch.specs.Orders.{is_known_order, plan_between, values_of}
 use Rattle.mv_machine.specs.Runs.{State, Stop, Going, Exit, Trap, Fault, Request, Exits, Reads, Writes, Traps, Plans, Polls, Unknown, request_of, argument, answered, stopped, live_frames, plan_area, stored_words, spelled_pairs, with_plan, refused, ordered, planned, acted, polled, environment_call, after, fetched_step, where_going, turn}
 use Rattle.mv_machine.specs.Commits.{opens, is_some_pair, fetched_instr, after_instr, where_it_goes}
-use Rattle.mv_refine_machine.proofs.Keeping.{either}
 use Rattle.mv_refine_commits.proofs.Planned.{no_pairs}
 use Rattle.mv_refine_runs.specs.Unchanged.{IsForPlan, IsUnchanged, LiveFramesRefuse, FreeTextIsItsOwn}
 use Rattle.mv_refine_runs.proofs.Stopping.{calls_where}
 use Rattle.mv_refine_machine.proofs.Starts.{free_values}
+use Rattle.mv_machine.proofs.Leaving.{either}
 
 -- ---- live frames
 

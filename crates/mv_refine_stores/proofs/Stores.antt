@@ -1,5 +1,5 @@
 -- What stores of pairs leave of a text.
-use Rattle.std.proofs.Common.{◌≡◌, ◌≢◌, ◌⊎◌, inl, inr, ⊎_elim, ℕ, zero, suc, ◌<◌, List, [], ◌∷◌, length, set, slice_get, get_or, Some, refl, sym, ap, ap₂, ◌∙◌, subst, arith, length-set}
+use Rattle.std.proofs.Common.{◌≡◌, ◌≢◌, ◌⊎◌, inl, inr, ⊎_elim, ℕ, zero, suc, ◌<◌, List, [], ◌∷◌, length, slice_get, get_or, Some, sym, ap, ap₂, ◌∙◌, subst, arith, length-set}
 use Rattle.std.specs.List.{All, Contains}
 use Rattle.std.proofs.lemmas.Bool.{cases_eq}
 use Rattle.std.proofs.lemmas.List.{get_or-set_same, get_or-set_other}
@@ -11,20 +11,9 @@ use Rattle.mv_patch.specs.Pairs.{pair_of, place}
 use Rattle.mv_refine_stores.specs.Stores.{stored, stored_all, AreTexts}
 use Rattle.mv_refine_stores.proofs.Places.{index_at}
 use Rattle.mv_patch.proofs.Pairs.{Marches, at_least}
+use Rattle.mv_num.proofs.Lists.{get_set_same, get_set_other}
 
 -- ---- words of lists
-
-get_set_same : (xs : List ℕ) (k v w : ℕ) → slice_get xs k ≡ Some w → slice_get (set xs k v) k ≡ Some v
-get_set_same [] k v w h = absurd (cc)
-get_set_same (x ∷ xs) zero v w h = refl
-get_set_same (x ∷ xs) (suc k) v w h = get_set_same xs k v w h
-
-get_set_other : (xs : List ℕ) (k j v : ℕ) → j ≢ k → slice_get (set xs k v) j ≡ slice_get xs j
-get_set_other [] k j v ne = refl
-get_set_other (x ∷ xs) zero zero v ne = absurd (ne refl)
-get_set_other (x ∷ xs) zero (suc j) v ne = refl
-get_set_other (x ∷ xs) (suc k) zero v ne = refl
-get_set_other (x ∷ xs) (suc k) (suc j) v ne = get_set_other xs k j v (λ e. ne (ap suc e))
 
 -- ---- one pair
 

@@ -1,6 +1,5 @@
 -- A run that begins at the start stub comes to main.
-use Rattle.std.proofs.Common.{◌≡◌, ℕ, zero, suc, Bool, true, false, cond, eqb, List, replicate, refl, sym, ap, ◌∙◌, subst, arith}
-use Rattle.std.specs.Prelude.{slice_index}
+use Rattle.std.proofs.Common.{◌≡◌, ℕ, Bool, true, false, cond, eqb, List, replicate, refl, sym, ap, ◌∙◌, subst, arith}
 use Rattle.mv_ast.specs.declared.world.Action.{Action}
 use Rattle.mv_ast.specs.Traps.{depth_limit}
 use Rattle.mv_isa.specs.Execution.{reg}
@@ -22,13 +21,9 @@ use Rattle.mv_refine_stubs.specs.Laws.{HoldsData, EntersMain}
 use Rattle.mv_refine_stubs.proofs.Data.{data_held}
 use Rattle.mv_refine_stubs.proofs.Walked as walked
 use Rattle.mv_refine_stubs.proofs.Walked.{no_frame, At, regs3, are3, link_there, stack_there, left_there, live_there}
+use Rattle.mv_num.proofs.Numbers.{zeros_at}
 
 -- ---- the first state
-
-zero_at : (n q : ℕ) → slice_index (replicate n 0) q ≡ 0
-zero_at zero q = refl
-zero_at (suc n) zero = refl
-zero_at (suc n) (suc q) = zero_at n q
 
 either_way : (b : Bool) (n : ℕ) → cond b n n ≡ n
 either_way true n = refl
@@ -36,7 +31,7 @@ either_way false n = refl
 
 zeros : (n q : ℕ) → reg (replicate n 0) q ≡ 0
 unfolding reg
-zeros n q = ap (cond (eqb q 0) 0) (zero_at n q) ∙ either_way (eqb q 0) 0
+zeros n q = ap (cond (eqb q 0) 0) (zeros_at n q) ∙ either_way (eqb q 0) 0
 
 first_zero : (image : Fields) (bytes : List ℕ) (actions : List Action) (q : ℕ) → reg (first image (bytes_to_come bytes) actions).regs q ≡ 0
 unfolding first

@@ -15,7 +15,7 @@ use Rattle.mv_select_trees.specs.Straight.{Sets}
 use Rattle.mv_select_trees.specs.View.{AreRegisters}
 use Rattle.mv_select_trees.proofs.Instructions.{addi_sets, lui_sets}
 use Rattle.mv_select_trees.proofs.Registers.{reg_zero, put_same, put_other, put_registers}
-use Rattle.mv_select_trees.proofs.Words.{word_of_pos, add_zero}
+use Rattle.mv_select_trees.proofs.Words.{add_zero}
 use Rattle.mv_isa.proofs.LineSteps.{line_runs}
 use Rattle.mv_select_statements.specs.Leads.{limited}
 use Rattle.mv_select_statements.specs.Frames.{Site, TempCell, Element, Kept}
@@ -33,6 +33,7 @@ use Rattle.mv_refine_machine.specs.MachineRuns.{access, unpatched_word, machine_
 use Rattle.mv_refine_machine.specs.Laws.{CalmIsTested, RunsAreRuns}
 use Rattle.mv_refine_stubs.specs.Stubs.{stack_register, stack_end, start_address, return_address, start_lines, request_lines}
 use Rattle.mv_refine_stubs.specs.Ends.{ComesTo}
+use Rattle.mv_num.proofs.Numbers.{word_of_pos}
 
 -- a frame without cells
 abbrev pub no_frame : (ℕ → ℕ) → Site

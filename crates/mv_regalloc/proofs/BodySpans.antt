@@ -1,6 +1,6 @@
 -- The spans of a body's temporaries, from its rows.
 use Rattle.std.proofs.Common.{arith, ◌≡◌, ℕ, zero, suc, ◌<◌, ◌≤◌, Bool, true, false, cond, eqb, ltb, ◌||◌, List, ◌∷◌, length, map, refl, sym, ap, ◌∙◌, ◌⊎◌, inl, inr}
-use Rattle.std.specs.Prelude.{slice_index, replicate}
+use Rattle.std.specs.Prelude.{replicate}
 use Rattle.std.proofs.lemmas.List.{length-set}
 use Rattle.std.proofs.lemmas.Bool.{cases_eq, cases_lt, lt-ltb, le-ltb, eq-eqb, ne_eqb}
 use Rattle.mv_ir.specs.declared.body.Body.{Body}
@@ -40,11 +40,6 @@ params_bit (suc n) bits t l =
         far : (n < t) ⊎ (t ≤ n) → suc n ≤ t
         far (inl h) = h
         far (inr h) = absurd (e (omega (arith, h, k)))
-
-pub zeros_at : (n t : ℕ) → slice_index (replicate n 0) t ≡ 0
-zeros_at zero t = refl
-zeros_at (suc n) zero = refl
-zeros_at (suc n) (suc t) = zeros_at n t
 
 pub clear_at : (n t : ℕ) → mark_at (replicate n false) t ≡ false
 clear_at zero t = refl

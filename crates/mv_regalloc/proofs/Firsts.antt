@@ -11,7 +11,8 @@ use Rattle.mv_regalloc.specs.Intervals.{first_from, span, beginning, range}
 use Rattle.mv_regalloc.specs.Spanned.{SpanTable, from_first, AreSpansOf}
 use Rattle.mv_regalloc.specs.Tracked.{end_of, interval_from, AreFirsts}
 use Rattle.mv_regalloc.proofs.Sweep.{scan_append, beginning_more}
-use Rattle.mv_regalloc.proofs.Numbering.{begins_test, begins_not, both_left, both_right, span_at, before_end}
+use Rattle.mv_regalloc.proofs.Numbering.{begins_test, begins_not, span_at, before_end}
+use Rattle.mv_num.proofs.Booleans.{and_right, and_left}
 
 -- ---- a fact on each of some temporaries
 
@@ -39,7 +40,7 @@ module _ (marks : ℕ → List Bool) (n : ℕ) (s : SpanTable) (h : AreSpansOf m
   begins_all (t ∷ ts) k = by (any (marks t) && eqb (first_from 0 (marks t)) at) refl (begins_all ts k.1)
     where
       by : (c : Bool) → (any (marks t) && eqb (first_from 0 (marks t)) at) ≡ c → Each Begins (temps_of (beginning marks at ts)) → Each Begins (temps_of (cond c (span marks t ∷ beginning marks at ts) (beginning marks at ts)))
-      by true e rest = (record { known = k.0; before = before_end marks n s h t at k.0 (both_left _ _ e) (eqb-true (first_from 0 (marks t)) at (both_right (any (marks t)) (eqb (first_from 0 (marks t)) at) e)) }, rest)
+      by true e rest = (record { known = k.0; before = before_end marks n s h t at k.0 (and_left _ _ e) (eqb-true (first_from 0 (marks t)) at (and_right (any (marks t)) (eqb (first_from 0 (marks t)) at) e)) }, rest)
       by false e rest = rest
 
   intervals_of : (ts : List ℕ) → Each (λ t. t < n) ts → map (interval_from s at) (temps_of (beginning marks at ts)) ≡ beginning marks at ts
@@ -49,7 +50,7 @@ module _ (marks : ℕ → List Bool) (n : ℕ) (s : SpanTable) (h : AreSpansOf m
       by : (c : Bool) → (any (marks t) && eqb (first_from 0 (marks t)) at) ≡ c → map (interval_from s at) (temps_of (beginning marks at ts)) ≡ beginning marks at ts →
           map (interval_from s at) (temps_of (cond c (span marks t ∷ beginning marks at ts) (beginning marks at ts))) ≡ cond c (span marks t ∷ beginning marks at ts) (beginning marks at ts)
       by true e rest =
-          ap (λ x. x ∷ map (interval_from s at) (temps_of (beginning marks at ts))) (span_at marks n s h t at k.0 (both_left _ _ e) (eqb-true (first_from 0 (marks t)) at (both_right (any (marks t)) (eqb (first_from 0 (marks t)) at) e))) ∙
+          ap (λ x. x ∷ map (interval_from s at) (temps_of (beginning marks at ts))) (span_at marks n s h t at k.0 (and_left _ _ e) (eqb-true (first_from 0 (marks t)) at (and_right (any (marks t)) (eqb (first_from 0 (marks t)) at) e))) ∙
           ap (λ l. span marks t ∷ l) rest
       by false e rest = rest
 

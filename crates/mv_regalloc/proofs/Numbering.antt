@@ -49,14 +49,6 @@ begins_not xs at h ne = by (any xs) refl
     by true k = let s = first_sum 0 xs k in ap (λ c. c && eqb (first_from 0 xs) at) k ∙ ne_eqb (first_from 0 xs) at (λ f. ne (omega (arith, s, h, f)))
     by false k = ap (λ c. c && eqb (first_from 0 xs) at) k
 
-pub both_left : (a b : Bool) → (a && b) ≡ true → a ≡ true
-both_left true b h = refl
-both_left false b h = h
-
-pub both_right : (a b : Bool) → (a && b) ≡ true → b ≡ true
-both_right true b h = h
-both_right false b h = let e : false ≡ true = h in absurd cc
-
 -- ---- one temporary
 
 module _ (marks : ℕ → List Bool) (n : ℕ) (s : SpanTable) (h : AreSpansOf marks n s) where

@@ -3,6 +3,7 @@ use Rattle.std.proofs.Common.{arith, ◌≡◌, ℕ, zero, suc, ◌<◌, Bool, t
 use Rattle.std.specs.Prelude.{slice_index}
 use Rattle.std.specs.List.{slice_get}
 use Rattle.mv_regalloc.specs.Told.{IsPut}
+use Rattle.mv_num.proofs.Booleans.{or_false, or_true}
 
 pub item_none : (xs : List ℕ) (i : ℕ) → slice_get xs i ≡ None → slice_index xs i ≡ 0
 item_none [] i h = refl
@@ -16,14 +17,6 @@ pub put_none : (f : ℕ → Bool) (v : ℕ) (xs : List ℕ) → ((t : ℕ) → t
 put_none f v xs e = record { long = refl; items = λ t l. ap (λ c. cond c v (slice_index xs t)) (sym (e t l)) }
 
 -- ---- some places after others
-
-or_true : (a : Bool) → (a || true) ≡ true
-or_true true = refl
-or_true false = refl
-
-or_false : (a : Bool) → (a || false) ≡ a
-or_false true = refl
-or_false false = refl
 
 module _ (a : ℕ → Bool) (test : ℕ → Bool) (v : ℕ) (xs ys : List ℕ) (h : IsPut (λ t. a t && test t) v xs ys) where
   -- the others are as they were

@@ -13,12 +13,13 @@ use Rattle.mv_regalloc.specs.Rows.{Bits}
 use Rattle.mv_regalloc.specs.Shared.{bits_at}
 use Rattle.mv_regalloc.specs.Spanned.{AreCounts, behind_last, column, from_first}
 use Rattle.mv_regalloc.specs.Told.{AreTold, IsAllTold, IsPartTold, IsPut, IsRowTold}
-use Rattle.mv_regalloc.proofs.BodySpans.{long_zeros, zeros_at}
+use Rattle.mv_regalloc.proofs.BodySpans.{long_zeros}
 use Rattle.mv_regalloc.proofs.PartWords.{at_each, even_place, even_word, odd_place, odd_word, word_here}
 use Rattle.mv_regalloc.proofs.Positions.{column_long, none_last}
 use Rattle.mv_regalloc.proofs.Putting.{put_as, put_none}
 use Rattle.mv_regalloc.proofs.SharedSets.{bit_in}
 use Rattle.mv_regalloc.proofs.WordBits.{none_in}
+use Rattle.mv_num.proofs.Numbers.{zeros_at}
 
 -- ---- some temporaries
 

@@ -6,20 +6,13 @@ use Rattle.mv_regalloc.specs.LiveBits.{in_word, word_bit}
 use Rattle.mv_regalloc.specs.Told.{IsPut}
 use Rattle.mv_regalloc.proofs.WordBits.{none_in, bits_either, word_put, word_stays}
 use Rattle.mv_regalloc.proofs.Putting.{put_same, put_step}
+use Rattle.mv_num.proofs.Booleans.{and_false, and_true}
 
 -- ---- the bits of a word
 
 -- those of a place whose bits are turned
 abbrev pub turned : ℕ → ℕ → ℕ → Bool
 turned place changed t = eqb (t / 64) place && not (in_word changed t)
-
-off : (c : Bool) → (c && false) ≡ false
-off true = refl
-off false = refl
-
-pub and_true : (c : Bool) → (c && true) ≡ c
-and_true true = refl
-and_true false = refl
 
 pub turned_word : (place word t : ℕ) (c : Bool) → (turned place word t && (in_word word t && c)) ≡ false
 turned_word place word t c = by (eqb (t / 64) place) (in_word word t)
@@ -64,7 +57,7 @@ module _ (place changed bit from temp count : ℕ) (low : bit < 64) (f : from �
   turned_not h t l s = by (cases_eq t temp)
     where
       by : (t ≡ temp) ⊎ (t ≡ temp → ⊥) → turned place changed t ≡ false
-      by (inl k) = let here : temp ≡ from + bit = e (omega (arith, l, k)) in ap (λ c. eqb (t / 64) place && not c) (h t (omega (arith, here, k, f, low))) ∙ off (eqb (t / 64) place)
+      by (inl k) = let here : temp ≡ from + bit = e (omega (arith, l, k)) in ap (λ c. eqb (t / 64) place && not c) (h t (omega (arith, here, k, f, low))) ∙ and_false (eqb (t / 64) place)
       by (inr ne) = let d : true ≡ false = sym s ∙ ne_eqb t temp ne in absurd cc
 
   turned_bit : (t : ℕ) → t < count → eqb t temp ≡ true → t % 64 ≡ bit

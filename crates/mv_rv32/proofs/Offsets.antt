@@ -5,10 +5,7 @@ use Rattle.mv_num.specs.Words.{word_of, sub}
 use Rattle.mv_num.proofs.Signed.{sub_is}
 use Rattle.mv_isa.specs.Formats.{signed_in, b_imm}
 use Rattle.mv_isa.proofs.Immediates.{signed_low, signed_high}
-
-word_low : (n : ℕ) → n < 2 ^ 32 → word_of (pos n) ≡ n
-unfolding word_of
-word_low n h = omega arith
+use Rattle.mv_num.proofs.Numbers.{word_of_pos}
 
 word_less : (x m : ℕ) → x < 2 ^ 32 → m < 2 ^ 32 → word_of (pos x -ℤ pos m) ≡ (x + (2 ^ 32 - m)) % 2 ^ 32
 unfolding sub
@@ -18,7 +15,7 @@ word_less x m p q = sub_is x m p q
 word_13 : (top low : ℕ) → top < 2 → low < 2 ^ 12 → top * 0xffff_f000 + low ≡ word_of (signed_in (2 ^ 12) (top * 2 ^ 12 + low))
 word_13 top low t l = ⊎_elim
     (λ (s : top * 2 ^ 12 + low < 2 ^ 12).
-    let e = ap word_of (signed_low (2 ^ 12) (top * 2 ^ 12 + low) s) ∙ word_low (top * 2 ^ 12 + low) (omega (arith, s)) in
+    let e = ap word_of (signed_low (2 ^ 12) (top * 2 ^ 12 + low) s) ∙ word_of_pos (top * 2 ^ 12 + low) (omega (arith, s)) in
     omega (arith, e, s))
     (λ (g : 2 ^ 12 ≤ top * 2 ^ 12 + low).
     let e = ap word_of (signed_high (2 ^ 12) (top * 2 ^ 12 + low) g) ∙ word_less (top * 2 ^ 12 + low) (2 * 2 ^ 12) (omega (arith, t, l)) (omega arith) in

@@ -14,7 +14,7 @@ use Rattle.mv_select_statements.specs.declared.elements.Home.TheVariants as plac
 use Rattle.mv_select_statements.specs.StatementCode.{read_lines, write_lines}
 use Rattle.mv_select_control.specs.FlowCode.{Plan, Emitted, in_turn, plain, zero_code, if_code, loop_code, block_code, home, size, code_layer, statement_code, code_of}
 use Rattle.mv_select_control.proofs.StatementsDo.{code_roll}
-use Rattle.mv_select_bodies.proofs.Lists.{each_front, each_back}
+use Rattle.mv_ir.proofs.Common.{each_first, each_right}
 
 -- other places, which agree at the arrays that are there
 module _ (plan : Plan) (places : ℕ → ℕ) (There : Array → Type 0) (same : (a : ℕ) → There (array.Local a) → plan.array_at a ≡ places a) where
@@ -37,8 +37,8 @@ module _ (plan : Plan) (places : ℕ → ℕ) (There : Array → Type 0) (same :
   in_order_same : (code : List Stm) → Each StmSame code → Each There (joined (map stm_named code)) → codes code ≡ others code
   in_order_same [] h all = refl
   in_order_same (s ∷ code) h all =
-      let front = each_front There (stm_named s) (joined (map stm_named code)) all in
-      let back = each_back There (stm_named s) (joined (map stm_named code)) all in
+      let front = each_first There (stm_named s) (joined (map stm_named code)) all in
+      let back = each_right There (stm_named s) (joined (map stm_named code)) all in
       ap (λ c. c ∷ codes code) (h.0 front) ∙ ap (λ cs. statement_code other s ∷ cs) (in_order_same code h.1 back)
 
   layer : (x : Stm-F Stm) → StmChildren StmSame x → Each There (layer_named (map-Stm Stm (List Array) stm_named x))
@@ -53,8 +53,8 @@ module _ (plan : Plan) (places : ℕ → ℕ) (There : Array → Type 0) (same :
   layer (stm.If t a b) h all =
       let in_a = joined (map stm_named a) in
       let in_b = joined (map stm_named b) in
-      ap (λ cs. if_code plan.place t (in_turn cs) (in_turn (codes b))) (in_order_same a h.0 (each_front There in_a in_b all)) ∙
-      ap (λ cs. if_code plan.place t (in_turn (others a)) (in_turn cs)) (in_order_same b h.1 (each_back There in_a in_b all))
+      ap (λ cs. if_code plan.place t (in_turn cs) (in_turn (codes b))) (in_order_same a h.0 (each_first There in_a in_b all)) ∙
+      ap (λ cs. if_code plan.place t (in_turn (others a)) (in_turn cs)) (in_order_same b h.1 (each_right There in_a in_b all))
   layer (stm.Loop b) h all = ap (λ cs. loop_code (in_turn cs)) (in_order_same b h all)
   layer (stm.Block b) h all = ap (λ cs. block_code (in_turn cs)) (in_order_same b h all)
   layer (stm.Break n) h all = refl

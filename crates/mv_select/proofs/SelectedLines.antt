@@ -14,7 +14,7 @@ use Rattle.mv_select_control.specs.FlowCode.{Emitted, code_of}
 use Rattle.mv_select_control.specs.Encoded.{most_words}
 use Rattle.mv_select_control.specs.Labels.{Names, CallsName, OwnLabels}
 use Rattle.mv_select_control.proofs.FlowEncoded.{flow_encoded}
-use Rattle.mv_select_control.proofs.LabelsOwn.{count_append, none, silent_own, both_own, labels_own}
+use Rattle.mv_select_control.proofs.LabelsOwn.{none, silent_own, both_own, labels_own}
 use Rattle.mv_select_control.proofs.TargetsStand.{targets_stand}
 use Rattle.mv_select_calls.specs.CallCode.{is_marked}
 use Rattle.mv_select_calls.specs.Lines.{StubsStand}
@@ -27,6 +27,7 @@ use Rattle.mv_select.specs.Laws.{greatest_length, SelectedIsEncoded, SelectedLab
 use Rattle.mv_select.proofs.EntryLines.{prologue_words, epilogue_words, words_name, words_stand}
 use Rattle.mv_select.proofs.Layouts.{calls_in, arrays_within, layout_code}
 use Rattle.mv_select.proofs.Within.{has_small_code}
+use Rattle.mv_isa.proofs.Common.{count_append}
 
 module _ (attributed : Bool) (body : Body) where
   abbrev pub entry : List Line

@@ -1,7 +1,7 @@
 -- Where labels and slots of a function's code stand, wherever the code stands.
-use Rattle.std.proofs.Common.{◌≡◌, ℕ, zero, suc, ◌+◌, ◌<◌, ◌≤◌, ◌⊎◌, inl, inr, ⊎_elim, List, [], ◌∷◌, ◌++◌, length, Option, Some, None, pos, ◌-ℤ◌, take, refl, sym, ap, ◌∙◌, subst, arith}
+use Rattle.std.proofs.Common.{◌≡◌, ℕ, zero, suc, ◌+◌, ◌<◌, ◌≤◌, ◌⊎◌, inl, inr, ⊎_elim, List, [], ◌∷◌, ◌++◌, length, Option, Some, None, pos, ◌-ℤ◌, refl, sym, ap, ◌∙◌, subst, arith}
 use Rattle.std.proofs.lemmas.Bool.{cases_lt}
-use Rattle.std.proofs.lemmas.List.Sums.{sum_by-cons, sum_by_more}
+use Rattle.std.proofs.lemmas.List.Sums.{sum_by_more}
 use Rattle.mv_isa.specs.declared.instr.Instr.{Instr}
 use Rattle.mv_isa.specs.declared.instr.Instr.TheVariants.{Addi}
 use Rattle.mv_isa.specs.declared.labelled.Line.{Line}
@@ -10,11 +10,9 @@ use Rattle.mv_isa.specs.Code.{line_at, least_words, offset, label_index, label_a
 use Rattle.mv_select_functions.specs.FunctionCode.{bytes_of, end_label, lowered_lines, body_lines, epilogue_lines, function_lines}
 use Rattle.mv_select_bodies.specs.Lines.{counts_call, IsCounted, Links, FirstsAreNoLabels, NoLinkIsSlot}
 use Rattle.mv_select_bodies.proofs.FunctionNames.{function_counted}
+use Rattle.mv_isa.proofs.Common.{offset-cons}
 
 -- ---- offsets
-
-offset_cons : (x : ℕ) (sizing : List ℕ) (k : ℕ) → offset (x ∷ sizing) (suc k) ≡ x + offset sizing k
-offset_cons x sizing k = sum_by-cons (λ n. n) x (take k sizing)
 
 offset_rises : (sizing : List ℕ) (i j : ℕ) → i ≤ j → offset sizing i ≤ offset sizing j
 offset_rises [] zero j le = omega arith
@@ -22,7 +20,7 @@ offset_rises [] (suc i) (suc j) le = omega arith
 offset_rises [] (suc i) zero le = absurd (omega arith)
 offset_rises (x ∷ sizing) zero j le = omega arith
 offset_rises (x ∷ sizing) (suc i) zero le = absurd (omega arith)
-offset_rises (x ∷ sizing) (suc i) (suc j) le = omega (arith, offset_cons x sizing i, offset_cons x sizing j, offset_rises sizing i j (omega arith))
+offset_rises (x ∷ sizing) (suc i) (suc j) le = omega (arith, offset-cons x sizing i, offset-cons x sizing j, offset_rises sizing i j (omega arith))
 
 module _ (lines : List Line) (sizing : List ℕ) (sizes : IsSizing lines sizing) where
   -- the next line stands behind at least so many words

@@ -1,6 +1,6 @@
 -- Code is fine whose trees are, since where a temporary is read or written it is marked.
-use Rattle.std.proofs.Common.{◌≡◌, ℕ, suc, ◌<◌, ◌≤◌, ◌&&◌, ◌||◌, Bool, true, false, not, eqb, ltb, length, List, [], ◌∷◌, ◌++◌, map, Option, Some, None, refl, sym, ap, ◌∙◌, subst, arith, eq-eqb}
-use Rattle.std.proofs.lemmas.Bool.{lt-ltb}
+use Rattle.std.proofs.Common.{◌≡◌, ℕ, suc, ◌<◌, ◌≤◌, ◌&&◌, ◌||◌, Bool, true, false, not, eqb, ltb, length, List, [], ◌∷◌, ◌++◌, map, Option, Some, None, refl, sym, ◌∙◌, subst, arith, eq-eqb}
+use Rattle.std.proofs.lemmas.Bool.{lt-ltb, or_right, or_left, and_from}
 use Rattle.mv_ast.specs.declared.program.Known.{Known}
 use Rattle.mv_ir.specs.declared.tree.Tree.{Tree}
 use Rattle.mv_ir.specs.declared.tree.Tree.TheOpen.{Tree-F}
@@ -24,7 +24,9 @@ use Rattle.mv_select_trees.proofs.Rolls.{temps_roll}
 use Rattle.mv_select_control.specs.FlowCode.{Uses, all_true, may_read, may_write, fine_target, fine_known, fine_layer, is_fine_statement, are_fine}
 use Rattle.mv_select_control.proofs.StatementsDo.{fine_roll}
 use Rattle.mv_select_bodies.specs.SelectedBodies.{knowns_layer, stm_knowns, written_layer, stm_written}
-use Rattle.mv_select_bodies.proofs.Lists.{each_front, each_back, each_both, and_first, and_last, and_both, true_each, each_weaker}
+use Rattle.mv_select_bodies.proofs.Lists.{each_both, true_each, each_weaker}
+use Rattle.mv_num.proofs.Booleans.{and_right, and_left}
+use Rattle.mv_ir.proofs.Common.{each_first, each_right}
 
 pub knowns_roll : (x : Stm-F Stm) → stm_knowns (roll-Stm x) ≡ knowns_layer (map-Stm Stm (List Known) stm_knowns x)
 unfolding stm_knowns
@@ -33,13 +35,6 @@ knowns_roll x = fold-roll-Stm (List Known) knowns_layer x
 written_roll : (x : Stm-F Stm) → stm_written (roll-Stm x) ≡ written_layer (map-Stm Stm (List ℕ) stm_written x)
 unfolding stm_written
 written_roll x = fold-roll-Stm (List ℕ) written_layer x
-
-pub or_first : (a b : Bool) → a ≡ true → (a || b) ≡ true
-or_first a b h = ap (λ c. c || b) h
-
-pub or_last : (a b : Bool) → b ≡ true → (a || b) ≡ true
-or_last true b h = refl
-or_last false b h = h
 
 -- ---- temporaries below a limit
 
@@ -62,17 +57,17 @@ module _ (limit : ℕ) where
 
   all_below : (xs : List Tree) → ((t : ℕ) → any_reads t xs ≡ true → t < limit) → Each ReadsBelow xs
   all_below [] h = tt
-  all_below (x ∷ xs) h = (λ t e. h t (or_first (reads_temp t x) (any_reads t xs) e), all_below xs (λ t e. h t (or_last (reads_temp t x) (any_reads t xs) e)))
+  all_below (x ∷ xs) h = (λ t e. h t (or_left (reads_temp t x) (any_reads t xs) e), all_below xs (λ t e. h t (or_right (reads_temp t x) (any_reads t xs) e)))
 
   -- a statement that reads some trees and may write a temporary
   module _ (reads : List Tree) (writes : Option ℕ) (on : ℕ → Bool) (low : (t : ℕ) → Low t ((any_reads t reads || (not (is writes t) && on t)) || is writes t)) where
     trees_below : Each ReadsBelow reads
     trees_below = all_below reads (λ t e.
         let stays = not (is writes t) && on t in
-        low t (or_first (any_reads t reads || stays) (is writes t) (or_first (any_reads t reads) stays e)))
+        low t (or_left (any_reads t reads || stays) (is writes t) (or_left (any_reads t reads) stays e)))
 
     target_below : Target writes
-    target_below = by writes (λ t e. low t (or_last (any_reads t reads || (not (is writes t) && on t)) (is writes t) e))
+    target_below = by writes (λ t e. low t (or_right (any_reads t reads || (not (is writes t) && on t)) (is writes t) e))
       where
         by : (w : Option ℕ) → ((t : ℕ) → is w t ≡ true → t < limit) → Target w
         by None h = tt
@@ -91,8 +86,8 @@ module _ (limit : ℕ) where
       let below = h (λ t e. r t (reads_temp_roll t (tree.Unary o a) ∙ e)) in
       omega (arith, temps_roll (tree.Unary o a), below)
   temps_layer_below (tree.Binary o a b) h r =
-      let left = h.0 (λ t e. r t (reads_temp_roll t (tree.Binary o a b) ∙ or_first (reads_temp t a) (reads_temp t b) e)) in
-      let right = h.1 (λ t e. r t (reads_temp_roll t (tree.Binary o a b) ∙ or_last (reads_temp t a) (reads_temp t b) e)) in
+      let left = h.0 (λ t e. r t (reads_temp_roll t (tree.Binary o a b) ∙ or_left (reads_temp t a) (reads_temp t b) e)) in
+      let right = h.1 (λ t e. r t (reads_temp_roll t (tree.Binary o a b) ∙ or_right (reads_temp t a) (reads_temp t b) e)) in
       omega (arith, temps_roll (tree.Binary o a b), left, right)
   temps_layer_below (tree.Narrow k a) h r =
       let below = h (λ t e. r t (reads_temp_roll t (tree.Narrow k a) ∙ e)) in
@@ -155,31 +150,31 @@ module _ (is_fine : Tree → Bool) (may_ask : Known → Bool) (limit : ℕ) (use
 
   holds_first : (s : Stm) (code : List Stm) → HoldsOfAll (s ∷ code) → HoldsOf s
   holds_first s code h = record {
-    trees = each_front P (stm_trees s) (joined (map stm_trees code)) h.trees;
-    named = each_front Scalar (stm_named s) (joined (map stm_named code)) h.named;
-    knowns = each_front Asked (stm_knowns s) (joined (map stm_knowns code)) h.knowns;
-    arrays = each_front IsRead (stm_arrays s) (joined (map stm_arrays code)) h.arrays;
-    written = each_front IsWritten (stm_written s) (joined (map stm_written code)) h.written;
-    arguments = and_first (stm_arguments s) (formed.all_true (map stm_arguments code)) h.arguments;
+    trees = each_first P (stm_trees s) (joined (map stm_trees code)) h.trees;
+    named = each_first Scalar (stm_named s) (joined (map stm_named code)) h.named;
+    knowns = each_first Asked (stm_knowns s) (joined (map stm_knowns code)) h.knowns;
+    arrays = each_first IsRead (stm_arrays s) (joined (map stm_arrays code)) h.arrays;
+    written = each_first IsWritten (stm_written s) (joined (map stm_written code)) h.written;
+    arguments = and_left (stm_arguments s) (formed.all_true (map stm_arguments code)) h.arguments;
   }
 
   holds_rest : (s : Stm) (code : List Stm) → HoldsOfAll (s ∷ code) → HoldsOfAll code
   holds_rest s code h = record {
-    trees = each_back P (stm_trees s) (joined (map stm_trees code)) h.trees;
-    named = each_back Scalar (stm_named s) (joined (map stm_named code)) h.named;
-    knowns = each_back Asked (stm_knowns s) (joined (map stm_knowns code)) h.knowns;
-    arrays = each_back IsRead (stm_arrays s) (joined (map stm_arrays code)) h.arrays;
-    written = each_back IsWritten (stm_written s) (joined (map stm_written code)) h.written;
-    arguments = and_last (stm_arguments s) (formed.all_true (map stm_arguments code)) h.arguments;
+    trees = each_right P (stm_trees s) (joined (map stm_trees code)) h.trees;
+    named = each_right Scalar (stm_named s) (joined (map stm_named code)) h.named;
+    knowns = each_right Asked (stm_knowns s) (joined (map stm_knowns code)) h.knowns;
+    arrays = each_right IsRead (stm_arrays s) (joined (map stm_arrays code)) h.arrays;
+    written = each_right IsWritten (stm_written s) (joined (map stm_written code)) h.written;
+    arguments = and_right (stm_arguments s) (formed.all_true (map stm_arguments code)) h.arguments;
   }
 
   code_fine : (code : List Stm) → Each IsFineStm code → (r : ℕ → Around) → HoldsOfAll code → AllMarked code r → are_fine is_fine may_ask limit uses code ≡ true
   code_fine [] f r h m = refl
   code_fine (s ∷ code) f r h m =
       let behind = λ (t : ℕ). with_after (r t) (live_in_order (map (flow t) code) (r t)) in
-      let here : Fine s ≡ true = f.0 behind (holds_first s code h) (λ t. each_front (Low limit t) ((flow t s).marks (behind t)) (marks_in_order (map (flow t) code) (r t)) (m t)) in
-      let others = code_fine code f.1 r (holds_rest s code h) (λ t. each_back (Low limit t) ((flow t s).marks (behind t)) (marks_in_order (map (flow t) code) (r t)) (m t)) in
-      and_both (Fine s) (all_true (map Fine code)) here others
+      let here : Fine s ≡ true = f.0 behind (holds_first s code h) (λ t. each_first (Low limit t) ((flow t s).marks (behind t)) (marks_in_order (map (flow t) code) (r t)) (m t)) in
+      let others = code_fine code f.1 r (holds_rest s code h) (λ t. each_right (Low limit t) ((flow t s).marks (behind t)) (marks_in_order (map (flow t) code) (r t)) (m t)) in
+      and_from (Fine s) (all_true (map Fine code)) here others
 
   fine_trees : (vs : List Tree) → Each P vs → Each (ReadsBelow limit) vs → all_true (map is_fine vs) ≡ true
   fine_trees vs h r =
@@ -223,31 +218,31 @@ module _ (is_fine : Tree → Bool) (may_ask : Known → Bool) (limit : ℕ) (use
   two_trees : (a b : Tree) (w : Option ℕ) (on : ℕ → Bool) → P a → P b → ((t : ℕ) → Low limit t ((any_reads t (a ∷ b ∷ []) || (not (is w t) && on t)) || is w t)) → (is_fine a && is_fine b) ≡ true
   two_trees a b w on p q low =
       let below = trees_below limit (a ∷ b ∷ []) w on low in
-      and_both (is_fine a) (is_fine b) (tree_fine a p below.0) (tree_fine b q below.1.0)
+      and_from (is_fine a) (is_fine b) (tree_fine a p below.0) (tree_fine b q below.1.0)
 
   branch_fine : (v : Tree) (a b : List Stm) → Each IsFineStm a × Each IsFineStm b → LayerFine (stm.If v a b)
   branch_fine v a b f r h m =
       let in_a = λ (t : ℕ). marks_in_order (map (flow t) a) (r t) in
       let in_b = λ (t : ℕ). marks_in_order (map (flow t) b) (r t) in
       let either = λ (t : ℕ). live_in_order (map (flow t) a) (r t) || live_in_order (map (flow t) b) (r t) in
-      let test = tree_fine v h.trees.0 (λ t e. (m t).0 (or_first (reads_temp t v) (either t) e)) in
+      let test = tree_fine v h.trees.0 (λ t e. (m t).0 (or_left (reads_temp t v) (either t) e)) in
       let first = code_fine a f.0 r (record {
-        trees = each_front P (joined (map stm_trees a)) (joined (map stm_trees b)) h.trees.1;
-        named = each_front Scalar (joined (map stm_named a)) (joined (map stm_named b)) h.named;
-        knowns = each_front Asked (joined (map stm_knowns a)) (joined (map stm_knowns b)) h.knowns;
-        arrays = each_front IsRead (joined (map stm_arrays a)) (joined (map stm_arrays b)) h.arrays;
-        written = each_front IsWritten (joined (map stm_written a)) (joined (map stm_written b)) h.written;
-        arguments = and_first (formed.all_true (map stm_arguments a)) (formed.all_true (map stm_arguments b)) h.arguments;
-      }) (λ t. each_front (Low limit t) (in_a t) (in_b t) (m t).1) in
+        trees = each_first P (joined (map stm_trees a)) (joined (map stm_trees b)) h.trees.1;
+        named = each_first Scalar (joined (map stm_named a)) (joined (map stm_named b)) h.named;
+        knowns = each_first Asked (joined (map stm_knowns a)) (joined (map stm_knowns b)) h.knowns;
+        arrays = each_first IsRead (joined (map stm_arrays a)) (joined (map stm_arrays b)) h.arrays;
+        written = each_first IsWritten (joined (map stm_written a)) (joined (map stm_written b)) h.written;
+        arguments = and_left (formed.all_true (map stm_arguments a)) (formed.all_true (map stm_arguments b)) h.arguments;
+      }) (λ t. each_first (Low limit t) (in_a t) (in_b t) (m t).1) in
       let second = code_fine b f.1 r (record {
-        trees = each_back P (joined (map stm_trees a)) (joined (map stm_trees b)) h.trees.1;
-        named = each_back Scalar (joined (map stm_named a)) (joined (map stm_named b)) h.named;
-        knowns = each_back Asked (joined (map stm_knowns a)) (joined (map stm_knowns b)) h.knowns;
-        arrays = each_back IsRead (joined (map stm_arrays a)) (joined (map stm_arrays b)) h.arrays;
-        written = each_back IsWritten (joined (map stm_written a)) (joined (map stm_written b)) h.written;
-        arguments = and_last (formed.all_true (map stm_arguments a)) (formed.all_true (map stm_arguments b)) h.arguments;
-      }) (λ t. each_back (Low limit t) (in_a t) (in_b t) (m t).1) in
-      and_both (is_fine v) (all_true (map Fine a) && all_true (map Fine b)) test (and_both (all_true (map Fine a)) (all_true (map Fine b)) first second)
+        trees = each_right P (joined (map stm_trees a)) (joined (map stm_trees b)) h.trees.1;
+        named = each_right Scalar (joined (map stm_named a)) (joined (map stm_named b)) h.named;
+        knowns = each_right Asked (joined (map stm_knowns a)) (joined (map stm_knowns b)) h.knowns;
+        arrays = each_right IsRead (joined (map stm_arrays a)) (joined (map stm_arrays b)) h.arrays;
+        written = each_right IsWritten (joined (map stm_written a)) (joined (map stm_written b)) h.written;
+        arguments = and_right (formed.all_true (map stm_arguments a)) (formed.all_true (map stm_arguments b)) h.arguments;
+      }) (λ t. each_right (Low limit t) (in_a t) (in_b t) (m t).1) in
+      and_from (is_fine v) (all_true (map Fine a) && all_true (map Fine b)) test (and_from (all_true (map Fine a)) (all_true (map Fine b)) first second)
 
   element_read : (a : Array) → Each IsRead (array_read a) → may_read is_fine may_ask limit uses a ≡ true
   element_read (array.Global g) h = h.0
@@ -260,20 +255,20 @@ module _ (is_fine : Tree → Bool) (may_ask : Known → Bool) (limit : ℕ) (use
   layer : (x : Stm-F Stm) → StmChildren IsFineStm x → LayerFine x
   layer (stm.Set t v) f r h m =
       let on = λ (t : ℕ). (r t).next in
-      and_both (ltb t limit) (is_fine v) (lt-ltb t limit (target_below limit (v ∷ []) (Some t) on (λ t. (m t).0))) (one_tree v (Some t) on h.trees.0 (λ t. (m t).0))
-  layer (stm.SetGlobal g v) f r h m = and_both (uses.has_word g && uses.is_written g) (is_fine v) (and_both (uses.has_word g) (uses.is_written g) h.named.0 h.written.0) (one_tree v None (λ t. (r t).next) h.trees.0 (λ t. (m t).0))
+      and_from (ltb t limit) (is_fine v) (lt-ltb t limit (target_below limit (v ∷ []) (Some t) on (λ t. (m t).0))) (one_tree v (Some t) on h.trees.0 (λ t. (m t).0))
+  layer (stm.SetGlobal g v) f r h m = and_from (uses.has_word g && uses.is_written g) (is_fine v) (and_from (uses.has_word g) (uses.is_written g) h.named.0 h.written.0) (one_tree v None (λ t. (r t).next) h.trees.0 (λ t. (m t).0))
   layer (stm.Divide t o a b) f r h m =
       let on = λ (t : ℕ). (r t).next in
-      and_both (ltb t limit) (is_fine a && is_fine b) (lt-ltb t limit (target_below limit (a ∷ b ∷ []) (Some t) on (λ t. (m t).0)))
+      and_from (ltb t limit) (is_fine a && is_fine b) (lt-ltb t limit (target_below limit (a ∷ b ∷ []) (Some t) on (λ t. (m t).0)))
       (two_trees a b (Some t) on h.trees.0 h.trees.1.0 (λ t. (m t).0))
   layer (stm.Check a i) f r h m = one_tree i None (λ t. (r t).next) h.trees.0 (λ t. (m t).0)
   layer (stm.Read t a i) f r h m =
       let on = λ (t : ℕ). (r t).next in
       let may = may_read is_fine may_ask limit uses a in
       let tree = one_tree i (Some t) on h.trees.0 (λ t. (m t).0) in
-      and_both (ltb t limit) (may && is_fine i) (lt-ltb t limit (target_below limit (i ∷ []) (Some t) on (λ t. (m t).0))) (and_both may (is_fine i) (element_read a h.arrays) tree)
+      and_from (ltb t limit) (may && is_fine i) (lt-ltb t limit (target_below limit (i ∷ []) (Some t) on (λ t. (m t).0))) (and_from may (is_fine i) (element_read a h.arrays) tree)
   layer (stm.Write a i v) f r h m =
-      and_both (may_write is_fine may_ask limit uses a) (is_fine i && is_fine v) (element_written a h.written) (two_trees i v None (λ t. (r t).next) h.trees.0 h.trees.1.0 (λ t. (m t).0))
+      and_from (may_write is_fine may_ask limit uses a) (is_fine i && is_fine v) (element_written a h.written) (two_trees i v None (λ t. (r t).next) h.trees.0 h.trees.1.0 (λ t. (m t).0))
   layer (stm.Zero l) f r h m = refl
   layer (stm.If v a b) f r h m = branch_fine v a b f r h m
   layer (stm.Loop b) f r h m =
@@ -286,13 +281,13 @@ module _ (is_fine : Tree → Bool) (may_ask : Known → Bool) (limit : ℕ) (use
       let on = λ (t : ℕ). (r t).next in
       let reads = callee_trees c ++ args in
       let below = trees_below limit reads w on (λ t. (m t).0) in
-      let of_callee = fine_trees (callee_trees c) (each_front P (callee_trees c) args h.trees) (each_front (ReadsBelow limit) (callee_trees c) args below) in
-      let of_args = fine_trees args (each_back P (callee_trees c) args h.trees) (each_back (ReadsBelow limit) (callee_trees c) args below) in
+      let of_callee = fine_trees (callee_trees c) (each_first P (callee_trees c) args h.trees) (each_first (ReadsBelow limit) (callee_trees c) args below) in
+      let of_args = fine_trees args (each_right P (callee_trees c) args h.trees) (each_right (ReadsBelow limit) (callee_trees c) args below) in
       let target = target_fine w (target_below limit reads w on (λ t. (m t).0)) in
-      let trees = and_both (all_true (map is_fine (callee_trees c))) (all_true (map is_fine args)) of_callee of_args in
+      let trees = and_from (all_true (map is_fine (callee_trees c))) (all_true (map is_fine args)) of_callee of_args in
       let callee_and_args = all_true (map is_fine (callee_trees c)) && all_true (map is_fine args) in
       let is_target = fine_target is_fine may_ask limit uses w in
-      and_both (ltb (length args) 9) (is_target && callee_and_args) h.arguments (and_both is_target callee_and_args target trees)
+      and_from (ltb (length args) 9) (is_target && callee_and_args) h.arguments (and_from is_target callee_and_args target trees)
   layer (stm.Known w k args) f r h m =
       let on = λ (t : ℕ). (r t).next in
       let below = trees_below limit args w on (λ t. (m t).0) in
@@ -301,8 +296,8 @@ module _ (is_fine : Tree → Bool) (may_ask : Known → Bool) (limit : ℕ) (use
       let are_args = all_true (map is_fine args) in
       let is_target = fine_target is_fine may_ask limit uses w in
       let is_known = fine_known is_fine may_ask limit uses k in
-      and_both (eqb (length args) (known_arguments k)) (is_known && (is_target && are_args)) h.arguments
-      (and_both is_known (is_target && are_args) h.knowns.0 (and_both is_target are_args target trees))
+      and_from (eqb (length args) (known_arguments k)) (is_known && (is_target && are_args)) h.arguments
+      (and_from is_known (is_target && are_args) h.knowns.0 (and_from is_target are_args target trees))
   layer (stm.Return v) f r h m = one_tree v None (λ t. false) h.trees.0 (λ t. (m t).0)
 
   -- Code is fine if its trees, its names, the known functions that it calls and the globals that it reads and writes are what is asked, and each temporary that is marked is below the limit.

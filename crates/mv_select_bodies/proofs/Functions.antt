@@ -1,6 +1,6 @@
 -- A body within the limits, with what it names there, is one that the laws on functions speak of.
 use Rattle.std.proofs.Common.{◌≡◌, ⊎_elim, ℕ, zero, suc, ◌+◌, ◌*◌, ◌<◌, ◌≤◌, ◌&&◌, ◌||◌, Bool, true, eqb, ltb, leb, length, List, [], ◌∷◌, ◌++◌, None, refl, sym, ap, ◌∙◌, subst, arith, eq-eqb}
-use Rattle.std.proofs.lemmas.Bool.{cases_eq, ne_eqb, lt-ltb, le-leb, leb-true}
+use Rattle.std.proofs.lemmas.Bool.{cases_eq, ne_eqb, lt-ltb, le-leb, leb-true, or_right, or_left, and_from}
 use Rattle.mv_ast.specs.declared.program.Known.{Known}
 use Rattle.mv_ast.specs.Plans.{is_among}
 use Rattle.mv_ir.specs.declared.tree.Tree.{Tree}
@@ -25,15 +25,17 @@ use Rattle.mv_select_control.specs.Labels.{tree_functions, functions}
 use Rattle.mv_select_calls.specs.Convention.{Layout}
 use Rattle.mv_select_functions.specs.Functions.{IsAmple, shape_of, site_of, frame_in, IsFunction}
 use Rattle.mv_select_bodies.specs.SelectedBodies.{tree_constants, constants, IsOrder, knowns, globals_read, globals_written, is_in_globals, reach_of, IsInProgram, BodiesAreFunctions}
-use Rattle.mv_select_bodies.proofs.Lists.{each_front, each_back, each_weaker, each_both, each_joined, each_all, each_true, each_shallow, and_first, and_last, and_both}
-use Rattle.mv_select_bodies.proofs.FineCode.{ReadsBelow, IsScalar, IsAsked, all_fine, or_first, or_last}
+use Rattle.mv_select_bodies.proofs.Lists.{each_weaker, each_both, each_joined, each_all, each_true, each_shallow}
+use Rattle.mv_select_bodies.proofs.FineCode.{ReadsBelow, IsScalar, IsAsked, all_fine}
 use Rattle.mv_select_bodies.proofs.Small.{marks_below, order_fine}
 use Rattle.mv_select_bodies.proofs.SamePlaces.{IsKnownArray, known_arrays}
 use Rattle.mv_select_bodies.proofs.NamedTrees.{IsWord, IsRead, IsOne, is_named, all_named, in_view, trees_named}
+use Rattle.mv_num.proofs.Booleans.{and_right, and_left}
+use Rattle.mv_ir.proofs.Common.{each_first, each_right}
 
 -- each parameter is marked at the start, and so is one of the temporaries
 params_fit : (b : Body) → HasTemps b → b.params ≤ b.temps
-params_fit b has = by b.params (λ t low. has 0 t (or_last (live_at_start t b.code) (ltb t b.params) (lt-ltb t b.params low)))
+params_fit b has = by b.params (λ t low. has 0 t (or_right (live_at_start t b.code) (ltb t b.params) (lt-ltb t b.params low)))
   where
     by : (n : ℕ) → ((t : ℕ) → t < n → t < b.temps) → n ≤ b.temps
     by zero h = omega arith
@@ -44,20 +46,20 @@ params_fit b has = by b.params (λ t low. has 0 t (or_last (live_at_start t b.co
 each_among : (f : ℕ → Bool) (gs : List ℕ) → ((g : ℕ) → is_among g gs ≡ true → f g ≡ true) → Each (λ g. f g ≡ true) gs
 each_among f [] h = tt
 each_among f (g ∷ gs) h = (
-  h g (or_first (eqb g g) (is_among g gs) (eq-eqb g g refl)),
-  each_among f gs (λ k e. h k (or_last (eqb k g) (is_among k gs) e)),
+  h g (or_left (eqb g g) (is_among g gs) (eq-eqb g g refl)),
+  each_among f gs (λ k e. h k (or_right (eqb k g) (is_among k gs) e)),
 )
 
 among_front : (g : ℕ) (xs ys : List ℕ) → is_among g xs ≡ true → is_among g (xs ++ ys) ≡ true
 among_front g [] ys h = cc
 among_front g (x ∷ xs) ys h = ⊎_elim
-    (λ (e : g ≡ x). or_first (eqb g x) (is_among g (xs ++ ys)) (eq-eqb g x e))
-    (λ (ne : g ≡ x → ⊥). or_last (eqb g x) (is_among g (xs ++ ys)) (among_front g xs ys (subst (λ c. (c || is_among g xs) ≡ true) (ne_eqb g x ne) h)))
+    (λ (e : g ≡ x). or_left (eqb g x) (is_among g (xs ++ ys)) (eq-eqb g x e))
+    (λ (ne : g ≡ x → ⊥). or_right (eqb g x) (is_among g (xs ++ ys)) (among_front g xs ys (subst (λ c. (c || is_among g xs) ≡ true) (ne_eqb g x ne) h)))
     (cases_eq g x)
 
 among_back : (g : ℕ) (xs ys : List ℕ) → is_among g ys ≡ true → is_among g (xs ++ ys) ≡ true
 among_back g [] ys h = h
-among_back g (x ∷ xs) ys h = or_last (eqb g x) (is_among g (xs ++ ys)) (among_back g xs ys h)
+among_back g (x ∷ xs) ys h = or_right (eqb g x) (is_among g (xs ++ ys)) (among_back g xs ys h)
 
 -- what holds of each of them holds of one
 each_one : (P : ℕ → Type 0) (gs : List ℕ) → Each P gs → (g : ℕ) → is_among g gs ≡ true → P g
@@ -77,21 +79,21 @@ module _ (y : Layout) (g i : ℕ) (lt : i < y.size g) where
   is_in x = leb (y.place x) word && ltb word (y.place x + 4 * y.size x)
 
   own : is_in g ≡ true
-  own = and_both (leb (y.place g) word) (ltb word (y.place g + 4 * y.size g)) (le-leb (y.place g) word (omega arith)) (lt-ltb word (y.place g + 4 * y.size g) (omega (arith, lt)))
+  own = and_from (leb (y.place g) word) (ltb word (y.place g + 4 * y.size g)) (le-leb (y.place g) word (omega arith)) (lt-ltb word (y.place g + 4 * y.size g) (omega (arith, lt)))
 
   in_globals : (gs : List ℕ) → is_among g gs ≡ true → is_in_globals y gs word ≡ true
   in_globals [] h = cc
   in_globals (x ∷ gs) h = ⊎_elim
-      (λ (e : g ≡ x). or_first (is_in x) (is_in_globals y gs word) (subst (λ k. is_in k ≡ true) e own))
-      (λ (ne : g ≡ x → ⊥). or_last (is_in x) (is_in_globals y gs word) (in_globals gs (subst (λ c. (c || is_among g gs) ≡ true) (ne_eqb g x ne) h)))
+      (λ (e : g ≡ x). or_left (is_in x) (is_in_globals y gs word) (subst (λ k. is_in k ≡ true) e own))
+      (λ (ne : g ≡ x → ⊥). or_right (is_in x) (is_in_globals y gs word) (in_globals gs (subst (λ c. (c || is_among g gs) ≡ true) (ne_eqb g x ne) h)))
       (cases_eq g x)
 
 is_ample : (y : Layout) (b : Body) → IsAmple y (reach_of y b)
 is_ample y b = record {
   stack = λ a h.
-      or_first (leb y.bottom a && ltb a y.top) (is_in_globals y (globals_read b.code) a) (and_both (leb y.bottom a) (ltb a y.top) (le-leb y.bottom a h.0) (lt-ltb a y.top h.1));
+      or_left (leb y.bottom a && ltb a y.top) (is_in_globals y (globals_read b.code) a) (and_from (leb y.bottom a) (ltb a y.top) (le-leb y.bottom a h.0) (lt-ltb a y.top h.1));
   globals = λ g i read lt.
-      or_last (leb y.bottom (y.place g + 4 * i) && ltb (y.place g + 4 * i) y.top) (is_in_globals y (globals_read b.code) (y.place g + 4 * i)) (in_globals y g i lt (globals_read b.code) read);
+      or_right (leb y.bottom (y.place g + 4 * i) && ltb (y.place g + 4 * i) y.top) (is_in_globals y (globals_read b.code) (y.place g + 4 * i)) (in_globals y g i lt (globals_read b.code) read);
 }
 
 -- ---- the arrays that code reads are among those that it names
@@ -107,15 +109,15 @@ module _ (is_known : ℕ → Bool) where
   inner : (code : List Stm) → Each ReadsKnownArrays code → Each (IsKnownArray is_known) (named code) → Each (λ g. is_known g ≡ true) (arrays_read code)
   inner [] c h = tt
   inner (s ∷ code) c h =
-      each_append (λ g. is_known g ≡ true) (stm_arrays s) (arrays_read code) (c.0 (each_front (IsKnownArray is_known) (stm_named s) (named code) h))
-      (inner code c.1 (each_back (IsKnownArray is_known) (stm_named s) (named code) h))
+      each_append (λ g. is_known g ≡ true) (stm_arrays s) (arrays_read code) (c.0 (each_first (IsKnownArray is_known) (stm_named s) (named code) h))
+      (inner code c.1 (each_right (IsKnownArray is_known) (stm_named s) (named code) h))
 
   layer : (x : Stm-F Stm) → StmChildren ReadsKnownArrays x → Each (IsKnownArray is_known) (layer_named (map-Stm Stm (List Array) stm_named x)) →
       Each (λ g. is_known g ≡ true) (layer_arrays (map-Stm Stm (List ℕ) stm_arrays x))
   layer (stm.Read t a i) c h = array_known a h.0
   layer (stm.If t a b) c h =
-      each_append (λ g. is_known g ≡ true) (arrays_read a) (arrays_read b) (inner a c.0 (each_front (IsKnownArray is_known) (named a) (named b) h))
-      (inner b c.1 (each_back (IsKnownArray is_known) (named a) (named b) h))
+      each_append (λ g. is_known g ≡ true) (arrays_read a) (arrays_read b) (inner a c.0 (each_first (IsKnownArray is_known) (named a) (named b) h))
+      (inner b c.1 (each_right (IsKnownArray is_known) (named a) (named b) h))
   layer (stm.Loop b) c h = inner b c h
   layer (stm.Block b) c h = inner b c h
   layer _ c h = tt
@@ -170,7 +172,7 @@ module _ (y : Layout) (setting : ir.Setting) (attributed : Bool) (bound : List (
 
   tree_fine : (v : Tree) → IsGood v → ReadsBelow b.temps v → is_fine v ≡ true
   tree_fine v good low =
-      and_both (leb (depth v) 4) (is_named b.temps count is_read v) (le-leb (depth v) 4 good.shallow) (all_named b.temps count is_read v good.words good.reads good.functions low)
+      and_from (leb (depth v) 4) (is_named b.temps count is_read v) (le-leb (depth v) 4 good.shallow) (all_named b.temps count is_read v good.words good.reads good.functions low)
 
   good_trees : (ts : List Tree) → Each (λ v. depth v ≤ 4) ts → Each (λ v. Each IsWord (tree_constants v)) ts → Each (λ v. Each (IsRead b.temps count is_read) (tree_reads v)) ts →
       Each (λ v. Each (IsOne b.temps count is_read) (tree_functions v)) ts → Each IsGood ts
@@ -212,8 +214,8 @@ module _ (y : Layout) (setting : ir.Setting) (attributed : Bool) (bound : List (
       let s = site_of y reach (shape_of attributed b) register is_kept kept in
       let frame = frame_in attributed bound depth_of live in
       record {
-        named = λ l long. in_view (view_of s setting frame l) t ∙ ap (λ n. is_named n count is_read t) long ∙ and_last (leb (depth t) 4) (is_named b.temps count is_read t) h;
-        shallow = leb-true (depth t) 4 (and_first (leb (depth t) 4) (is_named b.temps count is_read t) h);
+        named = λ l long. in_view (view_of s setting frame l) t ∙ ap (λ n. is_named n count is_read t) long ∙ and_right (leb (depth t) 4) (is_named b.temps count is_read t) h;
+        shallow = leb-true (depth t) 4 (and_left (leb (depth t) 4) (is_named b.temps count is_read t) h);
       }
 
   is_function : IsFunction y setting attributed bound reach is_fine b

@@ -12,3 +12,4 @@ pub mod StatementNames
 pub mod EntryNames
 pub mod FunctionNames
 pub mod Addresses
+pub mod Common

@@ -1,5 +1,5 @@
 -- What holds of each item of a list.
-use Rattle.std.proofs.Common.{◌≡◌, ℕ, ◌≤◌, ◌&&◌, Bool, true, false, List, [], ◌∷◌, ◌++◌, map, All, refl, ap, ◌∙◌, arith}
+use Rattle.std.proofs.Common.{◌≡◌, ℕ, ◌≤◌, Bool, true, List, [], ◌∷◌, map, All, refl, arith}
 use Rattle.std.proofs.lemmas.List.Elements.{All-head, All-tail}
 use Rattle.mv_ir.specs.declared.tree.Tree.{Tree}
 use Rattle.mv_ir.specs.Trees.{depth}
@@ -7,14 +7,9 @@ use Rattle.mv_ir.specs.Measures.{joined, deepest_of}
 use Rattle.mv_ir.specs.WellFormed as formed
 use Rattle.mv_ir.proofs.Induction.{Each}
 use Rattle.mv_select_control.specs.FlowCode.{all_true}
-
-pub each_front : {A : Type 0} (P : A → Type 0) (xs ys : List A) → Each P (xs ++ ys) → Each P xs
-each_front P [] ys h = tt
-each_front P (x ∷ xs) ys h = (h.0, each_front P xs ys h.1)
-
-pub each_back : {A : Type 0} (P : A → Type 0) (xs ys : List A) → Each P (xs ++ ys) → Each P ys
-each_back P [] ys h = h
-each_back P (x ∷ xs) ys h = each_back P xs ys h.1
+use Rattle.mv_num.proofs.Booleans.{and_right, and_left}
+use Rattle.std.proofs.lemmas.Bool.{and_from}
+use Rattle.mv_ir.proofs.Common.{each_first, each_right}
 
 pub each_weaker : {A : Type 0} (P Q : A → Type 0) → ((x : A) → P x → Q x) → (xs : List A) → Each P xs → Each Q xs
 each_weaker P Q f [] h = tt
@@ -26,33 +21,19 @@ each_both P Q (x ∷ xs) h k = ((h.0, k.0), each_both P Q xs h.1 k.1)
 
 pub each_joined : {A B : Type 0} (P : B → Type 0) (f : A → List B) (xs : List A) → Each P (joined (map f xs)) → Each (λ x. Each P (f x)) xs
 each_joined P f [] h = tt
-each_joined P f (x ∷ xs) h = (each_front P (f x) (joined (map f xs)) h, each_joined P f xs (each_back P (f x) (joined (map f xs)) h))
+each_joined P f (x ∷ xs) h = (each_first P (f x) (joined (map f xs)) h, each_joined P f xs (each_right P (f x) (joined (map f xs)) h))
 
 pub each_all : {A : Type 0} (P : A → Type 0) (xs : List A) → All P xs → Each P xs
 each_all P [] h = tt
 each_all P (x ∷ xs) h = (All-head P x xs h, each_all P xs (All-tail P x xs h))
 
-pub and_first : (a b : Bool) → (a && b) ≡ true → a ≡ true
-and_first true b h = refl
-and_first false b h = h
-
-pub and_last : (a b : Bool) → (a && b) ≡ true → b ≡ true
-and_last true b h = h
-and_last false b h = absurd (no h)
-  where
-    no : false ≡ true → ⊥
-    no e = cc
-
-pub and_both : (a b : Bool) → a ≡ true → b ≡ true → (a && b) ≡ true
-and_both a b h k = ap (λ c. c && b) h ∙ k
-
 pub each_true : {A : Type 0} (f : A → Bool) (xs : List A) → formed.all_true (map f xs) ≡ true → Each (λ x. f x ≡ true) xs
 each_true f [] h = tt
-each_true f (x ∷ xs) h = (and_first (f x) (formed.all_true (map f xs)) h, each_true f xs (and_last (f x) (formed.all_true (map f xs)) h))
+each_true f (x ∷ xs) h = (and_left (f x) (formed.all_true (map f xs)) h, each_true f xs (and_right (f x) (formed.all_true (map f xs)) h))
 
 pub true_each : {A : Type 0} (f : A → Bool) (xs : List A) → Each (λ x. f x ≡ true) xs → all_true (map f xs) ≡ true
 true_each f [] h = refl
-true_each f (x ∷ xs) h = and_both (f x) (all_true (map f xs)) h.0 (true_each f xs h.1)
+true_each f (x ∷ xs) h = and_from (f x) (all_true (map f xs)) h.0 (true_each f xs h.1)
 
 -- no tree is deeper than the deepest
 pub each_shallow : (n : ℕ) (ts : List Tree) → deepest_of ts ≤ n → Each (λ t. depth t ≤ n) ts

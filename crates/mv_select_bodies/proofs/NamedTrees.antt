@@ -1,6 +1,6 @@
 -- What a tree names is there, and what code names its trees do.
 use Rattle.std.proofs.Common.{◌≡◌, ℕ, ◌<◌, ◌^◌, ◌&&◌, Bool, true, ltb, List, [], ◌∷◌, ◌++◌, length, refl, sym, ◌∙◌, subst, eq-eqb}
-use Rattle.std.proofs.lemmas.Bool.{lt-ltb}
+use Rattle.std.proofs.lemmas.Bool.{lt-ltb, or_right, or_left, and_from}
 use Rattle.mv_ir.specs.declared.tree.Tree.{Tree}
 use Rattle.mv_ir.specs.declared.tree.Tree.TheOpen.{Tree-F}
 use Rattle.mv_ir.specs.declared.tree.Tree.TheOpen as tree
@@ -22,8 +22,9 @@ use Rattle.mv_select_control.specs.Labels.{functions_layer, tree_functions, call
 use Rattle.mv_select_control.proofs.TreeNames.{functions_roll}
 use Rattle.mv_select_control.proofs.TargetsStand.{named_roll}
 use Rattle.mv_select_bodies.specs.SelectedBodies.{constants_layer, tree_constants}
-use Rattle.mv_select_bodies.proofs.Lists.{each_front, each_back, each_joined, and_both}
-use Rattle.mv_select_bodies.proofs.FineCode.{ReadsBelow, or_first, or_last}
+use Rattle.mv_select_bodies.proofs.Lists.{each_joined}
+use Rattle.mv_select_bodies.proofs.FineCode.{ReadsBelow}
+use Rattle.mv_ir.proofs.Common.{each_first, each_right}
 
 pub constants_roll : (x : Tree-F Tree) → tree_constants (roll-Tree x) ≡ constants_layer (map-Tree Tree (List ℕ) tree_constants x)
 unfolding tree_constants
@@ -70,11 +71,11 @@ module _ (temps count : ℕ) (is_read : ℕ → Bool) where
   layer (tree.Function f) c word read one low = lt-ltb f count one.0
   layer (tree.Unary o a) c word read one low = c word read one low
   layer (tree.Binary o a b) c word read one low =
-      and_both (is_named a) (is_named b)
-      (c.0 (each_front IsWord (tree_constants a) (tree_constants b) word) (each_front IsRead (tree_reads a) (tree_reads b) read)
-      (each_front IsOne (tree_functions a) (tree_functions b) one) (λ t e. low t (or_first (reads_temp t a) (reads_temp t b) e)))
-      (c.1 (each_back IsWord (tree_constants a) (tree_constants b) word) (each_back IsRead (tree_reads a) (tree_reads b) read)
-      (each_back IsOne (tree_functions a) (tree_functions b) one) (λ t e. low t (or_last (reads_temp t a) (reads_temp t b) e)))
+      and_from (is_named a) (is_named b)
+      (c.0 (each_first IsWord (tree_constants a) (tree_constants b) word) (each_first IsRead (tree_reads a) (tree_reads b) read)
+      (each_first IsOne (tree_functions a) (tree_functions b) one) (λ t e. low t (or_left (reads_temp t a) (reads_temp t b) e)))
+      (c.1 (each_right IsWord (tree_constants a) (tree_constants b) word) (each_right IsRead (tree_reads a) (tree_reads b) read)
+      (each_right IsOne (tree_functions a) (tree_functions b) one) (λ t e. low t (or_right (reads_temp t a) (reads_temp t b) e)))
   layer (tree.Narrow k a) c word read one low = c word read one low
 
   from_layer : (x : Tree-F Tree) → TreeChildren IsNamed x → IsNamed (roll-Tree x)
@@ -103,14 +104,14 @@ module _ (P : ℕ → Type 0) where
   code_named : (code : List Stm) → Each Named code → Each P (functions code) → Each TreeNames (trees code)
   code_named [] c h = tt
   code_named (s ∷ code) c h =
-      each_append TreeNames (stm_trees s) (trees code) (c.0 (each_front P (stm_functions s) (functions code) h)) (code_named code c.1 (each_back P (stm_functions s) (functions code) h))
+      each_append TreeNames (stm_trees s) (trees code) (c.0 (each_first P (stm_functions s) (functions code) h)) (code_named code c.1 (each_right P (stm_functions s) (functions code) h))
 
   callee_named : (f : Callee) → Each P (callee_functions f) → Each TreeNames (callee_trees f)
   callee_named (callee.Direct f) h = tt
   callee_named (callee.Through t) h = (h, tt)
 
   two_named : (a b : Tree) → Each P (tree_functions a ++ tree_functions b) → Each TreeNames (a ∷ b ∷ [])
-  two_named a b h = (each_front P (tree_functions a) (tree_functions b) h, (each_back P (tree_functions a) (tree_functions b) h, tt))
+  two_named a b h = (each_first P (tree_functions a) (tree_functions b) h, (each_right P (tree_functions a) (tree_functions b) h, tt))
 
   stm_layer : (x : Stm-F Stm) → StmChildren Named x → Each P (named_layer (map-Stm Stm (List ℕ) stm_functions x)) → Each TreeNames (layer_trees (map-Stm Stm (List Tree) stm_trees x))
   stm_layer (stm.Set t v) c h = (h, tt)
@@ -121,17 +122,17 @@ module _ (P : ℕ → Type 0) where
   stm_layer (stm.Write a i v) c h = two_named i v h
   stm_layer (stm.Zero l) c h = tt
   stm_layer (stm.If t a b) c h =
-      let within = each_back P (tree_functions t) (functions a ++ functions b) h in (
-        each_front P (tree_functions t) (functions a ++ functions b) h,
-        each_append TreeNames (trees a) (trees b) (code_named a c.0 (each_front P (functions a) (functions b) within)) (code_named b c.1 (each_back P (functions a) (functions b) within)),
+      let within = each_right P (tree_functions t) (functions a ++ functions b) h in (
+        each_first P (tree_functions t) (functions a ++ functions b) h,
+        each_append TreeNames (trees a) (trees b) (code_named a c.0 (each_first P (functions a) (functions b) within)) (code_named b c.1 (each_right P (functions a) (functions b) within)),
       )
   stm_layer (stm.Loop b) c h = code_named b c h
   stm_layer (stm.Block b) c h = code_named b c h
   stm_layer (stm.Break n) c h = tt
   stm_layer (stm.Back n) c h = tt
   stm_layer (stm.Call r f args) c h =
-      each_append TreeNames (callee_trees f) args (callee_named f (each_front P (callee_functions f) (functions_of_all args) h))
-      (each_joined P tree_functions args (each_back P (callee_functions f) (functions_of_all args) h))
+      each_append TreeNames (callee_trees f) args (callee_named f (each_first P (callee_functions f) (functions_of_all args) h))
+      (each_joined P tree_functions args (each_right P (callee_functions f) (functions_of_all args) h))
   stm_layer (stm.Known r k args) c h = each_joined P tree_functions args h
   stm_layer (stm.Return v) c h = (h, tt)
 

@@ -36,7 +36,8 @@ use Rattle.mv_select_calls.specs.CallCode.{scratch_register, request_register, r
 use Rattle.mv_select_functions.specs.FunctionCode.{end_label, Shape, bytes_of, plan, prologue_lines, epilogue_lines, function_lines}
 use Rattle.mv_select_functions.specs.Functions.{shape_of}
 use Rattle.mv_select_bodies.specs.SelectedBodies.{CodeIsTheSame}
-use Rattle.mv_select_bodies.proofs.Lists.{each_front, each_back, each_joined, each_true, each_weaker}
+use Rattle.mv_select_bodies.proofs.Lists.{each_joined, each_true, each_weaker}
+use Rattle.mv_ir.proofs.Common.{each_first, each_right}
 
 module _ (is_known : ℕ → Bool) where
   -- one of the globals that stand where they should
@@ -69,8 +70,8 @@ module _ (is_known : ℕ → Bool) where
     same_layer (tree.Binary o a b) c h d r =
         let right = immediate_of o b in
         let p = operand_register a r in let q = operand_register b (r + 1) in
-        ap (λ l. l ++ operator_lines right o d p (operand_lines place b (r + 1)) q) (same_operand a c.0 (each_front IsKnown (tree_reads a) (tree_reads b) h) r) ∙
-        ap (λ l. operand_lines place' a r ++ operator_lines right o d p l q) (same_operand b c.1 (each_back IsKnown (tree_reads a) (tree_reads b) h) (r + 1))
+        ap (λ l. l ++ operator_lines right o d p (operand_lines place b (r + 1)) q) (same_operand a c.0 (each_first IsKnown (tree_reads a) (tree_reads b) h) r) ∙
+        ap (λ l. operand_lines place' a r ++ operator_lines right o d p l q) (same_operand b c.1 (each_right IsKnown (tree_reads a) (tree_reads b) h) (r + 1))
     same_layer (tree.Narrow k a) c h d r =
         let last = narrow_lines k d (operand_register a r) in
         ap (λ l. cond (keeps_words k) l (operand_lines place a r ++ last)) (c h d r) ∙
@@ -100,8 +101,8 @@ module _ (is_known : ℕ → Bool) where
     same_call : (is_attributed : ℕ → Bool) (r : Option ℕ) (f : Callee) (args : List Tree) → Each ReadsKnown (callee_trees f ++ args) →
         call_lines place is_attributed r f args ≡ call_lines place' is_attributed r f args
     same_call is_attributed r f args h =
-        ap (λ l. l ++ transfer_lines place is_attributed f r) (same_arguments first args (each_back ReadsKnown (callee_trees f) args h)) ∙
-        ap (λ l. argument_lines place' first args ++ l) (same_transfer is_attributed f r (each_front ReadsKnown (callee_trees f) args h))
+        ap (λ l. l ++ transfer_lines place is_attributed f r) (same_arguments first args (each_right ReadsKnown (callee_trees f) args h)) ∙
+        ap (λ l. argument_lines place' first args ++ l) (same_transfer is_attributed f r (each_first ReadsKnown (callee_trees f) args h))
 
     same_known_call : (r : Option ℕ) (k : Known) (args : List Tree) → Each ReadsKnown args → known_lines place r k args ≡ known_lines place' r k args
     same_known_call r k args h =
@@ -130,8 +131,8 @@ module _ (is_known : ℕ → Bool) where
       same_code : (code : List Stm) → Each IsSame code → Each ReadsKnown (trees code) → Each IsKnownArray (named code) → code_of P code ≡ code_of Q code
       same_code [] c h k = refl
       same_code (s ∷ code) c h k =
-          ap (λ e. both e (code_of P code)) (c.0 (each_front ReadsKnown (stm_trees s) (trees code) h) (each_front IsKnownArray (stm_named s) (named code) k)) ∙
-          ap (λ e. both (statement_code Q s) e) (same_code code c.1 (each_back ReadsKnown (stm_trees s) (trees code) h) (each_back IsKnownArray (stm_named s) (named code) k))
+          ap (λ e. both e (code_of P code)) (c.0 (each_first ReadsKnown (stm_trees s) (trees code) h) (each_first IsKnownArray (stm_named s) (named code) k)) ∙
+          ap (λ e. both (statement_code Q s) e) (same_code code c.1 (each_right ReadsKnown (stm_trees s) (trees code) h) (each_right IsKnownArray (stm_named s) (named code) k))
 
       -- the code of a branch behind its test, which is in a register
       abbrev tested : ℕ → List Line → Emitted → Emitted → Emitted
@@ -142,8 +143,8 @@ module _ (is_known : ℕ → Bool) where
       same_branch t a b c h k =
           let q = operand_register t first in
           ap (λ l. tested q l (code_of P a) (code_of P b)) (same_operands t h.0 first) ∙
-          ap (λ e. tested q (operand_lines place' t first) e (code_of P b)) (same_code a c.0 (each_front ReadsKnown (trees a) (trees b) h.1) (each_front IsKnownArray (named a) (named b) k)) ∙
-          ap (λ e. tested q (operand_lines place' t first) (code_of Q a) e) (same_code b c.1 (each_back ReadsKnown (trees a) (trees b) h.1) (each_back IsKnownArray (named a) (named b) k))
+          ap (λ e. tested q (operand_lines place' t first) e (code_of P b)) (same_code a c.0 (each_first ReadsKnown (trees a) (trees b) h.1) (each_first IsKnownArray (named a) (named b) k)) ∙
+          ap (λ e. tested q (operand_lines place' t first) (code_of Q a) e) (same_code b c.1 (each_right ReadsKnown (trees a) (trees b) h.1) (each_right IsKnownArray (named a) (named b) k))
 
       abbrev layer_code : Plan → Stm-F Stm → Emitted
       layer_code plan x = code_layer plan (map-Stm Stm Emitted (statement_code plan) x)

@@ -1,6 +1,6 @@
 -- The code of bodies within the limits is small.
 use Rattle.std.proofs.Common.{◌≡◌, ℕ, suc, ◌<◌, ◌≤◌, ◌^◌, ◌&&◌, Bool, true, ltb, leb, List, [], ◌∷◌, map, refl, arith}
-use Rattle.std.proofs.lemmas.Bool.{lt-ltb, le-leb}
+use Rattle.std.proofs.lemmas.Bool.{lt-ltb, le-leb, and_from}
 use Rattle.mv_ast.specs.declared.program.Known.{Known}
 use Rattle.mv_ast.specs.declared.program.Known.TheVariants.{Getchar, Putchar, Poll, Plan}
 use Rattle.mv_ir.specs.declared.tree.Tree.{Tree}
@@ -18,7 +18,7 @@ use Rattle.mv_select_control.specs.Layouts.{any_global, any_known, is_small, are
 use Rattle.mv_select_functions.specs.FunctionCode.{bytes_of}
 use Rattle.mv_select_functions.specs.Functions.{shape_of}
 use Rattle.mv_select_bodies.specs.SelectedBodies.{IsOrder, knowns, globals_written, BodiesAreSmall}
-use Rattle.mv_select_bodies.proofs.Lists.{each_weaker, each_all, each_shallow, and_both}
+use Rattle.mv_select_bodies.proofs.Lists.{each_weaker, each_all, each_shallow}
 use Rattle.mv_select_bodies.proofs.FineCode.{ReadsBelow, Low, low_marks, temps_below, IsScalar, IsAsked, all_fine}
 
 -- where each temporary of a body is below a limit, each one that is marked is
@@ -35,10 +35,10 @@ order_fine is_fine may_ask limit uses Getchar asked h = asked
 order_fine is_fine may_ask limit uses Putchar asked h = asked
 order_fine is_fine may_ask limit uses Poll asked h = asked
 order_fine is_fine may_ask limit uses (Plan code index) asked h =
-    and_both (may_ask (Plan code index)) (ltb code 256 && ltb index (2 ^ 32)) asked (and_both (ltb code 256) (ltb index (2 ^ 32)) (lt-ltb code 256 h.0) (lt-ltb index (2 ^ 32) h.1))
+    and_from (may_ask (Plan code index)) (ltb code 256 && ltb index (2 ^ 32)) asked (and_from (ltb code 256) (ltb index (2 ^ 32)) (lt-ltb code 256 h.0) (lt-ltb index (2 ^ 32) h.1))
 
 tree_small : (v : Tree) → depth v ≤ 4 → ReadsBelow 507 v → is_small v ≡ true
-tree_small v shallow reads = and_both (leb (depth v) 4) (leb (temps_of v) 507) (le-leb (depth v) 4 shallow) (le-leb (temps_of v) 507 (temps_below 507 v reads))
+tree_small v shallow reads = and_from (leb (depth v) 4) (leb (temps_of v) 507) (le-leb (depth v) 4 shallow) (le-leb (temps_of v) 507 (temps_below 507 v reads))
 
 abbrev IsShallow : Tree → Type 0
 IsShallow v = depth v ≤ 4

@@ -8,7 +8,7 @@ use Rattle.mv_ir.specs.declared.stm.Stm.{Stm}
 use Rattle.mv_ir.specs.declared.stm.Stm.TheOpen.{Stm-F}
 use Rattle.mv_ir.specs.declared.stm.Stm.TheOpen as stm
 use Rattle.mv_ir.specs.declared.stm.Stm.TheViews.{roll-Stm}
-use Rattle.mv_ir.specs.declared.stm.Stm.TheFolds.{fold-roll-Stm, map-Stm}
+use Rattle.mv_ir.specs.declared.stm.Stm.TheFolds.{map-Stm}
 use Rattle.mv_ir.specs.Measures.{joined}
 use Rattle.mv_ir.proofs.Induction.{Each, StmChildren, stm_ind, stms_ind}
 use Rattle.mv_select_trees.specs.TreeCode.{operand_lines, operand_register}
@@ -22,10 +22,7 @@ use Rattle.mv_select_calls.specs.CallCode.{commit_label}
 use Rattle.mv_select_functions.specs.FunctionCode.{Shape, end_label, plan}
 use Rattle.mv_select_bodies.proofs.CallNames.{call_names, known_names}
 use Rattle.mv_select_bodies.proofs.TreeNames.{AllName, IsPlain, after, nothing, then_line, operand_names, set_names, set_global_names, divide_names, check_names, read_names, write_names, bounds_names, clear_names, return_names}
-
-named_roll : (x : Stm-F Stm) → stm_functions (roll-Stm x) ≡ named_layer (map-Stm Stm (List ℕ) stm_functions x)
-unfolding stm_functions
-named_roll x = fold-roll-Stm (List ℕ) named_layer x
+use Rattle.mv_select_control.proofs.TargetsStand.{named_roll}
 
 module _ (L P C Q S : ℕ → Type 0) (null : P (trap_label 3)) (depth : P (trap_label 4)) (commit : C commit_label) (place size : ℕ → ℕ) (is_attributed : ℕ → Bool) (shape : Shape)
     (slots : (f : ℕ) → Q f → is_attributed f ≡ true → S f) (end : P end_label) (division : P (trap_label 1)) (index : P (trap_label 2)) where

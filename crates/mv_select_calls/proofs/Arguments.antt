@@ -15,13 +15,14 @@ use Rattle.mv_select_trees.specs.View.{AreScratch, Leaves}
 use Rattle.mv_select_trees.proofs.Gives.{straight_append}
 use Rattle.mv_select_trees.proofs.Registers.{put_same, put_other, changes_put, scratch_part}
 use Rattle.mv_select_trees.proofs.TreesAreShort.{into_short}
-use Rattle.mv_select_trees.proofs.TreesRun.{and_left, and_right, trees_leave}
+use Rattle.mv_select_trees.proofs.TreesRun.{trees_leave}
 use Rattle.mv_select_statements.specs.Leads.{limited}
 use Rattle.mv_select_statements.specs.Frames.{Site, view_of, IsFine, IsFit, Shows}
 use Rattle.mv_select_statements.proofs.FrameChanges.{frame_scratch}
 use Rattle.mv_select_statements.proofs.TreesFirst.{temps_held, named_held}
 use Rattle.mv_select_control.specs.FlowCode.{all_true}
 use Rattle.mv_select_calls.specs.CallCode.{scratch_register, argument_lines}
+use Rattle.mv_num.proofs.Booleans.{and_right, and_left}
 
 pub at_scratch : AreScratch scratch_register (scratch_register + 4)
 at_scratch = inr (omega arith, omega arith)

@@ -17,7 +17,6 @@ use Rattle.mv_ir.specs.Trees.{nodes, nodes_of_all}
 use Rattle.mv_select_trees.specs.TreeCode.{one, number_lines, minus_one, tree_into, tree_lines}
 use Rattle.mv_select_trees.proofs.TreesAreShort.{number_size, into_short}
 use Rattle.mv_select_trees.proofs.TreesFit.{small_fits, number_fits, into_fits}
-use Rattle.mv_select_trees.proofs.TreesRun.{and_left}
 use Rattle.mv_select_statements.specs.StatementCode.{first, second, trap_label, write_temp}
 use Rattle.mv_select_statements.specs.Encoded.{IsCode, IsSmall}
 use Rattle.mv_select_statements.proofs.EncodedCode.{both, wider, single, branch, write_fits, tree_code}
@@ -26,6 +25,7 @@ use Rattle.mv_select_control.specs.Layouts.{any_global, any_known, is_small}
 use Rattle.mv_select_calls.specs.CallCode.{link_register, left_register, request_register, scratch_register, request_of, commit_label, result_lines, guard_lines, back_lines, guarded_lines, slot_lines, jump_lines, argument_lines, transfer_lines, call_lines, order_lines, ask_lines, known_lines}
 use Rattle.mv_select_calls.specs.Lines.{CallsHaveCode}
 use Rattle.mv_select_calls.proofs.Small.{HasRoom, FineParts, call_callee, call_parts, known_order, known_parts}
+use Rattle.mv_num.proofs.Booleans.{and_left}
 
 -- ---- single lines
 

@@ -20,7 +20,6 @@ use Rattle.mv_ir.specs.Meaning.{of_tree, Null, At, goal_at, goal, callee_nodes, 
 use Rattle.mv_select_trees.specs.TreeCode.{tree_lines}
 use Rattle.mv_select_trees.proofs.Registers.{put_same, put_other, changes_put}
 use Rattle.mv_select_trees.proofs.TreesAreShort.{trees_are_short}
-use Rattle.mv_select_trees.proofs.TreesRun.{and_left, and_right}
 use Rattle.mv_select_statements.specs.StatementCode.{first, trap_label}
 use Rattle.mv_select_statements.specs.Frames.{Site, IsFine, IsFit, Shows}
 use Rattle.mv_select_statements.proofs.FrameChanges.{frame_scratch}
@@ -39,6 +38,7 @@ use Rattle.mv_select_calls.proofs.Arguments.{at_scratch, arguments_short, values
 use Rattle.mv_select_calls.proofs.Transfers.{Transfers, slot_transfers, jump_transfers}
 use Rattle.mv_select_calls.proofs.Guarded.{straight_walk, zero_traps, other_passes, guarded_does}
 use Rattle.mv_select_calls.proofs.CallCourse.{call_course}
+use Rattle.mv_num.proofs.Booleans.{and_right, and_left}
 
 -- where a number is found, a function has it
 abbrev Found : List ℕ → (v at f : ℕ) → Type 0

@@ -25,8 +25,7 @@ use Rattle.mv_select_trees.proofs.Gives.{number_gives}
 use Rattle.mv_select_trees.proofs.Instructions.{addi_sets}
 use Rattle.mv_select_trees.proofs.Registers.{reg_zero, put_same, put_other, put_registers, changes_put}
 use Rattle.mv_select_trees.proofs.TreesAreShort.{number_size}
-use Rattle.mv_select_trees.proofs.TreesRun.{and_left, and_right}
-use Rattle.mv_select_trees.proofs.Words.{word_of_pos, add_zero}
+use Rattle.mv_select_trees.proofs.Words.{add_zero}
 use Rattle.mv_select_statements.specs.StatementCode.{first, second}
 use Rattle.mv_select_statements.specs.Leads.{limited}
 use Rattle.mv_select_statements.specs.Frames.{Site, IsFine, IsFit, Shows}
@@ -48,6 +47,8 @@ use Rattle.mv_select_calls.proofs.Transfers.{sets_on, result_stands}
 use Rattle.mv_select_calls.proofs.Guarded.{straight_walk}
 use Rattle.mv_select_calls.proofs.Small.{few_arguments}
 use Rattle.mv_select_calls.proofs.CallCourse.{call_course}
+use Rattle.mv_num.proofs.Booleans.{and_right, and_left}
+use Rattle.mv_num.proofs.Numbers.{word_of_pos}
 
 module _ {M : Type 0} (access : Access M) (y : Layout) (s : Site) (setting : ir.Setting) (frame : ir.Frame) (fit : IsFit s access setting frame) (caller : IsCaller y s setting frame)
     (machine : Machine M) (ok : IsRun access s machine) (budget far : ℕ) (place : ℕ → ℕ) (end : ℕ) (linked : IsLinked y place)

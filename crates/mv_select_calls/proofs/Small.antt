@@ -8,11 +8,11 @@ use Rattle.mv_ir.specs.declared.tree.Tree.{Tree}
 use Rattle.mv_ir.specs.declared.stm.Callee.{Callee}
 use Rattle.mv_ir.specs.Measures.{callee_trees}
 use Rattle.mv_ir.specs.WellFormed.{known_arguments}
-use Rattle.mv_select_trees.proofs.TreesRun.{and_left, and_right}
 use Rattle.mv_select_statements.specs.Encoded.{IsSmall}
 use Rattle.mv_select_control.specs.FlowCode.{all_true, fine_target, fine_known}
 use Rattle.mv_select_control.specs.Layouts.{any_global, any_known, is_small, small_call, small_known}
 use Rattle.mv_select_control.proofs.Small.{small_tree}
+use Rattle.mv_num.proofs.Booleans.{and_right, and_left}
 
 all_small : (ts : List Tree) → all_true (map is_small ts) ≡ true → All IsSmall ts
 all_small [] h = All-nil IsSmall

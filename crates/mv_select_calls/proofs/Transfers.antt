@@ -19,7 +19,7 @@ use Rattle.mv_select_trees.specs.TreeCode.{one}
 use Rattle.mv_select_trees.specs.View.{AreRegisters}
 use Rattle.mv_select_trees.proofs.Instructions.{addi_sets}
 use Rattle.mv_select_trees.proofs.Registers.{put_same, put_other, put_registers}
-use Rattle.mv_select_trees.proofs.Words.{word_of_pos, zero_add}
+use Rattle.mv_select_trees.proofs.Words.{zero_add}
 use Rattle.mv_select_statements.specs.StatementCode.{first, write_temp}
 use Rattle.mv_select_statements.specs.Leads.{limited, Past}
 use Rattle.mv_select_statements.specs.Frames.{Site, IsFit, Shows}
@@ -38,6 +38,7 @@ use Rattle.mv_select_calls.specs.Convention.{Layout, frame_limit, IsSaved, IsAbo
 use Rattle.mv_select_calls.specs.Laws.{IsCaller, IsLinked}
 use Rattle.mv_select_calls.proofs.CallerShown.{globals_held, shows_after}
 use Rattle.mv_select_calls.proofs.CallCourse.{call_course}
+use Rattle.mv_num.proofs.Numbers.{word_of_pos}
 
 module _ {M : Type 0} (access : Access M) (y : Layout) (s : Site) (setting : ir.Setting) (frame : ir.Frame) (fit : IsFit s access setting frame) (caller : IsCaller y s setting frame)
     (machine : Machine M) (ok : IsRun access s machine) (budget far : ℕ) (place : ℕ → ℕ) (end : ℕ) (linked : IsLinked y place)

@@ -18,7 +18,6 @@ use Rattle.mv_ir.specs.Measures.{total, joined, layer_trees, stm_trees}
 use Rattle.mv_ir.proofs.Induction.{Each, StmChildren, stm_ind, stms_ind}
 use Rattle.mv_ir.proofs.Rolls.{trees_roll}
 use Rattle.mv_select_trees.specs.TreeCode.{operand_lines, operand_register}
-use Rattle.mv_select_trees.proofs.TreesRun.{and_left, and_right}
 use Rattle.mv_select_trees.proofs.Operands.{operand_below}
 use Rattle.mv_select_trees.proofs.TreesAreShort.{operand_short}
 use Rattle.mv_select_trees.proofs.TreesFit.{operand_fits}
@@ -32,10 +31,8 @@ use Rattle.mv_select_control.specs.Encoded.{words_layer, stm_words, CallsAreEnco
 use Rattle.mv_select_control.proofs.ArraysWithin.{plan_within}
 use Rattle.mv_select_control.proofs.Small.{small_tree}
 use Rattle.mv_select_control.proofs.StatementsDo.{code_roll, fine_roll}
-
-nodes_append : (ts us : List Tree) → nodes_of_all (ts ++ us) ≡ nodes_of_all ts + nodes_of_all us
-nodes_append [] us = omega arith
-nodes_append (t ∷ ts) us = omega (arith, nodes_append ts us)
+use Rattle.mv_num.proofs.Booleans.{and_right, and_left}
+use Rattle.mv_ir.proofs.Joining.{nodes_append}
 
 pub words_roll : (x : Stm-F Stm) → stm_words (roll-Stm x) ≡ words_layer (map-Stm Stm ℕ stm_words x)
 unfolding stm_words

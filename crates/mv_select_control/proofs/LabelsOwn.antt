@@ -1,7 +1,6 @@
 -- Which labels stand in the code of statements: each that it takes, once.
 use Rattle.std.proofs.Common.{◌≡◌, ⊎_elim, ℕ, ◌+◌, ◌*◌, ◌<◌, ◌≤◌, cond, List, [], ◌∷◌, ◌++◌, All, count_by, map, refl, sym, ap, subst, arith, eq-eqb}
 use Rattle.std.proofs.lemmas.List.Elements.{All-nil, All-head, All-tail}
-use Rattle.std.proofs.lemmas.List.Sums.{sum_by-append}
 use Rattle.std.proofs.lemmas.Bool.{cases_lt, ne_eqb}
 use Rattle.mv_isa.specs.declared.labelled.Line.{Line}
 use Rattle.mv_isa.specs.declared.labelled.Line.TheVariants.{Word, Label, Jump, Branch, Entry, Slot}
@@ -21,9 +20,7 @@ use Rattle.mv_select_control.specs.FlowCode.{Plan, Emitted, in_turn, plain, encl
 use Rattle.mv_select_control.specs.Labels.{Names, CallsName, OwnLabels, LabelsAreOwn, LabelsAreFew, tree_functions}
 use Rattle.mv_select_control.proofs.StatementsDo.{code_roll}
 use Rattle.mv_select_control.proofs.TreeNames.{operand_names, set_names, set_global_names, divide_names, check_names, read_names, write_names, bounds_names, clear_names, return_names, jump_names}
-
-pub count_append : (l : ℕ) (xs ys : List Line) → count_by (is_label l) (xs ++ ys) ≡ count_by (is_label l) xs + count_by (is_label l) ys
-count_append l xs ys = sum_by-append (λ x. cond (is_label l x) 1 0) xs ys
+use Rattle.mv_isa.proofs.Common.{count_append}
 
 -- ---- single lines
 

@@ -13,11 +13,11 @@ use Rattle.mv_ir.specs.Measures.{stm_size, statements}
 use Rattle.mv_ir.specs.Trees.{depth}
 use Rattle.mv_ir.proofs.Rolls.{size_roll}
 use Rattle.mv_select_trees.specs.TreeCode.{temps_of}
-use Rattle.mv_select_trees.proofs.TreesRun.{and_left, and_right}
 use Rattle.mv_select_statements.specs.Encoded.{IsSmall}
 use Rattle.mv_select_control.specs.Layouts.{any_global, any_known, is_small, small_call, small_known, is_small_statement, are_small}
 use Rattle.mv_select_control.proofs.Equations.{fine_set, fine_setglobal, fine_divide, fine_check, fine_read, fine_write, fine_if, fine_loop, fine_block, fine_call, fine_known_call, fine_return}
 use Rattle.mv_select_control.specs.FlowCode.{may_read, may_write}
+use Rattle.mv_num.proofs.Booleans.{and_right, and_left}
 
 pub small_tree : (v : Tree) → is_small v ≡ true → IsSmall v
 small_tree v h =

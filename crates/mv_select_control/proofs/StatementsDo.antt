@@ -18,7 +18,6 @@ use Rattle.mv_ir.specs.Meaning.{of_tree, elements, with_temp, with_elements, tra
 use Rattle.mv_ir.specs.Trees.{divide}
 use Rattle.mv_ir.proofs.Induction.{Each, StmChildren, stm_ind, stms_ind}
 use Rattle.mv_ir.proofs.Keeping.{meaning_roll}
-use Rattle.mv_select_trees.proofs.TreesRun.{and_left, and_right}
 use Rattle.mv_select_statements.specs.Frames.{Site, IsRead, IsWritten, IsFine, IsFit}
 use Rattle.mv_select_statements.proofs.ScalarStatements.{set_done, set_global_done, divide_done, return_done}
 use Rattle.mv_select_statements.proofs.ArrayStatements.{check_done, read_done, write_done}
@@ -34,6 +33,7 @@ use Rattle.mv_select_control.proofs.Leaves.{same_either, same_elements, leaf_doe
 use Rattle.mv_select_control.proofs.Walk.{placed_split}
 use Rattle.mv_select_control.proofs.Zeroing.{zero_stands}
 use Rattle.mv_select_control.proofs.Course.{course}
+use Rattle.mv_num.proofs.Booleans.{and_right, and_left}
 
 pub code_roll : (plan : Plan) (x : Stm-F Stm) → statement_code plan (roll-Stm x) ≡ code_layer plan (map-Stm Stm Emitted (statement_code plan) x)
 unfolding statement_code

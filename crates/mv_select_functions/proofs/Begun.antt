@@ -1,5 +1,5 @@
 -- What a function finds where it begins, told by the numbers of its own frame.
-use Rattle.std.proofs.Common.{◌≡◌, ℕ, ◌+◌, ◌*◌, ◌%◌, ◌<◌, ◌≤◌, Bool, true, false, cond, List, [], length, slice_index, arith}
+use Rattle.std.proofs.Common.{◌≡◌, ℕ, ◌+◌, ◌*◌, ◌%◌, ◌<◌, ◌≤◌, Bool, false, cond, List, [], length, slice_index, arith}
 use Rattle.mv_ast.specs.Traps.{depth_limit}
 use Rattle.mv_isa.specs.Execution.{Access, reg}
 use Rattle.mv_ir.specs.World as ir
@@ -8,6 +8,7 @@ use Rattle.mv_select_control.specs.Runs.{Machine}
 use Rattle.mv_select_calls.specs.CallCode.{left_register, live_register}
 use Rattle.mv_select_calls.specs.Convention.{Layout, Enters, frame_limit}
 use Rattle.mv_select_functions.specs.Functions.{Begins}
+use Rattle.mv_num.proofs.Booleans.{one_or_none}
 
 -- a frame with so many above that of main, where so many others of attributed functions are live
 abbrev pub frame_at : Bool → List (ℕ × ℕ) → (depth live : ℕ) → ir.Frame
@@ -23,10 +24,6 @@ pub record Begun {M : Type 0} (y : Layout) (machine : Machine M) (attributed : B
   pub room : y.bottom + (reg (machine.run i).regs left_register + 1) * frame_limit ≤ reg (machine.run i).regs 2
   pub within : reg (machine.run i).regs 2 ≤ y.top
 
-counts_one : (b : Bool) → cond b 1 0 ≤ 1
-counts_one true = omega arith
-counts_one false = omega arith
-
 module _ {M : Type 0} (access : Access M) (y : Layout) (machine : Machine M) (i : ℕ) where
   -- one that is called
   pub begun_called : (budget far : ℕ) (attributed : Bool) (depth live : ℕ) (args : List ℕ) → Enters access y machine budget far depth live args i
@@ -34,7 +31,7 @@ module _ {M : Type 0} (access : Access M) (y : Layout) (machine : Machine M) (i 
   begun_called budget far attributed depth live args e = record {
     arguments = e.arguments;
     live_is = e.live;
-    counts = omega (arith, e.counts, counts_one attributed);
+    counts = omega (arith, e.counts, one_or_none attributed);
     left = omega (arith, e.left);
     even = e.even;
     room = e.room;

@@ -11,7 +11,7 @@ use Rattle.mv_select_trees.specs.View.{AreRegisters}
 use Rattle.mv_select_trees.proofs.Instructions.{addi_sets}
 use Rattle.mv_select_trees.proofs.Registers.{put_same, put_other, put_registers}
 use Rattle.mv_select_trees.proofs.TreesFit.{register_below}
-use Rattle.mv_select_trees.proofs.Words.{word_of_pos, zero_add, add_word}
+use Rattle.mv_select_trees.proofs.Words.{zero_add, add_word}
 use Rattle.mv_select_statements.specs.StatementCode.{first}
 use Rattle.mv_select_statements.specs.Frames.{Reach}
 use Rattle.mv_select_statements.proofs.FrameChanges.{register_is, register_zero, one_register, register_low}
@@ -23,6 +23,7 @@ use Rattle.mv_select_functions.specs.FunctionCode.{saved_register, save_lines, r
 use Rattle.mv_select_functions.specs.Functions.{IsStack, IsWord, IsLaid, IsMemory, IsAmple, RunsWithin}
 use Rattle.mv_select_functions.proofs.FrameWords.{words_site, ok, sets, Put, stores_on, loads_on, frame_course}
 use Rattle.mv_select_statements.specs.Leads.{limited}
+use Rattle.mv_num.proofs.Numbers.{word_of_pos}
 
 -- ---- the registers that are saved
 

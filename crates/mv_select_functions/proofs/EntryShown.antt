@@ -16,12 +16,9 @@ use Rattle.mv_select_control.specs.Runs.{Machine}
 use Rattle.mv_select_calls.specs.Convention.{Layout, IsAbove, HoldsGlobals}
 use Rattle.mv_select_functions.specs.Functions.{IsStack, IsWord, IsLaid, IsMemory, shape_of}
 use Rattle.mv_select_functions.proofs.Frame.{IsFrame, S, frame_word}
+use Rattle.mv_ir.proofs.Joining.{items_count}
 
 -- ---- what a frame holds when it begins
-
-pub items_count : (n : ℕ) (f : ℕ → ℕ) → length (first_items n f) ≡ n
-items_count zero f = refl
-items_count (suc n) f = ap suc (items_count n (λ i. f (suc i)))
 
 items_at : (n : ℕ) (f : ℕ → ℕ) (i : ℕ) → i < n → slice_index (first_items n f) i ≡ f i
 items_at zero f i lt = absurd (omega (arith, lt))

@@ -1,5 +1,5 @@
 -- The frame of a function: where its cells stand, and that they stand apart.
-use Rattle.std.proofs.Common.{◌≡◌, inl, inr, ⊎_elim, ℕ, zero, suc, ◌+◌, ◌*◌, ◌%◌, ◌^◌, ◌<◌, ◌≤◌, ◌⊎◌, Bool, true, false, not, ◌&&◌, ◌||◌, eqb, ltb, max, List, [], ◌∷◌, length, slice_index, None, refl, sym, ap, ◌∙◌, subst, arith}
+use Rattle.std.proofs.Common.{◌≡◌, inl, inr, ⊎_elim, ℕ, zero, suc, ◌+◌, ◌*◌, ◌%◌, ◌^◌, ◌<◌, ◌≤◌, ◌⊎◌, Bool, true, not, ◌&&◌, ◌||◌, eqb, ltb, max, List, [], ◌∷◌, length, slice_index, None, refl, sym, ap, ◌∙◌, subst, arith}
 use Rattle.std.proofs.Math.Nat.{le-max_left, le-max_right}
 use Rattle.std.proofs.lemmas.Bool.{eqb-true, ltb-true, ltb-false, lt-ltb, le-ltb, eq-eqb}
 use Rattle.mv_ast.specs.Traps.{depth_limit}
@@ -11,7 +11,6 @@ use Rattle.mv_ir.specs.World as ir
 use Rattle.mv_ir.specs.Measures.{total}
 use Rattle.mv_ir.specs.Trees.{found}
 use Rattle.mv_select_trees.specs.TreeCode.{temp_offset}
-use Rattle.mv_select_trees.proofs.TreesRun.{and_left, and_right}
 use Rattle.mv_select_statements.specs.Frames.{Site, Cell, TempCell, Element, Kept, IsThere, address, size_of, Stored, IsFit, Reach, IsLoaded}
 use Rattle.mv_select_control.specs.Runs.{Machine}
 use Rattle.mv_select_calls.specs.Convention.{Layout, IsAbove, frame_limit}
@@ -19,6 +18,7 @@ use Rattle.mv_select_calls.specs.Laws.{IsOfFrame, IsCaller}
 use Rattle.mv_select_functions.specs.FunctionCode.{words_before, Shape, bytes_of}
 use Rattle.mv_select_functions.specs.Functions as functions
 use Rattle.mv_select_functions.specs.Functions.{IsStack, IsWord, IsLaid, IsMemory, StandsInWords, site_of, IsAmple}
+use Rattle.mv_num.proofs.Booleans.{and_right, and_left, or_true, or_cases, not-true}
 
 -- ---- arrays in a row
 
@@ -49,14 +49,6 @@ is_between from to b = not (ltb b from) && ltb b to
 abbrev pub keeps : (sp caller top b : ℕ) → Bool
 keeps sp caller top b = eqb (b % 4) 0 && (is_between sp (sp + 40) b || is_between caller top b)
 
-not-true : (a : Bool) → not a ≡ true → a ≡ false
-not-true true e = sym e
-not-true false e = refl
-
-or_cases : (a b : Bool) → (a || b) ≡ true → (a ≡ true) ⊎ (b ≡ true)
-or_cases true b e = inl refl
-or_cases false b e = inr e
-
 between : (from to b : ℕ) → is_between from to b ≡ true → (from ≤ b) × (b < to)
 between from to b e = (ltb-false b from (not-true (ltb b from) (and_left (not (ltb b from)) (ltb b to) e)), ltb-true b to (and_right (not (ltb b from)) (ltb b to) e))
 
@@ -74,14 +66,10 @@ pub kept_low : (sp caller top b : ℕ) → b % 4 ≡ 0 → sp ≤ b → b < sp +
 kept_low sp caller top b even low high =
     ap (λ x. x && (is_between sp (sp + 40) b || is_between caller top b)) (eq-eqb (b % 4) 0 even) ∙ ap (λ x. x || is_between caller top b) (is_between_true sp (sp + 40) b low high)
 
-or_right : (a : Bool) → (a || true) ≡ true
-or_right true = refl
-or_right false = refl
-
 pub kept_high : (sp caller top b : ℕ) → b % 4 ≡ 0 → caller ≤ b → b < top → keeps sp caller top b ≡ true
 kept_high sp caller top b even low high =
     ap (λ x. x && (is_between sp (sp + 40) b || is_between caller top b)) (eq-eqb (b % 4) 0 even) ∙ ap (λ x. is_between sp (sp + 40) b || x) (is_between_true caller top b low high)
-    ∙ or_right (is_between sp (sp + 40) b)
+    ∙ or_true (is_between sp (sp + 40) b)
 
 -- ---- a frame
 

@@ -13,7 +13,7 @@ use Rattle.mv_select_trees.specs.TreeCode.{minus_one}
 use Rattle.mv_select_trees.specs.View.{AreRegisters}
 use Rattle.mv_select_trees.proofs.Instructions.{addi_sets}
 use Rattle.mv_select_trees.proofs.Registers.{put_same, put_other, put_registers}
-use Rattle.mv_select_trees.proofs.Words.{word_of_pos, zero_add, minus_one_is}
+use Rattle.mv_select_trees.proofs.Words.{zero_add, minus_one_is}
 use Rattle.mv_select_statements.specs.Frames.{Reach}
 use Rattle.mv_select_statements.proofs.TreesFirst.{add_small}
 use Rattle.mv_select_control.specs.Runs.{Machine}
@@ -25,6 +25,7 @@ use Rattle.mv_select_functions.specs.FunctionCode.{enter_lines, leave_lines}
 use Rattle.mv_select_functions.specs.Functions.{IsLaid, IsMemory, IsAmple, RunsWithin}
 use Rattle.mv_select_functions.proofs.FrameWords.{words_site, ok, One, sets, frame_course}
 use Rattle.mv_select_statements.specs.Leads.{limited}
+use Rattle.mv_num.proofs.Numbers.{word_of_pos}
 
 -- ---- arithmetic
 

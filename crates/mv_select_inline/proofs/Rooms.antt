@@ -15,12 +15,12 @@ use Rattle.mv_ir.specs.Measures.{joined, tree_reads, scalars_read}
 use Rattle.mv_ir.specs.WellFormed.{all_true, named, has_room, is_there}
 use Rattle.mv_ir.proofs.Rolls.{trees_roll, reads_roll, named_roll}
 use Rattle.mv_select_trees.specs.Rooms.{place_in}
-use Rattle.mv_select_trees.proofs.TreesRun.{and_left}
 use Rattle.mv_select_calls.specs.Convention.{Layout}
 use Rattle.mv_select_bodies.specs.SelectedBodies.{AreRooms}
 use Rattle.mv_select_inline.specs.InlineOf.{load_pair, store_pair, return_layer, return_pair, set_layer, set_pair, statement_layer, statement_pair, code_pair}
 use Rattle.mv_select_inline.specs.Laws.{InlineIsTheSame}
 use Rattle.mv_select_inline.proofs.Equations.{return_roll, statement_roll}
+use Rattle.mv_num.proofs.Booleans.{and_left}
 
 -- what the return of a global reads
 pub reads_are : (g : ℕ) → scalars_read (roll-Stm (stm.Return (roll-Tree (tree.Global g))) ∷ []) ≡ g ∷ []

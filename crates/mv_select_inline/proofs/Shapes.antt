@@ -18,7 +18,7 @@ use Rattle.mv_select_trees.specs.TreeCode.{upper_bits, lower_bits}
 use Rattle.mv_select_trees.specs.View.{AreRegisters}
 use Rattle.mv_select_trees.proofs.Instructions.{lui_sets, lw_sets, addi_sets}
 use Rattle.mv_select_trees.proofs.Registers.{reg_zero, put_same, put_other, put_registers}
-use Rattle.mv_select_trees.proofs.Words.{word_of_pos, zero_add, parts_add, lower_add, upper_below}
+use Rattle.mv_select_trees.proofs.Words.{zero_add, parts_add, lower_add, upper_below}
 use Rattle.mv_select_statements.specs.StatementCode.{first}
 use Rattle.mv_select_statements.specs.Frames.{Reach}
 use Rattle.mv_select_statements.proofs.Walks.{sw_moves}
@@ -30,9 +30,8 @@ use Rattle.mv_select_functions.specs.Loads.{loads_from}
 use Rattle.mv_select_inline.specs.Laws.{LoadsRead, IsDone}
 use Rattle.mv_select_inline.proofs.Steps.{globals_site, own, nop_sets, begun, two_steps, Came, comes}
 use Rattle.mv_select_inline.proofs.Stored.{set_in, Put, stored_global}
-
-pub same_some : {A : Type 0} (a b : A) → Some a ≡ Some b → a ≡ b
-same_some a b e = cc
+use Rattle.mv_num.proofs.Numbers.{word_of_pos}
+use Rattle.mv_num.proofs.Options.{some_same}
 
 no_load : (y : Layout) (bound : List (ℕ × ℕ)) (body : Body) (i : Instr) (regs : List ℕ) → loads_from i regs ≡ None → LoadsRead y bound body i regs
 no_load y bound body i regs none a e = absurd (none-some a (sym none ∙ e))
@@ -175,7 +174,7 @@ module _ {M : Type 0} (access : Access M) (y : Layout) (laid : IsLaid y) (machin
       ap (λ c. cond c (access.load m a 4) None) may ∙ ap (λ b. access.load m b 4) same ∙ stands.globals.loads g 0 lt in
       by_two (Lui first (pos (upper_bits a))) (Lw first first (lower_bits a)) up (scalar w.globals g) (upper_below a) (stands.globals.words g 0 lt)
       (lui_sets (own access y machine reach runs budget far) m first (pos (upper_bits a)) R up refl) (lw_sets (own access y machine reach runs budget far) m first first (lower_bits a) mid a (scalar w.globals g) to loads)
-      refl (λ b e. (g, reads, free, sym (same_some (add (reg mid first) (word_of (lower_bits a))) b e) ∙ to))
+      refl (λ b e. (g, reads, free, sym (some_same (add (reg mid first) (word_of (lower_bits a))) b e) ∙ to))
 
   -- ---- a store of a parameter
 

@@ -12,7 +12,7 @@ use Rattle.mv_select_trees.specs.Straight.{Sets}
 use Rattle.mv_select_trees.specs.View.{AreRegisters}
 use Rattle.mv_select_trees.proofs.Instructions.{addi_sets}
 use Rattle.mv_select_trees.proofs.Registers.{reg_zero}
-use Rattle.mv_select_trees.proofs.Words.{word_of_pos, add_zero}
+use Rattle.mv_select_trees.proofs.Words.{add_zero}
 use Rattle.mv_select_statements.specs.StatementCode.{first}
 use Rattle.mv_select_statements.specs.Frames.{Reach, Site, TempCell, Element, Kept}
 use Rattle.mv_select_statements.specs.Leads.{limited, Writes}
@@ -23,6 +23,7 @@ use Rattle.mv_select_control.proofs.Walk.{put_zero, steps_on, stands_at}
 use Rattle.mv_select_calls.specs.Convention.{Layout, IsSaved, IsAbove, HoldsGlobals, Stands, Returns}
 use Rattle.mv_select_functions.specs.Functions.{StandsInWords, RunsWithin}
 use Rattle.mv_select_inline.specs.InlineOf.{address_register}
+use Rattle.mv_num.proofs.Numbers.{word_of_pos}
 
 -- a frame that has no cells but the words of globals
 abbrev pub globals_site : Layout → Reach → Site

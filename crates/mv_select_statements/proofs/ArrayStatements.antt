@@ -23,7 +23,7 @@ use Rattle.mv_select_trees.proofs.Instructions.{lui_sets, lw_sets, slli_sets, ad
 use Rattle.mv_select_trees.proofs.Operands.{operand_outside}
 use Rattle.mv_select_trees.proofs.Registers.{put_same, put_other, put_registers, changes_put, changes_both}
 use Rattle.mv_select_trees.proofs.TreesAreShort.{number_size}
-use Rattle.mv_select_trees.proofs.Words.{word_of_pos, add_word, add_below, parts_add, upper_below}
+use Rattle.mv_select_trees.proofs.Words.{add_word, add_below, parts_add, upper_below}
 use Rattle.mv_select_statements.specs.StatementCode.{first, second, third, trap_label, target, keep_lines, element_offset, element_lines, test_lines, check_lines, read_lines, write_lines}
 use Rattle.mv_select_statements.specs.Leads.{Exit, Past, To, limited, Leads}
 use Rattle.mv_select_statements.specs.Frames.{Site, Element, IsRead, IsWritten, home_of, size_of, address, IsFine, IsFit, Shows}
@@ -33,6 +33,7 @@ use Rattle.mv_select_statements.proofs.ScalarStatements.{at_first, at_second, af
 use Rattle.mv_select_statements.proofs.TreesFirst.{operand_beside, cell_loaded, HasOperand, operand_first, cell_written}
 use Rattle.mv_select_statements.proofs.TempsKept.{target_range, temp_kept}
 use Rattle.mv_select_statements.proofs.Walks.{leads_more, leads_straight, leads_one, leads_next}
+use Rattle.mv_num.proofs.Numbers.{word_of_pos}
 
 -- ---- places of elements
 

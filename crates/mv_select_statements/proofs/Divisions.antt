@@ -10,16 +10,17 @@ use Rattle.mv_ir.specs.Trees.{divide}
 use Rattle.mv_select_trees.specs.Straight.{Sets}
 use Rattle.mv_select_trees.proofs.Instructions.{on, addi_sets}
 use Rattle.mv_select_trees.proofs.Registers.{reg_zero}
-use Rattle.mv_select_trees.proofs.Words.{word_below, word_of_pos, add_zero}
+use Rattle.mv_select_trees.proofs.Words.{add_zero}
 use Rattle.mv_select_statements.specs.StatementCode.{division}
+use Rattle.mv_num.proofs.Numbers.{word_of_pos, word_small}
 
 pub div_s_below : (a b : ℕ) → div_s a b < 2 ^ 32
 unfolding div_s
-div_s_below a b = word_below (int_div (signed a) (signed b))
+div_s_below a b = word_small (int_div (signed a) (signed b))
 
 pub rem_s_below : (a b : ℕ) → rem_s a b < 2 ^ 32
 unfolding rem_s
-rem_s_below a b = word_below (int_rem (signed a) (signed b))
+rem_s_below a b = word_small (int_rem (signed a) (signed b))
 
 pub div_u_below : (a b : ℕ) → a < 2 ^ 32 → div_u a b < 2 ^ 32
 unfolding div_u

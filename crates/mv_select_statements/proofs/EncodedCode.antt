@@ -14,12 +14,13 @@ use Rattle.mv_ir.specs.Trees.{nodes}
 use Rattle.mv_select_trees.specs.TreeCode.{upper_bits, lower_bits, one, two, number_lines, temp_register, temp_offset, tree_into, tree_lines, operand_lines, operand_register}
 use Rattle.mv_select_trees.proofs.Operands.{operand_below}
 use Rattle.mv_select_trees.proofs.TreesAreShort.{number_size, trees_are_short, into_short, operand_short}
-use Rattle.mv_select_trees.proofs.TreesFit.{one_fits, small_fits, lower_fits, upper_fits, count_fits, number_fits, register_below, trees_fit, into_fits, operand_fits}
+use Rattle.mv_select_trees.proofs.TreesFit.{one_fits, small_fits, lower_fits, upper_fits, number_fits, register_below, trees_fit, into_fits, operand_fits}
 use Rattle.mv_select_statements.specs.declared.elements.Home.{Home}
 use Rattle.mv_select_statements.specs.declared.elements.Home.TheVariants as home
 use Rattle.mv_select_statements.specs.StatementCode.{first, second, third, trap_label, write_temp, target, keep_lines, division, element_offset, element_lines, home_below, test_lines, bounds_lines, clear_lines}
 use Rattle.mv_select_statements.proofs.TempsKept.{target_range}
 use Rattle.mv_select_statements.specs.Encoded.{IsCode, IsSmall, AreEncoded, StatementsAreEncoded}
+use Rattle.mv_isa.proofs.Again.{count_fits}
 
 -- ---- parts put together
 

@@ -18,12 +18,13 @@ use Rattle.mv_select_trees.proofs.Instructions.{addi_sets}
 use Rattle.mv_select_trees.proofs.Operands.{InFrame, operand_stands}
 use Rattle.mv_select_trees.proofs.Registers.{changes_wider, scratch_part}
 use Rattle.mv_select_trees.proofs.TreesRun.{trees_run, operands_stand}
-use Rattle.mv_select_trees.proofs.Words.{word_of_pos, zero_add, add_word}
+use Rattle.mv_select_trees.proofs.Words.{zero_add, add_word}
 use Rattle.mv_select_statements.specs.StatementCode.{write_temp}
 use Rattle.mv_select_statements.specs.Leads.{limited, Moves}
 use Rattle.mv_select_statements.specs.Frames.{Site, Cell, TempCell, Element, IsLoaded, IsOwn, address, IsThere, content, view_of, IsFine, IsFit, Shows}
 use Rattle.mv_select_statements.proofs.FrameChanges.{Updates, updates_temp, frame_scratch, frame_register, frame_stored}
 use Rattle.mv_select_statements.proofs.Walks.{sw_moves}
+use Rattle.mv_num.proofs.Numbers.{word_of_pos}
 
 pub add_small : (a b : ℕ) → a + b < 2 ^ 32 → add a b ≡ a + b
 unfolding add

@@ -11,7 +11,7 @@ use Rattle.mv_ir.specs.Meaning.{elements, with_elements}
 use Rattle.mv_select_trees.specs.TreeCode.{one}
 use Rattle.mv_select_trees.proofs.Instructions.{addi_sets}
 use Rattle.mv_select_trees.proofs.Registers.{reg_zero, put_same, put_other, changes_put}
-use Rattle.mv_select_trees.proofs.Words.{add_below, add_word, word_of_pos, zero_add}
+use Rattle.mv_select_trees.proofs.Words.{add_below, add_word, zero_add}
 use Rattle.mv_select_statements.specs.StatementCode.{first, second, bounds_lines, clear_lines}
 use Rattle.mv_select_statements.specs.Leads.{limited, Past}
 use Rattle.mv_select_statements.specs.Frames.{Site, Element, address, content, IsFit, Shows}
@@ -19,6 +19,7 @@ use Rattle.mv_select_statements.specs.Laws.{cleared, IsCleared, Clears}
 use Rattle.mv_select_statements.proofs.FrameChanges.{elements_same, updates_element, frame_scratch, frame_stored}
 use Rattle.mv_select_statements.proofs.TreesFirst.{add_small}
 use Rattle.mv_select_statements.proofs.Walks.{leads_one, leads_next, sw_moves}
+use Rattle.mv_num.proofs.Numbers.{word_of_pos}
 
 cleared_next : (n : ℕ) (xs : List ℕ) → set (cleared n xs) n 0 ≡ cleared (suc n) xs
 cleared_next zero [] = refl

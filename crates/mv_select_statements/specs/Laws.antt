@@ -10,7 +10,6 @@ use Rattle.mv_ir.specs.declared.stm.Array.TheVariants as array
 use Rattle.mv_ir.specs.declared.stm.Stm.TheOpen.{Stm-F}
 use Rattle.mv_ir.specs.declared.stm.Stm.TheOpen as stm
 use Rattle.mv_ir.specs.World as ir
-use Rattle.mv_ir.specs.World.{World}
 use Rattle.mv_ir.specs.Outcome.{State, Outcome, Next, Ends, Trapped, Returned, Bound, Meaning}
 use Rattle.mv_ir.specs.Meaning.{elements, with_elements, statement}
 use Rattle.mv_select_statements.specs.StatementCode.{first, second, trap_label, set_lines, set_global_lines, divide_lines, check_lines, read_lines, write_lines, bounds_lines, clear_lines, return_lines}

@@ -9,10 +9,9 @@ use Rattle.mv_ir.specs.declared.tree.Tree.{Tree}
 use Rattle.mv_ir.specs.declared.tree.Tree as tr
 use Rattle.mv_ir.specs.declared.tree.Tree.TheOpen as tree
 use Rattle.mv_ir.specs.declared.tree.Tree.TheVariants.{rolls-Number, rolls-Temp, rolls-Global, rolls-Function, rolls-Unary, rolls-Binary, rolls-Narrow}
-use Rattle.mv_ir.specs.Trees.{depth}
-use Rattle.mv_ir.proofs.Rolls.{depth_roll}
 use Rattle.mv_select_trees.specs.TreeCode.{one, two, minus_one, number_lines, load_lines, read_temp, temp_register, unary_lines, binary_lines, short_immediate, count_immediate, immediate, immediate_lines, operator_lines, literal, keeps_words, narrow_lines, own_register, tree_into, operand_lines, operand_register, immediate_of, temps_of, clear}
 use Rattle.mv_select_trees.proofs.Rolls.{into_roll, own_roll, literal_roll, temps_roll}
+use Rattle.mv_ir.proofs.Common.{depth_number, depth_temp, depth_global, depth_function, depth_unary, depth_binary, depth_narrow}
 
 pub into_number : (place : ℕ → ℕ) (n d r : ℕ) → tree_into place (tr.Number n) d r ≡ number_lines n d
 into_number place n d r = ap (λ x. tree_into place x d r) (sym (rolls-Number n)) ∙ into_roll place (tree.Number n) d r
@@ -22,9 +21,6 @@ own_number n = ap own_register (sym (rolls-Number n)) ∙ own_roll (tree.Number 
 
 pub literal_number : (n : ℕ) → literal (tr.Number n) ≡ Some n
 literal_number n = ap literal (sym (rolls-Number n)) ∙ literal_roll (tree.Number n)
-
-pub depth_number : (n : ℕ) → depth (tr.Number n) ≡ 1
-depth_number n = ap depth (sym (rolls-Number n)) ∙ depth_roll (tree.Number n)
 
 pub temps_number : (n : ℕ) → temps_of (tr.Number n) ≡ 0
 temps_number n = ap temps_of (sym (rolls-Number n)) ∙ temps_roll (tree.Number n)
@@ -38,9 +34,6 @@ own_temp t = ap own_register (sym (rolls-Temp t)) ∙ own_roll (tree.Temp t)
 pub literal_temp : (t : ℕ) → literal (tr.Temp t) ≡ None
 literal_temp t = ap literal (sym (rolls-Temp t)) ∙ literal_roll (tree.Temp t)
 
-pub depth_temp : (t : ℕ) → depth (tr.Temp t) ≡ 1
-depth_temp t = ap depth (sym (rolls-Temp t)) ∙ depth_roll (tree.Temp t)
-
 pub temps_temp : (t : ℕ) → temps_of (tr.Temp t) ≡ t + 1
 temps_temp t = ap temps_of (sym (rolls-Temp t)) ∙ temps_roll (tree.Temp t)
 
@@ -52,9 +45,6 @@ own_global g = ap own_register (sym (rolls-Global g)) ∙ own_roll (tree.Global 
 
 pub literal_global : (g : ℕ) → literal (tr.Global g) ≡ None
 literal_global g = ap literal (sym (rolls-Global g)) ∙ literal_roll (tree.Global g)
-
-pub depth_global : (g : ℕ) → depth (tr.Global g) ≡ 1
-depth_global g = ap depth (sym (rolls-Global g)) ∙ depth_roll (tree.Global g)
 
 pub temps_global : (g : ℕ) → temps_of (tr.Global g) ≡ 0
 temps_global g = ap temps_of (sym (rolls-Global g)) ∙ temps_roll (tree.Global g)
@@ -68,9 +58,6 @@ own_function f = ap own_register (sym (rolls-Function f)) ∙ own_roll (tree.Fun
 pub literal_function : (f : ℕ) → literal (tr.Function f) ≡ None
 literal_function f = ap literal (sym (rolls-Function f)) ∙ literal_roll (tree.Function f)
 
-pub depth_function : (f : ℕ) → depth (tr.Function f) ≡ 1
-depth_function f = ap depth (sym (rolls-Function f)) ∙ depth_roll (tree.Function f)
-
 pub temps_function : (f : ℕ) → temps_of (tr.Function f) ≡ 0
 temps_function f = ap temps_of (sym (rolls-Function f)) ∙ temps_roll (tree.Function f)
 
@@ -82,9 +69,6 @@ own_unary o a = ap own_register (sym (rolls-Unary o a)) ∙ own_roll (tree.Unary
 
 pub literal_unary : (o : ℕ) (a : Tree) → literal (tr.Unary o a) ≡ None
 literal_unary o a = ap literal (sym (rolls-Unary o a)) ∙ literal_roll (tree.Unary o a)
-
-pub depth_unary : (o : ℕ) (a : Tree) → depth (tr.Unary o a) ≡ suc (depth a)
-depth_unary o a = ap depth (sym (rolls-Unary o a)) ∙ depth_roll (tree.Unary o a)
 
 pub temps_unary : (o : ℕ) (a : Tree) → temps_of (tr.Unary o a) ≡ temps_of a
 temps_unary o a = ap temps_of (sym (rolls-Unary o a)) ∙ temps_roll (tree.Unary o a)
@@ -99,9 +83,6 @@ own_binary o a b = ap own_register (sym (rolls-Binary o a b)) ∙ own_roll (tree
 pub literal_binary : (o : ℕ) (a b : Tree) → literal (tr.Binary o a b) ≡ None
 literal_binary o a b = ap literal (sym (rolls-Binary o a b)) ∙ literal_roll (tree.Binary o a b)
 
-pub depth_binary : (o : ℕ) (a b : Tree) → depth (tr.Binary o a b) ≡ suc (max (depth a) (depth b))
-depth_binary o a b = ap depth (sym (rolls-Binary o a b)) ∙ depth_roll (tree.Binary o a b)
-
 pub temps_binary : (o : ℕ) (a b : Tree) → temps_of (tr.Binary o a b) ≡ max (temps_of a) (temps_of b)
 temps_binary o a b = ap temps_of (sym (rolls-Binary o a b)) ∙ temps_roll (tree.Binary o a b)
 
@@ -114,9 +95,6 @@ own_narrow k a = ap own_register (sym (rolls-Narrow k a)) ∙ own_roll (tree.Nar
 
 pub literal_narrow : (k : Kind) (a : Tree) → literal (tr.Narrow k a) ≡ None
 literal_narrow k a = ap literal (sym (rolls-Narrow k a)) ∙ literal_roll (tree.Narrow k a)
-
-pub depth_narrow : (k : Kind) (a : Tree) → depth (tr.Narrow k a) ≡ suc (depth a)
-depth_narrow k a = ap depth (sym (rolls-Narrow k a)) ∙ depth_roll (tree.Narrow k a)
 
 pub temps_narrow : (k : Kind) (a : Tree) → temps_of (tr.Narrow k a) ≡ temps_of a
 temps_narrow k a = ap temps_of (sym (rolls-Narrow k a)) ∙ temps_roll (tree.Narrow k a)

@@ -12,7 +12,8 @@ use Rattle.mv_select_trees.specs.Straight.{Sets, Straight}
 use Rattle.mv_select_trees.specs.View.{AreRegisters, Changes, Gives, Leaves}
 use Rattle.mv_select_trees.proofs.Instructions.{lui_sets, lw_sets, addi_sets}
 use Rattle.mv_select_trees.proofs.Registers.{reg_zero, put_same, put_registers, changes_both, changes_put}
-use Rattle.mv_select_trees.proofs.Words.{parts_add, lower_add, upper_below, add_zero, word_of_pos}
+use Rattle.mv_select_trees.proofs.Words.{parts_add, lower_add, upper_below, add_zero}
+use Rattle.mv_num.proofs.Numbers.{word_of_pos}
 
 -- a register among those that may change
 pub record Within (lo hi r : ℕ) : Type 0 where

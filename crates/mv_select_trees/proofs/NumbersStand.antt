@@ -4,7 +4,8 @@ use Rattle.std.proofs.lemmas.Bool.{eqb-true, ltb-true}
 use Rattle.mv_num.specs.Words.{word_of, add, sub}
 use Rattle.mv_num.proofs.Signed.{sub_is}
 use Rattle.mv_select_trees.specs.TreeCode.{upper_bits, lower_bits, short_immediate, count_immediate}
-use Rattle.mv_select_trees.proofs.Words.{word_below, word_of_pos, add_zero, lower_add}
+use Rattle.mv_select_trees.proofs.Words.{add_zero, lower_add}
+use Rattle.mv_num.proofs.Numbers.{word_of_pos, word_small}
 
 pub short_stands : (n : ℕ) (i : ℤ) → n < 2 ^ 32 → short_immediate n ≡ Some i → word_of i ≡ n
 short_stands n i h = by_test (eqb (upper_bits n) 0) refl
@@ -12,7 +13,7 @@ short_stands n i h = by_test (eqb (upper_bits n) 0) refl
     by_test : (is_short : Bool) → eqb (upper_bits n) 0 ≡ is_short → cond is_short (Some (lower_bits n)) None ≡ Some i → word_of i ≡ n
     by_test true e k =
         let same : lower_bits n ≡ i = cc in
-        rw (← same) (sym (add_zero (word_of (lower_bits n)) (word_below (lower_bits n))) ∙ lower_add n h (eqb-true (upper_bits n) 0 e))
+        rw (← same) (sym (add_zero (word_of (lower_bits n)) (word_small (lower_bits n))) ∙ lower_add n h (eqb-true (upper_bits n) 0 e))
     by_test false e k = absurd cc
 
 pub count_stands : (n : ℕ) (i : ℤ) → count_immediate n ≡ Some i → word_of i ≡ n

@@ -16,7 +16,8 @@ use Rattle.mv_select_trees.proofs.Gives.{Within, put_within, one_gives, two_give
 use Rattle.mv_select_trees.proofs.NumbersStand.{short_stands, count_stands, add_negative}
 use Rattle.mv_select_trees.proofs.Instructions.{addi_sets, slti_sets, sltiu_sets, xori_sets, ori_sets, andi_sets, slli_sets, srli_sets, srai_sets, add_sets, sub_sets, mul_sets, and_sets, or_sets, xor_sets, sll_sets, sra_sets, srl_sets, slt_sets, sltu_sets}
 use Rattle.mv_select_trees.proofs.Registers.{reg_zero, held_word}
-use Rattle.mv_select_trees.proofs.Words.{word_of_pos, minus_one_is, complement_is, zero_add, add_below, sub_below, mul_below, and_below, shl_below, shr_s_below, shr_u_below, flag_below, truth_is, truth_below, is_zero, isnt_zero, same_difference, bool_is, byte_is, half_is, signed_byte, signed_half}
+use Rattle.mv_select_trees.proofs.Words.{minus_one_is, complement_is, zero_add, add_below, sub_below, mul_below, and_below, shl_below, shr_s_below, shr_u_below, flag_below, truth_is, truth_below, is_zero, isnt_zero, same_difference, bool_is, byte_is, half_is, signed_byte, signed_half}
+use Rattle.mv_num.proofs.Numbers.{word_of_pos}
 
 module _ {M : Type 0} (access : Access M) (m : M) (entry : ℕ → ℕ) (lo hi : ℕ) where
   abbrev Leaves : ℕ → ℕ → List Line → List ℕ → Type 0

@@ -1,5 +1,5 @@
 -- The definitions over trees, one level at a time.
-use Rattle.std.proofs.Common.{◌≡◌, ℕ, ◌+◌, ◌≤◌, Bool, cond, List, [], ◌∷◌, ◌++◌, Option, None, unwrap_or, refl, sym, ap, ◌∙◌, arith}
+use Rattle.std.proofs.Common.{◌≡◌, ℕ, ◌+◌, Bool, cond, List, [], ◌∷◌, ◌++◌, Option, None, unwrap_or, refl, sym, ap, ◌∙◌}
 use Rattle.mv_isa.specs.declared.labelled.Line.{Line}
 use Rattle.mv_isa.specs.declared.labelled.Line.TheVariants.{Entry}
 use Rattle.mv_ir.specs.declared.tree.Tree.{Tree}
@@ -7,9 +7,7 @@ use Rattle.mv_ir.specs.declared.tree.Tree.TheOpen.{Tree-F}
 use Rattle.mv_ir.specs.declared.tree.Tree.TheOpen as tree
 use Rattle.mv_ir.specs.declared.tree.Tree.TheViews.{roll-Tree}
 use Rattle.mv_ir.specs.declared.tree.Tree.TheFolds.{fold-roll-Tree, map-Tree}
-use Rattle.mv_ir.specs.Trees.{depth}
 use Rattle.mv_ir.proofs.Induction.{TreeChildren, tree_ind}
-use Rattle.mv_ir.proofs.Rolls.{depth_roll}
 use Rattle.mv_select_trees.specs.TreeCode.{one, number_lines, load_lines, read_temp, unary_lines, keeps_words, narrow_lines, own_layer, own_register, literal_layer, literal, right_of, operator_lines, unless, Code, ready, stands, into_layer, tree_layer, tree_code, tree_into, tree_lines, operand_lines, operand_register, immediate_of, temps_layer, temps_of}
 use Rattle.mv_select_trees.specs.View.{View, names_layer, is_in_view}
 
@@ -36,19 +34,6 @@ in_view_roll v x = fold-roll-Tree Bool (names_layer v) x
 pub immediate_is : (o : ℕ) (t : Tree) → right_of o (literal t) ≡ immediate_of o t
 unfolding immediate_of
 immediate_is o t = refl
-
--- a tree has a node
-pub depth_some : (t : Tree) → 1 ≤ depth t
-depth_some = tree_ind (λ t. 1 ≤ depth t) layer
-  where
-    layer : (x : Tree-F Tree) → TreeChildren (λ t. 1 ≤ depth t) x → 1 ≤ depth (roll-Tree x)
-    layer (tree.Number n) h = omega (arith, depth_roll (tree.Number n))
-    layer (tree.Temp n) h = omega (arith, depth_roll (tree.Temp n))
-    layer (tree.Global n) h = omega (arith, depth_roll (tree.Global n))
-    layer (tree.Function n) h = omega (arith, depth_roll (tree.Function n))
-    layer (tree.Unary o a) h = omega (arith, depth_roll (tree.Unary o a))
-    layer (tree.Binary o a b) h = omega (arith, depth_roll (tree.Binary o a b))
-    layer (tree.Narrow k a) h = omega (arith, depth_roll (tree.Narrow k a))
 
 -- ---- the code of a tree, of that of its parts
 

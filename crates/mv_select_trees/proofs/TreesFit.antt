@@ -22,8 +22,10 @@ use Rattle.mv_ir.proofs.Induction.{TreeChildren, tree_ind}
 use Rattle.mv_ir.proofs.Rolls.{depth_roll}
 use Rattle.mv_select_trees.specs.TreeCode.{one, two, upper_bits, lower_bits, number_lines, load_lines, temp_register, temp_offset, read_temp, clear, minus_one, unary_lines, binary_lines, short_immediate, count_immediate, immediate, immediate_lines, operator_lines, literal, right_of, keeps_words, narrow_lines, own_register, unless, tree_into, tree_lines, operand_lines, operand_register, immediate_of, temps_layer, temps_of}
 use Rattle.mv_select_trees.specs.Laws.{TreesFit}
-use Rattle.mv_select_trees.proofs.Rolls.{into_tree, into_roll, lines_are, immediate_is, temps_roll, depth_some}
+use Rattle.mv_select_trees.proofs.Rolls.{into_tree, into_roll, lines_are, immediate_is, temps_roll}
 use Rattle.mv_select_trees.proofs.Operands.{operand_below}
+use Rattle.mv_ir.proofs.Joining.{depth_positive}
+use Rattle.mv_isa.proofs.Again.{count_fits}
 
 abbrev pub AllFit : List Line → Type 0
 AllFit = All LineFits
@@ -52,9 +54,6 @@ lower_fits n = ⊎_elim low high (cases_lt (n % 4096) 2048)
 pub upper_fits : (n : ℕ) → IsUnsigned (2 ^ 20) (pos (upper_bits n))
 unfolding upper_bits
 upper_fits n = (omega (arith, ints), omega (arith, ints))
-
-pub count_fits : (n : ℕ) → n < 32 → IsUnsigned 32 (pos n)
-count_fits n h = (omega (arith, ints), omega (arith, ints))
 
 short_fits : (n : ℕ) (i : ℤ) → short_immediate n ≡ Some i → IsSigned (2 ^ 11) i
 short_fits n i = by_test (eqb (upper_bits n) 0)
@@ -217,7 +216,7 @@ module _ (place : ℕ → ℕ) where
   operand t h r p q = by_own (own_register t)
     where
       by_own : (own : Option ℕ) → AllFit (unless own (tree_into place t r r))
-      by_own None = h r r (omega (arith, p, depth_some t)) p q
+      by_own None = h r r (omega (arith, p, depth_positive t)) p q
       by_own (Some x) = All-nil LineFits
 
   layer : (x : Tree-F Tree) → TreeChildren CodeFits x → (d r : ℕ) → d < 32 → r + node_depth (map-Tree Tree ℕ depth x) ≤ 32 → temps_layer (map-Tree Tree ℕ temps_of x) ≤ 507 → AllFit (into_tree place x d r)
@@ -233,12 +232,12 @@ module _ (place : ℕ → ℕ) where
       (operand a h.0 r (omega arith) (omega arith)) (by_right (immediate_of o b) refl)
     where
       left : operand_register a r < 32
-      left = let some = depth_some b in operand_below a r (omega arith)
+      left = let some = depth_positive b in operand_below a r (omega arith)
 
       by_right : (right : Option ℤ) → immediate_of o b ≡ right → AllFit (operator_lines right o d (operand_register a r) (operand_lines place b (r + 1)) (operand_register b (r + 1)))
       by_right None e =
           let s = operand_register a r in let u = operand_register b (r + 1) in
-          let some = depth_some b in
+          let some = depth_positive b in
           after (operand_lines place b (r + 1)) (binary_lines o d s u) (operand b h.1 (r + 1) (omega arith) (omega arith)) (binary_fits d s u l left (operand_below b (r + 1) (omega arith)) o)
       by_right (Some i) e = by_number (literal b) (immediate_is o b ∙ e)
         where
@@ -260,4 +259,4 @@ module _ (place : ℕ → ℕ) where
   operand_fits t r = operand t (into_fits t) r
 
 pub trees_fit : TreesFit
-trees_fit place t r p q = subst AllFit (sym (lines_are place t r)) (into_fits place t r r (omega (arith, p, depth_some t)) p q)
+trees_fit place t r p q = subst AllFit (sym (lines_are place t r)) (into_fits place t r r (omega (arith, p, depth_positive t)) p q)

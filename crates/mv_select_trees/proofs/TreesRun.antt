@@ -1,5 +1,5 @@
 -- The code of a tree leaves the tree's value in its register.
-use Rattle.std.proofs.Common.{◌≡◌, ⊎_elim, inl, inr, ℕ, suc, ◌+◌, ◌^◌, ◌<◌, ◌≤◌, max, Bool, true, false, eqb, cond, ◌&&◌, List, [], ◌∷◌, ◌++◌, length, slice_index, Option, Some, None, unwrap_or, ltb, ℤ, pos, refl, sym, ap, ◌∙◌, subst, arith}
+use Rattle.std.proofs.Common.{◌≡◌, ⊎_elim, inl, inr, ℕ, suc, ◌+◌, ◌^◌, ◌<◌, ◌≤◌, max, Bool, true, false, eqb, cond, List, [], ◌∷◌, ◌++◌, length, slice_index, Option, Some, None, unwrap_or, ltb, ℤ, pos, refl, sym, ap, ◌∙◌, subst, arith}
 use Rattle.std.proofs.lemmas.Bool.{cases_lt, lt-ltb, le-ltb, ltb-true, eqb-true}
 use Rattle.mv_num.specs.declared.kind.Kind.{Kind}
 use Rattle.mv_num.specs.declared.kind.Kind.TheVariants as kind
@@ -19,21 +19,16 @@ use Rattle.mv_ir.proofs.Rolls.{value_roll, depth_roll}
 use Rattle.mv_select_trees.specs.TreeCode.{one, number_lines, load_lines, temp_register, temp_offset, read_temp, unary_lines, binary_lines, immediate_lines, operator_lines, literal_layer, literal, right_of, keeps_words, narrow_lines, own_layer, own_register, unless, tree_into, tree_lines, operand_lines, operand_register, immediate_of}
 use Rattle.mv_select_trees.specs.View.{View, view_value, names_layer, is_in_view, AreRegisters, AreScratch, Changes, HoldsTemps, HoldsNamed, Gives, Leaves}
 use Rattle.mv_select_trees.specs.Laws.{TreesRun, TreesLeave, OperandsStand}
-use Rattle.mv_select_trees.proofs.Rolls.{own_roll, literal_roll, immediate_is, into_tree, into_roll, lines_are, in_view_roll, depth_some}
+use Rattle.mv_select_trees.proofs.Rolls.{own_roll, literal_roll, immediate_is, into_tree, into_roll, lines_are, in_view_roll}
 use Rattle.mv_select_trees.proofs.Operands.{operand_outside}
-use Rattle.mv_select_trees.proofs.Words.{word_of_pos, zero_add, add_word}
+use Rattle.mv_select_trees.proofs.Words.{zero_add, add_word}
 use Rattle.mv_select_trees.proofs.Registers.{reg_zero, changes_none, changes_wider, held_word, scratch_part, scratch_low, scratch_high, frame_outside, temp_in_frame}
 use Rattle.mv_select_trees.proofs.Instructions.{lw_sets, addi_sets}
 use Rattle.mv_select_trees.proofs.Gives.{Within, leaves_alone, leaves_after, leaves_within, one_gives, number_gives, entry_gives, load_gives}
 use Rattle.mv_select_trees.proofs.OperatorsGive.{unary_gives, binary_gives, immediate_gives, narrow_gives}
-
-pub and_left : (a b : Bool) → (a && b) ≡ true → a ≡ true
-and_left true b e = refl
-and_left false b e = e
-
-pub and_right : (a b : Bool) → (a && b) ≡ true → b ≡ true
-and_right true b e = e
-and_right false b e = cc
+use Rattle.mv_num.proofs.Booleans.{and_right, and_left}
+use Rattle.mv_ir.proofs.Joining.{depth_positive}
+use Rattle.mv_num.proofs.Numbers.{word_of_pos}
 
 narrow_keeps : (k : Kind) (w : ℕ) → keeps_words k ≡ true → narrow k w ≡ w
 unfolding narrow
@@ -156,7 +151,7 @@ module _ {M : Type 0} (access : Access M) (m : M) (v : View) where
   within : (t : Tree) → Runs t → (r : ℕ) (regs : List ℕ) → is_in_view v t ≡ true → AreRegisters regs → HoldsTemps access m v regs → AreScratch r (r + depth t)
       → G r (r + depth t) r (view_value v t) (tree_into v.place t r r) regs
   within t h r regs k are temps s =
-      let some = depth_some t in
+      let some = depth_positive t in
       let low = scratch_low r (r + depth t) s in let high = scratch_high r (r + depth t) s in
       leaves_within access m v.entry r (r + depth t) r (view_value v t) (tree_into v.place t r r) regs (omega arith) (omega arith)
       (h r r regs k are temps s (omega arith) (omega arith))

@@ -1,5 +1,5 @@
 -- The arithmetic of words that the code of trees goes by.
-use Rattle.std.proofs.Common.{◌≡◌, ⊎_elim, ℕ, ◌+◌, ◌-◌, ◌*◌, ◌/◌, ◌%◌, ◌^◌, ◌<◌, ◌≤◌, suc, Bool, true, false, not, cond, eqb, ltb, ℤ, pos, negsuc, ◌-ℤ◌, refl, sym, ap, ◌∙◌, arith, bit_and, bit_xor}
+use Rattle.std.proofs.Common.{◌≡◌, ⊎_elim, ℕ, ◌+◌, ◌-◌, ◌*◌, ◌/◌, ◌%◌, ◌^◌, ◌<◌, ◌≤◌, suc, Bool, true, false, not, cond, eqb, ltb, pos, negsuc, ◌-ℤ◌, refl, sym, ap, ◌∙◌, arith, bit_and, bit_xor}
 use Rattle.std.proofs.lemmas.Bool.{cases_lt, cases_eq, eq-eqb, ne_eqb, lt-ltb, le-ltb}
 use Rattle.std.proofs.lemmas.Int.{ints}
 use Rattle.std.proofs.lemmas.Nat.{and_le_l, and_mask, mod_below}
@@ -10,13 +10,9 @@ use Rattle.mv_num.proofs.Signed.{sub_is, sign_extend_low, sign_extend_high}
 use Rattle.mv_isa.specs.Execution.{truth, upper}
 use Rattle.mv_ir.specs.Trees.{flag}
 use Rattle.mv_select_trees.specs.TreeCode.{upper_bits, lower_bits, minus_one}
+use Rattle.mv_num.proofs.Numbers.{word_of_pos, word_small, word_of_negsuc}
 
 -- ---- results are words
-
-pub word_below : (z : ℤ) → word_of z < 2 ^ 32
-unfolding word_of
-word_below (pos n) = omega arith
-word_below (negsuc n) = omega arith
 
 pub add_below : (a b : ℕ) → add a b < 2 ^ 32
 unfolding add
@@ -24,7 +20,7 @@ add_below a b = omega arith
 
 pub sub_below : (a b : ℕ) → sub a b < 2 ^ 32
 unfolding sub
-sub_below a b = word_below (pos a -ℤ pos b)
+sub_below a b = word_small (pos a -ℤ pos b)
 
 pub mul_below : (a b : ℕ) → mul a b < 2 ^ 32
 unfolding mul
@@ -39,7 +35,7 @@ shl_below a b = mod_below (a * 2 ^ (b % 32)) (2 ^ 32) (omega arith)
 
 pub shr_s_below : (a b : ℕ) → shr_s a b < 2 ^ 32
 unfolding shr_s
-shr_s_below a b = word_below (floor_div (signed a) (2 ^ (b % 32)))
+shr_s_below a b = word_small (floor_div (signed a) (2 ^ (b % 32)))
 
 pub shr_u_below : (a b : ℕ) → a < 2 ^ 32 → shr_u a b < 2 ^ 32
 unfolding shr_u
@@ -59,14 +55,6 @@ unfolding truth
 truth_below b = flag_below b
 
 -- ---- small numbers
-
-pub word_of_pos : (n : ℕ) → n < 2 ^ 32 → word_of (pos n) ≡ n
-unfolding word_of
-word_of_pos n h = omega arith
-
-word_of_negsuc : (k : ℕ) → k < 2 ^ 32 → word_of (negsuc k) ≡ 2 ^ 32 - suc k
-unfolding word_of
-word_of_negsuc k h = omega arith
 
 pub minus_one_is : word_of minus_one ≡ 2 ^ 32 - 1
 unfolding word_of

@@ -1,5 +1,5 @@
 -- From what comes of each command to what comes of the words.
-use Rattle.std.proofs.Common.{ℕ, ◌≡◌, Bool, List, [], refl, sym, subst, Option, Some, ◌∙◌}
+use Rattle.std.proofs.Common.{ℕ, ◌≡◌, Bool, List, [], refl, subst, Option, Some, ◌∙◌}
 use Rattle.std.specs.Prelude.{MatchOption}
 use Rattle.mv_ast.specs.declared.world.Event.{Event}
 use Rattle.mv_command.specs.Commands.{asked, Builds, Evaluates, Generates, Lists, IsCommand, IsNoCommand}

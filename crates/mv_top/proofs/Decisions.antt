@@ -1,33 +1,23 @@
 -- Which status comes of a command, from what each status says.
-use Rattle.std.proofs.Common.{ℕ, ◌≡◌, ◌^◌, ◌<◌, ◌⊎◌, inl, inr, true, false, List, [], take, refl, sym, ap, ◌∙◌, subst, Option, Some, None}
-use Rattle.std.specs.Prelude.{All}
+use Rattle.std.proofs.Common.{ℕ, ◌≡◌, ◌^◌, ◌<◌, ◌⊎◌, inl, inr, true, false, List, [], refl, sym, ap, ◌∙◌, subst, Option, Some, None}
 use Rattle.mv_ast.specs.declared.program.Program.{Program}
-use Rattle.mv_ast.specs.declared.world.Action.{Action}
 use Rattle.mv_ast.specs.declared.world.Event.{Event}
 use Rattle.mv_io.specs.Shelves.{Files, Lacks}
-use Rattle.mv_front.specs.Verdicts.{IsProgram, IsRefused}
+use Rattle.mv_front.specs.Verdicts.{IsRefused}
 use Rattle.mv_front.specs.declared.refusal.Refusal.{Refusal}
 use Rattle.mv_build.specs.Verdicts.{PassesLimit}
-use Rattle.mv_image.specs.Faults.{Spells}
-use Rattle.mv_image.specs.Spelling.{Fields}
 use Rattle.mv_exec.specs.Loading.{IsBadImage}
 use Rattle.mv_gen.specs.Generated.{generated}
 use Rattle.mv_refine.specs.Environment.{Writing}
-use Rattle.mv_meaning.specs.declared.meant.End.{End}
-use Rattle.mv_eval.specs.Evaluations.{most, meaning}
 use Rattle.mv_command.specs.Commands.{Asked, Runs, Builds, Executes, Lists, Evaluates, Generates, IsCommand, IsNoCommand}
-use Rattle.mv_command.specs.declared.command.RunOptions.{RunOptions}
-use Rattle.mv_command.specs.declared.options.TheConstants.{DEFAULT_STEPS}
 use Rattle.mv_command.proofs.Same.{same_asked}
-use Rattle.mv_operator.specs.Operator.{IsActions, IsFirstWrong, IsImageActions, IsImageFirstWrong}
 use Rattle.mv_notes.specs.Lines.{Noted, written, unmade, cut}
 use Rattle.mv_notes.specs.declared.status.Status.{Status}
-use Rattle.mv_notes.specs.declared.status.Status.TheVariants.{Usage, Refused, Memory, ShelfFault, BadImage, Done}
+use Rattle.mv_notes.specs.declared.status.Status.TheVariants.{Usage, Refused, Memory, ShelfFault, BadImage}
 use Rattle.mv_top.specs.Decisions as decisions
-use Rattle.mv_top.specs.Decisions.{Decides, Ends, Is, IsLoaded, IsWithinLimits, Loads, Quiet, Stands, reads_source}
-use Rattle.mv_top.specs.Evaluating.{status_of_end}
+use Rattle.mv_top.specs.Decisions.{Decides, Is, IsLoaded, IsWithinLimits, Quiet, Stands, reads_source}
 use Rattle.mv_top.specs.Outcomes as outcomes
-use Rattle.mv_top.specs.Outcomes.{Comes, Does, Gives, Idle, IsCarriedOut, IsDue}
+use Rattle.mv_top.specs.Outcomes.{Comes, Does, IsCarriedOut, IsDue}
 use Rattle.mv_top.specs.Outside as outsides
 use Rattle.mv_top.specs.Outside.{Outside, Holds, OfFile, ShelfFailed, Tells}
 use Rattle.mv_top.specs.Running.{no_action}

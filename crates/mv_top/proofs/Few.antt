@@ -4,10 +4,7 @@ use Rattle.std.proofs.lemmas.Bool.{ltb-false}
 use Rattle.mv_ast.specs.declared.program.Program.{Program}
 use Rattle.mv_check_limits.specs.Limits.{excess, reported, first_some, functions_limit, globals_limit, parameters_limit, switches_limit, first_exceeded}
 use Rattle.mv_check_limits.specs.declared.excess.Exceeded.{Exceeded}
-
-first_none : (o : Option Exceeded) (os : List (Option Exceeded)) → first_some (o ∷ os) ≡ None → o ≡ None
-first_none None os h = refl
-first_none (Some e) os h = h
+use Rattle.mv_front.proofs.Few.{first_none}
 
 later_none : (o : Option Exceeded) (os : List (Option Exceeded)) → first_some (o ∷ os) ≡ None → first_some os ≡ None
 later_none None os h = h

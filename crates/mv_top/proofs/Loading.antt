@@ -1,8 +1,7 @@
 -- From the load of a file to what comes of the command.
-use Rattle.std.proofs.Common.{ℕ, ◌≡◌, ◌≤◌, ◌⊎◌, List, Option, Some, None, arith, refl, sym, subst}
-use Rattle.std.specs.Prelude.{Result, Vec, Ok, Err, IsErrOf}
+use Rattle.std.proofs.Common.{ℕ, ◌≡◌, ◌⊎◌, List, Option, Some, None, refl, sym, subst}
+use Rattle.std.specs.Prelude.{Vec, Ok, Err}
 use Rattle.std.specs.declared.alloc.Global.{Global}
-use Rattle.mv_io.specs.Outside.{Rose}
 use Rattle.mv_io.specs.Shelves.{Files, Lacks, Loads}
 use Rattle.mv_io.specs.declared.outside.ShelfError.{ShelfError}
 use Rattle.mv_io.specs.declared.outside.ShelfError.TheVariants as shelf
@@ -13,10 +12,6 @@ use Rattle.mv_top.specs.Outside.{Outside, Holds, OfFile, ShelfFailed, no_file, u
 pub holds_loaded : (told : Option Files) (name : List ℕ) (bytes : Vec ℕ Global) → Loads told name (Ok bytes) → Holds told name bytes.items
 holds_loaded None name bytes h = tt
 holds_loaded (Some at) name bytes h = h
-
--- a count that rose behind one that is no less rose from there
-pub rose_later : (a b c : ℕ) → a ≤ b → Rose b c → Rose a c
-rose_later a b c later rose = grind (arith, later, rose)
 
 module _ (before after : Outside) (Idle : Type 0) (file : List ℕ) (DoesWith : (bytes : List ℕ) → Status → Type 0) where
   -- the shelf gave nothing

@@ -5,7 +5,6 @@ use Rattle.std.proofs.lemmas.List.Elements.{All-nil}
 use Rattle.mv_ast.specs.declared.program.Program.{Program}
 use Rattle.mv_ast.specs.declared.world.Action.{Action}
 use Rattle.mv_ast.specs.declared.world.Event.{Event}
-use Rattle.mv_io.specs.Outside.{Rose}
 use Rattle.mv_io.specs.declared.outside.ShelfError.{ShelfError}
 use Rattle.mv_io.specs.declared.outside.ShelfError.TheVariants as shelf
 use Rattle.mv_image.specs.Faults.{Spells}
@@ -27,7 +26,7 @@ use Rattle.mv_command.specs.declared.options.TheConstants.{DEFAULT_STEPS}
 use Rattle.mv_operator.specs.Operator.{IsImageActions, IsImageFirstWrong}
 use Rattle.mv_operator.proofs.Acting as operator
 use Rattle.mv_notes.specs.declared.status.Status.{Status}
-use Rattle.mv_notes.specs.declared.status.Status.TheVariants.{Refused, Memory, BadImage, Done, OutputFault}
+use Rattle.mv_notes.specs.declared.status.Status.TheVariants.{Refused, Memory, BadImage, Done}
 use Rattle.mv_build.specs.Verdicts.{PassesLimit}
 use Rattle.mv_top.specs.Building as building
 use Rattle.mv_top.specs.Building.{BuildDoes}
@@ -37,15 +36,15 @@ use Rattle.mv_top.specs.Evaluating.{EvalDoes, status_of_end, status_of_evaluatio
 use Rattle.mv_top.specs.Executing as executing
 use Rattle.mv_top.specs.Executing.{ExecDoes}
 use Rattle.mv_top.specs.Generating as generating
-use Rattle.mv_top.specs.Generating.{is_cut_short, is_summed_up, no_input, plain, RunsText, ShowsText, Sums}
+use Rattle.mv_top.specs.Generating.{no_input, plain, RunsText, ShowsText, Sums}
 use Rattle.mv_top.specs.Listing as listing
 use Rattle.mv_top.specs.Listing.{ListDoes}
 use Rattle.mv_top.specs.Outside as outsides
 use Rattle.mv_top.specs.Outside.{Outside, ShelfFailed, Writes}
 use Rattle.mv_top.specs.Running as running
-use Rattle.mv_top.specs.Running.{no_action, RunDoes}
-use Rattle.mv_top.proofs.Loading.{rose_later}
+use Rattle.mv_top.specs.Running.{no_action}
 use Rattle.mv_top.proofs.RunsDecided.{one_cause, only_limits, run_ended, run_stands, stands}
+use Rattle.mv_io.proofs.Common.{rose_later}
 
 -- ---- a text that is written
 

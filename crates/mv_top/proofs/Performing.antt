@@ -1,5 +1,5 @@
 -- From the parts of a command to what comes of it.
-use Rattle.std.proofs.Common.{ℕ, ◌≡◌, List, [], refl, sym, subst}
+use Rattle.std.proofs.Common.{ℕ, ◌≡◌, List, [], sym, subst}
 use Rattle.std.specs.Prelude.{Result, Ok, Err, IfOk}
 use Rattle.std.specs.declared.alloc.AllocError.{AllocError}
 use Rattle.mv_notes.specs.declared.notes.Performed.{Performed}

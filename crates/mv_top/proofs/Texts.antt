@@ -1,6 +1,6 @@
 -- From the answers of the layers to what comes of a text that is run, built or evaluated.
-use Rattle.std.proofs.Common.{ℕ, ◌≡◌, ◌≤◌, List, [], refl, sym, subst, Option}
-use Rattle.std.specs.Prelude.{Result, Ok, Err, IsErrOf, ⊤}
+use Rattle.std.proofs.Common.{ℕ, ◌≡◌, ◌≤◌, List, [], sym, subst, Option}
+use Rattle.std.specs.Prelude.{Result, Err, IsErrOf, ⊤}
 use Rattle.mv_ast.specs.declared.program.Program.{Program}
 use Rattle.mv_ast.specs.declared.world.Action.{Action}
 use Rattle.mv_ast.specs.declared.world.Event.{Event}
@@ -36,9 +36,9 @@ use Rattle.mv_top.specs.Outside.{Outside, KeepsFiles, ShelfFailed, outside, shel
 use Rattle.mv_top.specs.Running as running
 use Rattle.mv_top.specs.Running.{IsCause, IsPrepared, RunDoes, Unused, status_of_build, status_of_stop}
 use Rattle.mv_top.specs.declared.run.Prepared.{Prepared}
-use Rattle.mv_top.proofs.Loading.{rose_later}
 use Rattle.mv_top.proofs.Performing.{alone}
 use Rattle.mv_top.proofs.WordLines.{word_lines}
+use Rattle.mv_io.proofs.Common.{rose_later}
 
 -- ---- a run
 

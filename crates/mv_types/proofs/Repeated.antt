@@ -43,6 +43,7 @@ use Rattle.mv_types.specs.Foreknown.{is_fixed}
 use Rattle.mv_types.specs.Functions.{definition_parameters}
 use Rattle.mv_types.specs.Repeated.{is_plain, is_bare, IsSettled, AreSettled}
 use Rattle.mv_types.specs.Units.{base_of, named_declarator, declarator_judgement}
+use Rattle.mv_num.proofs.Lists.{set_there, last_there}
 
 -- ---- lists
 
@@ -51,11 +52,6 @@ module _ {A : Type 0} where
   set_same [] n x h = refl
   set_same (y ∷ ys) zero x h = ap (λ z. z ∷ ys) (cc)
   set_same (y ∷ ys) (suc n) x h = ap (λ zs. y ∷ zs) (set_same ys n x h)
-
-  set_there : (xs : List A) (n : ℕ) (x y : A) → slice_get xs n ≡ Some x → slice_get (slice_set xs n y) n ≡ Some y
-  set_there [] n x y h = absurd (cc)
-  set_there (z ∷ zs) zero x y h = refl
-  set_there (z ∷ zs) (suc n) x y h = set_there zs n x y h
 
   -- what stands at a place still does, or is what one more declaration makes of it
   set_before : (f : A → A) (xs : List A) (n i : ℕ) (x y : A) → slice_get xs n ≡ Some y → slice_get xs i ≡ Some x →
@@ -70,10 +66,6 @@ module _ {A : Type 0} where
   more_before [] ys i x h = absurd (cc)
   more_before (z ∷ zs) ys zero x h = h
   more_before (z ∷ zs) ys (suc i) x h = more_before zs ys i x h
-
-  last_there : (xs : List A) (x : A) → slice_get (xs ++ x ∷ []) (length xs) ≡ Some x
-  last_there [] x = refl
-  last_there (z ∷ zs) x = last_there zs x
 
 -- ---- names
 

@@ -9,7 +9,6 @@ use Rattle.mv_ir.specs.Outcome.{Call, Returned}
 use Rattle.mv_source_forms.specs.Names.{is_void}
 use Rattle.mv_lower_spec.specs.Correct.{seen, result_of, end_of}
 use Rattle.mv_lower_spec.specs.Law.{strict_context}
-use Rattle.mv_lower_spec.proofs.Expressions.{no}
 use Rattle.mv_lower_correct.specs.Laws.{IsCall, goes_astray}
 use Rattle.mv_source_forms.specs.WellFormed.{parameters}
 use Rattle.mv_lower_correct.proofs.Agreement.{agree_refl, AlikeOutcome}
@@ -18,6 +17,7 @@ use Rattle.mv_lower_correct.proofs.Contexts.{function_flows}
 use Rattle.mv_lower_correct.proofs.Pairs.{Astray, strict_and_plain, steady_both}
 use Rattle.mv_lower_correct.proofs.Knot.{BodyDoes, Any, any_trap, function_is_right}
 use Rattle.mv_lower_correct.proofs.functions_are_right.Goals as goal
+use Rattle.mv_num.proofs.Booleans.{from_falsity}
 
 -- the strict call, and the plain one beside it
 back : (p : Program) (void : Bool) (live : ℕ) (x : Call) (f : Frame) (w : World) (o q : Outcome Frame Flow) (scope inner : ℕ → Bool) (b c : Bool) → AlikeOutcome Astray Any Flow (Leads scope inner b c) o q →
@@ -29,8 +29,8 @@ back p void live x f w (Came flow a left work) (Came flow' a' left' work') scope
       omega (arith, cost, same, h.paid),
     )
 back p void live x f w (Came flow a left work) (Stopped why left' work') scope inner b c k e h = absurd k
-back p void live x f w (Stopped why left work) (Came flow' a' left' work') scope inner b c k e h = absurd (no (sym e ∙ k))
-back p void live x f w (Stopped why left work) (Stopped why' left' work') scope inner b c (inl k) e h = absurd (no (sym e ∙ k))
+back p void live x f w (Stopped why left work) (Came flow' a' left' work') scope inner b c k e h = absurd (from_falsity (sym e ∙ k))
+back p void live x f w (Stopped why left work) (Stopped why' left' work') scope inner b c (inl k) e h = absurd (from_falsity (sym e ∙ k))
 back p void live x f w (Stopped why left work) (Stopped why' left' work') scope inner b c (inr k) e h =
     let cost : x.cost ≡ h.cost = ap (λ (y : Call). y.cost) (h.ends e) in
     let same : work ≡ work' = k.work in (

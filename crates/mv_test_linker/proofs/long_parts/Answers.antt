@@ -1,4 +1,4 @@
-use Rattle.std.proofs.Common.{◌≡◌, ℕ, [], ◌∷◌, ◌++◌, length, replicate, pos, All, refl, ap, subst, sym, arith, rules}
+use Rattle.std.proofs.Common.{◌≡◌, ℕ, [], ◌∷◌, ◌++◌, length, replicate, pos, All, subst, sym, arith, rules}
 use Rattle.std.proofs.lemmas.List.Elements.{All-nil, All-from_recursion, All-replicate}
 use Rattle.std.proofs.lemmas.Grind.{common_steps}
 use Rattle.mv_isa.specs.declared.instr.Instr.TheVariants.{Addi}

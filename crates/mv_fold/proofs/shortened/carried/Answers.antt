@@ -1,5 +1,4 @@
-use Rattle.std.proofs.Common.{arith, ◌≡◌, ◌+◌, ◌-◌, ◌≤◌, List, [], ◌∷◌, ◌++◌, length, get_or, take, Some, None, sym, ◌∙◌, ap}
-use Rattle.mv_ir.specs.declared.stm.Stm.{Stm}
+use Rattle.std.proofs.Common.{arith, ◌≡◌, ◌+◌, ◌-◌, ◌≤◌, [], ◌∷◌, ◌++◌, length, get_or, take, Some, None, sym, ◌∙◌, ap}
 use Rattle.mv_fold.specs.Shortened.{as_one, carried}
 use Rattle.mv_fold.proofs.Ends.{end_as_one, end_stays, short_stays}
 use Rattle.mv_fold.proofs.shortened.carried.Goals as goal

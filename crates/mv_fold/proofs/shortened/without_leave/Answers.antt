@@ -1,4 +1,4 @@
-use Rattle.std.proofs.Common.{arith, ◌≡◌, suc, ◌-◌, length, true, false, take, get_or, sym, ◌∙◌, ap}
+use Rattle.std.proofs.Common.{arith, ◌≡◌, suc, ◌-◌, length, true, false, get_or, sym, ◌∙◌, ap}
 use Rattle.mv_fold.specs.Shortened.{leaves, without_leave}
 use Rattle.mv_fold.proofs.Ends.{leave_last, keep_last, no_last}
 use Rattle.mv_fold.proofs.shortened.without_leave.Goals as goal

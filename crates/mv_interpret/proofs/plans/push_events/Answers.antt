@@ -1,8 +1,8 @@
 use Rattle.std.proofs.Common.{◌∙◌, ◌++◌, sym, ap, arith}
 use Rattle.std.proofs.lemmas.List.{append-nil, drop_all}
 use Rattle.mv_ast.specs.Plans.{events_from}
-use Rattle.mv_interpret.proofs.Committing.{events_from-end}
 use Rattle.mv_interpret.proofs.plans.push_events.Goals as goal
+use Rattle.mv_ast.proofs.Common.{events_from-end}
 
 pub returns : goal.returns
 returns c =

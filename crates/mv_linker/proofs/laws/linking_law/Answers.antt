@@ -1,4 +1,4 @@
-use Rattle.std.proofs.Common.{◌≡◌, ℕ, suc, ◌++◌, List, [], ◌∷◌, length, map, All, refl, ap, sym, subst, ◌∙◌, arith}
+use Rattle.std.proofs.Common.{◌≡◌, ℕ, suc, ◌++◌, List, [], ◌∷◌, length, map, All, refl, ap, subst, ◌∙◌, arith}
 use Rattle.std.proofs.lemmas.List.Elements.{All-head, All-tail}
 use Rattle.mv_image.specs.Spelling.{Fields}
 use Rattle.mv_isa.specs.declared.labelled.Labelled.{Labelled}
@@ -9,8 +9,7 @@ use Rattle.mv_linker.specs.declared.parts.Parts.{Parts}
 use Rattle.mv_linker.specs.declared.parts.PartFunction.{PartFunction}
 use Rattle.mv_linker.specs.Linked.{codes, function_variants, variant_codes, linked_lines}
 use Rattle.mv_linker.specs.Tables.{function_row, attributed_numbers, sites_from, site_count, CallsAmong, FitTables}
-use Rattle.mv_linker.specs.Outcome.{IsLinked}
-use Rattle.mv_linker.specs.Laws.{RenamedLinesStand, IsPlain, UnattributedPartsArePlain, SitesAreCounted}
+use Rattle.mv_linker.specs.Laws.{RenamedLinesStand, UnattributedPartsArePlain, SitesAreCounted}
 use Rattle.mv_linker.proofs.Fits.{lines_fit}
 use Rattle.mv_linker.proofs.Places.{start_law, trap_law, commit_law, function_law}
 use Rattle.mv_linker.proofs.Sited.{lines_call, site_length, slots_of_codes}

@@ -1,7 +1,5 @@
 use Rattle.std.proofs.Common.{◌≡◌, ◌<◌, arith, rules}
 use Rattle.mv_linker.specs.Linked.{IsJoined}
-use Rattle.mv_linker.specs.Tables.{site_count}
-use Rattle.mv_linker.specs.Outcome.{HasFewSites}
 use Rattle.mv_linker.proofs.ImageLinked.{sites_counted}
 use Rattle.mv_linker.proofs.linking.link.Goals as goal
 

@@ -1,7 +1,4 @@
-use Rattle.std.proofs.Common.{All, sym, subst, ap, ◌∙◌, length}
-use Rattle.mv_image.specs.Spelling.{Fields}
-use Rattle.mv_linker.specs.Linked.{function_variants}
-use Rattle.mv_linker.specs.Tables.{HasFewGuards}
+use Rattle.std.proofs.Common.{sym, subst, ap, ◌∙◌, length}
 use Rattle.mv_linker.specs.Outcome.{IsLinked}
 use Rattle.mv_linker.proofs.Images.{entries_within, start_count}
 use Rattle.mv_linker.proofs.ImageLinked.{function_rows_fit, few_guards, data_fit, functions_few, made_linked}

@@ -8,16 +8,17 @@ use Rattle.mv_lower_expressions.specs.Values.{seen}
 use Rattle.mv_lower_expressions.specs.Expressions.{expr_at, each_at}
 use Rattle.mv_lower.specs.Statements.{stmt_size, stmts_size, arm_size, arms_size, used}
 use Rattle.mv_lower_expressions.proofs.Sizes.{sum_before}
-use Rattle.mv_lower.proofs.StatementForms.{size_block, size_clear, size_express, size_if, size_while, size_do, size_for, size_switch, size_return, size_arm, few_arms, map_length}
+use Rattle.mv_lower.proofs.StatementForms.{size_block, size_clear, size_express, size_if, size_while, size_do, size_for, size_switch, size_return, size_arm, few_arms}
 use Rattle.mv_lower.proofs.Switching.{next_item, code_step, top_step, arms_least, arms_end}
 use Rattle.mv_lower.proofs.Sequences.{same_code, with_stmt, stmts_push}
 use Rattle.mv_ir.specs.declared.stm.Stm.{Stm}
 use Rattle.mv_lower_spec.specs.Statements.{Code, in_arm, arm_code, arms_code, arms_top}
 use Rattle.mv_lower.specs.Statements.{seen_code, seen_jumps, stmts_at, stmt_at, arm_at}
 use Rattle.mv_lower.proofs.statement.+statement.Goals as goal
+use Rattle.mv_num.proofs.Lists.{length_map}
 
 as_many : (vs : List Value) (es : List Expr) (n : ℕ) → map seen vs ≡ each_at es n → length vs ≡ length es
-as_many vs es n e = sym (map_length seen vs) ∙ (ap (λ (l : List Lowered). length l) e ∙ map_length (λ (x : Expr). expr_at x n) es)
+as_many vs es n e = sym (length_map seen vs) ∙ (ap (λ (l : List Lowered). length l) e ∙ length_map (λ (x : Expr). expr_at x n) es)
 
 pub lower_stmt-declare-requires : goal.lower_stmt-declare-requires
 lower_stmt-declare-requires t c =

@@ -3,8 +3,9 @@ use Rattle.mv_image.specs.Spelling.{Fields}
 use Rattle.mv_io.specs.Outside.{Rose}
 use Rattle.mv_probe.proofs.Logs.{told_nothing, told_then, patient_after}
 use Rattle.mv_machine.specs.Moves.{seen}
-use Rattle.mv_machine.proofs.Walks.{goes_none, goes_more, goes_at, goes_on, turns_by, turns_since, rose_later}
+use Rattle.mv_machine.proofs.Walks.{goes_none, goes_more, goes_at, goes_on, turns_by, turns_since}
 use Rattle.mv_machine.proofs.turning.walk.Goals as goal
+use Rattle.mv_io.proofs.Common.{rose_later}
 
 pub loop-left-init : goal.loop-left-init
 loop-left-init g c = record { few = omega arith; goes = goes_at _ _ _ _ _ 0 (c.args.steps - c.args.steps) (omega arith) (goes_none _ _ _ (told_nothing _ _ c.args.probes.now.items c.requires)); image = refl; quiet = λ none. refl; input = omega arith; output = omega arith }

@@ -4,12 +4,12 @@ use Rattle.std.proofs.lemmas.Result.{err_from_is_err_and}
 use Rattle.mv_ast.specs.declared.unit.What.TheVariants as w
 use Rattle.mv_parse_grammar.specs.Terminals.{terminal, terminals, mark}
 use Rattle.mv_parse_grammar.specs.Reader as reader
-use Rattle.mv_parse_grammar.specs.Reader.{go_on}
 use Rattle.mv_parse_grammar.specs.Expressions.{Assign, Cond, Cast, Unary, node_at, joined}
 use Rattle.mv_parse_grammar.specs.ExpressionReader as model
 use Rattle.mv_parse_nodes.proofs.Answers.{given_ok, then_ok, then_err, placed_ok, placed_err, token_ok, choice_yes, choice_no, choice_true, loop_begins, loop_begins_at, loop_goes_on, loop_stops, loop_fails, loops_at, skipped, regrouped, err_any, ok_any}
-use Rattle.mv_parse_expressions.proofs.Levels.{bounded, level_opens, level_zero}
+use Rattle.mv_parse_expressions.proofs.Levels.{bounded, level_zero}
 use Rattle.mv_parse_expressions.proofs.expression.+expression.Goals as goal
+use Rattle.mv_parse_grammar.proofs.Common.{level_opened}
 
 pub arguments-loop-after-init : goal.arguments-loop-after-init
 arguments-loop-after-init t c = record {
@@ -51,11 +51,11 @@ binary-returns-then-rank-eq0-clause-reads t c = λ n.
 
 pub binary-returns-in_err-left-clause-reads : goal.binary-returns-in_err-left-clause-reads
 binary-returns-in_err-left-clause-reads t c = λ n. let p = err_from_is_err_and c.from_residual.result c.from_residual.ensures.1 in rw (p.1, p.2)
-    (rw (level_opens n (model.read n) c.args.rank (terminals c.args.text.now c.args.tokens.now) (omega arith)) (placed_err {ts = (terminals c.args.text.now c.args.tokens.now)} (model.level n (model.read n) (c.args.rank - 1)) _ (c.in_err-left.ensures.reads n)))
+    (rw (level_opened n (model.read n) c.args.rank (terminals c.args.text.now c.args.tokens.now) (omega arith)) (placed_err {ts = (terminals c.args.text.now c.args.tokens.now)} (model.level n (model.read n) (c.args.rank - 1)) _ (c.in_err-left.ensures.reads n)))
 
 pub binary-loop-operator-init : goal.binary-loop-operator-init
 binary-loop-operator-init t c = record {
-  reads = λ n. loops_at (loop_begins_at _ _ n _ (terminals c.args.text.now c.args.tokens.now) (model.level n (model.read n) (c.args.rank - 1)) (c.in_ok-left.ensures.reads n) (level_opens n (model.read n) c.args.rank (terminals c.args.text.now c.args.tokens.now) (omega arith)))
+  reads = λ n. loops_at (loop_begins_at _ _ n _ (terminals c.args.text.now c.args.tokens.now) (model.level n (model.read n) (c.args.rank - 1)) (c.in_ok-left.ensures.reads n) (level_opened n (model.read n) c.args.rank (terminals c.args.text.now c.args.tokens.now) (omega arith)))
       (ap (λ p. (p, c.in_ok-left.left)) (sym (c.place_of-place.ensures c.args.text.now))) refl;
   shorter = c.in_ok-left.ensures.shorter;
 }

@@ -1,8 +1,9 @@
 use Rattle.std.proofs.Common.{◌≡◌, ◌<◌, ◌+◌, ◌*◌, ◌/◌, ◌&&◌, true, eqb, length, refl, sym, ap, ◌∙◌, arith}
 use Rattle.mv_regalloc.specs.LiveBits.{in_word}
 use Rattle.mv_regalloc.proofs.Putting.{put_as, put_none}
-use Rattle.mv_regalloc.proofs.Turning.{turned, turned_word, turned_all, word_step, word_within, and_true}
+use Rattle.mv_regalloc.proofs.Turning.{turned, turned_word, turned_all, word_step, word_within}
 use Rattle.mv_regalloc.proofs.told.put_word.Goals as goal
+use Rattle.mv_num.proofs.Booleans.{and_true}
 
 pub loop-left-init : goal.loop-left-init
 loop-left-init c = record {

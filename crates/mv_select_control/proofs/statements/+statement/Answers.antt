@@ -2,7 +2,6 @@ use Rattle.std.proofs.Common.{◌≡◌, ◌+◌, ◌^◌, ◌<◌, suc, ◌∷�
 use Rattle.std.proofs.lemmas.Result.{on_ok_weaker}
 use Rattle.mv_ir.specs.declared.stm.Stm as at
 use Rattle.mv_isa.specs.declared.labelled.Line.TheVariants.{Jump}
-use Rattle.mv_select_trees.proofs.TreesRun.{and_left}
 use Rattle.mv_select_trees.specs.Rooms.{place_in}
 use Rattle.mv_select_statements.specs.StatementCode.{set_lines, set_global_lines, divide_lines, check_lines, read_lines, write_lines, return_lines}
 use Rattle.mv_select_control.specs.declared.layout.Space.{Space}
@@ -13,6 +12,7 @@ use Rattle.mv_select_control.proofs.Emitting.{as_kind, as_plain, labels_of, labe
 use Rattle.mv_select_control.proofs.Equations.{code_set, code_setglobal, code_divide, code_check, code_read, code_write, code_zero, code_if, code_loop, code_block, code_break, code_back, code_call, code_known, code_return}
 use Rattle.mv_select_control.proofs.Small.{small_set, small_set_global, small_divide, small_check, small_read, small_write, small_if, small_loop, small_block, small_calls, small_knowns, small_return, size_loop, size_block, size_if, size_at}
 use Rattle.mv_select_control.proofs.statements.+statement.Goals as goal
+use Rattle.mv_num.proofs.Booleans.{and_left}
 
 pub push_statement-push_set-requires-clause-temp : goal.push_statement-push_set-requires-clause-temp
 push_statement-push_set-requires-clause-temp g t c =

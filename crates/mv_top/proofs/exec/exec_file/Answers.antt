@@ -1,4 +1,4 @@
-use Rattle.std.proofs.Common.{refl, ◌∙◌, ap, sym}
+use Rattle.std.proofs.Common.{refl, ◌∙◌, ap}
 use Rattle.std.specs.Prelude.{Err}
 use Rattle.mv_probe.proofs.Logs.{told_nothing}
 use Rattle.mv_top.proofs.Loading.{given, not_loaded}

@@ -1,5 +1,3 @@
-use Rattle.mv_notes.specs.Lines.{asked_lines}
-use Rattle.mv_top.specs.Running.{status_of_stop}
 use Rattle.mv_top.proofs.Performing.{with_lines}
 use Rattle.mv_top.proofs.Texts.{not_started, ran}
 use Rattle.mv_top.proofs.run.run_prepared.Goals as goal
