@@ -20,6 +20,17 @@ use Rattle.mv_front.specs.Refusals.{at_place, of_rule, counted}
 use Rattle.mv_front.specs.Verdicts.{IsUnit, IsProgram, IsRefused, long_source, long_name, no_token, unsupported, too_deep, no_unit, broken_rule, over_limit}
 use Rattle.mv_front.specs.declared.refusal.Refusal.{Refusal}
 use Rattle.mv_front.proofs.Causes.{one_tokens}
+use Rattle.std.proofs.lemmas.Option.{same_Some, none-some}
+
+-- of these there is one at most
+abbrev One : (Refusal → Type 0) → Type 0
+One P = (r s : Refusal) → P r → P s → r ≡ s
+
+one_of : (P Q : Refusal → Type 0) → One P → One Q → ((r s : Refusal) → P r → Q s → ⊥) → One (λ r. P r ⊎ Q r)
+one_of P Q p q apart r s (inl h) (inl k) = p r s h k
+one_of P Q p q apart r s (inl h) (inr k) = absurd (apart r s h k)
+one_of P Q p q apart r s (inr h) (inl k) = absurd (apart s r k h)
+one_of P Q p q apart r s (inr h) (inr k) = q r s h k
 
 -- ---- the causes by their stages
 
@@ -41,11 +52,21 @@ data NoUnit (text : List ℕ) : Refusal → Type 0 where
   deep : (tokens : Tokens) (place : Place) → AreTokens text tokens.items tokens.end → IsTooDeep tokens place → NoUnit text (at_place 5 place)
   broken : (tokens : Tokens) (place : Place) → AreTokens text tokens.items tokens.end → IsBroken text tokens place → NoUnit text (at_place 4 place)
 
+-- the refusal of a unit, if it is no program
+abbrev of_excess : Option Exceeded → Option Refusal
+of_excess None = None
+of_excess (Some e) = Some (counted 7 e.limit e.count)
+
+abbrev of_judgement : tree.Unit → Judged Program → Option Refusal
+of_judgement u (Broken place number) = Some (of_rule place number)
+of_judgement u (Good p) = of_excess (first_excess u p)
+
+abbrev of_unit : tree.Unit → Option Refusal
+of_unit u = of_judgement u (judged_by_rules u)
+
 -- they are, and the unit is no program
-data NoProgram (text : List ℕ) : Refusal → Type 0 where
-  rule : (u : tree.Unit) (place : Place) (number : ℕ) → IsUnit text u → judged_by_rules u ≡ Broken place number → NoProgram text (of_rule place number)
-  limit : (u : tree.Unit) (p : Program) (number count : ℕ) → IsUnit text u → judged_by_rules u ≡ Good p →
-      first_excess u p ≡ Some (record { limit = number; count = count }) → NoProgram text (counted 7 number count)
+abbrev NoProgram : List ℕ → Refusal → Type 0
+NoProgram text r = (u : tree.Unit) × IsUnit text u × (of_unit u ≡ Some r)
 
 sorted : {text : List ℕ} {r : Refusal} → IsRefused text r → NoTokens text r ⊎ (NoUnit text r ⊎ NoProgram text r)
 sorted (long_source h) = inl (long h)
@@ -54,8 +75,8 @@ sorted (no_token place h) = inl (lexeme lexing.bad place h)
 sorted (unsupported place h) = inl (lexeme lexing.unsupported place h)
 sorted (too_deep tokens place l h) = inr (inl (deep tokens place l h))
 sorted (no_unit tokens place l h) = inr (inl (broken tokens place l h))
-sorted (broken_rule u place number reads h) = inr (inr (rule u place number reads h))
-sorted (over_limit u p number count reads good h) = inr (inr (limit u p number count reads good h))
+sorted (broken_rule u place number reads h) = inr (inr (u, reads, ap (of_judgement u) h))
+sorted (over_limit u p number count reads good h) = inr (inr (u, reads, ap (of_judgement u) good ∙ ap of_excess h))
 
 -- ---- no tokens
 
@@ -63,11 +84,11 @@ no_tokens : {text : List ℕ} {r : Refusal} (tokens : Tokens) → NoTokens text 
 no_tokens tokens (long h) l = omega (arith, h, l.fits)
 no_tokens {text = text} tokens (lexeme what place h) l = tokens_or_refused text tokens.items tokens.end place what l h
 
-one_lexing : {text : List ℕ} {r s : Refusal} → NoTokens text r → NoTokens text s → r ≡ s
-one_lexing (long h) (long k) = refl
-one_lexing (long h) (lexeme what place k) = absurd (omega (arith, h, k.fits))
-one_lexing (lexeme what place h) (long k) = absurd (omega (arith, k, h.fits))
-one_lexing {text = text} (lexeme what place h) (lexeme other at k) =
+one_lexing : (text : List ℕ) → One (NoTokens text)
+one_lexing text r s (long h) (long k) = refl
+one_lexing text r s (long h) (lexeme what place k) = absurd (omega (arith, h, k.fits))
+one_lexing text r s (lexeme what place h) (long k) = absurd (omega (arith, k, h.fits))
+one_lexing text r s (lexeme what place h) (lexeme other at k) =
     let e = refused_same text what other place at h k in
     ap (λ w. of_lexeme w place) e.0 ∙ ap (of_lexeme other) e.1
 
@@ -81,14 +102,14 @@ no_units {text = text} u (deep tokens place l h) is =
     level.never_both tokens place (subst IsShallow (one_tokens text is.reads.tokens tokens is.reads.lexed l) is.shallow) h
 no_units {text = text} u (broken tokens place l h) is = grammar.unit_is_whole text tokens u place (reads_here text tokens u l is) h.at
 
-one_parsing : {text : List ℕ} {r s : Refusal} → NoUnit text r → NoUnit text s → r ≡ s
-one_parsing {text = text} (deep tokens place l h) (deep others at m k) =
+one_parsing : (text : List ℕ) → One (NoUnit text)
+one_parsing text r s (deep tokens place l h) (deep others at m k) =
     ap (at_place 5) (level.one_place others place at (subst (λ z. IsTooDeep z place) (one_tokens text tokens others l m) h) k)
-one_parsing {text = text} (deep tokens place l h) (broken others at m k) =
+one_parsing text r s (deep tokens place l h) (broken others at m k) =
     absurd (level.never_both others place k.shallow (subst (λ z. IsTooDeep z place) (one_tokens text tokens others l m) h))
-one_parsing {text = text} (broken tokens place l h) (deep others at m k) =
+one_parsing text r s (broken tokens place l h) (deep others at m k) =
     absurd (level.never_both tokens at h.shallow (subst (λ z. IsTooDeep z at) (one_tokens text others tokens m l) k))
-one_parsing {text = text} (broken tokens place l h) (broken others at m k) =
+one_parsing text r s (broken tokens place l h) (broken others at m k) =
     let here : IsBroken text others place = subst (λ z. IsBroken text z place) (one_tokens text tokens others l m) h in
     ap (at_place 4) (grammar.one_place text others place at here.at k.at)
 
@@ -98,42 +119,17 @@ no_unit_no_tokens h (broken tokens place l k) = no_tokens tokens h l
 
 -- ---- no program
 
-unit_of : {text : List ℕ} {r : Refusal} → NoProgram text r → (u : tree.Unit) × IsUnit text u
-unit_of (rule u place number is h) = (u, is)
-unit_of (limit u p number count is good h) = (u, is)
-
 same_judgement : {text : List ℕ} (u v : tree.Unit) → IsUnit text u → IsUnit text v → judged_by_rules u ≡ judged_by_rules v
 same_judgement {text = text} u v is there = ap judged_by_rules (one_unit text u v is.reads there.reads)
-
-same_excess : {text : List ℕ} (u v : tree.Unit) (p q : Program) → IsUnit text u → IsUnit text v → p ≡ q → first_excess u p ≡ first_excess v q
-same_excess {text = text} u v p q is there e = ap (λ w. first_excess w p) (one_unit text u v is.reads there.reads) ∙ ap (λ z. first_excess v z) e
-
-good_or_broken : (p : Program) (place : Place) (number : ℕ) (j : Judged Program) → j ≡ Good p → j ≡ Broken place number → ⊥
-good_or_broken p place number j e f = let g : Good p ≡ Broken place number = sym e ∙ f in cc
 
 one_good : (p q : Program) → Good p ≡ Good q → p ≡ q
 one_good p q e = cc
 
-one_excess : (x y : Exceeded) → Some x ≡ Some y → x ≡ y
-one_excess x y e = cc
+same_refusal : {text : List ℕ} (u v : tree.Unit) → IsUnit text u → IsUnit text v → of_unit u ≡ of_unit v
+same_refusal {text = text} u v is there = ap of_unit (one_unit text u v is.reads there.reads)
 
-none_or_excess : (x : Exceeded) → None ≡ Some x → ⊥
-none_or_excess x e = cc
-
-one_checking : {text : List ℕ} {r s : Refusal} → NoProgram text r → NoProgram text s → r ≡ s
-one_checking (rule u place number is h) (rule v at other there k) =
-    let e : Broken place number ≡ Broken at other = sym h ∙ same_judgement u v is there ∙ k in
-    let f : place ≡ at = cc in
-    let g : number ≡ other = cc in
-    ap (λ z. of_rule z number) f ∙ ap (of_rule at) g
-one_checking (rule u place number is h) (limit v q other count there good k) =
-    absurd (good_or_broken q place number (judged_by_rules u) (same_judgement u v is there ∙ good) h)
-one_checking (limit u p number count is good h) (rule v at other there k) =
-    absurd (good_or_broken p at other (judged_by_rules u) good (same_judgement u v is there ∙ k))
-one_checking (limit u p number count is good h) (limit v q other many there fine k) =
-    let same : p ≡ q = one_good p q (sym good ∙ same_judgement u v is there ∙ fine) in
-    let excess = one_excess _ _ (sym h ∙ same_excess u v p q is there same ∙ k) in
-    ap (λ (e : Exceeded). counted 7 e.limit e.count) excess
+one_checking : (text : List ℕ) → One (NoProgram text)
+one_checking text r s (u, is, h) (v, there, k) = same_Some r s (sym h ∙ same_refusal u v is there ∙ k)
 
 -- ---- the laws
 
@@ -142,11 +138,9 @@ one_program text p q h k =
     one_good p q (sym h.good ∙ same_judgement h.unit k.unit h.reads k.reads ∙ k.good)
 
 no_program : (text : List ℕ) (p : Program) (r : Refusal) → IsProgram text p → NoProgram text r → ⊥
-no_program text p r h (rule u place number is k) =
-    good_or_broken p place number (judged_by_rules u) (same_judgement u h.unit is h.reads ∙ h.good) k
-no_program text p r h (limit u q number count is good k) =
-    let same : p ≡ q = one_good p q (sym h.good ∙ same_judgement h.unit u h.reads is ∙ good) in
-    none_or_excess _ (sym h.within ∙ same_excess h.unit u p q h.reads is same ∙ k)
+no_program text p r h (u, is, k) =
+    let good : of_unit h.unit ≡ None = ap (of_judgement h.unit) h.good ∙ ap of_excess h.within in
+    none-some r (sym good ∙ same_refusal h.unit u h.reads is ∙ k)
 
 pub not_both : (text : List ℕ) (p : Program) (r : Refusal) → IsProgram text p → IsRefused text r → ⊥
 not_both text p r h refused = go (sorted refused)
@@ -157,15 +151,10 @@ not_both text p r h refused = go (sorted refused)
     go (inr (inr k)) = no_program text p r h k
 
 pub one_refusal : (text : List ℕ) (r s : Refusal) → IsRefused text r → IsRefused text s → r ≡ s
-one_refusal text r s h k = go (sorted h) (sorted k)
+one_refusal text r s h k =
+    one_of (NoTokens text) (λ r. NoUnit text r ⊎ NoProgram text r) (one_lexing text)
+    (one_of (NoUnit text) (NoProgram text) (one_parsing text) (one_checking text) (λ r s a b. no_units b.0 a b.1)) lexed_before r s (sorted h) (sorted k)
   where
-    go : NoTokens text r ⊎ (NoUnit text r ⊎ NoProgram text r) → NoTokens text s ⊎ (NoUnit text s ⊎ NoProgram text s) → r ≡ s
-    go (inl a) (inl b) = one_lexing a b
-    go (inl a) (inr (inl b)) = absurd (no_unit_no_tokens a b)
-    go (inl a) (inr (inr b)) = absurd (no_tokens (unit_of b).1.reads.tokens a (unit_of b).1.reads.lexed)
-    go (inr (inl a)) (inl b) = absurd (no_unit_no_tokens b a)
-    go (inr (inl a)) (inr (inl b)) = one_parsing a b
-    go (inr (inl a)) (inr (inr b)) = absurd (no_units (unit_of b).0 a (unit_of b).1)
-    go (inr (inr a)) (inl b) = absurd (no_tokens (unit_of a).1.reads.tokens b (unit_of a).1.reads.lexed)
-    go (inr (inr a)) (inr (inl b)) = absurd (no_units (unit_of a).0 b (unit_of a).1)
-    go (inr (inr a)) (inr (inr b)) = one_checking a b
+    lexed_before : (r s : Refusal) → NoTokens text r → NoUnit text s ⊎ NoProgram text s → ⊥
+    lexed_before r s a (inl b) = no_unit_no_tokens a b
+    lexed_before r s a (inr b) = no_tokens b.1.reads.tokens a b.1.reads.lexed
