@@ -1,6 +1,6 @@
 -- Statements one after the other.
 use Rattle.std.proofs.Common.{◌≡◌, ℕ, ◌+◌, ◌-◌, ◌^◌, ◌≤◌, ◌<◌, List, ◌∷◌, length, get_or, drop, arith, refl, sym, ◌∙◌, ap, Ok, Err}
-use Rattle.std.proofs.lemmas.List.{drop_more, drop_all}
+use Rattle.std.proofs.lemmas.List.{drop_more}
 use Rattle.mv_ast.specs.declared.program.Program.{Program}
 use Rattle.mv_ast.specs.declared.program.Stmt.{Stmt}
 use Rattle.mv_ast.specs.Worlds.{Outcome, Came, bind, give}
@@ -69,12 +69,3 @@ module _ (p : Program) (context : Context) (here : Here)
             stopped_there s.work (flow_of p context t f (world_of here s)) (λ x. then_on x (flow_of_all p context (drop (i + 1) items))) why _ _ r.shown);
       }
   flows_fail t (halt.Memory m) before o f1 f2 s1 eo lt et r = record { shown = tt }
-
-  pub flows_end : (before : ℕ) (o : Outcome Frame Flow) → total ≡ totalled before o → length items ≤ i → s.work ≤ 2 ^ 64 - 1 →
-      IsOutcome before o here (Ok Goes) f s
-  flows_end before o eo ge le =
-      let e : capped (s.work + 0) ≡ s.work = omega arith in
-      record {
-        shown =
-            sym eo ∙ (so_far ∙ (ap (λ x. totalled s.work (flow_of_all p context x f (world_of here s))) (drop_all i items ge) ∙ ap (Came Goes f (world_of here s)) e));
-      }

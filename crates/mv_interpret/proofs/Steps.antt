@@ -1,5 +1,6 @@
 -- How the totals of outcomes go together.
-use Rattle.std.proofs.Common.{◌≡◌, ℕ, ◌+◌, ◌-◌, ◌^◌, ◌≤◌, arith, refl, sym, ◌∙◌, ap, subst, nat_eq, nat_lt, ◌<◌, Bool, true, false, if◌then◌else◌, Option, Some, None, Result, Ok, Err}
+use Rattle.std.proofs.Common.{◌≡◌, ℕ, ◌+◌, ◌-◌, ◌^◌, ◌≤◌, arith, refl, sym, ◌∙◌, ap, subst, nat_eq, nat_lt, ◌<◌, Bool, true, false, if◌then◌else◌, List, [], length, drop, Option, Some, None, Result, Ok, Err}
+use Rattle.std.proofs.lemmas.List.{drop_all}
 use Rattle.mv_num.specs.Words.{add, sub}
 use Rattle.mv_ast.specs.declared.program.CType.{CType}
 use Rattle.mv_ast.specs.declared.program.Program.{Program}
@@ -11,6 +12,8 @@ use Rattle.mv_interpret.specs.declared.state.Here.{Here}
 use Rattle.mv_interpret.specs.declared.state.State.{State}
 use Rattle.mv_interpret.specs.declared.state.Halt.{Halt}
 use Rattle.mv_interpret.specs.declared.state.Halt.TheVariants as halt
+use Rattle.mv_meaning.specs.declared.state.Flow.{Flow}
+use Rattle.mv_meaning.specs.declared.state.Flow.TheVariants.{Goes}
 use Rattle.mv_meaning.specs.declared.state.Lvalue.{Lvalue}
 use Rattle.mv_meaning.specs.declared.state.Lvalue.TheVariants as lvalue
 use Rattle.mv_ast.specs.Plans.{with_word}
@@ -56,6 +59,18 @@ within before (Came v' f' w' m) v f w n e =
     let en : capped (before + m) ≡ n = cc in
     omega arith
 within before (Stopped s w' m) v f w n e = cc
+
+-- of parts that are done one after the other none is left
+pub all_done : {X : Type 0} (run : List X → Evaluation Flow) (here : Here) (total : Outcome Frame Flow) (items : List X) (i : ℕ) (f : Frame) (s : State) →
+    total ≡ totalled s.work (run (drop i items) f (world_of here s)) → run [] f (world_of here s) ≡ give Goes f (world_of here s) →
+    (before : ℕ) (o : Outcome Frame Flow) → total ≡ totalled before o → length items ≤ i → s.work ≤ 2 ^ 64 - 1 → IsOutcome before o here (Ok Goes) f s
+all_done run here total items i f s so_far ends before o eo ge le =
+    let e : capped (s.work + 0) ≡ s.work = omega arith in
+    record {
+      shown =
+          sym eo ∙ (so_far ∙ (ap (λ l. totalled s.work (run l f (world_of here s))) (drop_all i items ge) ∙
+          (ap (totalled s.work) ends ∙ ap (Came Goes f (world_of here s)) e)));
+    }
 
 module _ {A B : Type 0} (o : Outcome Frame A) (next : A → Evaluation B) where
   -- an evaluation came to a value, and the next one goes on from it

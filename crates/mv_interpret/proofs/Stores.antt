@@ -1,11 +1,11 @@
 -- The values of a declared local, stored one after the other.
 use Rattle.std.proofs.Common.{◌≡◌, ℕ, suc, ◌+◌, ◌-◌, ◌^◌, ◌≤◌, ◌<◌, List, ◌∷◌, map, length, get_or, drop, replicate, Bool, if◌then◌else◌, arith, sym, ◌∙◌, ap, subst, Result, Ok, Err}
 use Rattle.std.specs.Prelude.{slice_set}
-use Rattle.std.proofs.lemmas.List.{drop_more, drop_all}
+use Rattle.std.proofs.lemmas.List.{drop_more}
 use Rattle.mv_ast.specs.declared.program.Program.{Program}
 use Rattle.mv_ast.specs.declared.program.Expr.{Expr}
 use Rattle.mv_ast.specs.Plans.{with_word}
-use Rattle.mv_ast.specs.Worlds.{Outcome, Came, bind}
+use Rattle.mv_ast.specs.Worlds.{Outcome, bind}
 use Rattle.mv_meaning.specs.declared.state.Frame.{Frame}
 use Rattle.mv_interpret.specs.declared.state.Here.{Here}
 use Rattle.mv_interpret.specs.declared.state.State.{State}
@@ -13,7 +13,6 @@ use Rattle.mv_meaning.specs.declared.state.Lvalue.TheVariants as lvalue
 use Rattle.mv_interpret.specs.declared.state.Halt.{Halt}
 use Rattle.mv_interpret.specs.declared.state.Halt.TheVariants as halt
 use Rattle.mv_meaning.specs.declared.state.Flow.{Flow}
-use Rattle.mv_meaning.specs.declared.state.Flow.TheVariants.{Goes}
 use Rattle.mv_meaning.specs.Meaning.{Evaluation, Context, value_of, store_lvalue, put_values, size_of, clear_local}
 use Rattle.mv_meaning.specs.Growth.{capped}
 use Rattle.mv_interpret.specs.Runs.{totalled, world_of, IsOutcome}
@@ -57,16 +56,6 @@ module _ (p : Program) (context : Context) (here : Here) (l : ℕ)
   stores_fail e (halt.Stopped why) before o f1 f2 s1 eo lt ee r =
       record { shown = sym eo ∙ (stores_here e lt ee ∙ stopped_there s.work (value_of p context e f (world_of here s)) stored why _ _ r.shown) }
   stores_fail e (halt.Memory m) before o f1 f2 s1 eo lt ee r = record { shown = tt }
-
-  pub stores_end : (before : ℕ) (o : Outcome Frame Flow) → total ≡ totalled before o → length items ≤ i → s.work ≤ 2 ^ 64 - 1 →
-      IsOutcome before o here (Ok Goes) f s
-  stores_end before o eo ge le =
-      let e : capped (s.work + 0) ≡ s.work = omega arith in
-      record {
-        shown =
-            sym eo ∙
-            (so_far ∙ (ap (λ x. totalled s.work (put_values l i (map (value_of p context) x) f (world_of here s))) (drop_all i items ge) ∙ ap (Came Goes f (world_of here s)) e));
-      }
 
 -- a declaration, from its cleared words
 pub cleared : (here : Here) (l : ℕ) (own : Bool) (es : List (Evaluation ℕ)) (f f1 f' : Frame) (s s1 s' : State) (n : ℕ) {r : Result Flow Halt} →

@@ -1,6 +1,6 @@
 -- What the interpreter does with the arms of a `switch`.
 use Rattle.std.proofs.Common.{◌≡◌, ℕ, ◌+◌, ◌-◌, ◌^◌, ◌≤◌, ◌<◌, List, [], ◌∷◌, ◌++◌, map, length, get_or, drop, arith, refl, sym, ◌∙◌, ap, subst, Result, Ok, Err}
-use Rattle.std.proofs.lemmas.List.{drop_more, drop_all}
+use Rattle.std.proofs.lemmas.List.{drop_more}
 use Rattle.mv_ast.specs.declared.program.Program.{Program}
 use Rattle.mv_ast.specs.declared.program.Arm.{Arm}
 use Rattle.mv_ast.specs.Worlds.{World, Outcome, Came, Stopped, after, and_then, bind}
@@ -120,16 +120,6 @@ module _ (p : Program) (context : Context) where
     arms_fail a (halt.Stopped why) before o f1 f2 s1 eo lt ea r =
         record { shown = sym eo ∙ (arms_here a lt ea ∙ stopped_there s.work (flow_of_all p context a.body f (world_of here s)) on_to why _ _ r.shown) }
     arms_fail a (halt.Memory m) before o f1 f2 s1 eo lt ea r = record { shown = tt }
-
-    pub arms_end : (before : ℕ) (o : Outcome Frame Flow) → total ≡ totalled before o → length items ≤ i → s.work ≤ 2 ^ 64 - 1 →
-        IsOutcome before o here (Ok Goes) f s
-    arms_end before o eo ge le =
-        let e : capped (s.work + 0) ≡ s.work = omega arith in
-        record {
-          shown =
-              sym eo ∙
-              (so_far ∙ (ap (λ x. totalled s.work (arms_from p context x f (world_of here s))) (drop_all i items ge) ∙ ap (Came Goes f (world_of here s)) e));
-        }
 
 -- a `switch`, from the arms that a value leads to
 pub switched : (p : Program) (context : Context) (here : Here) (v : ℕ) (arms rest : List Arm) (f : Frame) (s s1 : State) {r : Result Flow Halt} {f' : Frame} {s' : State} →

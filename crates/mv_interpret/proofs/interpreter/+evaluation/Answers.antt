@@ -28,10 +28,10 @@ use Rattle.mv_meaning.proofs.Contexts.{numbers_at}
 use Rattle.mv_interpret.proofs.Depths.{stmt_within, arm_within, arms_within, stmts_depth, arms_depth, below-Block, below-Clear, below-Express, below-If, below-While, below-Do, below-For, below-Switch, below-Return, less_spent, spent_less}
 use Rattle.mv_meaning.proofs.Equations.{value_of-Number, value_of-Read, value_of-Function, value_of-Unary, value_of-Binary, value_of-Both, value_of-Either, value_of-Choose, value_of-Convert, value_of-Set, value_of-Change, value_of-After, value_of-Direct, value_of-Through, value_of-Known, lvalue_of-Global, lvalue_of-Local, lvalue_of-GlobalAt, lvalue_of-LocalAt, flow_of-Block, flow_of-Clear, flow_of-Express, flow_of-If, flow_of-While, flow_of-Do, flow_of-For, flow_of-Switch, flow_of-Break, flow_of-Continue, flow_of-Return}
 use Rattle.mv_interpret.proofs.Lists.{values_init, values_step, values_fail, values_end}
-use Rattle.mv_interpret.proofs.Orders.{flows_step, flows_left, flows_fail, flows_end, then_on-other}
+use Rattle.mv_interpret.proofs.Orders.{flows_step, flows_left, flows_fail, then_on-other}
 use Rattle.mv_interpret.proofs.Steps.{within, reached, in_range, out_of_range, on, failed, gave, halted, begun, zero_way, other_way, truth-zero, truth-one, stored_in, changed, unchanged, stepped_after}
-use Rattle.mv_interpret.proofs.Stores.{stores_step, stores_fail, stores_end, cleared}
-use Rattle.mv_interpret.proofs.SwitchRuns.{arms_step, arms_left, arms_fail, arms_end, switched}
+use Rattle.mv_interpret.proofs.Stores.{stores_step, stores_fail, cleared}
+use Rattle.mv_interpret.proofs.SwitchRuns.{arms_step, arms_left, arms_fail, switched}
 use Rattle.mv_interpret.proofs.Turns.{elsewhere, carried, is_back, left_loop, while_back, do_back, for_back, no_turn, while_turned, do_turned, for_turned}
 use Rattle.mv_interpret.proofs.interpreter.+evaluation.Goals as goal
 
@@ -452,7 +452,7 @@ pub flow_of_all-returns : goal.flow_of_all-returns
 flow_of_all-returns t c =
     let a = c.args in
     let l = c.loop-s in
-    flows_end a.program.now (own_context a.program.now a.here.bound) a.here _ c.as_slice-s-items.result.now l.s-index l.frame l.state l.invariant.rest _ _ refl c.loop-s-test.false l.invariant.capped
+    all_done (flow_of_all a.program.now (own_context a.program.now a.here.bound)) a.here _ c.as_slice-s-items.result.now l.s-index l.frame l.state l.invariant.rest refl _ _ refl c.loop-s-test.false l.invariant.capped
 
 pub flow_of-returns-in_err-value_of-in-Express : goal.flow_of-returns-in_err-value_of-in-Express
 flow_of-returns-in_err-value_of-in-Express t c =
@@ -947,7 +947,7 @@ pub arms_flow-returns : goal.arms_flow-returns
 arms_flow-returns t c =
     let a = c.args in
     let l = c.loop-arm in
-    arms_end a.program.now (own_context a.program.now a.here.bound) a.here _ a.arms.now l.arm-index l.frame l.state l.invariant.rest _ _ refl c.loop-arm-test.false l.invariant.capped
+    all_done (arms_from a.program.now (own_context a.program.now a.here.bound)) a.here _ a.arms.now l.arm-index l.frame l.state l.invariant.rest refl _ _ refl c.loop-arm-test.false l.invariant.capped
 
 pub store_values-loop-i-init : goal.store_values-loop-i-init
 store_values-loop-i-init t c =
@@ -978,4 +978,4 @@ pub store_values-returns : goal.store_values-returns
 store_values-returns t c =
     let a = c.args in
     let l = c.loop-i in
-    stores_end a.program.now (own_context a.program.now a.here.bound) a.here a.l _ c.as_slice-e-items.result.now l.i l.frame l.state l.invariant.rest _ _ refl c.loop-i-test.false l.invariant.capped
+    all_done (λ es. put_values a.l l.i (map (value_of a.program.now (own_context a.program.now a.here.bound)) es)) a.here _ c.as_slice-e-items.result.now l.i l.frame l.state l.invariant.rest refl _ _ refl c.loop-i-test.false l.invariant.capped
