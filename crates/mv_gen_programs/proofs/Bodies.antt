@@ -45,13 +45,14 @@ switch_meanings =
     (codes "s0", meaning.Object (switch_variable 0)) ∷ (codes "s1", meaning.Object (switch_variable 1)) ∷ (codes "s2", meaning.Object (switch_variable 2))
     ∷ (codes "s3", meaning.Object (switch_variable 3)) ∷ []
 
-abbrev pub argument_variable : Variable
-argument_variable = record { storage = storage.Local 0; ctype = int; fixed = false; switch = None }
+-- the first local
+abbrev pub local_variable : Variable
+local_variable = record { storage = storage.Local 0; ctype = int; fixed = false; switch = None }
 
 -- the scope of a function's body, where these names are declared behind the switches
 abbrev pub body_scope : Names → List Signature → Scope
 body_scope names signatures = record {
-  names = record { here = (codes "a", meaning.Object argument_variable) ∷ []; around = (switch_meanings ++ names) ∷ [] };
+  names = record { here = (codes "a", meaning.Object local_variable) ∷ []; around = (switch_meanings ++ names) ∷ [] };
   tags = record { here = []; around = [] ∷ [] };
   enumerations = [];
   signatures = signatures;
@@ -80,39 +81,39 @@ form_expression (suc (suc zero)) j c =
     choose (binary 29 (read_global j) (constant 2)) (binary 12 (binary 14 (read_local 0) (constant 3)) (constant c)) (binary 13 (read_local 0) (constant c))
 form_expression (suc (suc (suc f))) j c = read_local 0
 
+abbrev pub count_of : ℕ → Seen
+count_of n = seen.Value (constant n)
+
 module _ (names : Names) (signatures : List Signature) (p : Places) (j c : ℕ) (h : j < 4) where
   abbrev scope : Scope
   scope = body_scope names signatures
 
   abbrev argument : Seen
-  argument = seen.Object (object_of_variable argument_variable)
+  argument = seen.Object (object_of_variable local_variable)
 
   abbrev switch : Seen
   switch = seen.Object (object_of_variable (switch_variable j))
 
-  abbrev count : ℕ → Seen
-  count n = seen.Value (constant n)
-
   argument_at : (at : Place) → judgement scope (word at (codes "a")) «use».Value ≡ Good argument
-  argument_at at = object_value scope at (codes "a") argument_variable refl refl
+  argument_at at = object_value scope at (codes "a") local_variable refl refl
 
   switch_at : (at : Place) → judgement scope (word at (switch_name j)) «use».Value ≡ Good switch
   switch_at at = object_value scope at (switch_name j) (switch_variable j) refl (switch_meant names signatures j h)
 
-  number_at : (at : Place) (n : ℕ) → judgement scope (number at n) «use».Value ≡ Good (count n)
+  number_at : (at : Place) (n : ℕ) → judgement scope (number at n) «use».Value ≡ Good (count_of n)
   number_at at n = number_value scope at n
 
   sum_value : judgement scope (form_tree p 0 j c) «use».Value ≡ Good (seen.Value (form_expression 0 j c))
   unfolding concluded least takes_two binary_of converted_to
   sum_value =
       binary_judged scope (p 14) «use».Value 12 _ _ argument (seen.Value (binary 14 (read_global j) (constant c))) (seen.Value (form_expression 0 j c)) (argument_at (p 14))
-      (binary_judged scope (p 16) «use».Value 14 _ _ switch (count c) (seen.Value (binary 14 (read_global j) (constant c))) (switch_at (p 16)) (number_at (p 18) c) refl) refl
+      (binary_judged scope (p 16) «use».Value 14 _ _ switch (count_of c) (seen.Value (binary 14 (read_global j) (constant c))) (switch_at (p 16)) (number_at (p 18) c) refl) refl
 
   choice_value : judgement scope (form_tree p 1 j c) «use».Value ≡ Good (seen.Value (form_expression 1 j c))
   unfolding concluded least takes_two meet binary_of choose_of converted_to
   choice_value =
       choose_judged scope (p 14) «use».Value _ _ _ switch (seen.Value (binary 19 (read_local 0) (constant c))) argument (seen.Value (form_expression 1 j c)) (switch_at (p 14))
-      (binary_judged scope (p 16) «use».Value 19 _ _ argument (count c) (seen.Value (binary 19 (read_local 0) (constant c))) (argument_at (p 16)) (number_at (p 18) c) refl)
+      (binary_judged scope (p 16) «use».Value 19 _ _ argument (count_of c) (seen.Value (binary 19 (read_local 0) (constant c))) (argument_at (p 16)) (number_at (p 18) c) refl)
       (argument_at (p 20)) refl
 
   test_value : judgement scope (form_tree p 2 j c) «use».Value ≡ Good (seen.Value (form_expression 2 j c))
@@ -120,10 +121,10 @@ module _ (names : Names) (signatures : List Signature) (p : Places) (j c : ℕ) 
   test_value =
       choose_judged scope (p 14) «use».Value _ _ _ (seen.Value (binary 29 (read_global j) (constant 2))) (seen.Value (binary 12 (binary 14 (read_local 0) (constant 3)) (constant c)))
       (seen.Value (binary 13 (read_local 0) (constant c))) (seen.Value (form_expression 2 j c))
-      (binary_judged scope (p 14) «use».Value 29 _ _ switch (count 2) (seen.Value (binary 29 (read_global j) (constant 2))) (switch_at (p 14)) (number_at (p 16) 2) refl)
-      (binary_judged scope (p 18) «use».Value 12 _ _ (seen.Value (binary 14 (read_local 0) (constant 3))) (count c) (seen.Value (binary 12 (binary 14 (read_local 0) (constant 3)) (constant c)))
-      (binary_judged scope (p 18) «use».Value 14 _ _ argument (count 3) (seen.Value (binary 14 (read_local 0) (constant 3))) (argument_at (p 18)) (number_at (p 20) 3) refl) (number_at (p 22) c) refl)
-      (binary_judged scope (p 24) «use».Value 13 _ _ argument (count c) (seen.Value (binary 13 (read_local 0) (constant c))) (argument_at (p 24)) (number_at (p 26) c) refl) refl
+      (binary_judged scope (p 14) «use».Value 29 _ _ switch (count_of 2) (seen.Value (binary 29 (read_global j) (constant 2))) (switch_at (p 14)) (number_at (p 16) 2) refl)
+      (binary_judged scope (p 18) «use».Value 12 _ _ (seen.Value (binary 14 (read_local 0) (constant 3))) (count_of c) (seen.Value (binary 12 (binary 14 (read_local 0) (constant 3)) (constant c)))
+      (binary_judged scope (p 18) «use».Value 14 _ _ argument (count_of 3) (seen.Value (binary 14 (read_local 0) (constant 3))) (argument_at (p 18)) (number_at (p 20) 3) refl) (number_at (p 22) c) refl)
+      (binary_judged scope (p 24) «use».Value 13 _ _ argument (count_of c) (seen.Value (binary 13 (read_local 0) (constant c))) (argument_at (p 24)) (number_at (p 26) c) refl) refl
 
   value : (n : Seen) (t : Expr) (f : ℕ) → judgement scope (form_tree p f j c) «use».Value ≡ Good n → value_of n ≡ t → value_judgement scope (form_tree p f j c) ≡ Good t
   value n t f k e = ap (λ (v : Judged Seen). and_then v (λ x. Good (value_of x))) k ∙ ap Good e

@@ -35,7 +35,7 @@ use Rattle.mv_types.specs.declared.contents.Object.{Object}
 use Rattle.mv_types.specs.Functions.{function_judgement, function_scope, broken_rule, definition_parameters, body_entered, params_of}
 use Rattle.mv_gen_programs.proofs.Lines.{function_name}
 use Rattle.mv_gen_programs.proofs.Trees.{Places, marked_specs, argument, definition_declarator, definition_body}
-use Rattle.mv_gen_programs.proofs.Bodies.{switch_meanings, argument_variable, form_expression, body_value}
+use Rattle.mv_gen_programs.proofs.Bodies.{switch_meanings, local_variable, form_expression, body_value}
 use Rattle.mv_gen_programs.proofs.MainBody.{int_specified, plain_designated, function_signature, routine}
 
 -- ---- specifiers
@@ -52,12 +52,12 @@ marked_specified p i s = simp (out-roll-Specs, out-roll-Mark, shape.outs-Functio
 -- ---- parameters
 
 pub parameters_given : (p : Places) (s : Scope) → s.names.here ≡ [] → s.locals ≡ [] →
-    parameters_judgement s (argument p ∷ []) ≡ Good (record s { names = record s.names { here = (codes "a", meaning.Object argument_variable) ∷ [] }; locals = scalar int ∷ [] })
+    parameters_judgement s (argument p ∷ []) ≡ Good (record s { names = record s.names { here = (codes "a", meaning.Object local_variable) ∷ [] }; locals = scalar int ∷ [] })
 unfolding new_defined
 parameters_given p s h l = rw (int_specified position.Parameter [] (p 9) s, plain_designated int false s) (rw (h, l) refl)
 
 parameter_is : (p : Places) (s : Scope) → s.names.here ≡ [] →
-    parameter (argument p) s ≡ Good (declared s (codes "a") (meaning.Object argument_variable), int)
+    parameter (argument p) s ≡ Good (declared s (codes "a") (meaning.Object local_variable), int)
 unfolding new_parameter
 parameter_is p s h =
     ap (λ (f : Params). f s) (fold_out-Param Shapes Declarators Params shape_step declarator_step param_step (argument p))

@@ -6,8 +6,9 @@ use Rattle.std.specs.Cmp.Lexicographic.{same_text}
 use Rattle.std.proofs.lemmas.Bool.{and_parts, and_from, cases_lt}
 use Rattle.std.proofs.lemmas.Bool.Decides.{nat_tests}
 use Rattle.mv_gen.specs.Generated.{drawn, functions, switch_of, constant_of, form_of, form_text, expression_text, definition_line, definition_lines, call_line, call_lines, switch_lines, loop_lines, last_lines, generated}
-use Rattle.mv_gen_programs.proofs.Parts.{Part, blank, sign, bytes, texts, same, word_fits, is_name, is_decimal, is_constant, is_number, sign_fits, fits, first, all_fit}
+use Rattle.mv_gen_programs.proofs.Parts.{Part, blank, sign, bytes, texts, word_fits, is_name, is_decimal, is_constant, is_number, sign_fits, fits, first, all_fit}
 use Rattle.mv_gen_programs.proofs.Lines.{function_name, switch_name, feed, switch_parts, object_parts, head_parts, local_parts, loop_parts, if_parts, store_parts, end_parts, definition_parts, drawn_parts, definitions_parts, before_parts, call_parts, calls_parts, after_parts, unit_parts}
+use Rattle.mv_check_outline.specs.Names.{same_name}
 
 -- ---- finitely many numbers
 
@@ -36,7 +37,7 @@ abbrev tested : (ℕ → Bool) → (start count : ℕ) → Bool
 tested p start count = all_below (λ k. p (start + k)) count
 
 abbrev is_small : ℕ → Bool
-is_small n = same (decimal n) (small n)
+is_small n = same_name (decimal n) (small n)
 
 small_0 : tested is_small 0 64 ≡ true
 unfolding digits

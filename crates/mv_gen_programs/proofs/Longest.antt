@@ -22,11 +22,12 @@ use Rattle.mv_lexer.specs.declared.table.Table.{Table}
 use Rattle.mv_lexer.specs.declared.table.Table.TheVariants.{Keywords, UnsupportedKeywords, Punctuators, UnsupportedPunctuators}
 use Rattle.mv_lexer.specs.declared.class.TokenClass.TheVariants.{WhiteSpace, Identifier, PreprocessingNumber}
 use Rattle.mv_lexer.proofs.LexemeLemmas.{each_passes, passes_at, is_punctuator_byte, punctuator_no_blank, punctuator_no_name, punctuator_no_quote, blank_longest, identifier_longest, number_longest, punctuator_longest}
-use Rattle.mv_gen_programs.proofs.Parts.{Part, blank, word, name, number, sign, bytes, class_of, evaluation_of, lexeme, same, ends_word, word_fits, is_name, is_plain, is_constant, is_number, ends_number, is_longest, sign_fits, fits}
+use Rattle.mv_gen_programs.proofs.Parts.{Part, blank, word, name, number, sign, bytes, class_of, evaluation_of, lexeme, ends_word, word_fits, is_name, is_plain, is_constant, is_number, ends_number, is_longest, sign_fits, fits}
+use Rattle.mv_check_outline.specs.Names.{same_name}
 
 -- ---- lists
 
-pub same_self : (s : List ℕ) → same s s ≡ true
+pub same_self : (s : List ℕ) → same_name s s ≡ true
 same_self [] = refl
 same_self (x ∷ s) = and_from (nat_eq x x) (pointwise nat_eq s s) (eq-eqb x x refl) (same_self s)
 
@@ -53,10 +54,10 @@ take_one (x ∷ s) h = refl
 -- ---- entries
 
 -- what passes as none of a row is none
-pub no_entry : (table : Table) (s : List ℕ) → each_passes (λ e. not (same s e)) (entries table) ≡ true → (k : ℕ) → IsEntry table k s → ⊥
+pub no_entry : (table : Table) (s : List ℕ) → each_passes (λ e. not (same_name s e)) (entries table) ≡ true → (k : ℕ) → IsEntry table k s → ⊥
 no_entry table s h k is =
-    let differs : not (same s (get_or (entries table) k [])) ≡ true = passes_at (λ e. not (same s e)) (entries table) h k is.in_range in
-    both_ways (same s (get_or (entries table) k [])) (not-true (same s (get_or (entries table) k [])) differs) (ap (same s) (sym is.is) ∙ same_self s)
+    let differs : not (same_name s (get_or (entries table) k [])) ≡ true = passes_at (λ e. not (same_name s e)) (entries table) h k is.in_range in
+    both_ways (same_name s (get_or (entries table) k [])) (not-true (same_name s (get_or (entries table) k [])) differs) (ap (same_name s) (sym is.is) ∙ same_self s)
 
 -- no entry of a row is longer
 no_longer : (table : Table) (s rest : List ℕ) → is_longest s (get_or rest 0 0) (entries table) ≡ true → NoLonger table (length (entries table)) (length s) (s ++ rest)
@@ -69,9 +70,9 @@ no_longer table s rest h = λ k m below longer in_range is.
     ∙ (take_within (length s + 1) m (s ++ rest) (omega (arith, longer))
     ∙ (take-append-add s rest 1
     ∙ ap (λ t. s ++ t) (take_one rest some))) in
-    let differs = passes_at (λ e. not (same (take (length s + 1) e) (s ++ (get_or rest 0 0 ∷ [])))) (entries table) h k below in
-    let t = same (take (length s + 1) e) (s ++ (get_or rest 0 0 ∷ [])) in
-    both_ways t (not-true t differs) (ap (λ x. same x (s ++ (get_or rest 0 0 ∷ []))) front ∙ same_self (s ++ (get_or rest 0 0 ∷ [])))
+    let differs = passes_at (λ e. not (same_name (take (length s + 1) e) (s ++ (get_or rest 0 0 ∷ [])))) (entries table) h k below in
+    let t = same_name (take (length s + 1) e) (s ++ (get_or rest 0 0 ∷ [])) in
+    both_ways t (not-true t differs) (ap (λ x. same_name x (s ++ (get_or rest 0 0 ∷ []))) front ∙ same_self (s ++ (get_or rest 0 0 ∷ [])))
 
 -- ---- lexemes
 
@@ -168,12 +169,12 @@ unfolding is_name
 name_stands at_line_start s rest h ends =
     let a = nat_lt 0 (length s) && is_nondigit (get_or s 0 0) in
     let b = list_all is_identifier_byte s && nat_le (length s) 63 in
-    let c = each_passes (λ e. not (same s e)) keywords && each_passes (λ e. not (same s e)) unsupported_keywords in
+    let c = each_passes (λ e. not (same_name s e)) keywords && each_passes (λ e. not (same_name s e)) unsupported_keywords in
     let halves = and_parts a (b && c) h in
     let one = and_parts (nat_lt 0 (length s)) (is_nondigit (get_or s 0 0)) halves.0 in
     let rests = and_parts b c halves.1 in
     let two = and_parts (list_all is_identifier_byte s) (nat_le (length s) 63) rests.0 in
-    let three = and_parts (each_passes (λ e. not (same s e)) keywords) (each_passes (λ e. not (same s e)) unsupported_keywords) rests.1 in
+    let three = and_parts (each_passes (λ e. not (same_name s e)) keywords) (each_passes (λ e. not (same_name s e)) unsupported_keywords) rests.1 in
     let some : 0 < length s = ltb-true 0 (length s) one.0 in
     stands_as at_line_start (name s) rest (no_include is_nondigit (s ++ rest) (ap is_nondigit (get_or-append s rest 0 0 some) ∙ one.1) refl)
     (identifier_front s rest some one.1 two.0 ends) (reading.name (leb-true (length s) 63 two.1) (no_entry Keywords s three.0) (no_entry UnsupportedKeywords s three.1))
@@ -301,7 +302,7 @@ short_bytes (word k) next h =
 short_bytes (name s) next h =
     let a = nat_lt 0 (length s) && is_nondigit (get_or s 0 0) in
     let b = list_all is_identifier_byte s && nat_le (length s) 63 in
-    let c = each_passes (λ e. not (same s e)) keywords && each_passes (λ e. not (same s e)) unsupported_keywords in
+    let c = each_passes (λ e. not (same_name s e)) keywords && each_passes (λ e. not (same_name s e)) unsupported_keywords in
     leb-true (length s) 63 (and_parts (list_all is_identifier_byte s) (nat_le (length s) 63) (and_parts b c (and_parts a (b && c) (and_parts (is_name s) (ends_word next) h).0).1).0).1
 short_bytes (number n) next h =
     leb-true (length (decimal n)) 63 (and_parts (is_constant n) (nat_le (length (decimal n)) 63) (and_parts (is_number n) (ends_number next) h).0).1

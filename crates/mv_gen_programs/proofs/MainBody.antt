@@ -53,7 +53,7 @@ use Rattle.mv_gen_programs.proofs.Lines.{function_name, commit_parts}
 use Rattle.mv_gen_programs.proofs.Trees.{Places, word, int_specs, local_tree, store_tree, commit_tree, if_tree, call_tree, call_trees, loop_tree, output_tree, feed_tree, return_tree}
 use Rattle.mv_gen_programs.proofs.Values.{object_value, object_place, known_callee, function_callee, one_argument, number_value, binary_judged, assign_judged, after_judged, call_judged, read_local, read_global, constant, binary}
 use Rattle.mv_gen_programs.proofs.Lined.{GivesLine, return_line, express_line, block_statement, if_line, for_line, function_body, turn_more, declare_line}
-use Rattle.mv_gen_programs.proofs.Bodies.{switch_variable, switch_meanings}
+use Rattle.mv_gen_programs.proofs.Bodies.{switch_variable, local_variable, count_of, switch_meanings}
 use Rattle.mv_gen_programs.proofs.Scanned.{behind}
 use Rattle.mv_gen_programs.proofs.Read.{past, inside, loop_lines, main_lines, local_places, loop_places, output_places, feed_places, return_places}
 
@@ -76,9 +76,6 @@ plain_designated t fixed s =
 -- `acc`, which is the global behind the switches
 abbrev pub object_variable : Variable
 object_variable = record { storage = storage.Global 4; ctype = int; fixed = false; switch = None }
-
-abbrev pub local_variable : Variable
-local_variable = record { storage = storage.Local 0; ctype = int; fixed = false; switch = None }
 
 -- the i-th function
 abbrev pub routine : ℕ → Routine
@@ -164,9 +161,6 @@ object = seen.Object (object_of_variable object_variable)
 
 abbrev switch : ℕ → Seen
 switch j = seen.Object (object_of_variable (switch_variable j))
-
-abbrev count_of : ℕ → Seen
-count_of n = seen.Value (constant n)
 
 -- the value, or the effect, of what is found
 value_is : (s : Scope) (n : Node) (x : Seen) → judgement s n «use».Value ≡ Good x → value_judgement s n ≡ Good (value_of x)
@@ -270,6 +264,28 @@ module _ (names : Names) (count : ℕ) (are : AreNames names count) (around : Ar
       turn_more (if_tree (inside p)) _ around u u if_statement [] (if_line_is (inside p))
       ∙ calls_turn 0 count (past (inside p) commit_parts) (if_statement ∷ []) (omega arith)
 
+  -- ---- behind the loop
+
+  -- a call of `putchar`
+  put_line : (p : Places) (n : Node) (x : Seen) → judgement s n «use».Value ≡ Good x → (value_of x).ctype ≡ int →
+      GivesLine (line_at (p 0) (a.Express (Some (node_at (p 0) (w.Call (word (p 0) (codes "putchar")) (n ∷ [])))))) around s s (put (value_of x))
+  unfolding concluded least called_with converted_to
+  put_line p n x h e =
+      express_line (p 0) around s _ _
+      (effect_is s _ (seen.Value (typed int (form.Known known.Putchar (value_of x ∷ []))))
+      (call_judged s (p 0) «use».Effect _ _ (seen.Known known.Putchar) _ (x ∷ []) (known_callee s (p 0) (codes "putchar") known.Putchar (rw are.output refl))
+      (one_argument s n «use».Value x h) (rw e refl)))
+
+  output_line : (p : Places) → GivesLine (output_tree p) around s s (put (binary 12 (constant 65) (binary 17 (read_global 4) (constant 15))))
+  unfolding concluded least takes_two binary_of converted_to
+  output_line p =
+      put_line p _ (seen.Value (binary 12 (constant 65) (binary 17 (read_global 4) (constant 15))))
+      (binary_judged s (p 2) «use».Value 12 _ _ (count_of 65) (seen.Value (binary 17 (read_global 4) (constant 15))) _ (number_value s (p 2) 65)
+      (binary_judged s (p 5) «use».Value 17 _ _ object (count_of 15) _ (object_value s (p 5) (codes "acc") object_variable refl (rw are.object refl)) (number_value s (p 7) 15) refl) refl) refl
+
+  feed_line : (p : Places) → GivesLine (feed_tree p) around s s (put (constant 10))
+  feed_line p = put_line p _ (count_of 10) (number_value s (p 2) 10) refl
+
 -- the loop, whatever is around it
 loop_line : (names : Names) (count : ℕ) → AreNames names count → (around : Around) (p : Places) →
     GivesLine (loop_tree p (loop_lines p count)) around (local_scope names) (local_scope names) (loop_statement count)
@@ -286,30 +302,6 @@ loop_line names count are around p =
     (effect_is t _ (seen.Value (typed int (form.After true (target.Local 0))))
     (after_judged t (p 10) «use».Effect true _ local _ (object_place t (p 10) (codes "i") local_variable refl) refl))
     (block_statement (p 13) (in_loop around) t _ (block_entered t) _ (loop_turn names count are (in_loop around) p))
-
-module _ (names : Names) (count : ℕ) (are : AreNames names count) (around : Around) where
-  abbrev r : Scope
-  r = local_scope names
-
-  -- a call of `putchar`
-  put_line : (p : Places) (n : Node) (x : Seen) → judgement r n «use».Value ≡ Good x → (value_of x).ctype ≡ int →
-      GivesLine (line_at (p 0) (a.Express (Some (node_at (p 0) (w.Call (word (p 0) (codes "putchar")) (n ∷ [])))))) around r r (put (value_of x))
-  unfolding concluded least called_with converted_to
-  put_line p n x h e =
-      express_line (p 0) around r _ _
-      (effect_is r _ (seen.Value (typed int (form.Known known.Putchar (value_of x ∷ []))))
-      (call_judged r (p 0) «use».Effect _ _ (seen.Known known.Putchar) _ (x ∷ []) (known_callee r (p 0) (codes "putchar") known.Putchar (rw are.output refl))
-      (one_argument r n «use».Value x h) (rw e refl)))
-
-  output_line : (p : Places) → GivesLine (output_tree p) around r r (put (binary 12 (constant 65) (binary 17 (read_global 4) (constant 15))))
-  unfolding concluded least takes_two binary_of converted_to
-  output_line p =
-      put_line p _ (seen.Value (binary 12 (constant 65) (binary 17 (read_global 4) (constant 15))))
-      (binary_judged r (p 2) «use».Value 12 _ _ (count_of 65) (seen.Value (binary 17 (read_global 4) (constant 15))) _ (number_value r (p 2) 65)
-      (binary_judged r (p 5) «use».Value 17 _ _ object (count_of 15) _ (object_value r (p 5) (codes "acc") object_variable refl (rw are.object refl)) (number_value r (p 7) 15) refl) refl) refl
-
-  feed_line : (p : Places) → GivesLine (feed_tree p) around r r (put (constant 10))
-  feed_line p = put_line p _ (count_of 10) (number_value r (p 2) 10) refl
 
 -- the body of `main`
 pub main_body : (names : Names) (count : ℕ) → AreNames names count → (p : Places) (at : Place) →

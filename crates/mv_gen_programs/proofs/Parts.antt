@@ -1,7 +1,6 @@
 -- The lexemes that generated texts are made of, and what tells that each is the longest at its place.
 use Rattle.std.proofs.Common.{ℕ, ◌+◌, ◌^◌, Bool, true, false, Option, Some, None, List, [], ◌∷◌, ◌++◌, length, get_or, take}
 use Rattle.std.specs.Prelude.{◌&&◌, ◌==◌, not, nat_eq, nat_le, nat_lt}
-use Rattle.std.specs.Cmp.Lexicographic.{pointwise}
 use Rattle.std.specs.Fmt.{decimal}
 use Rattle.std.specs.List.{list_all}
 use Rattle.std.specs.Char.{is_ascii_digit}
@@ -15,6 +14,7 @@ use Rattle.mv_lexer.specs.Tables.{keywords, unsupported_keywords, punctuators, u
 use Rattle.mv_lexer.specs.declared.class.TokenClass.{TokenClass}
 use Rattle.mv_lexer.specs.declared.class.TokenClass.TheVariants.{WhiteSpace, Identifier, PreprocessingNumber, Punctuator}
 use Rattle.mv_lexer.proofs.LexemeLemmas.{each_passes, is_punctuator_byte}
+use Rattle.mv_check_outline.specs.Names.{same_name}
 
 -- a byte of white space, the keyword of a number, a name, a number in decimal, or the punctuator of a number
 pub data Part : Type 0 where
@@ -74,9 +74,6 @@ words (x ∷ xs) = word_of x ++ words xs
 
 -- ---- whether a part is the longest lexeme before a byte
 
-abbrev pub same : List ℕ → List ℕ → Bool
-same = pointwise nat_eq
-
 abbrev pub ends_word : ℕ → Bool
 ends_word next = not (is_identifier_byte next)
 
@@ -87,7 +84,7 @@ unfoldable pub is_name : List ℕ → Bool
 is_name s =
     (nat_lt 0 (length s) && is_nondigit (get_or s 0 0))
     && ((list_all is_identifier_byte s && nat_le (length s) 63)
-    && (each_passes (λ e. not (same s e)) keywords && each_passes (λ e. not (same s e)) unsupported_keywords))
+    && (each_passes (λ e. not (same_name s e)) keywords && each_passes (λ e. not (same_name s e)) unsupported_keywords))
 
 abbrev pub is_plain : Option Bool → Bool
 is_plain None = false
@@ -111,7 +108,7 @@ ends_number next = (not (is_identifier_byte next) && not (next == 46)) && (not (
 
 -- the entry and the byte behind it begin no entry that is longer
 abbrev pub is_longest : List ℕ → ℕ → List (List ℕ) → Bool
-is_longest s next entries = each_passes (λ e. not (same (take (length s + 1) e) (s ++ next ∷ []))) entries
+is_longest s next entries = each_passes (λ e. not (same_name (take (length s + 1) e) (s ++ next ∷ []))) entries
 
 unfoldable pub sign_fits : (k next : ℕ) → Bool
 sign_fits k next =
