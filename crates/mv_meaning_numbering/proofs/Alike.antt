@@ -1,5 +1,5 @@
 -- Values and objects that differ in the numbers of functions alone.
-use Rattle.std.proofs.Common.{◌≡◌, ℕ, zero, suc, ◌<◌, ◌⊎◌, inl, inr, Bool, true, false, List, [], ◌∷◌, length, replicate, get_or, refl, sym, ◌∙◌, ap, subst, arith, Some, nat_eq, slice_get}
+use Rattle.std.proofs.Common.{◌≡◌, ℕ, zero, suc, ◌<◌, ◌⊎◌, inl, inr, List, [], ◌∷◌, length, replicate, get_or, refl, sym, ◌∙◌, ap, subst, arith, Some, nat_eq, slice_get}
 use Rattle.std.specs.Prelude.{slice_index, slice_set, unwrap_or}
 use Rattle.std.proofs.lemmas.Option.{slice_get_within}
 use Rattle.mv_ast.specs.declared.program.CType.{CType}
@@ -8,6 +8,7 @@ use Rattle.mv_ast.specs.declared.program.Program.{Program}
 use Rattle.mv_ast.specs.Plans.{words_or_none, word_at, with_word}
 use Rattle.mv_source_forms.specs.Typing.{IsInteger, IsFunctionOf, IsTyped}
 use Rattle.mv_meaning_numbering.proofs.Numbers.{Distinguishes, number_above, number_once}
+use Rattle.mv_num.proofs.Booleans.{same_bools}
 
 -- a well-typed program, and its two numberings
 pub record Setting : Type 0 where
@@ -81,11 +82,6 @@ module _ (x : Setting) where
   same_test (Scalar kind) v u h = ap (λ n. nat_eq n 0) h
   same_test (Pointer s) v u h = pointers_test s v u h
 
-  either_way : (a b : Bool) → (a ≡ true → b ≡ true) → (b ≡ true → a ≡ true) → a ≡ b
-  either_way true b h k = sym (h refl)
-  either_way false true h k = k refl
-  either_way false false h k = refl
-
   -- a comparison of two function pointers of one type
   pub pointers_compare : (s v u y z : ℕ) → SamePointer s v u → SamePointer s y z → nat_eq v y ≡ nat_eq u z
   pointers_compare s v u y z (inl h) (inl k) = grind (arith, h.0, h.1, k.0, k.1)
@@ -98,7 +94,7 @@ module _ (x : Setting) where
       let b = number_above x.program x.ms x.right h.0 (there s h.0 h.1) in
       grind (arith, k.0, k.1, h.2, h.3, a, b)
   pointers_compare s v u y z (inr h) (inr k) =
-      either_way (nat_eq v y) (nat_eq u z)
+      same_bools (nat_eq v y) (nat_eq u z)
       (λ e.
       let one : h.0 ≡ k.0 =
       number_once x.program x.ns x.left h.0 k.0 (there s h.0 h.1) (there s k.0 k.1) (sym h.2 ∙ ((grind (arith, e)) ∙ k.2)) in

@@ -1,7 +1,7 @@
 -- Well-typed statements are alike under two numberings.
 use Rattle.std.proofs.Common.{◌≡◌, ℕ, zero, suc, ◌-◌, Bool, List, [], ◌∷◌, ◌++◌, map, drop, length, replicate, refl, sym, ◌∙◌, ap, subst, Option, Some, None, if◌then◌else◌, nat_eq, slice_get}
 use Rattle.std.specs.Prelude.{All, slice_set}
-use Rattle.std.proofs.lemmas.List.{length-map}
+use Rattle.std.proofs.lemmas.List.{length-map, drop-map}
 use Rattle.mv_ast.specs.declared.program.CType.{CType}
 use Rattle.mv_ast.specs.declared.program.Function.{Function}
 use Rattle.mv_ast.specs.declared.program.Expr.{Expr}
@@ -86,11 +86,6 @@ module _ (x : Setting) (ts : List CType) (t : CType) where
   flows_pointwise d d' e e' ed ee h f g w v hf hw =
       subst (λ o. AlikeOutcome x ts Flow (SameFlow x t) o (e g v)) (sym (ed f w))
       (subst (λ o. AlikeOutcome x ts Flow (SameFlow x t) (d' f w) o) (sym (ee g v)) (h f g w v hf hw))
-
-drop-map : {A B : Type 0} (g : A → B) (n : ℕ) (xs : List A) → drop n (map g xs) ≡ map g (drop n xs)
-drop-map g zero xs = refl
-drop-map g (suc n) [] = refl
-drop-map g (suc n) (x ∷ xs) = drop-map g n xs
 
 module _ (x : Setting) (c d : Context) (same : SameContext x c d) (fn : Function) where
   abbrev ts : List CType
