@@ -1,5 +1,5 @@
 -- What a form is found to be has a property where its parts have it: operators, assignments, objects, names.
-use Rattle.std.proofs.Common.{◌≡◌, ℕ, Bool, true, false, ◌&&◌, not, refl, Option, Some, None, is_none, nat_eq, if◌then◌else◌, List}
+use Rattle.std.proofs.Common.{◌≡◌, ℕ, Bool, true, false, ◌&&◌, not, refl, Option, Some, None, nat_eq, if◌then◌else◌, List}
 use Rattle.mv_ast.specs.declared.program.CType.{CType}
 use Rattle.mv_ast.specs.declared.program.CType.TheVariants.{Void, Pointer}
 use Rattle.mv_ast.specs.declared.program.Expr.{Expr}
@@ -17,6 +17,7 @@ use Rattle.mv_check_expressions.specs.Seen.{value_of, no_value, number_or_zero, 
 use Rattle.mv_check_expressions.specs.Found.{is_address, is_indirection, is_both, is_either, unary_of, binary_of, choose_of, computed_of, left_type, right_type, common_type, change_of, assign_to, assign_of, one, before_of, after_of, element_of, named_switch, address_of, unary_seen, compound_operator}
 use Rattle.mv_check_expressions.specs.Rules.{is_misnamed}
 use Rattle.mv_accepts_bodies.proofs.ExprProperty.{NamesSwitch, NamesKnown, ExprProperty}
+use Rattle.mv_accepts_expressions.proofs.Kept.{defined}
 
 module _ (x : ExprProperty) where
   abbrev pub E : Expr → Type 0
@@ -147,10 +148,6 @@ module _ (x : ExprProperty) where
       by true b = address_has u y h
       by false true = value_has y h
       by false false = unary_has op (value_of y) (value_has y h)
-
-  defined : (o : Option ℕ) → is_none o ≡ false → (g : ℕ) × (o ≡ Some g)
-  defined None h = absurd (cc)
-  defined (Some g) h = (g, refl)
 
   pub name_has : (name : List ℕ) (m : Option Meaning) → meaning_of x.scope name ≡ m → is_undefined (seen_name m) ≡ false → SeenHas (seen_name m)
   name_has name None q d = nothing_has

@@ -30,6 +30,7 @@ use Rattle.mv_accepts_statements.proofs.Property.{Property}
 use Rattle.mv_accepts_statements.proofs.SwitchBodies.{BodyHas, BodiesHave, arms_have, label_leaves, statement_has}
 use Rattle.mv_accepts_statements.proofs.Lists.{all_last}
 use Rattle.mv_accepts_bodies.proofs.Tests.{all_tested}
+use Rattle.mv_meaning.specs.Arms.{has_default}
 
 abbrev Labelled : Stmt → Type 0
 Labelled s = stmt_labelled s ≡ true
@@ -42,16 +43,13 @@ labelled_by w z o h = fold_out-Stmt Bool ArmLabels labels_layer arm_labels_layer
 
 -- ---- arms, by their own labels
 
-abbrev default_of : Arm → Bool
-default_of a = a.other
-
 abbrev label_of : Arm → Bool
 label_of a = has_label a.labels || a.other
 
 arm_is : (a : Arm) → arm_labels a ≡ record { is_default = a.other; is_labelled = has_label a.labels || a.other; holds = all_of (map stmt_labelled a.body) }
 arm_is a = fold_out-Arm Bool ArmLabels labels_layer arm_labels_layer a
 
-defaults_are : (arms : List Arm) → map (λ (a : ArmLabels). a.is_default) (map arm_labels arms) ≡ map default_of arms
+defaults_are : (arms : List Arm) → map (λ (a : ArmLabels). a.is_default) (map arm_labels arms) ≡ map has_default arms
 defaults_are [] = refl
 defaults_are (a ∷ arms) = rw (ap (λ (l : ArmLabels). l.is_default) (arm_is a), defaults_are arms) refl
 
@@ -76,8 +74,8 @@ later_hold (a ∷ arms) h = labels_are arms h
 
 pub record AreLabelled (y : Arms) : Type 0 where
   pub bodies : BodiesHave Labelled y
-  pub default : at_most_one (map default_of (arms_of y)) ≡ true
-  pub any : y.other ≡ false → any_of (map default_of (arms_of y)) ≡ false
+  pub default : at_most_one (map has_default (arms_of y)) ≡ true
+  pub any : y.other ≡ false → any_of (map has_default (arms_of y)) ≡ false
   pub later : LaterLabelled (arms_of y)
 
 arms_hold : (y : Arms) → AreLabelled y → arms_labelled (map arm_labels (arms_of y)) ≡ true
@@ -99,25 +97,25 @@ one_more [] a b q h = (q, tt)
 one_more (z ∷ arms) a b q h = all_last (λ c. label_of c ≡ true) (arms ++ a ∷ []) b h q
 
 -- a last arm that is as much `default` as the one before it, or has none behind it
-same_defaults : (arms : List Arm) (a b : Arm) → b.other ≡ a.other → map default_of (arms ++ b ∷ []) ≡ map default_of (arms ++ a ∷ [])
+same_defaults : (arms : List Arm) (a b : Arm) → b.other ≡ a.other → map has_default (arms ++ b ∷ []) ≡ map has_default (arms ++ a ∷ [])
 same_defaults [] a b q = ap (λ x. x ∷ []) q
 same_defaults (z ∷ arms) a b q = ap (λ l. z.other ∷ l) (same_defaults arms a b q)
 
-none_more : (arms : List Arm) (b : Arm) → b.other ≡ false → any_of (map default_of (arms ++ b ∷ [])) ≡ any_of (map default_of arms)
+none_more : (arms : List Arm) (b : Arm) → b.other ≡ false → any_of (map has_default (arms ++ b ∷ [])) ≡ any_of (map has_default arms)
 none_more [] b q = rw q refl
 none_more (z ∷ arms) b q = ap (λ x. z.other || x) (none_more arms b q)
 
-one_left : (arms : List Arm) (b : Arm) → b.other ≡ false → at_most_one (map default_of (arms ++ b ∷ [])) ≡ at_most_one (map default_of arms)
+one_left : (arms : List Arm) (b : Arm) → b.other ≡ false → at_most_one (map has_default (arms ++ b ∷ [])) ≡ at_most_one (map has_default arms)
 one_left [] b q = rw q refl
 one_left (z ∷ arms) b q = by z.other (one_left arms b q)
   where
-    by : (x : Bool) → at_most_one (map default_of (arms ++ b ∷ [])) ≡ at_most_one (map default_of arms) →
-        (if x then not (any_of (map default_of (arms ++ b ∷ []))) else at_most_one (map default_of (arms ++ b ∷ []))) ≡
-        (if x then not (any_of (map default_of arms)) else at_most_one (map default_of arms))
+    by : (x : Bool) → at_most_one (map has_default (arms ++ b ∷ [])) ≡ at_most_one (map has_default arms) →
+        (if x then not (any_of (map has_default (arms ++ b ∷ []))) else at_most_one (map has_default (arms ++ b ∷ []))) ≡
+        (if x then not (any_of (map has_default arms)) else at_most_one (map has_default arms))
     by true h = ap not (none_more arms b q)
     by false h = h
 
-first_default : (arms : List Arm) (b : Arm) → any_of (map default_of arms) ≡ false → at_most_one (map default_of (arms ++ b ∷ [])) ≡ true
+first_default : (arms : List Arm) (b : Arm) → any_of (map has_default arms) ≡ false → at_most_one (map has_default (arms ++ b ∷ [])) ≡ true
 first_default [] b h = by b.other
   where
     by : (x : Bool) → (if x then true else true) ≡ true
@@ -125,17 +123,17 @@ first_default [] b h = by b.other
     by false = refl
 first_default (z ∷ arms) b h = by z.other h (first_default arms b)
   where
-    by : (x : Bool) → (x || any_of (map default_of arms)) ≡ false → (any_of (map default_of arms) ≡ false → at_most_one (map default_of (arms ++ b ∷ [])) ≡ true) →
-        (if x then not (any_of (map default_of (arms ++ b ∷ []))) else at_most_one (map default_of (arms ++ b ∷ []))) ≡ true
+    by : (x : Bool) → (x || any_of (map has_default arms)) ≡ false → (any_of (map has_default arms) ≡ false → at_most_one (map has_default (arms ++ b ∷ [])) ≡ true) →
+        (if x then not (any_of (map has_default (arms ++ b ∷ []))) else at_most_one (map has_default (arms ++ b ∷ []))) ≡ true
     by true k r = absurd (cc)
     by false k r = r k
 
-any_before : (arms : List Arm) (b : Arm) → any_of (map default_of (arms ++ b ∷ [])) ≡ false → any_of (map default_of arms) ≡ false
+any_before : (arms : List Arm) (b : Arm) → any_of (map has_default (arms ++ b ∷ [])) ≡ false → any_of (map has_default arms) ≡ false
 any_before [] b h = refl
 any_before (z ∷ arms) b h = by z.other h (any_before arms b)
   where
-    by : (x : Bool) → (x || any_of (map default_of (arms ++ b ∷ []))) ≡ false →
-        (any_of (map default_of (arms ++ b ∷ [])) ≡ false → any_of (map default_of arms) ≡ false) → (x || any_of (map default_of arms)) ≡ false
+    by : (x : Bool) → (x || any_of (map has_default (arms ++ b ∷ []))) ≡ false →
+        (any_of (map has_default (arms ++ b ∷ [])) ≡ false → any_of (map has_default arms) ≡ false) → (x || any_of (map has_default arms)) ≡ false
     by true k r = absurd (cc)
     by false k r = r k
 

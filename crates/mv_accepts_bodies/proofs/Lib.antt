@@ -3,6 +3,7 @@ mod Jumps
 mod Labels
 mod Shapes
 mod ExprProperty
+mod TestedForms
 mod ExprForms
 mod ExprCalls
 mod ExprJudged

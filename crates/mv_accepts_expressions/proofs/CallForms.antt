@@ -42,7 +42,7 @@ passed_types (t ∷ ts) (a ∷ args) h =
     let q : length args ≡ length ts = cc in
     ap (λ s. s ∷ types_of (passed ts args)) (converted_type t (value_of a)) ∙ ap (λ xs. t ∷ xs) (passed_types ts args q)
 
-none_passed : (args : List Seen) → passed [] args ≡ []
+pub none_passed : (args : List Seen) → passed [] args ≡ []
 none_passed [] = refl
 none_passed (a ∷ args) = refl
 

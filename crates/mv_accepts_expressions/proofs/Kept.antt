@@ -1,5 +1,5 @@
 -- A good judgement: what its parts are, and which rules were kept.
-use Rattle.std.proofs.Common.{◌≡◌, ℕ, Bool, true, false, refl, Option, None}
+use Rattle.std.proofs.Common.{◌≡◌, ℕ, Bool, true, false, refl, Option, Some, None, is_none}
 use Rattle.mv_ast.specs.declared.place.Place.{Place}
 use Rattle.mv_check_expressions.specs.declared.breaches.Breaches.{Breaches}
 use Rattle.mv_check_expressions.specs.declared.seen.Seen.{Seen}
@@ -12,6 +12,11 @@ went_on (Broken place rule) next y h = absurd (cc)
 
 pub same_good : {A : Type 0} (x y : A) → Good x ≡ Good y → x ≡ y
 same_good x y h = cc
+
+-- what is not none is some
+pub defined : {A : Type 0} (o : Option A) → is_none o ≡ false → (x : A) × (o ≡ Some x)
+defined None h = absurd (cc)
+defined (Some x) h = (x, refl)
 
 -- the rules that a node keeps
 pub record Keeps (b : Breaches) : Type 0 where

@@ -1,4 +1,4 @@
-mod CallForms
+pub mod CallForms
 pub mod Computed
 pub mod Converted
 mod Forms

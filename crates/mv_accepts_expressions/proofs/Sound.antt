@@ -34,7 +34,7 @@ use Rattle.mv_accepts_expressions.proofs.Converted.{converted_type, converted_ty
 use Rattle.mv_accepts_expressions.proofs.Made.{number_made}
 use Rattle.mv_accepts_expressions.proofs.Forms.{IsGood, IsGoodSeen, nothing_good, value_good, variable_good, element_good, unary_good, binary_good, choose_good, change_good, set_good, after_good}
 use Rattle.mv_accepts_expressions.proofs.CallForms.{AllGood, call_good}
-use Rattle.mv_accepts_expressions.proofs.Kept.{went_on}
+use Rattle.mv_accepts_expressions.proofs.Kept.{went_on, defined}
 use Rattle.mv_accepts_expressions.proofs.Plain.{IsPlain, plain_type}
 use Rattle.mv_accepts_expressions.proofs.Induction.{Steps, every_node}
 
@@ -43,10 +43,6 @@ module _ (p : Program) (f : Function) (scope : Scope) (fits : Fits p f scope) wh
   GoodSeen = IsGoodSeen p f scope.signatures
 
   -- ---- forms, by the rules that they keep
-
-  defined : (o : Option ℕ) → is_none o ≡ false → (g : ℕ) × (o ≡ Some g)
-  defined None h = absurd (cc)
-  defined (Some g) h = (g, refl)
 
   name_good : (m : Option Meaning) → ((n : Meaning) → m ≡ Some n → IsMeant p f scope.signatures n) → is_none m ≡ false → is_undefined (seen_name m) ≡ false → GoodSeen (seen_name m)
   name_good None k h d = absurd (cc)

@@ -1,13 +1,13 @@
 -- The statements of a body that keeps the rules, with its locals, are at most four times as many nodes as the body: by induction over it.
-use Rattle.std.proofs.Common.{◌≡◌, ℕ, ◌+◌, ◌*◌, ◌≤◌, Bool, true, false, not, sym, subst, arith, Option, Some, None, if◌then◌else◌, List, [], ◌∷◌, ◌++◌, map, length, length-append}
+use Rattle.std.proofs.Common.{◌≡◌, ℕ, ◌+◌, ◌*◌, ◌≤◌, Bool, true, false, not, arith, Option, Some, None, if◌then◌else◌, List, [], ◌∷◌, ◌++◌, map, length, length-append}
 use Rattle.mv_ast.specs.declared.place.Place.{Place}
 use Rattle.mv_ast.specs.declared.program.CType.{CType}
 use Rattle.mv_ast.specs.declared.program.Expr.{Expr}
 use Rattle.mv_ast.specs.declared.program.Stmt.{Stmt}
 use Rattle.mv_ast.specs.declared.program.Stmt.TheVariants as stmt
-use Rattle.mv_ast.specs.declared.unit.Act.{Act, roll-Act, map-Act, fold-Act, fold-roll-Act}
+use Rattle.mv_ast.specs.declared.unit.Act.{Act, map-Act, fold-Act}
 use Rattle.mv_ast.specs.declared.unit.Act.TheOpen as act
-use Rattle.mv_ast.specs.declared.unit.Line.{Line, roll-Line, map-Line, fold-roll-Line}
+use Rattle.mv_ast.specs.declared.unit.Line.{Line}
 use Rattle.mv_ast.specs.declared.unit.Node.{Node}
 use Rattle.mv_ast.specs.Counts.{expr_nodes, stmt_nodes}
 use Rattle.mv_ast.specs.Operators.{converted}
@@ -28,7 +28,7 @@ use Rattle.mv_check_statements.specs.Surroundings.{in_function, in_loop, in_swit
 use Rattle.mv_check_statements.specs.SwitchBodies.{no_arm, no_arms, has_statements, at_label, labelled, labelled_other, with_case, with_default, with_statement, arms_of, converts_constant, case_label, default_label}
 use Rattle.mv_accepts_statements.proofs.Judging.{IfGood, if_any, if_then, if_kept, if_so, if_more}
 use Rattle.mv_accepts_limits.proofs.LineCounts.{act_nodes}
-use Rattle.mv_accepts_statements.proofs.LineInduction.{LinesWith, ActOver, LineOver, whole_act, whole_line, every_line}
+use Rattle.mv_accepts_statements.proofs.LineInduction.{LinesWith, ActOver, whole_act, folded_line}
 use Rattle.mv_accepts_limits.specs.Nodes.{node_nodes, optional_nodes, declarator_nodes, act_count, line_count, line_nodes}
 use Rattle.mv_accepts_limits.proofs.Made.{converted_weight}
 use Rattle.mv_accepts_limits.proofs.Expressions.{ValueFew, value_few, effect_few}
@@ -279,19 +279,8 @@ layer_few y place = record {
   function_body = function_bodies y place;
 }
 
-act_is : (y : ActOver ActIs LineIs) → ActIs (roll-Act (whole_act ActIs LineIs y))
-act_is y place =
-    subst (λ (g : Place → Judges). Few (g place) (1 + act_nodes (roll-Act (whole_act ActIs LineIs y)))) (sym (fold-roll-Act (Place → Judges) Judges act_step line_step (whole_act ActIs LineIs y)))
-    (subst (λ n. Few (act_step (judged y) place) (1 + n)) (sym (fold-roll-Act ℕ ℕ act_count line_count (whole_act ActIs LineIs y))) (layer_few y place))
-
-line_is : (y : LineOver ActIs LineIs) → LineIs (roll-Line (whole_line ActIs LineIs y))
-line_is y =
-    subst (λ j. Few j (line_nodes (roll-Line (whole_line ActIs LineIs y)))) (sym (fold-roll-Line (Place → Judges) Judges act_step line_step (whole_line ActIs LineIs y)))
-    (subst (Few (line_step (map-Line Act Line (Place → Judges) Judges (fold-Act (Place → Judges) Judges act_step line_step) judges_of (whole_line ActIs LineIs y)))) (sym (fold-roll-Line ℕ ℕ act_count line_count (whole_line ActIs LineIs y))) (y.what.1 y.place))
-
-judges_few : (l : Line) → LineIs l
-judges_few = every_line ActIs LineIs act_is line_is
-
 -- a body's locals and statements behind those before it
 pub body_few : (t : CType) (body : Line) (s : Scope) → IfGood (body_judgement t body s) (LinesFew (s, []) (line_nodes body))
-body_few t body s = (judges_few body).function_body (in_function t) s
+body_few t body s =
+    (folded_line act_step line_step act_count line_count act_count line_count (λ f n m. (place : Place) → Few (f place) (1 + n)) (λ j n m. Few j n)
+    layer_few (λ y. y.what.1 y.place) body).function_body (in_function t) s

@@ -18,7 +18,7 @@ use Rattle.mv_check_uses.specs.Flags.{form_globals, target_globals}
 use Rattle.mv_accepts_programs.proofs.SwitchLists.{cons, joined, all_own, own_concat, same_tests}
 
 module _ (p : Program) (f : Function) where
-  abbrev own : List ℕ → Bool
+  abbrev pub own : List ℕ → Bool
   own ns = all_own (is_own p f) ns
 
   abbrev form_test : Form → Bool

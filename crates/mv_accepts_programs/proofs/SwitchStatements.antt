@@ -18,13 +18,10 @@ use Rattle.mv_source_forms.proofs.StatementInduction.{StmtChildren}
 use Rattle.mv_check_uses.specs.Uses.{expr_globals, stmt_layer, arm_layer, stmt_globals, switches_named}
 use Rattle.mv_check_uses.specs.Flags.{arm_globals}
 use Rattle.mv_check_uses.proofs.Owning.{own_switch}
-use Rattle.mv_accepts_programs.proofs.SwitchLists.{joined, each_all, all_own, own_both, own_concat, same_tests, all_among}
-use Rattle.mv_accepts_programs.proofs.SwitchExpressions.{S, expr_owns}
+use Rattle.mv_accepts_programs.proofs.SwitchLists.{joined, each_all, own_both, own_concat, same_tests, all_among}
+use Rattle.mv_accepts_programs.proofs.SwitchExpressions.{own, S, expr_owns}
 
 module _ (p : Program) (f : Function) where
-  abbrev own : List ℕ → Bool
-  own ns = all_own (is_own p f) ns
-
   abbrev stmt_test : Stmt → Bool
   stmt_test = all_expressions (names_own p f)
 
@@ -32,10 +29,10 @@ module _ (p : Program) (f : Function) where
   arm_test = fold-Arm Bool Bool (all_layer (names_own p f)) all_arm_layer
 
   abbrev P : Stmt → Type 0
-  P s = stmt_test s ≡ own (stmt_globals s)
+  P s = stmt_test s ≡ own p f (stmt_globals s)
 
   abbrev Q : Arm → Type 0
-  Q a = arm_test a ≡ own (arm_globals a)
+  Q a = arm_test a ≡ own p f (arm_globals a)
 
   abbrev tests : Stmt-F Stmt Arm → Stmt-F Bool Bool
   tests = map-Stmt Stmt Arm Bool Bool stmt_test arm_test
@@ -56,13 +53,13 @@ module _ (p : Program) (f : Function) where
   same_expressions stmt.Continue = refl
   same_expressions (stmt.Return e) = refl
 
-  stmts : (ss : List Stmt) → AllByRecursion P ss → map stmt_test ss ≡ map own (map stmt_globals ss)
+  stmts : (ss : List Stmt) → AllByRecursion P ss → map stmt_test ss ≡ map (own p f) (map stmt_globals ss)
   stmts ss h = same_tests (is_own p f) stmt_test stmt_globals ss h
 
-  both_parts : (ss ts : List Stmt) → AllByRecursion P ss → AllByRecursion P ts → (map stmt_test ss ++ map stmt_test ts) ≡ map own (map stmt_globals ss ++ map stmt_globals ts)
-  both_parts ss ts h k = joined _ _ _ _ (stmts ss h) (stmts ts k) ∙ sym (map-append own (map stmt_globals ss) (map stmt_globals ts))
+  both_parts : (ss ts : List Stmt) → AllByRecursion P ss → AllByRecursion P ts → (map stmt_test ss ++ map stmt_test ts) ≡ map (own p f) (map stmt_globals ss ++ map stmt_globals ts)
+  both_parts ss ts h k = joined _ _ _ _ (stmts ss h) (stmts ts k) ∙ sym (map-append (own p f) (map stmt_globals ss) (map stmt_globals ts))
 
-  parts : (x : Stmt-F Stmt Arm) → StmtChildren P Q x → stmt_parts (tests x) ≡ map own (stmt_parts (names x))
+  parts : (x : Stmt-F Stmt Arm) → StmtChildren P Q x → stmt_parts (tests x) ≡ map (own p f) (stmt_parts (names x))
   parts (stmt.Block body) h = stmts body h
   parts (stmt.Clear l values) h = refl
   parts (stmt.Express e) h = refl
@@ -75,23 +72,23 @@ module _ (p : Program) (f : Function) where
   parts stmt.Continue h = refl
   parts (stmt.Return e) h = refl
 
-  exprs : (es : List Expr) → all_of (map (names_own p f) es) ≡ own (concat (map expr_globals es))
+  exprs : (es : List Expr) → all_of (map (names_own p f) es) ≡ own p f (concat (map expr_globals es))
   exprs es =
       ap all_of (same_tests (is_own p f) (names_own p f) expr_globals es (each_all (S p f) (expr_owns p f) es)) ∙
       sym (own_concat (is_own p f) (map expr_globals es))
 
-  layer : (x : Stmt-F Stmt Arm) → StmtChildren P Q x → all_layer (names_own p f) (tests x) ≡ own (stmt_layer (names x))
+  layer : (x : Stmt-F Stmt Arm) → StmtChildren P Q x → all_layer (names_own p f) (tests x) ≡ own p f (stmt_layer (names x))
   layer x h =
       ap (λ es. all_of (map (names_own p f) es) && all_of (stmt_parts (tests x))) (same_expressions x) ∙
       (ap (λ b. b && all_of (stmt_parts (tests x))) (exprs (stmt_expressions (names x))) ∙
-      (ap (λ b. own (concat (map expr_globals (stmt_expressions (names x)))) && b)
+      (ap (λ b. own p f (concat (map expr_globals (stmt_expressions (names x)))) && b)
       (ap all_of (parts x h) ∙ sym (own_concat (is_own p f) (stmt_parts (names x)))) ∙
       sym (own_both (is_own p f) (concat (map expr_globals (stmt_expressions (names x)))) (concat (stmt_parts (names x))))))
 
   each_owns : (body : List Stmt) → AllByRecursion P body
   unfolding arm_globals stmt_globals
   each_owns =
-      along_stmts (stmt_folds (stmt_fold (all_layer (names_own p f)) all_arm_layer) (stmt_fold stmt_layer arm_layer)) (λ s v. v.0 ≡ own v.1) (λ a v. v.0 ≡ own v.1) layer
+      along_stmts (stmt_folds (stmt_fold (all_layer (names_own p f)) all_arm_layer) (stmt_fold stmt_layer arm_layer)) (λ s v. v.0 ≡ own p f v.1) (λ a v. v.0 ≡ own p f v.1) layer
       (λ x h. ap all_of (stmts x.body h) ∙ sym (own_concat (is_own p f) (map stmt_globals x.body)))
 
   -- ---- the switches of the function

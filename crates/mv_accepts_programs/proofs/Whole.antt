@@ -14,8 +14,8 @@ use Rattle.mv_accepts_expressions.specs.Soundness.{Fits}
 use Rattle.mv_accepts_statements.specs.Bodies.{BodyGrows, ParametersFit}
 use Rattle.mv_accepts_statements.proofs.Judging.{of_good}
 use Rattle.mv_check_limits.specs.Limits.{first_exceeded}
-use Rattle.mv_source_forms.specs.Typing.{IsFirstValue, IsTypedFunction, HasTypedMain}
-use Rattle.mv_source_forms.specs.WellFormed.{IsWellFormedFunction, IsWellFormed, program_nodes}
+use Rattle.mv_source_forms.specs.Typing.{IsFirstValue, HasTypedMain}
+use Rattle.mv_source_forms.specs.WellFormed.{IsWellFormed, program_nodes}
 use Rattle.mv_accepts_bodies.specs.Definitions.{DefinitionHasParameters, DefinitionIsFormed}
 use Rattle.mv_accepts_programs.specs.OwnSwitches.{OwnSwitchesAreNamed}
 use Rattle.mv_types.specs.declared.contents.Contents.{Contents}
@@ -94,14 +94,6 @@ module _ (laws : Laws) where
     attributed_are : AreAttributed k (attributed_functions p)
     attributed_are = subst (λ (x : Program). AreAttributed k (attributed_functions x)) (sym from.4) (laws.attributed u.items c main from.2)
 
-    typed : All (IsTypedFunction p) p.functions
-    typed = functions_typed k c (present c.functions) main p made all_defined.all sound.0 sound.1 laws.parameters counted.below attributed_are.below formed.switches
-        formed.integers laws.formed laws.own
-
-    functions_formed : (own : ℕ) (g : Function) → slice_get p.functions own ≡ Some g → IsWellFormedFunction p own g
-    functions_formed = function_formed k c (present c.functions) main p made all_defined.all sound.0 sound.1 laws.parameters counted.below attributed_are.below formed.switches
-        formed.integers laws.formed laws.own
-
     entry_typed : HasTypedMain p
     entry_typed = laws.main u.end c p nobody from.5 (file_fits k c (present c.functions) main p made all_defined.all sound.0 c sound.0 (extends_same c) nobody)
         (has_parameters k c (present c.functions) main p made all_defined.all sound.0 sound.1 laws.parameters)
@@ -128,8 +120,16 @@ module _ (laws : Laws) where
 
     pub unit_formed : first_exceeded p ≡ None → program_nodes p ≤ 16777216 → IsWellFormed p
     unit_formed none small = record {
-      typed = record { functions = typed; globals = globals_typed; entry = entry_typed };
-      functions = functions_formed;
+      typed = record {
+        functions =
+            functions_typed k c (present c.functions) main p made all_defined.all sound.0 sound.1 laws.parameters counted.below attributed_are.below formed.switches
+            formed.integers laws.formed laws.own;
+        globals = globals_typed;
+        entry = entry_typed;
+      };
+      functions =
+          function_formed k c (present c.functions) main p made all_defined.all sound.0 sound.1 laws.parameters counted.below attributed_are.below formed.switches
+          formed.integers laws.formed laws.own;
       globals = formed.globals;
       switches = formed.switches;
       entry = entry_plain;

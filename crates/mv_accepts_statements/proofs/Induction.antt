@@ -1,11 +1,11 @@
 -- What holds of how each statement is judged, where it holds by its parts: by induction over the lines of a body.
-use Rattle.std.proofs.Common.{sym, subst, List, [], ◌∷◌, map, Some, None}
+use Rattle.std.proofs.Common.{List, [], ◌∷◌, map, Some, None}
 use Rattle.std.specs.List.{AllByRecursion}
 use Rattle.mv_ast.specs.declared.place.Place.{Place}
-use Rattle.mv_ast.specs.declared.unit.Line.{Line, roll-Line, fold-roll-Line}
-use Rattle.mv_ast.specs.declared.unit.Act.{Act, Act-F, roll-Act, map-Act, fold-Act, fold-roll-Act}
+use Rattle.mv_ast.specs.declared.unit.Line.{Line}
+use Rattle.mv_ast.specs.declared.unit.Act.{Act, Act-F, map-Act, fold-Act}
 use Rattle.mv_ast.specs.declared.unit.Act.TheOpen as act
-use Rattle.mv_accepts_statements.proofs.LineInduction.{LinesWith, ActOver, LineOver, whole_act, whole_line, every_line}
+use Rattle.mv_accepts_statements.proofs.LineInduction.{LinesWith, ActOver, whole_act, folded_line}
 use Rattle.mv_accepts_statements.proofs.Property.{OfOption}
 use Rattle.mv_check_statements.specs.Statements.{Judges, Layer, act_step, line_step, judges_of}
 
@@ -45,14 +45,7 @@ module _ (P : Judges → Type 0) where
     parts (act.Switch e l) = l.1
     parts x = tt
 
-    act_is : (y : ActOver ActIs LineIs) → ActIs (roll-Act (whole_act ActIs LineIs y))
-    act_is y place =
-        subst (λ (g : Place → Judges). P (g place)) (sym (fold-roll-Act (Place → Judges) Judges act_step line_step (whole_act ActIs LineIs y)))
-        (by_parts (judged (whole_act ActIs LineIs y)) (parts y) place)
-
-    line_is : (y : LineOver ActIs LineIs) → LineIs (roll-Line (whole_line ActIs LineIs y))
-    line_is y =
-        subst P (sym (fold-roll-Line (Place → Judges) Judges act_step line_step (whole_line ActIs LineIs y))) (y.what.1 y.place)
-
     pub judges_have : (l : Line) → P (judges_of l)
-    judges_have = every_line ActIs LineIs act_is line_is
+    judges_have =
+        folded_line act_step line_step act_step line_step act_step line_step (λ f g h. (place : Place) → P (f place)) (λ j k l. P j)
+        (λ y. by_parts (judged (whole_act ActIs LineIs y)) (parts y)) (λ y. y.what.1 y.place)

@@ -36,6 +36,7 @@ use Rattle.mv_accepts_expressions.proofs.Kept.{went_on}
 use Rattle.mv_accepts_texts.specs.Expressions.{NameList, Standing, what_names, no_enum, no_mark, no_member, node_names, no_specs, standing, names_in}
 use Rattle.mv_accepts_texts.specs.Meanings.{is_stored, is_global, names_global}
 use Rattle.mv_accepts_texts.proofs.Globals.{either_same, Names, NamesAny, among_both, number_names, read_names, function_names, known_names, after_names, object_names, element_names, converted_names, promoted_names, one_names, two_names, three_names, assigned_names, before_names, called_names}
+use Rattle.mv_accepts_expressions.proofs.CallForms.{none_passed}
 
 -- ---- the names of a node, form by form
 
@@ -291,10 +292,6 @@ module _ (g : ℕ) (scope : Scope) where
       both_same (names_in n) (all_names nodes) _ _ (converted_names g t (value_of y) ∙ value_same n y h.0) (passed_same ts nodes ys r h.1)
   passed_same ts [] (y ∷ ys) q h = absurd h
   passed_same ts (n ∷ nodes) [] q h = absurd h
-
-  none_passed : (ys : List Seen) → passed [] ys ≡ []
-  none_passed [] = refl
-  none_passed (y ∷ ys) = refl
 
   -- the names of functions and switches have no values
   function_named : (y : Seen) → not (is_attributed y) ≡ false → SeenNames y ≡ false

@@ -6,9 +6,9 @@ use Rattle.mv_ast.specs.declared.program.CType.{CType}
 use Rattle.mv_ast.specs.declared.program.Expr.{Expr}
 use Rattle.mv_ast.specs.declared.program.Stmt.{Stmt}
 use Rattle.mv_ast.specs.declared.program.Stmt.TheVariants as stmt
-use Rattle.mv_ast.specs.declared.unit.Act.{Act, roll-Act, map-Act, fold-Act, fold-roll-Act}
+use Rattle.mv_ast.specs.declared.unit.Act.{Act, map-Act, fold-Act}
 use Rattle.mv_ast.specs.declared.unit.Act.TheOpen as act
-use Rattle.mv_ast.specs.declared.unit.Line.{Line, roll-Line, fold-roll-Line}
+use Rattle.mv_ast.specs.declared.unit.Line.{Line}
 use Rattle.mv_ast.specs.declared.unit.Node.{Node}
 use Rattle.mv_ast.specs.Operators.{converted}
 use Rattle.mv_check_scope.specs.Conversions.{is_integer, promotion, promoted, converted_to}
@@ -22,7 +22,7 @@ use Rattle.mv_check_rules.specs.Rules.{least_broken, concluded}
 use Rattle.mv_check_rules.specs.Declarations.{constant, local_declaration}
 use Rattle.mv_check_rules.specs.Statements.{Surroundings, Piece, Labelled, Otherwise, Statement, labels, has_default, arms, Judges, Layer, loop_around, switch_around, lines, pieces, optional, alone, express, convert_result, is_block, arms_if_any, for_behind, statement_found, statement_of, line_of, piece_of, switch_body_of, function_body_of, act_step, line_step, judges, body, function_around}
 use Rattle.mv_check_rules.proofs.Statements.{act_found, no_pieces}
-use Rattle.mv_accepts_statements.proofs.LineInduction.{LinesWith, ActOver, LineOver, whole_act, whole_line, every_line}
+use Rattle.mv_accepts_statements.proofs.LineInduction.{LinesWith, ActOver, whole_act, folded_line}
 use Rattle.mv_accepts_statements.proofs.Judging.{IfGood, by_good, if_any, if_more, if_then}
 use Rattle.mv_accepts_texts.specs.Expressions.{NameList, names_in, names_in_any}
 use Rattle.mv_accepts_texts.specs.Meanings.{names_global}
@@ -349,24 +349,8 @@ module _ (start : Scope) where
     function_body = function_bodies_tell y place;
   }
 
-  act_is : (y : ActOver ActIs LineIs) → ActIs (roll-Act (whole_act ActIs LineIs y))
-  unfolding part_of act_parameters line_parameters
-  act_is y place =
-      subst (λ (x : Place → Judges). Told (x place) (act_text (roll-Act (whole_act ActIs LineIs y))) (act_parameters (roll-Act (whole_act ActIs LineIs y))))
-      (sym (fold-roll-Act (Place → Judges) Judges act_step line_step (whole_act ActIs LineIs y)))
-      (subst (λ (p : Part). Told (act_step (found_of y) place) p (act_parameters (roll-Act (whole_act ActIs LineIs y)))) (sym (fold-roll-Act Part Part act_part line_part (whole_act ActIs LineIs y)))
-      (subst (Told (act_step (found_of y) place) (text_of y)) (sym (fold-roll-Act (List ℕ) (List ℕ) act_layer line_layer (whole_act ActIs LineIs y))) (steps_tell y place)))
-
-  line_is : (y : LineOver ActIs LineIs) → LineIs (roll-Line (whole_line ActIs LineIs y))
-  unfolding part_of act_parameters line_parameters
-  line_is y =
-      subst (λ (x : Judges). Told x (part_of (roll-Line (whole_line ActIs LineIs y))) (line_parameters (roll-Line (whole_line ActIs LineIs y))))
-      (sym (fold-roll-Line (Place → Judges) Judges act_step line_step (whole_line ActIs LineIs y)))
-      (subst (λ (p : Part). Told (act_found y.what.0 y.place) p (line_parameters (roll-Line (whole_line ActIs LineIs y)))) (sym (fold-roll-Line Part Part act_part line_part (whole_line ActIs LineIs y)))
-      (subst (Told (act_found y.what.0 y.place) (act_text y.what.0)) (sym (fold-roll-Line (List ℕ) (List ℕ) act_layer line_layer (whole_line ActIs LineIs y))) (y.what.1 y.place)))
-
-  line_told : (l : Line) → LineIs l
-  line_told = every_line ActIs LineIs act_is line_is
-
   pub body_tells : (t : CType) (b : Line) (s : Scope) → IfGood (body t b s) (λ d. Body (part_of b) (line_parameters b) s d.0 d.1)
-  body_tells t b s = (line_told b).function_body (function_around t) s
+  unfolding part_of act_parameters line_parameters
+  body_tells t b s =
+      (folded_line act_step line_step act_part line_part act_layer line_layer (λ f p c. (place : Place) → Told (f place) p c) Told
+      steps_tell (λ y. y.what.1 y.place) b).function_body (function_around t) s
