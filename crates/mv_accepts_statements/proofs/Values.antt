@@ -1,5 +1,5 @@
 -- The values that a local is given: what holds of each, converted, and how many there are.
-use Rattle.std.proofs.Common.{◌≡◌, ℕ, refl, sym, Bool, true, false, not, ◌&&◌, is_some, nat_le, ap, subst, arith, List, length, Option, Some, None}
+use Rattle.std.proofs.Common.{◌≡◌, ℕ, refl, sym, Bool, true, false, not, ◌&&◌, is_some, nat_le, ap, subst, arith, List, length, Option, Some, None, le-leb}
 use Rattle.std.specs.List.{AllByRecursion}
 use Rattle.std.proofs.lemmas.Bool.{not-false, and_parts}
 use Rattle.mv_ast.specs.declared.program.CType.{CType}
@@ -74,9 +74,6 @@ values_new d taken l s =
 abbrev Fit : Local → List Expr → Type 0
 Fit l es = nat_le (length es) (words_of_size l.size) ≡ true
 
-none_fit : (n : ℕ) → nat_le 0 n ≡ true
-none_fit n = grind arith
-
 one_fits : (size : Option ℕ) (n : ℕ) → (is_some size && true) ≡ false → n ≡ 1 → nat_le n (words_of_size size) ≡ true
 one_fits None n h q = ap (λ m. nat_le m 1) q
 one_fits (Some m) n h q = absurd (cc)
@@ -100,7 +97,7 @@ given_one t (Some (initial.Chars bytes)) s = refl
 
 given_fit : (l : Local) (given : Option Initial) (x : Converted) → IsOne given x → (is_some l.size && is_single given) ≡ false →
     is_overfull false l given (length x.values) ≡ false → Fit l x.values
-given_fit l None x n q r = subst (λ m. nat_le m (words_of_size l.size) ≡ true) (sym n) (none_fit (words_of_size l.size))
+given_fit l None x n q r = subst (λ m. nat_le m (words_of_size l.size) ≡ true) (sym n) (le-leb 0 (words_of_size l.size) (omega arith))
 given_fit l (Some (initial.Value node)) x n q r = one_fits l.size (length x.values) q n
 given_fit l (Some (initial.Values nodes)) x n q r = all_fit l.size (length x.values) r
 given_fit l (Some (initial.Chars bytes)) x n q r = absurd (cc)

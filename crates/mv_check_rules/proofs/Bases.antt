@@ -22,7 +22,7 @@ use Rattle.mv_check_declarations.specs.Turns.{Behind}
 use Rattle.mv_check_rules.specs.Nodes.{Bearer}
 use Rattle.mv_check_rules.specs.Nodes as node
 use Rattle.mv_check_rules.specs.Rules.{bears_none, is_again, is_undeclared, first_broken, unless_broken, concluded}
-use Rattle.mv_check_rules.specs.Declarations.{Found, in_order, is_switch, Attribution, Base, base_of, type_of_words, kind_named, scalar_kind, kind_if_good, specifiers_in_order, Specified, specifier, last_number}
+use Rattle.mv_check_rules.specs.Declarations.{Found, in_order, is_switch, Attribution, Base, base_of, type_of_words, kind_named, specifiers_in_order, Specified, specifier, last_number}
 use Rattle.mv_check_rules.proofs.Agreement.{mapped, over, base_of_specified, holder, is_local, SpecifiersAgree}
 use Rattle.mv_check_rules.proofs.Parts.{IfGood}
 use Rattle.mv_check_rules.proofs.Specifiers.{any_more, attribute_of, there_and_back, in_order_of_text}
@@ -32,18 +32,6 @@ module _ {A B C : Type 0} (P : A → Type 0) (g : B → C) (next : A → Judged 
   then_known : (j : Judged A) → IfGood P j → and_then j next ≡ mapped g (and_then j rest)
   then_known (Good a) h = agree a h
   then_known (Broken place rule) h = refl
-
--- the kinds that the two name
-kinds_agree : (s : Scope) (specs : Specs) → kind_named s specs ≡ code_specifiers.kind_of (type_of s specs)
-kinds_agree s specs = by (type_of s specs)
-  where
-    by_type : (t : CType) → scalar_kind t ≡ code_specifiers.scalar_kind t
-    by_type (ctype.Scalar k) = refl
-    by_type t = refl
-
-    by : (j : Judged CType) → kind_if_good j ≡ code_specifiers.kind_of j
-    by (Good t) = by_type t
-    by (Broken place rule) = refl
 
 module _ (p : Position) (specs : Specs) where
   abbrev specified : CType → Option ℕ → Option Attribute → code_specified.Specified
@@ -99,8 +87,7 @@ specifiers_agree p bs names specs s q =
     (in_order (specifier bs (kind_named s specs)) (specifiers_in_order (out-Specs specs).tags (out-Specs specs).marks) start)
     (declared_behind bs (kind_named s specs) (out-Specs specs).tags (out-Specs specs).marks start) ∙
     (ap (mapped (over base_of_specified)) (sym (in_order_of_text bs (kind_named s specs) (out-Specs specs).marks (end p specs) (out-Specs specs).tags 0 start)) ∙
-    (ap (λ k. mapped (over base_of_specified) (code_by p specs s (holder bs) k)) (kinds_agree s specs) ∙
-    ap (λ h. mapped (over base_of_specified) (code_by p specs s h (code_specifiers.kind_of (type_of s specs)))) (sym q)))
+    ap (λ h. mapped (over base_of_specified) (code_by p specs s h (kind_named s specs))) (sym q))
   where
     start : Specified
     start = record { scope = s; enums = []; attribute = None }

@@ -4,7 +4,6 @@ use Rattle.std.proofs.lemmas.Bool.{true≢false}
 use Rattle.std.specs.List.{list_any}
 use Rattle.mv_num.specs.declared.kind.Kind.{Kind}
 use Rattle.mv_ast.specs.declared.place.Place.{Place}
-use Rattle.mv_ast.specs.declared.program.CType.{CType}
 use Rattle.mv_ast.specs.declared.program.CType.TheVariants as ctype
 use Rattle.mv_ast.specs.declared.unit.Declarator.{Declarator}
 use Rattle.mv_ast.specs.declared.unit.Item.{Item}
@@ -28,7 +27,6 @@ use Rattle.mv_check_declarations.specs.Declarators.{designated}
 use Rattle.mv_check_declarations.specs.Globals as code_globals
 use Rattle.mv_check_declarations.specs.Initials as code_initials
 use Rattle.mv_check_declarations.specs.Objects as code_objects
-use Rattle.mv_check_declarations.specs.Specifiers as code_specifiers
 use Rattle.mv_check_declarations.specs.ValueSets.{with_member}
 use Rattle.mv_types.specs.declared.contents.Contents.{Contents}
 use Rattle.mv_types.specs.Contents.{in_scope}
@@ -40,7 +38,7 @@ use Rattle.mv_types.specs.Units.{named_declarator, declarator_judgement}
 use Rattle.mv_check_rules.specs.Nodes.{Declared, Bearer, Given}
 use Rattle.mv_check_rules.specs.Nodes as node
 use Rattle.mv_check_rules.specs.Rules.{bears_none, is_empty, concluded}
-use Rattle.mv_check_rules.specs.Declarations.{attributes, is_switch, given, scalar_kind}
+use Rattle.mv_check_rules.specs.Declarations.{attributes, is_switch, given}
 use Rattle.mv_check_rules.specs.Units.{Declarations, behind, is_constant_object, bearer_of_form, is_main, bearer, bearers, constant_expression, distinct, default_domain, domain, by_name, declarator}
 use Rattle.mv_check_rules.proofs.Agreement.{mapped, over, attribution_of, declared_of, base_of_specified, holder, ParametersAgree, BodyAgrees}
 use Rattle.mv_check_rules.proofs.Attributes.{attributes_agree}
@@ -53,6 +51,7 @@ use Rattle.mv_check_rules.proofs.Routines.{defined_parameters_agree, routine_agr
 use Rattle.mv_check_rules.proofs.Objects.{scalar_agrees, array_agrees}
 use Rattle.mv_num.proofs.Booleans.{or_true}
 use Rattle.mv_check_rules.proofs.Tags.{first_false, second_false}
+use Rattle.mv_check_declarations.specs.Specifiers.{scalar_kind}
 
 -- ---- what an attribute stands on
 
@@ -163,10 +162,6 @@ domain_same s enumeration (Some a) = by a.values
     by None = ap Some (default_same s enumeration)
     by (Some vs) = refl
 
-kind_same : (t : CType) → code_specifiers.scalar_kind t ≡ scalar_kind t
-kind_same (ctype.Scalar k) = refl
-kind_same t = refl
-
 -- ---- declarators
 
 nameless_same : {X : Type 0} (place : Place) (s : Scope) (c : Declarations) (f : Given → X) (j : Judged Given) →
@@ -221,16 +216,15 @@ module _ (parameters_agree : ParametersAgree) (body_agrees : BodyAgrees) (items 
     marked s h k = code_attributes.attributes h k s d.marks b.attribute
 
     by_shape : (j : Judged (Scope × Entity)) →
-        and_then (and_then j (λ e. and_then (marked e.0 (code_attributes.holder_of position.File constant_here d) (code_specifiers.scalar_kind b.ctype)) (λ a.
+        and_then (and_then j (λ e. and_then (marked e.0 (code_attributes.holder_of position.File constant_here d) (scalar_kind b.ctype)) (λ a.
         Good (e.0, record { entity = e.1; attribute = a })))) rest ≡
         mapped contents_of (and_then (mapped (over declared_of) j) next)
     by_shape (Broken place rule) = refl
     by_shape (Good e) =
-        ap (λ h. and_then (and_then (marked e.0 h (code_specifiers.scalar_kind b.ctype)) (λ a. Good (e.0, record { entity = e.1; attribute = a }))) rest) (held_by constant_here d) ∙
-        (ap (λ k. and_then (and_then (marked e.0 (holder (bearer constant_here d ∷ [])) k) (λ a. Good (e.0, record { entity = e.1; attribute = a }))) rest) (kind_same b.ctype) ∙
+        ap (λ h. and_then (and_then (marked e.0 h (scalar_kind b.ctype)) (λ a. Good (e.0, record { entity = e.1; attribute = a }))) rest) (held_by constant_here d) ∙
         (by_attribute e.0 e.1 (marked e.0 (holder (bearer constant_here d ∷ [])) (scalar_kind b.ctype)) ∙
         ap (λ j. mapped contents_of (and_then j (λ a. by_name items (base_of_specified b) a body d (declared_of e.1) d.name (behind e.0 c))))
-        (sym (attributes_agree (bearer constant_here d ∷ []) (scalar_kind b.ctype) e.0 d.marks b.attribute))))
+        (sym (attributes_agree (bearer constant_here d ∷ []) (scalar_kind b.ctype) e.0 d.marks b.attribute)))
 
     pub declarator_agrees : declarator_judgement (foreknown items) b body d (contents_of c) ≡ mapped contents_of (declarator items (base_of_specified b) body d c)
     unfolding declarator_judgement foreknown

@@ -1,5 +1,5 @@
 -- Initial values agree, and the scope's locals are nothing to a value.
-use Rattle.std.proofs.Common.{◌≡◌, ℕ, refl, sym, ◌∙◌, ap, Bool, true, false, ◌||◌, ◌&&◌, not, is_none, Option, Some, None, List, [], ◌∷◌, ◌++◌, map}
+use Rattle.std.proofs.Common.{◌≡◌, ℕ, refl, sym, ◌∙◌, ap, Bool, true, ◌||◌, ◌&&◌, not, is_none, Option, Some, None, List, [], ◌∷◌, ◌++◌, map}
 use Rattle.std.specs.List.{list_any}
 use Rattle.std.proofs.lemmas.List.{append_assoc, append-nil}
 use Rattle.mv_ast.specs.declared.place.Place.{Place}
@@ -28,6 +28,7 @@ use Rattle.mv_check_rules.specs.Nodes.{Given, Nothing, Value, Values, Characters
 use Rattle.mv_check_rules.specs.Rules.{all_convert}
 use Rattle.mv_check_rules.specs.Declarations.{given, expressions_of}
 use Rattle.mv_check_rules.proofs.Agreement.{mapped}
+use Rattle.mv_check_rules.proofs.Parts.{and_true, none_fails}
 
 -- ---- a scope with other locals
 
@@ -80,18 +81,9 @@ module _ (t : CType) (s : Scope) where
   abbrev behind : Converted → List Expr → Converted
   behind x es = record { all = x.all && all_convert t es; values = x.values ++ map (converted_to t) es }
 
-  and_true : (b : Bool) → b ≡ (b && true)
-  and_true true = refl
-  and_true false = refl
-
-  all_more : (a b c : Bool) → ((a && b) && not c) ≡ (a && not (not b || c))
-  all_more true true c = refl
-  all_more true false c = refl
-  all_more false b c = refl
-
   one_more : (x : Converted) (e : Expr) (es : List Expr) → behind (with_converted t x e) es ≡ behind x (e ∷ es)
   one_more x e es = λ i. record {
-    all = all_more x.all (converts e t) (list_any (λ e. not (converts e t)) es) i;
+    all = none_fails x.all (converts e t) (list_any (λ e. not (converts e t)) es) i;
     values = append_assoc x.values (converted_to t e ∷ []) (map (converted_to t) es) i;
   }
 

@@ -1,6 +1,5 @@
 -- Declarations in a block agree.
-use Rattle.std.proofs.Common.{◌≡◌, ℕ, refl, arith, sym, ◌∙◌, ap, Bool, true, false, ◌||◌, ◌&&◌, not, nat_eq, nat_le, if◌then◌else◌, Option, Some, None, List, [], ◌∷◌, ◌++◌, map, length}
-use Rattle.std.proofs.lemmas.Bool.Decides.{nat_tests}
+use Rattle.std.proofs.Common.{◌≡◌, ℕ, refl, arith, sym, ◌∙◌, ap, Bool, true, false, ◌||◌, ◌&&◌, not, nat_eq, nat_le, if◌then◌else◌, Option, Some, None, List, [], ◌∷◌, ◌++◌, map, length, le-leb}
 use Rattle.std.proofs.lemmas.List.{length-map}
 use Rattle.mv_ast.specs.declared.place.Place.{Place}
 use Rattle.mv_ast.specs.declared.program.CType.{CType}
@@ -87,17 +86,14 @@ module _ (t : CType) (fixed : Bool) where
   array_converts size n (Some (initial.Chars bytes)) (Characters more) h = refl
   array_converts size n values g h = elim h [ ]
 
-  none_fit : (n : ℕ) → nat_le 0 n ≡ true
-  none_fit n = grind (arith, nat_tests)
-
   no_room : (none fits : Bool) → not (not none && fits) ≡ (none || not fits)
   no_room true fits = refl
   no_room false fits = refl
 
   array_extents : (n : ℕ) (values : Option Initial) (g : Given) → IsOf values g →
       (is_string g || not (not (nat_eq n 0) && nat_le (filled g) n)) ≡ objects.breaks_extents false (array t n) values (count t g)
-  array_extents n None Nothing h = no_room (nat_eq n 0) (nat_le 0 n) ∙ ap (λ b. nat_eq n 0 || not b) (none_fit n)
-  array_extents n (Some (initial.Value m)) (Value e) h = no_room (nat_eq n 0) (nat_le 0 n) ∙ ap (λ b. nat_eq n 0 || not b) (none_fit n)
+  array_extents n None Nothing h = no_room (nat_eq n 0) (nat_le 0 n) ∙ ap (λ b. nat_eq n 0 || not b) (le-leb 0 n (omega arith))
+  array_extents n (Some (initial.Value m)) (Value e) h = no_room (nat_eq n 0) (nat_le 0 n) ∙ ap (λ b. nat_eq n 0 || not b) (le-leb 0 n (omega arith))
   array_extents n (Some (initial.Values ns)) (Values es) h =
       no_room (nat_eq n 0) (nat_le (length es) n) ∙ ap (λ k. nat_eq n 0 || not (nat_le k n)) (sym (length-map es (converted_to t)))
   array_extents n (Some (initial.Chars bytes)) (Characters more) h = or_true (nat_eq n 0)

@@ -3,10 +3,8 @@ use Rattle.std.proofs.Common.{◌≡◌, ℕ, zero, suc, refl, sym, ◌∙◌, a
 use Rattle.std.specs.Prelude.{slice_set}
 use Rattle.std.proofs.lemmas.Bool.{true≢false}
 use Rattle.std.proofs.lemmas.List.{length-map, map-set, map-append}
-use Rattle.mv_num.specs.declared.kind.Kind.TheVariants as kind
 use Rattle.mv_ast.specs.declared.place.Place.{Place}
 use Rattle.mv_ast.specs.declared.program.CType.{CType}
-use Rattle.mv_ast.specs.declared.program.CType.TheVariants as ctype
 use Rattle.mv_ast.specs.declared.program.Expr.{Expr}
 use Rattle.mv_ast.specs.declared.program.Local.{Local}
 use Rattle.mv_ast.specs.declared.unit.Declarator.{Declarator}
@@ -28,7 +26,7 @@ use Rattle.mv_check_declarations.specs.declared.globals.Words.{Words}
 use Rattle.mv_check_declarations.specs.Initials as code_initials
 use Rattle.mv_check_declarations.specs.Globals.{no_words, global_words}
 use Rattle.mv_check_declarations.specs.Objects as code_objects
-use Rattle.mv_check_declarations.specs.Objects.{scalar, array, sized, is_unconverted, breaks_extents, least}
+use Rattle.mv_check_declarations.specs.Objects.{scalar, array, sized, is_unconverted, breaks_extents, least, is_char}
 use Rattle.mv_types.specs.declared.contents.Contents.{Contents}
 use Rattle.mv_types.specs.declared.contents.Object.{Object}
 use Rattle.mv_types.specs.Foreknown.{foreknown}
@@ -36,7 +34,7 @@ use Rattle.mv_types.specs.Objects as code
 use Rattle.mv_types.specs.Objects.{may_declare, agrees_with, object_at, number_of, object_scope, objects_behind, object_judgement}
 use Rattle.mv_check_rules.specs.Nodes.{Declared, Scalar, Array, Given, Nothing, Value, Values, Characters, Global}
 use Rattle.mv_check_rules.specs.Nodes as node
-use Rattle.mv_check_rules.specs.Rules.{all_convert, converts_given, array_size, fits_extent, is_string, is_char, is_char_array, is_void_object, is_size, has_type, is_given, same_domain, allows_object, meaning_here, unless_broken, first_broken, concluded}
+use Rattle.mv_check_rules.specs.Rules.{all_convert, converts_given, array_size, fits_extent, is_string, is_char_array, is_void_object, is_size, has_type, is_given, same_domain, allows_object, meaning_here, unless_broken, first_broken, concluded}
 use Rattle.mv_check_rules.specs.Declarations.{given, local_size, type_or_void, named_unless}
 use Rattle.mv_check_rules.specs.Units.{Declarations, constant_expression, word_of, first_words, global_in, global_number, global_at, object_meaning, first_of, new_global, declared_again, with_global, object_named, object_found, earlier, object}
 use Rattle.mv_check_rules.proofs.Agreement.{mapped}
@@ -109,11 +107,6 @@ unconverted_array t fixed size n =
     (λ ns es h. ap (λ a. not (is_void t) && (not a || false)) (all_convert_added t es no_words) ∙ ap (λ b. not (is_void t) && b) (or_false (not (all_convert t es))))
     (λ bytes. refl)
 
-char_same : (t : CType) → code_objects.is_char t ≡ is_char t
-char_same (ctype.Scalar kind.SChar) = refl
-char_same (ctype.Scalar kind.UChar) = refl
-char_same t = refl
-
 count_same : (t : CType) (es : List Expr) → length (added (add_word t) no_words es).words ≡ length es
 count_same t es = ap length (words_added t es no_words) ∙ length-map es (word_of t)
 
@@ -121,7 +114,7 @@ pub extents_scalar : (t : CType) (fixed : Bool) (v : Option Initial) (g : Given)
     breaks_extents true (scalar t) v (length (words_of (scalar t) g).words) ≡ ((is_string g && not (is_char_array (Scalar t fixed))) || not (fits_extent (Scalar t fixed) g))
 extents_scalar t fixed =
     by_kind (λ v g. breaks_extents true (scalar t) v (length (words_of (scalar t) g).words) ≡ ((is_string g && not (is_char_array (Scalar t fixed))) || not (fits_extent (Scalar t fixed) g)))
-    refl (λ n e. refl) (λ ns es h. refl) (λ bytes. not_and_false (code_objects.is_char t))
+    refl (λ n e. refl) (λ ns es h. refl) (λ bytes. not_and_false (is_char t))
 
 nothing_filled : (n : ℕ) → (nat_eq n 0 || false) ≡ not (not (nat_eq n 0) && nat_le 0 n)
 nothing_filled n = or_false (nat_eq n 0) ∙ (by (nat_eq n 0) ∙ ap (λ b. not (not (nat_eq n 0) && b)) (sym (le-leb 0 n (omega arith))))
@@ -142,7 +135,7 @@ extents_array t fixed size =
     no_room (nat_eq (array_size size (Values es)) 0) (nat_le (length es) (array_size size (Values es))))
     (λ bytes.
     let n = array_size size (Characters bytes) in
-    ap (λ c. nat_eq n 0 || not (c && nat_le (length bytes) n)) (char_same t) ∙ no_string (nat_eq n 0) (is_char t) (nat_le (length bytes) n))
+    no_string (nat_eq n 0) (is_char t) (nat_le (length bytes) n))
 
 -- ---- the words
 

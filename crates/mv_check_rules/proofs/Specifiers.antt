@@ -23,6 +23,7 @@ use Rattle.mv_check_rules.proofs.Agreement.{mapped, attribution_of, holder}
 use Rattle.mv_check_rules.proofs.Parts.{then_same, then_to, then_then, in_order_append}
 use Rattle.mv_check_rules.proofs.Attributes.{attributes_agree}
 use Rattle.mv_check_rules.proofs.Enums.{said_of, enumeration_then}
+use Rattle.mv_num.proofs.Booleans.{or_false}
 
 -- ---- lists
 
@@ -30,10 +31,6 @@ module _ {A : Type 0} (p : A → Bool) where
   or_again : (a b c : Bool) → (a || (b || c)) ≡ ((a || b) || c)
   or_again true b c = refl
   or_again false b c = refl
-
-  or_false : (b : Bool) → (b || false) ≡ b
-  or_false true = refl
-  or_false false = refl
 
   pub any_more : (xs : List A) (x : A) → list_any p (xs ++ x ∷ []) ≡ list_any p xs || p x
   any_more [] x = or_false (p x)

@@ -18,7 +18,7 @@ use Rattle.mv_check_rules.specs.Nodes as node
 use Rattle.mv_check_rules.specs.Rules.{is_empty, concluded}
 use Rattle.mv_check_rules.specs.Declarations.{Base, in_order}
 use Rattle.mv_check_rules.specs.Units.{Declarations, none_declared, behind, bearers, declarator, declares_nothing, item, unit_end, judged_by_rules}
-use Rattle.mv_check_rules.proofs.Agreement.{mapped, over, base_of_specified, ParametersAgree, BodyAgrees}
+use Rattle.mv_check_rules.proofs.Agreement.{mapped, over, base_of_specified}
 use Rattle.mv_check_rules.proofs.Bases.{specifiers_agree}
 use Rattle.mv_check_rules.proofs.Parts.{then_mapped}
 use Rattle.mv_check_rules.proofs.Program.{contents_of, unit_end_agrees}
@@ -42,48 +42,44 @@ empty_same (x ∷ xs) = refl
 nothing_same : (i : Item) → code.declares_nothing i ≡ declares_nothing i
 nothing_same i = ap (λ b. b && not (is_filled (out-Specs i.specs).tags)) (empty_same i.names) ∙ ap (λ b. is_empty i.names && b) (empty_same (out-Specs i.specs).tags)
 
-module _ (parameters : ParametersAgree) (bodies : BodyAgrees) where
-  module _ (items : List Item) where
-    names_agree : (b : Specified) (i : Item) (c : Declarations) → names_judgement (foreknown items) b i (contents_of c) ≡
-        mapped contents_of (and_then (concluded (out-Specs i.specs).place c.scope (node.Declaration (declares_nothing i)) c) (in_order (declarator items (base_of_specified b) i.body) i.names))
-    names_agree b i c =
-        ap (λ nothing. if nothing then Broken (out-Specs i.specs).place 22 else through (declarator_judgement (foreknown items) b i.body) i.names (contents_of c)) (nothing_same i) ∙ by (declares_nothing i)
-      where
-        by : (nothing : Bool) → (if nothing then Broken (out-Specs i.specs).place 22 else through (declarator_judgement (foreknown items) b i.body) i.names (contents_of c)) ≡
-            mapped contents_of (and_then (concluded (out-Specs i.specs).place c.scope (node.Declaration nothing) c) (in_order (declarator items (base_of_specified b) i.body) i.names))
-        by true = refl
-        by false =
-            through_mapped contents_of (declarator_judgement (foreknown items) b i.body) (declarator items (base_of_specified b) i.body)
-            (λ d e. declarator_agrees parameters bodies items b i.body d e) i.names c
-
-    item_agrees : (i : Item) (c : Declarations) → item_judgement (foreknown items) i (contents_of c) ≡ mapped contents_of (item items i c)
-    unfolding item_judgement
-    item_agrees i c =
-        let f = out-Specs i.specs in
-        let bs = bearers items f.fixed i.names in
-        let ds = code.holders (foreknown items) i.names in
-        by (code_specifiers.specifiers position.File ds i.specs c.scope) ∙
-        ap (λ j. mapped contents_of (and_then j next)) (sym (specifiers_agree position.File bs ds i.specs c.scope (held_by_all items f.fixed i.names)))
-      where
-        next : Scope × Base → Judged Declarations
-        next b = and_then (concluded (out-Specs i.specs).place b.0 (node.Declaration (declares_nothing i)) (behind b.0 c)) (in_order (declarator items b.1 i.body) i.names)
-
-        by : (j : Judged (Scope × Specified)) → and_then j (λ b. names_judgement (foreknown items) b.1 i (in_scope (contents_of c) b.0)) ≡
-            mapped contents_of (and_then (mapped (over base_of_specified) j) next)
-        by (Good b) = names_agree b.1 i (behind b.0 c)
-        by (Broken place rule) = refl
-
-  -- ---- units
-
-  units_agree : (u : tree.Unit) → judged_by_rules u ≡ unit_judgement u
-  unfolding judged_by_rules unit_judgement foreknown
-  units_agree u =
-      sym (ap (λ j. and_then j (program_judgement u.end)) (through_mapped contents_of (item_judgement (foreknown u.items)) (item u.items) (item_agrees u.items) u.items (none_declared u.items)) ∙
-      by (in_order (item u.items) u.items (none_declared u.items)))
+module _ (items : List Item) where
+  names_agree : (b : Specified) (i : Item) (c : Declarations) → names_judgement (foreknown items) b i (contents_of c) ≡
+      mapped contents_of (and_then (concluded (out-Specs i.specs).place c.scope (node.Declaration (declares_nothing i)) c) (in_order (declarator items (base_of_specified b) i.body) i.names))
+  names_agree b i c =
+      ap (λ nothing. if nothing then Broken (out-Specs i.specs).place 22 else through (declarator_judgement (foreknown items) b i.body) i.names (contents_of c)) (nothing_same i) ∙ by (declares_nothing i)
     where
-      by : (j : Judged Declarations) → and_then (mapped contents_of j) (program_judgement u.end) ≡ and_then j (unit_end u.end)
-      by (Good c) = unit_end_agrees u.end c
+      by : (nothing : Bool) → (if nothing then Broken (out-Specs i.specs).place 22 else through (declarator_judgement (foreknown items) b i.body) i.names (contents_of c)) ≡
+          mapped contents_of (and_then (concluded (out-Specs i.specs).place c.scope (node.Declaration nothing) c) (in_order (declarator items (base_of_specified b) i.body) i.names))
+      by true = refl
+      by false =
+          through_mapped contents_of (declarator_judgement (foreknown items) b i.body) (declarator items (base_of_specified b) i.body)
+          (λ d e. declarator_agrees parameters_agree body_agrees items b i.body d e) i.names c
+
+  item_agrees : (i : Item) (c : Declarations) → item_judgement (foreknown items) i (contents_of c) ≡ mapped contents_of (item items i c)
+  unfolding item_judgement
+  item_agrees i c =
+      let f = out-Specs i.specs in
+      let bs = bearers items f.fixed i.names in
+      let ds = code.holders (foreknown items) i.names in
+      by (code_specifiers.specifiers position.File ds i.specs c.scope) ∙
+      ap (λ j. mapped contents_of (and_then j next)) (sym (specifiers_agree position.File bs ds i.specs c.scope (held_by_all items f.fixed i.names)))
+    where
+      next : Scope × Base → Judged Declarations
+      next b = and_then (concluded (out-Specs i.specs).place b.0 (node.Declaration (declares_nothing i)) (behind b.0 c)) (in_order (declarator items b.1 i.body) i.names)
+
+      by : (j : Judged (Scope × Specified)) → and_then j (λ b. names_judgement (foreknown items) b.1 i (in_scope (contents_of c) b.0)) ≡
+          mapped contents_of (and_then (mapped (over base_of_specified) j) next)
+      by (Good b) = names_agree b.1 i (behind b.0 c)
       by (Broken place rule) = refl
 
+-- ---- units
+
 pub same_judgement : (u : tree.Unit) → judged_by_rules u ≡ unit_judgement u
-same_judgement = units_agree parameters_agree body_agrees
+unfolding judged_by_rules unit_judgement foreknown
+same_judgement u =
+    sym (ap (λ j. and_then j (program_judgement u.end)) (through_mapped contents_of (item_judgement (foreknown u.items)) (item u.items) (item_agrees u.items) u.items (none_declared u.items)) ∙
+    by (in_order (item u.items) u.items (none_declared u.items)))
+  where
+    by : (j : Judged Declarations) → and_then (mapped contents_of j) (program_judgement u.end) ≡ and_then j (unit_end u.end)
+    by (Good c) = unit_end_agrees u.end c
+    by (Broken place rule) = refl

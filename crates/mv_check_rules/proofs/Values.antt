@@ -30,7 +30,7 @@ use Rattle.mv_check_rules.specs.Rules.{all_convert, array_size, concluded}
 use Rattle.mv_check_rules.specs.Declarations.{given}
 use Rattle.mv_check_rules.specs.Units.{address_or, constant_word, constant_expression, word_of}
 use Rattle.mv_check_rules.proofs.Agreement.{mapped}
-use Rattle.mv_check_rules.proofs.Parts.{IfGood}
+use Rattle.mv_check_rules.proofs.Parts.{IfGood, and_true, none_fails}
 
 -- ---- values in their order
 
@@ -186,18 +186,9 @@ words_agree l (Some (initial.Chars bytes)) s = refl
 
 -- ---- what the words of a list are
 
-and_true : (b : Bool) → b ≡ b && true
-and_true true = refl
-and_true false = refl
-
-one_fails : (a c rest : Bool) → ((a && c) && not rest) ≡ (a && not (not c || rest))
-one_fails true true rest = refl
-one_fails true false rest = refl
-one_fails false c rest = refl
-
 pub all_convert_added : (t : CType) (es : List Expr) (x : Words) → (added (add_word t) x es).all ≡ (x.all && all_convert t es)
 all_convert_added t [] x = and_true x.all
-all_convert_added t (e ∷ es) x = all_convert_added t es (add_word t x e) ∙ one_fails x.all (converts e t) (list_any (λ e. not (converts e t)) es)
+all_convert_added t (e ∷ es) x = all_convert_added t es (add_word t x e) ∙ none_fails x.all (converts e t) (list_any (λ e. not (converts e t)) es)
 
 pub words_added : (t : CType) (es : List Expr) (x : Words) → (added (add_word t) x es).words ≡ x.words ++ map (word_of t) es
 words_added t [] x = sym (append-nil x.words)

@@ -31,11 +31,12 @@ use Rattle.mv_check_scope.specs.Scoped.{block_entered, block_left, declared, tag
 use Rattle.mv_check_scope.specs.Signatures.{place_of, with_signature}
 use Rattle.mv_check_scope.specs.Spaces.{named}
 use Rattle.mv_check_expressions.specs.declared.constant.Constant.{Constant}
-use Rattle.mv_check_expressions.specs.Judged.{Judged, Good, Broken, and_then, each}
+use Rattle.mv_check_expressions.specs.Judged.{Judged, Good, and_then, each}
 use Rattle.mv_check_expressions.specs.Judgements.{value_judgement}
 use Rattle.mv_check_expressions.specs.TypeNames.{named_type}
 use Rattle.mv_check_expressions.specs.TypeNames as names
 use Rattle.mv_check_declarations.specs.Constants.{int_of, next_int}
+use Rattle.mv_check_declarations.specs.Specifiers.{kind_of}
 use Rattle.mv_check_declarations.specs.ValueSets.{with_member}
 use Rattle.mv_check_rules.specs.Nodes.{Declared, Scalar, Array, Function, Given, Nothing, Value, Values, Characters, Enumeration, Undeclared, Again, Numbered, Bearer}
 use Rattle.mv_check_rules.specs.Nodes as node
@@ -218,17 +219,9 @@ last_number (e ∷ next ∷ es) = last_number (next ∷ es)
 abbrev pub type_of_words : Specs → Option CType
 type_of_words specs = let f = out-Specs specs in named_type (length f.tags) f.words
 
-abbrev pub scalar_kind : CType → Option Kind
-scalar_kind (ctype.Scalar k) = Some k
-scalar_kind _ = None
-
-abbrev pub kind_if_good : Judged CType → Option Kind
-kind_if_good (Good t) = scalar_kind t
-kind_if_good (Broken place rule) = None
-
 -- the integer type that specifiers name, where their tags are declared
 abbrev pub kind_named : Scope → Specs → Option Kind
-kind_named scope specs = kind_if_good (names.type_of scope specs)
+kind_named scope specs = kind_of (names.type_of scope specs)
 
 abbrev pub base_of : Specs → Specified → Scope × Base
 base_of specs x = (

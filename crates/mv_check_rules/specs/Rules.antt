@@ -3,10 +3,8 @@
 use Rattle.std.specs.Prelude.{ℕ, ◌+◌, Bool, true, false, ◌&&◌, ◌||◌, not, nat_eq, nat_le, is_none, is_some, if◌then◌else◌, List, [], ◌∷◌, length, Option, Some, None, slice_get}
 use Rattle.std.specs.List.{list_any}
 use Rattle.std.specs.Cmp.Lexicographic.{pointwise}
-use Rattle.mv_num.specs.declared.kind.Kind.TheVariants as kind
 use Rattle.mv_ast.specs.declared.place.Place.{Place}
 use Rattle.mv_ast.specs.declared.program.CType.{CType}
-use Rattle.mv_ast.specs.declared.program.CType.TheVariants as ctype
 use Rattle.mv_ast.specs.declared.program.Expr.{Expr}
 use Rattle.mv_ast.specs.declared.program.Form.TheVariants as form
 use Rattle.mv_ast.specs.declared.program.Known.{Known}
@@ -27,6 +25,7 @@ use Rattle.mv_check_expressions.specs.Judged.{Judged, Good, Broken}
 use Rattle.mv_check_declarations.specs.Constants.{is_positive, is_value_of}
 use Rattle.mv_check_rules.specs.Nodes.{Declared, Scalar, Array, Function, Given, Nothing, Value, Values, Characters, Enumeration, Undeclared, Again, Bearer, Global, Node}
 use Rattle.mv_check_rules.specs.Nodes as node
+use Rattle.mv_check_declarations.specs.Objects.{is_char}
 
 -- ---- what the rules ask of objects
 
@@ -86,11 +85,6 @@ fits_extent _ _ = true
 abbrev pub is_string : Given → Bool
 is_string (Characters bytes) = true
 is_string _ = false
-
-abbrev pub is_char : CType → Bool
-is_char (ctype.Scalar kind.SChar) = true
-is_char (ctype.Scalar kind.UChar) = true
-is_char _ = false
 
 abbrev pub is_char_array : Declared → Bool
 is_char_array (Array t constant size) = is_char t

@@ -40,8 +40,9 @@ use Rattle.mv_check_uses.specs.Uses.{switches_named}
 use Rattle.mv_check_rules.specs.Nodes.{Declared, Scalar, Array, Function, Given, Nothing, Characters, Bearer, Global}
 use Rattle.mv_check_rules.specs.Nodes as node
 use Rattle.mv_check_rules.specs.Rules.{meaning_here, stands_here, is_empty, is_given, concluded}
-use Rattle.mv_check_rules.specs.Declarations.{Found, in_order, Base, Attribution, attributes, scalar_kind, specifiers, declared_as, parameters, given, expressions_of, type_or_void, local_size, named_unless}
+use Rattle.mv_check_rules.specs.Declarations.{Found, in_order, Base, Attribution, attributes, specifiers, declared_as, parameters, given, expressions_of, type_or_void, local_size, named_unless}
 use Rattle.mv_check_rules.specs.Statements.{body}
+use Rattle.mv_check_declarations.specs.Specifiers.{scalar_kind}
 
 -- ---- what holds of a name in the whole unit, whichever of its declarations says it
 
