@@ -29,6 +29,7 @@ use Rattle.mv_accepts_numbers.proofs.NameLists.{name_itself, name_is, among_last
 use Rattle.mv_accepts_texts.proofs.Lists.{there_last}
 use Rattle.mv_accepts_texts.proofs.Files.{texts_same, global_names, Sound}
 use Rattle.mv_num.proofs.Lists.{last_there}
+use Rattle.mv_num.proofs.Booleans.{or_true}
 
 -- what an object that may be declared again is
 again_there : (gs : List Global) (number : Option ℕ) (d : Declared) (g : Given) (domain : Option (List ℕ)) → allows_object (global_at gs number) d g domain ≡ true →
@@ -51,10 +52,6 @@ module _ (items : List Item) (W : Type 0) (ObjectTold FunctionTold : List ℕ �
 
   among_new : (n name : List ℕ) (objects : NameList) → same_name n name ≡ true → is_among n (objects ++ name ∷ []) ≡ true
   among_new n name objects h = among_last n objects name ∙ (ap (λ b. is_among n objects || b) h ∙ or_true (is_among n objects))
-    where
-      or_true : (b : Bool) → (b || true) ≡ true
-      or_true true = refl
-      or_true false = refl
 
   -- a name that is new means the next global
   sound_new : (text : List ℕ → Part) (c : Declarations) (name : List ℕ) (m : Meaning) (new : Global) → Is text c → named name c.scope.names.here ≡ None →

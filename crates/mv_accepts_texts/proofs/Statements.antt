@@ -33,6 +33,7 @@ use Rattle.mv_accepts_texts.proofs.Forms.{StmtNames, StmtsName, OptionNames, Pie
 use Rattle.mv_accepts_texts.proofs.Scopes.{few_alone, Hides, Moves, Tells, tells_made, tells_counts, tells_naming, tells_next, tells_block}
 use Rattle.mv_accepts_texts.proofs.Specifiers.{if_found}
 use Rattle.mv_accepts_texts.proofs.Locals.{broken_anyway, declaration_tells}
+use Rattle.mv_num.proofs.Booleans.{or_false}
 
 module _ (start : Scope) where
   -- ---- what is told of how a line is judged
@@ -301,11 +302,7 @@ module _ (start : Scope) where
   then_piece : (p : Part) (c : List ℕ) (d : Scope × List Piece) (j : Judged (Scope × Stmt)) → IfGood j (ToStmt p c d.0) →
       IfGood (and_then j (λ e. Good (e.0, d.1 ++ Statement e.1 ∷ []))) (ToPieces p c d)
   then_piece p c d j h =
-      if_then (ToStmt p c d.0) (ToPieces p c d) j _ h (λ e k. (Statement e.1 ∷ [], refl, tells_made start p c d.0 e.0 _ _ (λ g. or_nothing (StmtNames g e.1)) k))
-    where
-      or_nothing : (b : Bool) → (b || false) ≡ b
-      or_nothing true = refl
-      or_nothing false = refl
+      if_then (ToStmt p c d.0) (ToPieces p c d) j _ h (λ e k. (Statement e.1 ∷ [], refl, tells_made start p c d.0 e.0 _ _ (λ g. or_false (StmtNames g e.1)) k))
 
   pieces_of_tell : (y : ActOver ActIs LineIs) (place : Place) (t : CType) (a : Surroundings) (d : Scope × List Piece) → IfGood (piece_of (found_of y) place t a d) (Pieces y d)
   pieces_of_tell (act.Case e) place t a d =
