@@ -25,8 +25,9 @@ use Rattle.mv_source_forms.specs.Typing.{IsInteger, types_of, HasType, IsTypedEx
 use Rattle.mv_accepts_expressions.specs.Soundness.{IsListed}
 use Rattle.mv_accepts_expressions.proofs.Types.{pointer_is}
 use Rattle.mv_accepts_expressions.proofs.Converted.{converted_type, converted_typed, converts_is}
-use Rattle.mv_accepts_expressions.proofs.Made.{AllTyped, direct_made, through_made, known_made}
+use Rattle.mv_accepts_expressions.proofs.Made.{direct_made, through_made, known_made}
 use Rattle.mv_accepts_expressions.proofs.Forms.{IsGood, IsGoodSeen, value_good}
+use Rattle.mv_source_forms.proofs.TypedParts.{AllTyped}
 
 -- the expression is a function's name
 function_is : (z : Form-F Form Target Expr) (g : ℕ) → function_form z ≡ Some g → z ≡ open_form.Function g

@@ -24,7 +24,8 @@ use Rattle.mv_source_forms.specs.Typing.{IsInteger, ConvertsTo, LvalueHasType, I
 use Rattle.mv_accepts_expressions.specs.Soundness.{IsListed, IsStored}
 use Rattle.mv_accepts_expressions.proofs.Types.{integer_is, promotion_integer, usual_integer}
 use Rattle.mv_accepts_expressions.proofs.Converted.{converted_type, converted_typed, integer_converts, Meets, meet_is}
-use Rattle.mv_accepts_expressions.proofs.Made.{TypedTarget, unary_made, number_made, function_made, read_made, binary_made, both_made, either_made, choose_made, set_made, change_made, after_made, global_made, local_made, global_at_made, local_at_made}
+use Rattle.mv_accepts_expressions.proofs.Made.{unary_made, number_made, function_made, read_made, binary_made, both_made, either_made, choose_made, set_made, change_made, after_made, global_made, local_made, global_at_made, local_at_made}
+use Rattle.mv_source_forms.proofs.TypedParts.{TypedTarget}
 
 module _ (p : Program) (f : Function) (signatures : List Signature) where
   abbrev pub Typed : Expr → Type 0

@@ -2,7 +2,7 @@
 use Rattle.std.proofs.Common.{◌≡◌, ℕ, refl, sym, ◌∙◌, ap, ap₂, subst, List, [], ◌∷◌, map, Option, Some, slice_get}
 use Rattle.std.specs.List.{AllByRecursion}
 use Rattle.std.proofs.lemmas.List.Elements.{All-from_recursion}
-use Rattle.mv_ast.specs.declared.program.Arm.{Arm, Arm-F, every-Arm, every_made-Arm}
+use Rattle.mv_ast.specs.declared.program.Arm.{Arm, Arm-F, every_made-Arm}
 use Rattle.mv_ast.specs.declared.program.CType.{CType}
 use Rattle.mv_ast.specs.declared.program.Program.{Program}
 use Rattle.mv_ast.specs.declared.program.Function.{Function}
@@ -12,6 +12,7 @@ use Rattle.mv_ast.specs.declared.program.Stmt.TheVariants as stmt
 use Rattle.mv_ast.specs.declared.program.Stmt.TheVariants.{outs-Block, outs-Clear, outs-Express, outs-If, outs-While, outs-Do, outs-For, outs-Switch, outs-Break, outs-Continue, outs-Return}
 use Rattle.mv_ast.specs.declared.program.Stmt.TheOpen as open_stmt
 use Rattle.mv_source_forms.specs.Typing.{IsInteger, IsTypedExpr, IsTypedAt, IsTypedOption, ReturnsTyped, HasTypedParts, IsTypedStmt}
+use Rattle.mv_source_forms.proofs.TypedParts.{TypedArm, StmtTyped, ArmTyped}
 
 module _ {A : Type 0} (P : A → Type 0) where
   abbrev pub paired : (xs : List A) → AllByRecursion P xs → List ((x : A) × P x)
@@ -29,16 +30,7 @@ module _ (p : Program) (f : Function) where
   abbrev pub AllTyped : List Stmt → Type 0
   AllTyped = AllByRecursion Typed
 
-  abbrev TypedArm : Arm → Type 0
-  TypedArm = every-Arm (HasTypedParts p f) (λ a. Unit {0})
-
-  abbrev S : Type 0
-  S = (x : Stmt) × Typed x
-
-  abbrev A : Type 0
-  A = (x : Arm) × TypedArm x
-
-  made : (w : Stmt) (z : Stmt-F Stmt Arm) → out-Stmt w ≡ z → (y : Stmt-F S A) → map-Stmt S A Stmt Arm (λ a. a.0) (λ a. a.0) y ≡ z → HasTypedParts p f z → Typed w
+  made : (w : Stmt) (z : Stmt-F Stmt Arm) → out-Stmt w ≡ z → (y : Stmt-F (StmtTyped p f) (ArmTyped p f)) → map-Stmt (StmtTyped p f) (ArmTyped p f) Stmt Arm (λ a. a.0) (λ a. a.0) y ≡ z → HasTypedParts p f z → Typed w
   made w z o y e h = subst Typed (sym (ap roll-Stmt o) ∙ roll-out-Stmt w) (every_made-Stmt (HasTypedParts p f) (λ a. Unit {0}) z y e h)
 
   pub block_made : (ss : List Stmt) → AllTyped ss → Typed (stmt.Block ss)
@@ -81,7 +73,7 @@ module _ (p : Program) (f : Function) where
 
   -- ---- the arms of a `switch`
 
-  arm_made : (a : Arm) → AllTyped a.body → TypedArm a
+  arm_made : (a : Arm) → AllTyped a.body → TypedArm p f a
   arm_made a h =
       every_made-Arm (HasTypedParts p f) (λ a. Unit {0}) (record { labels = a.labels; other = a.other; body = a.body })
       (record { labels = a.labels; other = a.other; body = paired Typed a.body h }) (ap with_body (paired_plain Typed a.body h)) tt
@@ -89,12 +81,12 @@ module _ (p : Program) (f : Function) where
       with_body : List Stmt → Arm-F Stmt Arm
       with_body ss = record { labels = a.labels; other = a.other; body = ss }
 
-  arms_made : (arms : List Arm) → AllByRecursion (λ (a : Arm). AllTyped a.body) arms → AllByRecursion TypedArm arms
+  arms_made : (arms : List Arm) → AllByRecursion (λ (a : Arm). AllTyped a.body) arms → AllByRecursion (TypedArm p f) arms
   arms_made [] h = tt
   arms_made (a ∷ arms) h = (arm_made a h.0, arms_made arms h.1)
 
   pub switch_made : (e : Expr) (arms : List Arm) → IsTypedExpr p f e → IsInteger e.ctype → AllByRecursion (λ (a : Arm). AllTyped a.body) arms → Typed (stmt.Switch e arms)
   switch_made e arms h i j =
-      let k : AllByRecursion TypedArm arms = arms_made arms j in
-      made (stmt.Switch e arms) (open_stmt.Switch e arms) (outs-Switch e arms) (open_stmt.Switch e (paired TypedArm arms k))
-      (ap (λ l. open_stmt.Switch e l) (paired_plain TypedArm arms k)) (h, i)
+      let k : AllByRecursion (TypedArm p f) arms = arms_made arms j in
+      made (stmt.Switch e arms) (open_stmt.Switch e arms) (outs-Switch e arms) (open_stmt.Switch e (paired (TypedArm p f) arms k))
+      (ap (λ l. open_stmt.Switch e l) (paired_plain (TypedArm p f) arms k)) (h, i)

@@ -1,7 +1,7 @@
 -- The same for statements, and for programs at two bounds.
 use Rattle.std.proofs.Common.{◌≡◌, ℕ, zero, suc, ◌-◌, ◌≤◌, Bool, if◌then◌else◌, List, [], ◌∷◌, ◌++◌, map, drop, length, replicate, arith, refl, sym, ◌∙◌, ap, subst, Option, Some, None, slice_get}
 use Rattle.std.specs.Prelude.{slice_set}
-use Rattle.std.proofs.lemmas.List.{length-map}
+use Rattle.std.proofs.lemmas.List.{length-map, drop-map}
 use Rattle.mv_ast.specs.declared.program.Program.{Program}
 use Rattle.mv_ast.specs.declared.program.Function.{Function}
 use Rattle.mv_ast.specs.declared.program.Expr.{Expr}
@@ -69,23 +69,15 @@ rises_pointwise d d' e e' ed ee r = record {
   on = λ f w. subst (λ o. IsContinued o (e f w)) (sym (ed f w)) (subst (λ o. IsContinued (d' f w) o) (sym (ee f w)) (r.on f w));
 }
 
-drop-map : {A B : Type 0} (g : A → B) (n : ℕ) (xs : List A) → drop n (map g xs) ≡ map g (drop n xs)
-drop-map g zero xs = refl
-drop-map g (suc n) [] = refl
-drop-map g (suc n) (x ∷ xs) = drop-map g n xs
-
 module _ (p : Program) (lesser greater : Context) (rises : ContextRises lesser greater) where
-  rises_value : (e : Expr) → Rises (value_of p lesser e) (value_of p greater e)
-  rises_value = value_rises p lesser greater rises
-
   rises_optional : (v : ℕ) (e : Option Expr) → Rises (optional_value p lesser v e) (optional_value p greater v e)
   rises_optional v None = rises_give v
-  rises_optional v (Some e) = rises_value e
+  rises_optional v (Some e) = value_rises p lesser greater rises e
 
   rises_put : (l i : ℕ) (es : List Expr) → Rises (put_values l i (map (value_of p lesser) es)) (put_values l i (map (value_of p greater) es))
   rises_put l i [] = rises_give Goes
   rises_put l i (e ∷ es) =
-      rises_bind _ _ _ _ (rises_value e) (λ v. rises_bind _ _ _ _ (rises_store (lvalue.Local l i) v) (λ x. rises_put l (suc i) es))
+      rises_bind _ _ _ _ (value_rises p lesser greater rises e) (λ v. rises_bind _ _ _ _ (rises_store (lvalue.Local l i) v) (λ x. rises_put l (suc i) es))
 
   rises_clear : (l : ℕ) (own : Bool) (es : List Expr) → Rises (clear_local l own (map (value_of p lesser) es)) (clear_local l own (map (value_of p greater) es))
   rises_clear l own es =
@@ -149,21 +141,21 @@ module _ (p : Program) (lesser greater : Context) (rises : ContextRises lesser g
   stmt_rises (stmt.Express e) =
       let x : Stmt-F Stmt Arm = stmt.Express e in
       by_equations (roll-Stmt x) _ _ (flow_of-Express p lesser (roll-Stmt x) _ (out-roll-Stmt x)) (flow_of-Express p greater (roll-Stmt x) _ (out-roll-Stmt x))
-      (rises_bind _ _ _ _ (rises_value e) (λ v. rises_give Goes))
+      (rises_bind _ _ _ _ (value_rises p lesser greater rises e) (λ v. rises_give Goes))
   stmt_rises (stmt.If e yes_part no_part) =
       let x : Stmt-F Stmt Arm = stmt.If e (map (λ s. s.0) yes_part) (map (λ s. s.0) no_part) in
       by_equations (roll-Stmt x) _ _ (flow_of-If p lesser (roll-Stmt x) _ _ _ (out-roll-Stmt x)) (flow_of-If p greater (roll-Stmt x) _ _ _ (out-roll-Stmt x))
-      (rises_bind _ _ _ _ (rises_value e) (λ v. rises_unless v _ _ _ _ (body_rises no_part) (body_rises yes_part)))
+      (rises_bind _ _ _ _ (value_rises p lesser greater rises e) (λ v. rises_unless v _ _ _ _ (body_rises no_part) (body_rises yes_part)))
   stmt_rises (stmt.While e body) =
       let x : Stmt-F Stmt Arm = stmt.While e (map (λ s. s.0) body) in
       by_equations (roll-Stmt x) _ _ (flow_of-While p lesser (roll-Stmt x) _ _ (out-roll-Stmt x)) (flow_of-While p greater (roll-Stmt x) _ _ (out-roll-Stmt x))
-      (rises_bind _ _ _ _ (rises_value e) (λ v. rises_unless v _ _ _ _ (rises_give Goes)
+      (rises_bind _ _ _ _ (value_rises p lesser greater rises e) (λ v. rises_unless v _ _ _ _ (rises_give Goes)
       (rises_bind _ _ _ _ (body_rises body) (λ flow. rises_after flow _ _ (rises.loops (roll-Stmt x))))))
   stmt_rises (stmt.Do body e) =
       let x : Stmt-F Stmt Arm = stmt.Do (map (λ s. s.0) body) e in
       by_equations (roll-Stmt x) _ _ (flow_of-Do p lesser (roll-Stmt x) _ _ (out-roll-Stmt x)) (flow_of-Do p greater (roll-Stmt x) _ _ (out-roll-Stmt x))
       (rises_bind _ _ _ _ (body_rises body) (λ flow. rises_after flow _ _
-      (rises_bind _ _ _ _ (rises_value e) (λ v. rises_unless v _ _ _ _ (rises_give Goes) (rises.loops (roll-Stmt x))))))
+      (rises_bind _ _ _ _ (value_rises p lesser greater rises e) (λ v. rises_unless v _ _ _ _ (rises_give Goes) (rises.loops (roll-Stmt x))))))
   stmt_rises (stmt.For first test step body) =
       let x : Stmt-F Stmt Arm = stmt.For (map (λ s. s.0) first) test step (map (λ s. s.0) body) in
       by_equations (roll-Stmt x) _ _ (flow_of-For p lesser (roll-Stmt x) _ _ _ _ (out-roll-Stmt x)) (flow_of-For p greater (roll-Stmt x) _ _ _ _ (out-roll-Stmt x))
@@ -174,7 +166,7 @@ module _ (p : Program) (lesser greater : Context) (rises : ContextRises lesser g
   stmt_rises (stmt.Switch e arms) =
       let x : Stmt-F Stmt Arm = stmt.Switch e (map (λ a. a.0) arms) in
       by_equations (roll-Stmt x) _ _ (flow_of-Switch p lesser (roll-Stmt x) _ _ (out-roll-Stmt x)) (flow_of-Switch p greater (roll-Stmt x) _ _ (out-roll-Stmt x))
-      (rises_bind _ _ _ _ (rises_value e) (λ v. switch_rises v arms))
+      (rises_bind _ _ _ _ (value_rises p lesser greater rises e) (λ v. switch_rises v arms))
   stmt_rises stmt.Break =
       let x : Stmt-F Stmt Arm = stmt.Break in
       by_equations (roll-Stmt x) _ _ (flow_of-Break p lesser (roll-Stmt x) (out-roll-Stmt x)) (flow_of-Break p greater (roll-Stmt x) (out-roll-Stmt x)) (rises_give Breaks)

@@ -1,15 +1,19 @@
 -- The parts of well-typed expressions and statements are well typed.
-use Rattle.std.proofs.Common.{List, [], ◌∷◌, map, subst}
+use Rattle.std.proofs.Common.{◌≡◌, List, [], ◌∷◌, map, refl, sym, subst}
+use Rattle.mv_ast.specs.declared.program.CType.{CType}
 use Rattle.mv_ast.specs.declared.program.Program.{Program}
 use Rattle.mv_ast.specs.declared.program.Function.{Function}
-use Rattle.mv_ast.specs.declared.program.Expr.{Expr, Expr-F, out-Expr, every-Expr, every_held-Expr, every_here-Expr}
-use Rattle.mv_ast.specs.declared.program.Form.{Form, Form-F, out-Form, map-Form, every-Form, every_held-Form}
+use Rattle.mv_ast.specs.declared.program.Expr.{Expr, Expr-F, out-Expr, roll-Expr, every-Expr, every_made-Expr, every_held-Expr, every_here-Expr}
+use Rattle.mv_ast.specs.declared.program.Form.{Form, Form-F, out-Form, roll-Form, out-roll-Form, map-Form, every-Form, every_made-Form, every_held-Form}
 use Rattle.mv_ast.specs.declared.program.Form.TheOpen as form
-use Rattle.mv_ast.specs.declared.program.Target.{Target, Target-F, out-Target, map-Target, every-Target, every_held-Target}
+use Rattle.mv_ast.specs.declared.program.Target.{Target, Target-F, out-Target, roll-Target, map-Target, every-Target, every_made-Target, every_held-Target}
 use Rattle.mv_ast.specs.declared.program.Stmt.{Stmt, Stmt-F, out-Stmt, map-Stmt, every-Stmt, every_held-Stmt, every_here-Stmt}
 use Rattle.mv_ast.specs.declared.program.Stmt.TheOpen as stmt
 use Rattle.mv_ast.specs.declared.program.Arm.{Arm, Arm-F, out-Arm, every-Arm, every_held-Arm}
 use Rattle.mv_source_forms.specs.Typing.{HasType, HasTypedParts}
+
+abbrev pub rolled : CType → Form-F Form Target Expr → Expr
+rolled t what = roll-Expr (record { ctype = t; what = roll-Form what })
 
 module _ (p : Program) (f : Function) where
   abbrev any_form : Form-F Form Target Expr → Type 0
@@ -57,20 +61,38 @@ module _ (p : Program) (f : Function) where
   TargetParts (form.GlobalAt g e) = TypedExpr e
   TargetParts (form.LocalAt l e) = TypedExpr e
 
-  abbrev F : Type 0
-  F = (x : Form) × TypedForm x
+  abbrev pub FormTyped : Type 0
+  FormTyped = (x : Form) × TypedForm x
 
-  abbrev T : Type 0
-  T = (x : Target) × TypedTarget x
+  abbrev pub TargetTyped : Type 0
+  TargetTyped = (x : Target) × TypedTarget x
 
-  abbrev E : Type 0
-  E = (x : Expr) × TypedExpr x
+  abbrev pub ExprTyped : Type 0
+  ExprTyped = (x : Expr) × TypedExpr x
 
-  all_typed : (es : List E) → AllTyped (map (λ (e : E). e.0) es)
+  abbrev pub whole_form : Form-F FormTyped TargetTyped ExprTyped → Form-F Form Target Expr
+  whole_form = map-Form FormTyped TargetTyped ExprTyped Form Target Expr (λ a. a.0) (λ a. a.0) (λ a. a.0)
+
+  abbrev pub whole_target : Target-F FormTyped TargetTyped ExprTyped → Target-F Form Target Expr
+  whole_target = map-Target FormTyped TargetTyped ExprTyped Form Target Expr (λ a. a.0) (λ a. a.0) (λ a. a.0)
+
+  -- ---- of well-typed parts
+
+  pub expr_made : (t : CType) (z : Form-F Form Target Expr) (y : Form-F FormTyped TargetTyped ExprTyped) → whole_form y ≡ z → HasType p f t z → TypedExpr (rolled t z)
+  expr_made t z y e h =
+      every_made-Expr any_form any_target node (record { ctype = t; what = roll-Form z })
+      (record { ctype = t; what = (roll-Form z, every_made-Form any_form any_target node z y e tt) }) refl (subst (HasType p f t) (sym (out-roll-Form z)) h)
+
+  pub target_made : (z : Target-F Form Target Expr) (y : Target-F FormTyped TargetTyped ExprTyped) → whole_target y ≡ z → TypedTarget (roll-Target z)
+  target_made z y e = every_made-Target any_form any_target node z y e tt
+
+  -- ---- the parts
+
+  all_typed : (es : List ExprTyped) → AllTyped (map (λ (e : ExprTyped). e.0) es)
   all_typed [] = tt
   all_typed (e ∷ es) = (e.1, all_typed es)
 
-  form_held : (x : Form-F F T E) → FormParts (map-Form F T E Form Target Expr (λ a. a.0) (λ a. a.0) (λ a. a.0) x)
+  form_held : (x : Form-F FormTyped TargetTyped ExprTyped) → FormParts (whole_form x)
   form_held (form.Number n) = tt
   form_held (form.Read t) = t.1
   form_held (form.Function g) = tt
@@ -87,7 +109,7 @@ module _ (p : Program) (f : Function) where
   form_held (form.Through args callee) = (all_typed args, callee.1)
   form_held (form.Known k args) = all_typed args
 
-  target_held : (x : Target-F F T E) → TargetParts (map-Target F T E Form Target Expr (λ a. a.0) (λ a. a.0) (λ a. a.0) x)
+  target_held : (x : Target-F FormTyped TargetTyped ExprTyped) → TargetParts (whole_target x)
   target_held (form.Global g) = tt
   target_held (form.Local l) = tt
   target_held (form.GlobalAt g e) = e.1
@@ -137,21 +159,21 @@ module _ (p : Program) (f : Function) where
   StmtParts stmt.Continue = Unit {0}
   StmtParts (stmt.Return e) = Unit {0}
 
-  abbrev S : Type 0
-  S = (x : Stmt) × TypedStmt x
+  abbrev pub StmtTyped : Type 0
+  StmtTyped = (x : Stmt) × TypedStmt x
 
-  abbrev A : Type 0
-  A = (x : Arm) × TypedArm x
+  abbrev pub ArmTyped : Type 0
+  ArmTyped = (x : Arm) × TypedArm x
 
-  all_stmts : (ss : List S) → AllStmts (map (λ (s : S). s.0) ss)
+  all_stmts : (ss : List StmtTyped) → AllStmts (map (λ (s : StmtTyped). s.0) ss)
   all_stmts [] = tt
   all_stmts (s ∷ ss) = (s.1, all_stmts ss)
 
-  all_arms : (arms : List A) → AllArms (map (λ (a : A). a.0) arms)
+  all_arms : (arms : List ArmTyped) → AllArms (map (λ (a : ArmTyped). a.0) arms)
   all_arms [] = tt
   all_arms (a ∷ arms) = (a.1, all_arms arms)
 
-  stmt_held : (x : Stmt-F S A) → StmtParts (map-Stmt S A Stmt Arm (λ a. a.0) (λ a. a.0) x)
+  stmt_held : (x : Stmt-F StmtTyped ArmTyped) → StmtParts (map-Stmt StmtTyped ArmTyped Stmt Arm (λ a. a.0) (λ a. a.0) x)
   stmt_held (stmt.Block body) = all_stmts body
   stmt_held (stmt.Clear l values) = tt
   stmt_held (stmt.Express e) = tt

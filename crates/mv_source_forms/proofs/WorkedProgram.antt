@@ -9,10 +9,10 @@ use Rattle.mv_ast.specs.declared.program.CType.TheVariants.{Scalar}
 use Rattle.mv_ast.specs.declared.program.Program.{Program}
 use Rattle.mv_ast.specs.declared.program.Local.{Local}
 use Rattle.mv_ast.specs.declared.program.Function.{Function}
-use Rattle.mv_ast.specs.declared.program.Expr.{Expr, Expr-F, roll-Expr, every_made-Expr, fold-roll-Expr}
-use Rattle.mv_ast.specs.declared.program.Form.{Form, Form-F, map-Form, roll-Form, out-Form, out-roll-Form, every-Form, every_made-Form, fold-Form, fold-roll-Form}
+use Rattle.mv_ast.specs.declared.program.Expr.{Expr, Expr-F, roll-Expr, fold-roll-Expr}
+use Rattle.mv_ast.specs.declared.program.Form.{Form, Form-F, map-Form, roll-Form, fold-Form, fold-roll-Form}
 use Rattle.mv_ast.specs.declared.program.Form.TheOpen as form
-use Rattle.mv_ast.specs.declared.program.Target.{Target, fold-Target, Target-F, map-Target, fold-roll-Target, roll-Target, out-Target, out-roll-Target, every-Target, every_made-Target}
+use Rattle.mv_ast.specs.declared.program.Target.{Target, fold-Target, Target-F, map-Target, fold-roll-Target, roll-Target, out-Target, out-roll-Target}
 use Rattle.mv_ast.specs.declared.program.Stmt.{Stmt, Stmt-F, map-Stmt, roll-Stmt, every_made-Stmt, fold-roll-Stmt}
 use Rattle.mv_ast.specs.declared.program.Stmt.TheOpen as stmt
 use Rattle.mv_ast.specs.declared.program.Arm.{Arm, Arm-F, fold-Arm, map-Arm, roll-Arm, every-Arm, every_made-Arm, fold-roll-Arm}
@@ -25,12 +25,13 @@ use Rattle.mv_source_forms.specs.Names.{names_form, names_target, names_layer, i
 use Rattle.mv_source_forms.specs.Jumps.{Jumping, stmt_jumps, arm_jumps, jumps_layer, arm_jumps_layer}
 use Rattle.mv_source_forms.specs.Labels.{ArmLabels, labels_layer, arm_labels_layer, stmt_labelled, arm_labels}
 use Rattle.mv_source_forms.specs.Scopes.{Scope, Scoped, stmt_scoped, arm_scoped, scoped_layer, arm_scoped_layer, form_in, target_in, layer_in, names_declared, form_names_declared, target_names_declared}
+use Rattle.mv_source_forms.proofs.TypedParts.{rolled, TypedTarget, expr_made, target_made}
 
-abbrev int : CType
+abbrev pub int : CType
 int = Scalar Int
 
 abbrev node : Form-F Form Target Expr → Expr
-node f = roll-Expr (record { ctype = int; what = roll-Form f })
+node = rolled int
 
 abbrev local : ℕ → Target
 local l = roll-Target (form.Local l)
@@ -236,42 +237,23 @@ main_formed = record {
 -- ---- the types
 
 module _ (fn : Function) where
-  abbrev at : Expr-F Form Target Expr → Type 0
-  at e = HasType program fn e.ctype (out-Form e.what)
+  local_typed : (l : ℕ) → TypedTarget program fn (local l)
+  local_typed l = target_made program fn (form.Local l) (form.Local l) refl
 
-  abbrev E : Expr → Type 0
-  E = IsTypedExpr program fn
+  number_typed : (n : ℕ) → IsTypedExpr program fn (number n)
+  number_typed n = expr_made program fn int (form.Number n) (form.Number n) refl tt
 
-  abbrev Fm : Form → Type 0
-  Fm = every-Form (λ z. Unit {0}) (λ z. Unit {0}) at
-
-  abbrev T : Target → Type 0
-  T = every-Target (λ z. Unit {0}) (λ z. Unit {0}) at
-
-  made : (z : Form-F Form Target Expr) (y : Form-F ((a : Form) × Fm a) ((a : Target) × T a) ((a : Expr) × E a)) →
-      map-Form ((a : Form) × Fm a) ((a : Target) × T a) ((a : Expr) × E a) Form Target Expr (λ a. a.0) (λ a. a.0) (λ a. a.0) y ≡ z → HasType program fn int z → E (node z)
-  made z y e h =
-      every_made-Expr (λ z. Unit {0}) (λ z. Unit {0}) at (record { ctype = int; what = roll-Form z })
-      (record { ctype = int; what = (roll-Form z, every_made-Form (λ z. Unit {0}) (λ z. Unit {0}) at z y e tt) }) refl
-      (subst (HasType program fn int) (sym (out-roll-Form z)) h)
-
-  local_typed : (l : ℕ) → T (local l)
-  local_typed l = every_made-Target (λ z. Unit {0}) (λ z. Unit {0}) at (form.Local l) (form.Local l) refl tt
-
-  number_typed : (n : ℕ) → E (number n)
-  number_typed n = made (form.Number n) (form.Number n) refl tt
-
-  call_typed : E call_f
-  call_typed = made (form.Direct 0 (number 3 ∷ [])) (form.Direct 0 ((number 3, number_typed 3) ∷ [])) refl (f, refl, refl, refl)
+  call_typed : IsTypedExpr program fn call_f
+  call_typed = expr_made program fn int (form.Direct 0 (number 3 ∷ [])) (form.Direct 0 ((number 3, number_typed 3) ∷ [])) refl (f, refl, refl, refl)
 
 local_int : (l : ℕ) → slice_get (local_types f) l ≡ Some int → LvalueHasType program f int (out-Target (local l))
 local_int l e = subst (LvalueHasType program f int) (sym (out-roll-Target (form.Local l))) e
 
 read_typed : (l : ℕ) → slice_get (local_types f) l ≡ Some int → IsTypedExpr program f (read l)
-read_typed l e = made f (form.Read (local l)) (form.Read (local l, local_typed f l)) refl (local_int l e)
+read_typed l e = expr_made program f int (form.Read (local l)) (form.Read (local l, local_typed f l)) refl (local_int l e)
 
 clear_typed : IsTypedExpr program f clear_b
-clear_typed = made f (form.Set (local 1) (number 0)) (form.Set (local 1, local_typed f 1) (number 0, number_typed f 0)) refl (local_int 1 refl, refl)
+clear_typed = expr_made program f int (form.Set (local 1) (number 0)) (form.Set (local 1, local_typed f 1) (number 0, number_typed f 0)) refl (local_int 1 refl, refl)
 
 abbrev S : Stmt → Type 0
 S = IsTypedStmt program f
