@@ -7,7 +7,7 @@ use Rattle.mv_ast.specs.declared.program.CType.TheVariants.{Void, Pointer}
 use Rattle.mv_ast.specs.declared.program.Expr.{Expr}
 use Rattle.mv_ast.specs.declared.program.Form.TheVariants as form
 use Rattle.mv_ast.specs.declared.program.Signature.{Signature}
-use Rattle.mv_ast.specs.Counts.{expr_nodes}
+use Rattle.mv_ast.specs.Counts.{expr_nodes, target_nodes}
 use Rattle.mv_check_scope.specs.declared.meaning.Elements.{Elements}
 use Rattle.mv_check_scope.specs.declared.meaning.Meaning.{Meaning}
 use Rattle.mv_check_scope.specs.declared.meaning.Meaning.TheVariants as meaning
@@ -22,7 +22,7 @@ use Rattle.mv_check_expressions.specs.declared.seen.Use.TheVariants as «use»
 use Rattle.mv_check_expressions.specs.Calls.{pointed, result_of, callee_params, passed, named_index, named_function, direct_or_through, with_index, called_with, call_of}
 use Rattle.mv_check_expressions.specs.Seen.{object_at, element_at, value_of, no_value, number_or_zero, object_of, switch_of, seen_name}
 use Rattle.mv_check_expressions.specs.Found.{is_address, is_indirection, is_both, is_either, unary_of, binary_of, choose_of, computed_of, left_type, right_type, result_type, common_type, change_of, assign_to, assign_of, one, before_of, after_of, element_of, named_switch, address_of, unary_seen, compound_operator}
-use Rattle.mv_accepts_limits.proofs.Weights.{target_nodes, nodes_number, nodes_read, nodes_function, nodes_unary, nodes_binary, nodes_both, nodes_either, nodes_choose, nodes_convert, nodes_set, nodes_change, nodes_after, nodes_direct, nodes_through, nodes_known, nodes_global, nodes_local, nodes_global_at, nodes_local_at}
+use Rattle.mv_accepts_limits.proofs.Weights.{nodes_number, nodes_read, nodes_function, nodes_unary, nodes_binary, nodes_both, nodes_either, nodes_choose, nodes_convert, nodes_set, nodes_change, nodes_after, nodes_direct, nodes_through, nodes_known, nodes_global, nodes_local, nodes_global_at, nodes_local_at}
 
 -- ---- operators
 

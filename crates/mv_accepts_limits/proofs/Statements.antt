@@ -9,7 +9,7 @@ use Rattle.mv_ast.specs.declared.unit.Act.{Act, map-Act, fold-Act}
 use Rattle.mv_ast.specs.declared.unit.Act.TheOpen as act
 use Rattle.mv_ast.specs.declared.unit.Line.{Line}
 use Rattle.mv_ast.specs.declared.unit.Node.{Node}
-use Rattle.mv_ast.specs.Counts.{expr_nodes, stmt_nodes}
+use Rattle.mv_ast.specs.Counts.{expr_nodes, stmt_nodes, arm_nodes}
 use Rattle.mv_ast.specs.Operators.{converted}
 use Rattle.mv_ast.specs.Plans.{is_among}
 use Rattle.mv_check_scope.specs.declared.scope.Scope.{Scope}
@@ -32,7 +32,7 @@ use Rattle.mv_accepts_statements.proofs.LineInduction.{LinesWith, ActOver, whole
 use Rattle.mv_accepts_limits.specs.Nodes.{node_nodes, optional_nodes, declarator_nodes, act_count, line_count, line_nodes}
 use Rattle.mv_accepts_limits.proofs.Made.{converted_weight}
 use Rattle.mv_accepts_limits.proofs.Expressions.{ValueFew, value_few, effect_few}
-use Rattle.mv_accepts_limits.proofs.Totals.{total, total_append, sum_total, arm_nodes, optional_weight, nodes_block, nodes_express, nodes_if, nodes_while, nodes_do, nodes_for, nodes_switch, nodes_break, nodes_continue, nodes_return, nodes_arm}
+use Rattle.mv_accepts_limits.proofs.Totals.{total, total_append, sum_total, optional_weight, nodes_block, nodes_express, nodes_if, nodes_while, nodes_do, nodes_for, nodes_switch, nodes_break, nodes_continue, nodes_return, nodes_arm}
 use Rattle.mv_accepts_limits.proofs.Locals.{StmtFew, LinesFew, locals_few}
 
 -- ---- arms

@@ -2,12 +2,12 @@
 use Rattle.std.proofs.Common.{◌≡◌, ℕ, ◌+◌, refl, ◌∙◌, ap, arith, Option, Some, None, List, [], ◌∷◌, ◌++◌, map, length}
 use Rattle.std.specs.Prelude.{sum, option_to_list}
 use Rattle.std.proofs.lemmas.List.Sums.{sum_by-cons, sum_by-append}
-use Rattle.mv_ast.specs.declared.program.Arm.{Arm, Arm-F, fold-Arm, fold_out-Arm}
+use Rattle.mv_ast.specs.declared.program.Arm.{Arm, fold_out-Arm}
 use Rattle.mv_ast.specs.declared.program.Expr.{Expr}
 use Rattle.mv_ast.specs.declared.program.Stmt.{Stmt, Stmt-F, out-Stmt, map-Stmt, fold_out-Stmt}
 use Rattle.mv_ast.specs.declared.program.Stmt.TheVariants as stmt
 use Rattle.mv_ast.specs.declared.program.Stmt.TheVariants.{outs-Block, outs-Clear, outs-Express, outs-If, outs-While, outs-Do, outs-For, outs-Switch, outs-Break, outs-Continue, outs-Return}
-use Rattle.mv_ast.specs.Counts.{expr_nodes, stmt_sum, arm_sum, own_nodes, stmt_nodes}
+use Rattle.mv_ast.specs.Counts.{expr_nodes, stmt_nodes_step, arm_nodes_step, stmt_nodes, arm_nodes}
 
 module _ {A : Type 0} (f : A → ℕ) where
   abbrev pub total : List A → ℕ
@@ -25,23 +25,11 @@ module _ {A : Type 0} (f : A → ℕ) where
   pub sum_both : (xs ys : List A) → sum (map f xs ++ map f ys) ≡ total xs + total ys
   sum_both xs ys = omega (arith, sum_by-append (λ n. n) (map f xs) (map f ys), sum_total xs, sum_total ys)
 
-abbrev labels : Arm-F ℕ ℕ → ℕ
-labels a = length a.labels
-
-abbrev stmt_layer : Stmt-F ℕ ℕ → ℕ
-stmt_layer = stmt_sum expr_nodes own_nodes labels
-
-abbrev arm_layer : Arm-F ℕ ℕ → ℕ
-arm_layer = arm_sum expr_nodes own_nodes labels
-
-abbrev pub arm_nodes : Arm → ℕ
-arm_nodes = fold-Arm ℕ ℕ stmt_layer arm_layer
-
 abbrev layer_of : Stmt-F Stmt Arm → ℕ
-layer_of x = stmt_layer (map-Stmt Stmt Arm ℕ ℕ stmt_nodes arm_nodes x)
+layer_of x = stmt_nodes_step (map-Stmt Stmt Arm ℕ ℕ stmt_nodes arm_nodes x)
 
 by_stmt : (s : Stmt) (x : Stmt-F Stmt Arm) → out-Stmt s ≡ x → stmt_nodes s ≡ layer_of x
-by_stmt s x o = fold_out-Stmt ℕ ℕ stmt_layer arm_layer s ∙ ap layer_of o
+by_stmt s x o = fold_out-Stmt ℕ ℕ stmt_nodes_step arm_nodes_step s ∙ ap layer_of o
 
 abbrev pub stmts_nodes : List Stmt → ℕ
 stmts_nodes = total stmt_nodes
@@ -97,4 +85,4 @@ pub nodes_return : (o : Option Expr) → stmt_nodes (stmt.Return o) ≡ 1 + opti
 nodes_return o = let h = by_stmt _ _ (outs-Return o) in omega (arith, h, optional_sum o)
 
 pub nodes_arm : (a : Arm) → arm_nodes a ≡ length a.labels + stmts_nodes a.body
-nodes_arm a = let h = fold_out-Arm ℕ ℕ stmt_layer arm_layer a in omega (arith, h, sum_total stmt_nodes a.body)
+nodes_arm a = let h = fold_out-Arm ℕ ℕ stmt_nodes_step arm_nodes_step a in omega (arith, h, sum_total stmt_nodes a.body)

@@ -4,21 +4,15 @@ use Rattle.std.specs.Prelude.{sum}
 use Rattle.std.proofs.lemmas.List.Sums.{sum_by-append}
 use Rattle.mv_ast.specs.declared.program.CType.{CType}
 use Rattle.mv_ast.specs.declared.program.Expr.{Expr, fold_out-Expr}
-use Rattle.mv_ast.specs.declared.program.Form.{Form, Form-F, map-Form, out-Form, fold-Form, fold_out-Form}
+use Rattle.mv_ast.specs.declared.program.Form.{Form, Form-F, map-Form, out-Form, fold_out-Form}
 use Rattle.mv_ast.specs.declared.program.Form.TheVariants as form
 use Rattle.mv_ast.specs.declared.program.Form.TheVariants.{outs-Number, outs-Read, outs-Function, outs-Unary, outs-Binary, outs-Both, outs-Either, outs-Choose, outs-Convert, outs-Set, outs-Change, outs-After, outs-Direct, outs-Through, outs-Known}
 use Rattle.mv_ast.specs.declared.program.Known.{Known}
-use Rattle.mv_ast.specs.declared.program.Target.{Target, Target-F, map-Target, out-Target, fold-Target, fold_out-Target}
+use Rattle.mv_ast.specs.declared.program.Target.{Target, Target-F, map-Target, out-Target, fold_out-Target}
 use Rattle.mv_ast.specs.declared.program.Target.TheVariants as target
 use Rattle.mv_ast.specs.declared.program.Target.TheVariants.{outs-Global, outs-Local, outs-GlobalAt, outs-LocalAt}
-use Rattle.mv_ast.specs.Counts.{form_sum, target_sum, one_more_than, expr_nodes}
+use Rattle.mv_ast.specs.Counts.{form_sum, target_sum, one_more_than, expr_nodes, form_nodes, target_nodes}
 use Rattle.mv_check_scope.specs.Conversions.{typed}
-
-abbrev form_nodes : Form → ℕ
-form_nodes = fold-Form ℕ ℕ ℕ form_sum target_sum one_more_than
-
-abbrev pub target_nodes : Target → ℕ
-target_nodes = fold-Target ℕ ℕ ℕ form_sum target_sum one_more_than
 
 abbrev layer_of : Form-F Form Target Expr → ℕ
 layer_of z = form_sum (map-Form Form Target Expr ℕ ℕ ℕ form_nodes target_nodes expr_nodes z)

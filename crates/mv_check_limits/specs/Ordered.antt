@@ -1,5 +1,5 @@
 -- The limits on a program whose parts stand in the order of its text.
-use Rattle.std.specs.Prelude.{ℕ, Bool, false, if◌then◌else◌, List, [], ◌∷◌, ◌++◌, map, length, nat_eq, Option, Some, None}
+use Rattle.std.specs.Prelude.{ℕ, Bool, false, if◌then◌else◌, List, [], ◌∷◌, ◌++◌, map, length, nat_eq, Option, Some, None, unwrap_or}
 use Rattle.std.specs.List.{concat}
 use Rattle.std.specs.Cmp.Lexicographic.{pointwise}
 use Rattle.mv_ast.specs.declared.program.Function.{Function}
@@ -46,18 +46,14 @@ unfoldable pub param_parameters : Param → List ℕ
 param_parameters = fold-Param (List ℕ) (List ℕ) (List ℕ) shape_layer declarator_layer param_layer
 
 -- the declarators of a body, through all its statements
-abbrev pub all_of : Option (List ℕ) → List ℕ
-all_of None = []
-all_of (Some counts) = counts
-
 abbrev pub act_layer : Act-F (List ℕ) (List ℕ) → List ℕ
 act_layer (act.Block lines) = concat lines
 act_layer (act.Declare specs names) = concat (map declarator_parameters names)
 act_layer (act.Express e) = []
-act_layer (act.If e first second) = first ++ all_of second
+act_layer (act.If e first second) = first ++ unwrap_or second []
 act_layer (act.While e body) = body
 act_layer (act.Do body e) = body
-act_layer (act.For first test step body) = all_of first ++ body
+act_layer (act.For first test step body) = unwrap_or first [] ++ body
 act_layer (act.Switch e body) = body
 act_layer (act.Case e) = []
 act_layer act.Default = []

@@ -9,6 +9,7 @@ use Rattle.mv_ast.specs.declared.program.Expr.{Expr}
 use Rattle.mv_ast.specs.declared.program.Form.{Form}
 use Rattle.mv_ast.specs.declared.program.Form.TheVariants as form
 use Rattle.mv_ast.specs.declared.program.Signature.{Signature}
+pub use Rattle.mv_ast.specs.Types.{int, is_void}
 
 abbrev pub same_type : CType → CType → Bool
 same_type Void Void = true
@@ -29,11 +30,6 @@ is_integer Void = false
 is_integer (Scalar k) = true
 is_integer (Pointer s) = false
 
-abbrev pub is_void : CType → Bool
-is_void Void = true
-is_void (Scalar k) = false
-is_void (Pointer s) = false
-
 abbrev pub is_pointer : CType → Bool
 is_pointer Void = false
 is_pointer (Scalar k) = false
@@ -51,9 +47,6 @@ promotion (Pointer s) = Pointer s
 
 abbrev pub unsigned : CType
 unsigned = Scalar kind.UInt
-
-abbrev pub int : CType
-int = Scalar kind.Int
 
 -- the usual arithmetic conversions (C11 6.3.1.8)
 abbrev pub usual : CType → CType → CType

@@ -1,5 +1,5 @@
 -- The counts over the programs of generated texts: nodes, depth, declared words, calls and assignments.
-use Rattle.std.proofs.Common.{◌≡◌, ℕ, zero, suc, ◌+◌, ◌*◌, ◌≤◌, max, true, List, [], ◌∷◌, length, map, Some, refl, arith}
+use Rattle.std.proofs.Common.{◌≡◌, ℕ, zero, suc, ◌+◌, ◌*◌, ◌≤◌, max, true, List, [], ◌∷◌, map, Some, refl, arith}
 use Rattle.std.specs.Prelude.{sum}
 use Rattle.std.proofs.lemmas.List.Sums.{sum_by-cons}
 use Rattle.mv_ast.specs.declared.program.Arm.{Arm-F}
@@ -9,7 +9,7 @@ use Rattle.mv_ast.specs.declared.program.Known.TheVariants as known
 use Rattle.mv_ast.specs.declared.program.Stmt.{Stmt, Stmt-F}
 use Rattle.mv_ast.specs.declared.program.Stmt.TheVariants as stmt
 use Rattle.mv_ast.specs.declared.program.Target.TheVariants as target
-use Rattle.mv_ast.specs.Counts.{greatest, form_sum, target_sum, form_greatest, target_greatest, one_more_than, expr_nodes, expr_depth, stmt_sum, arm_sum, own_nodes, stmt_nodes, stmt_depth, nodes, depth}
+use Rattle.mv_ast.specs.Counts.{greatest, form_sum, target_sum, form_greatest, target_greatest, one_more_than, expr_nodes, expr_depth, stmt_nodes_step, arm_nodes_step, stmt_nodes, stmt_depth, nodes, depth}
 use Rattle.mv_ast.specs.Layers.{stmt_parts, stmt_expressions}
 use Rattle.mv_check_scope.specs.Conversions.{int, typed}
 use Rattle.mv_gen_programs.proofs.Values.{read_local, read_global, constant, binary, choose}
@@ -54,32 +54,23 @@ nodes_put a = let h = folded.of_known form_sum target_sum one_more_than known.Pu
 nodes_commit : expr_nodes (typed int (form.Known (known.Plan 0 0) [])) ≡ 1
 nodes_commit = folded.of_known form_sum target_sum one_more_than (known.Plan 0 0) []
 
-abbrev labels : Arm-F ℕ ℕ → ℕ
-labels a = length a.labels
-
-abbrev stmt_step : Stmt-F ℕ ℕ → ℕ
-stmt_step = stmt_sum expr_nodes own_nodes labels
-
-abbrev arm_step : Arm-F ℕ ℕ → ℕ
-arm_step = arm_sum expr_nodes own_nodes labels
-
 nodes_express : (e : Expr) → stmt_nodes (stmt.Express e) ≡ 1 + expr_nodes e
-nodes_express e = let h = folded.of_express stmt_step arm_step e in omega (arith, h)
+nodes_express e = let h = folded.of_express stmt_nodes_step arm_nodes_step e in omega (arith, h)
 
 nodes_block : (xs : List Stmt) → stmt_nodes (stmt.Block xs) ≡ 1 + sum (map stmt_nodes xs)
-nodes_block xs = let h = folded.of_block stmt_step arm_step xs in omega (arith, h)
+nodes_block xs = let h = folded.of_block stmt_nodes_step arm_nodes_step xs in omega (arith, h)
 
 nodes_return : (e : Expr) → stmt_nodes (stmt.Return (Some e)) ≡ 1 + expr_nodes e
-nodes_return e = let h = folded.of_return stmt_step arm_step (Some e) in omega (arith, h)
+nodes_return e = let h = folded.of_return stmt_nodes_step arm_nodes_step (Some e) in omega (arith, h)
 
 nodes_clear : (l : ℕ) → stmt_nodes (stmt.Clear l []) ≡ 1
-nodes_clear l = folded.of_clear stmt_step arm_step l []
+nodes_clear l = folded.of_clear stmt_nodes_step arm_nodes_step l []
 
 nodes_if : (e : Expr) (x : Stmt) → stmt_nodes (stmt.If e (x ∷ []) []) ≡ 1 + (expr_nodes e + stmt_nodes x)
-nodes_if e x = let h = folded.of_if stmt_step arm_step e (x ∷ []) [] in omega (arith, h)
+nodes_if e x = let h = folded.of_if stmt_nodes_step arm_nodes_step e (x ∷ []) [] in omega (arith, h)
 
 nodes_for : (x : Stmt) (a b : Expr) (y : Stmt) → stmt_nodes (stmt.For (x ∷ []) (Some a) (Some b) (y ∷ [])) ≡ 1 + (stmt_nodes x + (expr_nodes a + (expr_nodes b + stmt_nodes y)))
-nodes_for x a b y = let h = folded.of_for stmt_step arm_step (x ∷ []) (Some a) (Some b) (y ∷ []) in omega (arith, h)
+nodes_for x a b y = let h = folded.of_for stmt_nodes_step arm_nodes_step (x ∷ []) (Some a) (Some b) (y ∷ []) in omega (arith, h)
 
 -- a function has at most 14
 expression_nodes : (f j c : ℕ) → expr_nodes (form_expression f j c) ≤ 12

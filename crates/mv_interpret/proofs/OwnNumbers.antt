@@ -1,8 +1,9 @@
 -- The program's own numbering: a function has one more than its index.
-use Rattle.std.proofs.Common.{◌≡◌, ℕ, zero, suc, ◌+◌, ◌-◌, ◌<◌, ◌≤◌, Bool, true, false, List, [], ◌∷◌, length, get_or, refl, sym, ◌∙◌, ap, subst, arith, Some, None, if◌then◌else◌, nat_eq}
+use Rattle.std.proofs.Common.{◌≡◌, ℕ, zero, suc, ◌+◌, ◌-◌, ◌<◌, ◌≤◌, List, [], ◌∷◌, length, get_or, refl, ◌∙◌, ap, arith, Some, None, if◌then◌else◌}
 use Rattle.mv_ast.specs.declared.program.Program.{Program}
 use Rattle.mv_ast.specs.declared.program.Function.{Function}
 use Rattle.mv_ast.specs.Numbering.{numbers_from, own_numbers, function_from, function_of_number}
+use Rattle.mv_ast.proofs.Common.{first_has, first_has_not}
 
 number_at : (n : ℕ) (fs : List Function) (i : ℕ) → i < length fs → get_or (numbers_from n fs) i 0 ≡ n + i
 number_at n [] i lt = absurd (omega arith)
@@ -21,34 +22,22 @@ pub no_number : (p : Program) (f : ℕ) → length p.functions ≤ f → get_or 
 no_number p f le = number_behind 1 p.functions f le
 
 module _ (v : ℕ) where
-  step_yes : (i n : ℕ) (ns : List ℕ) → n ≡ v → function_from i (n ∷ ns) v ≡ Some i
-  step_yes i n ns e =
-      let h : nat_eq n v ≡ true = grind arith in
-      let P : Bool → Type 0 = λ b. (if b then Some i else function_from (suc i) ns v) ≡ Some i in
-      subst P (sym h) refl
-
-  step_no : (i n : ℕ) (ns : List ℕ) → (n ≡ v → ⊥) → function_from i (n ∷ ns) v ≡ function_from (suc i) ns v
-  step_no i n ns ne =
-      let h : nat_eq n v ≡ false = grind arith in
-      let P : Bool → Type 0 = λ b. (if b then Some i else function_from (suc i) ns v) ≡ function_from (suc i) ns v in
-      subst P (sym h) refl
-
   found_at : (fs : List Function) (i n k : ℕ) → k < length fs → v ≡ n + k → function_from i (numbers_from n fs) v ≡ Some (i + k)
   found_at [] i n k lt e = absurd (omega arith)
-  found_at (f ∷ fs) i n zero lt e = step_yes i n (numbers_from (suc n) fs) (omega arith) ∙ ap Some (omega arith)
+  found_at (f ∷ fs) i n zero lt e = first_has v i n (numbers_from (suc n) fs) (omega arith) ∙ ap Some (omega arith)
   found_at (f ∷ fs) i n (suc k) lt e =
-      step_no i n (numbers_from (suc n) fs) (λ h. absurd (omega arith)) ∙
+      first_has_not v i n (numbers_from (suc n) fs) (λ h. absurd (omega arith)) ∙
       (found_at fs (suc i) (suc n) k (omega arith) (omega arith) ∙ ap Some (omega arith))
 
   none_below : (fs : List Function) (i n : ℕ) → v < n → function_from i (numbers_from n fs) v ≡ None
   none_below [] i n lt = refl
   none_below (f ∷ fs) i n lt =
-      step_no i n (numbers_from (suc n) fs) (λ h. absurd (omega arith)) ∙ none_below fs (suc i) (suc n) (omega arith)
+      first_has_not v i n (numbers_from (suc n) fs) (λ h. absurd (omega arith)) ∙ none_below fs (suc i) (suc n) (omega arith)
 
   none_above : (fs : List Function) (i n : ℕ) → n + length fs ≤ v → function_from i (numbers_from n fs) v ≡ None
   none_above [] i n le = refl
   none_above (f ∷ fs) i n le =
-      step_no i n (numbers_from (suc n) fs) (λ h. absurd (omega arith)) ∙ none_above fs (suc i) (suc n) (omega arith)
+      first_has_not v i n (numbers_from (suc n) fs) (λ h. absurd (omega arith)) ∙ none_above fs (suc i) (suc n) (omega arith)
 
 pub function_found : (p : Program) (v : ℕ) → 0 < v → v ≤ length p.functions → function_of_number (own_numbers p) v ≡ Some (v - 1)
 function_found p v gt le = found_at v p.functions 0 1 (v - 1) (omega arith) (omega arith) ∙ ap Some (omega arith)

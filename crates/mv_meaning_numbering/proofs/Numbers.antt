@@ -1,29 +1,17 @@
 -- What a numbering gives: numbers above 0, by which the functions are found again.
-use Rattle.std.proofs.Common.{◌≡◌, ℕ, zero, suc, ◌+◌, ◌<◌, Bool, true, false, List, [], ◌∷◌, length, get_or, refl, sym, ◌∙◌, ap, subst, arith, Some, if◌then◌else◌, nat_eq}
+use Rattle.std.proofs.Common.{◌≡◌, ℕ, zero, suc, ◌+◌, ◌<◌, List, [], ◌∷◌, length, get_or, refl, sym, ◌∙◌, ap, arith, Some, if◌then◌else◌}
 use Rattle.std.specs.Prelude.{◌≢◌, All, AllPairs}
 use Rattle.mv_ast.specs.declared.program.Program.{Program}
 use Rattle.mv_ast.specs.declared.program.Function.{Function}
 use Rattle.mv_ast.specs.Numbering.{numbers_from, own_numbers, function_from, function_of_number}
 use Rattle.mv_meaning_numbering.specs.Numberings.{IsNumbering}
-
-module _ (v : ℕ) where
-  step_yes : (i n : ℕ) (ns : List ℕ) → n ≡ v → function_from i (n ∷ ns) v ≡ Some i
-  step_yes i n ns e =
-      let h : nat_eq n v ≡ true = grind arith in
-      let P : Bool → Type 0 = λ b. (if b then Some i else function_from (suc i) ns v) ≡ Some i in
-      subst P (sym h) refl
-
-  step_no : (i n : ℕ) (ns : List ℕ) → (n ≡ v → ⊥) → function_from i (n ∷ ns) v ≡ function_from (suc i) ns v
-  step_no i n ns ne =
-      let h : nat_eq n v ≡ false = grind arith in
-      let P : Bool → Type 0 = λ b. (if b then Some i else function_from (suc i) ns v) ≡ function_from (suc i) ns v in
-      subst P (sym h) refl
+use Rattle.mv_ast.proofs.Common.{first_has, first_has_not}
 
 found_at : (ns : List ℕ) (i k : ℕ) → AllPairs (λ m n. m ≢ n) ns → k < length ns → function_from i ns (get_or ns k 0) ≡ Some (i + k)
 found_at [] i k apart lt = absurd (omega arith)
-found_at (n ∷ ns) i zero apart lt = step_yes n i n ns refl ∙ ap Some (omega arith)
+found_at (n ∷ ns) i zero apart lt = first_has n i n ns refl ∙ ap Some (omega arith)
 found_at (n ∷ ns) i (suc k) apart lt =
-    step_no (get_or ns k 0) i n ns (apart zero (suc k) 0 (omega arith) lt) ∙
+    first_has_not (get_or ns k 0) i n ns (apart zero (suc k) 0 (omega arith) lt) ∙
     (found_at ns (suc i) k (λ a b d below within. apart (suc a) (suc b) d (omega arith) (omega arith)) (omega arith) ∙ ap Some (omega arith))
 
 -- numbers by which functions are told from one another and from null

@@ -16,7 +16,7 @@ use Rattle.mv_ast.specs.Starts.{first_words_under}
 use Rattle.mv_meaning_numbering.proofs.Constants.{comes_number}
 use Rattle.mv_source_forms.specs.Typing.{IsNull, IsFirstValue, HasType, LvalueHasType, HasTypedParts, IsTypedExpr, IsTypedStmt, IsTypedFunction, IsFunctionOf, IsTyped}
 use Rattle.mv_source_forms.proofs.TypedParts.{rolled, TypedTarget, expr_made, target_made}
-use Rattle.mv_source_forms.proofs.WorkedProgram.{int}
+use Rattle.mv_ast.specs.Types.{int}
 
 abbrev the_global : Target
 the_global = roll-Target (form.Global 0)

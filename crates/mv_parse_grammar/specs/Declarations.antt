@@ -10,8 +10,7 @@ use Rattle.mv_ast.specs.declared.unit.EnumSpec.{EnumSpec, roll-EnumSpec}
 use Rattle.mv_ast.specs.declared.unit.Member.{Member, roll-Member}
 use Rattle.mv_ast.specs.declared.unit.Mark.{Mark, roll-Mark}
 use Rattle.mv_ast.specs.declared.unit.Declarator.{Declarator}
-use Rattle.mv_ast.specs.declared.unit.Shape.{Shape, Shape-F, out-Shape}
-use Rattle.mv_ast.specs.declared.unit.Shape.TheOpen as form
+use Rattle.mv_ast.specs.declared.unit.Shape.{Shape, out-Shape}
 use Rattle.mv_ast.specs.declared.unit.Shape.TheVariants as shape
 use Rattle.mv_ast.specs.declared.unit.Param.{Param}
 use Rattle.mv_ast.specs.declared.unit.Initial.{Initial}
@@ -21,6 +20,7 @@ use Rattle.mv_ast.specs.Keywords as keywords
 use Rattle.mv_parse_grammar.specs.Terminals.{Terminal, keyword, is_mark, is_keyword, is_name, is_string, is_multiverse, is_type_word}
 use Rattle.mv_parse_grammar.specs.Language.{give, token, ◌>>=◌, ◌or◌, marked, chain, optional, comma_list, braced_list}
 use Rattle.mv_parse_grammar.specs.Expressions.{Expressions, Assign, Cond, phrase, specs_of, no_specs, specs_at, with_const, with_word, with_tag, tag_of}
+use Rattle.mv_ast.specs.Shapes.{is_plain_shape}
 
 -- what the parts of declarations say
 
@@ -165,15 +165,8 @@ abbrev pub is_none : {X : Type 0} → Option X → Bool
 is_none None = true
 is_none (Some x) = false
 
-abbrev pub is_plain_form : {A B C : Type 0} → Shape-F A B C → Bool
-is_plain_form form.Plain = true
-is_plain_form (form.Array n) = false
-is_plain_form (form.Function ps) = false
-is_plain_form (form.Pointer c ps) = false
-is_plain_form (form.PointerArray c n ps) = false
-
 abbrev pub is_plain : Shape → Bool
-is_plain s = is_plain_form (out-Shape s)
+is_plain s = is_plain_shape (out-Shape s)
 
 abbrev pub is_empty : {X : Type 0} → List X → Bool
 is_empty [] = true

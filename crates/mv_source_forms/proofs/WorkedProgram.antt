@@ -1,11 +1,9 @@
 -- The program `int f(int a) { int b = a; while (b) { if (a) break; switch (a) { case 1: break; default: b = 0; } } return b; } int main(void) { return f(3); }`
 -- is well formed.
-use Rattle.std.proofs.Common.{◌≡◌, ℕ, ◌+◌, ◌≤◌, zero, suc, Bool, true, false, [], ◌∷◌, List, length, refl, sym, subst, ap, arith, Option, Some, None}
+use Rattle.std.proofs.Common.{◌≡◌, ℕ, ◌+◌, ◌≤◌, zero, suc, Bool, true, false, [], ◌∷◌, List, refl, sym, subst, ap, arith, Option, Some, None}
 use Rattle.std.specs.Prelude.{slice_get, All}
 use Rattle.std.proofs.lemmas.List.Elements.{All-nil, All-cons}
-use Rattle.mv_num.specs.declared.kind.Kind.TheVariants.{Int}
 use Rattle.mv_ast.specs.declared.program.CType.{CType}
-use Rattle.mv_ast.specs.declared.program.CType.TheVariants.{Scalar}
 use Rattle.mv_ast.specs.declared.program.Program.{Program}
 use Rattle.mv_ast.specs.declared.program.Local.{Local}
 use Rattle.mv_ast.specs.declared.program.Function.{Function}
@@ -16,7 +14,7 @@ use Rattle.mv_ast.specs.declared.program.Target.{Target, fold-Target, Target-F, 
 use Rattle.mv_ast.specs.declared.program.Stmt.{Stmt, Stmt-F, map-Stmt, roll-Stmt, every_made-Stmt, fold-roll-Stmt}
 use Rattle.mv_ast.specs.declared.program.Stmt.TheOpen as stmt
 use Rattle.mv_ast.specs.declared.program.Arm.{Arm, Arm-F, fold-Arm, map-Arm, roll-Arm, every-Arm, every_made-Arm, fold-roll-Arm}
-use Rattle.mv_ast.specs.Counts.{words_of_size, form_sum, target_sum, one_more_than, expr_nodes, stmt_sum, arm_sum, own_nodes, stmt_nodes}
+use Rattle.mv_ast.specs.Counts.{words_of_size, form_sum, target_sum, one_more_than, expr_nodes, form_nodes, target_nodes, stmt_nodes_step, arm_nodes_step, stmt_nodes, arm_nodes}
 use Rattle.mv_source_forms.specs.Uses.{all_layer, all_arm_layer, all_expressions, form_calls_known, target_in_parts, calls_known}
 use Rattle.mv_source_forms.specs.WellFormed.{program_nodes, IsWellFormedFunction, IsWellFormed}
 use Rattle.mv_source_forms.specs.Typing.{HasType, LvalueHasType, HasTypedParts, IsTypedExpr, IsTypedAt, local_types, IsTypedStmt, IsTypedFunction}
@@ -26,9 +24,7 @@ use Rattle.mv_source_forms.specs.Jumps.{Jumping, stmt_jumps, arm_jumps, jumps_la
 use Rattle.mv_source_forms.specs.Labels.{ArmLabels, labels_layer, arm_labels_layer, stmt_labelled, arm_labels}
 use Rattle.mv_source_forms.specs.Scopes.{Scope, Scoped, stmt_scoped, arm_scoped, scoped_layer, arm_scoped_layer, form_in, target_in, layer_in, names_declared, form_names_declared, target_names_declared}
 use Rattle.mv_source_forms.proofs.TypedParts.{rolled, TypedTarget, expr_made, target_made}
-
-abbrev pub int : CType
-int = Scalar Int
+use Rattle.mv_ast.specs.Types.{int}
 
 abbrev node : Form-F Form Target Expr → Expr
 node = rolled int
@@ -171,12 +167,6 @@ module _ (holds : Expr → Bool) where
   all_in x = fold-roll-Arm Bool Bool (all_layer holds) all_arm_layer x
 
 -- counts
-abbrev form_nodes : Form → ℕ
-form_nodes = fold-Form ℕ ℕ ℕ form_sum target_sum one_more_than
-
-abbrev target_nodes : Target → ℕ
-target_nodes = fold-Target ℕ ℕ ℕ form_sum target_sum one_more_than
-
 expr_nodes_at : (x : Expr-F Form Target Expr) → expr_nodes (roll-Expr x) ≡ 1 + form_nodes x.what
 expr_nodes_at x = fold-roll-Expr ℕ ℕ ℕ form_sum target_sum one_more_than x
 
@@ -186,23 +176,11 @@ form_nodes_at x = fold-roll-Form ℕ ℕ ℕ form_sum target_sum one_more_than x
 target_nodes_at : (x : Target-F Form Target Expr) → target_nodes (roll-Target x) ≡ target_sum (map-Target Form Target Expr ℕ ℕ ℕ form_nodes target_nodes expr_nodes x)
 target_nodes_at x = fold-roll-Target ℕ ℕ ℕ form_sum target_sum one_more_than x
 
-abbrev labels : Arm-F ℕ ℕ → ℕ
-labels a = length a.labels
+stmt_nodes_at : (x : Stmt-F Stmt Arm) → stmt_nodes (roll-Stmt x) ≡ stmt_nodes_step (map-Stmt Stmt Arm ℕ ℕ stmt_nodes arm_nodes x)
+stmt_nodes_at x = fold-roll-Stmt ℕ ℕ stmt_nodes_step arm_nodes_step x
 
-abbrev stmt_layer : Stmt-F ℕ ℕ → ℕ
-stmt_layer = stmt_sum expr_nodes own_nodes labels
-
-abbrev arm_layer : Arm-F ℕ ℕ → ℕ
-arm_layer = arm_sum expr_nodes own_nodes labels
-
-stmt_nodes_at : (x : Stmt-F Stmt Arm) → stmt_nodes (roll-Stmt x) ≡ stmt_layer (map-Stmt Stmt Arm ℕ ℕ stmt_nodes (fold-Arm ℕ ℕ stmt_layer arm_layer) x)
-stmt_nodes_at x = fold-roll-Stmt ℕ ℕ stmt_layer arm_layer x
-
-abbrev arm_nodes : Arm → ℕ
-arm_nodes = fold-Arm ℕ ℕ stmt_layer arm_layer
-
-arm_nodes_at : (x : Arm-F Stmt Arm) → arm_nodes (roll-Arm x) ≡ arm_layer (map-Arm Stmt Arm ℕ ℕ stmt_nodes arm_nodes x)
-arm_nodes_at x = fold-roll-Arm ℕ ℕ stmt_layer arm_layer x
+arm_nodes_at : (x : Arm-F Stmt Arm) → arm_nodes (roll-Arm x) ≡ arm_nodes_step (map-Arm Stmt Arm ℕ ℕ stmt_nodes arm_nodes x)
+arm_nodes_at x = fold-roll-Arm ℕ ℕ stmt_nodes_step arm_nodes_step x
 
 -- two functions; `f` has two locals, eight statements, a label, a given value and seven expressions, `main` a statement and two expressions
 counted : program_nodes program ≡ 24

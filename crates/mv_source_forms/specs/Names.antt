@@ -1,7 +1,6 @@
 -- What expressions and statements name is there, as what they take it for.
 use Rattle.std.specs.Prelude.{ℕ, Bool, true, false, ◌&&◌, ◌||◌, List, map, length, Option, Some, None, nat_eq, nat_lt, nat_le, not, slice_get}
 use Rattle.mv_ast.specs.declared.program.CType.{CType}
-use Rattle.mv_ast.specs.declared.program.CType.TheVariants.{Void, Scalar, Pointer}
 use Rattle.mv_ast.specs.declared.program.Program.{Program}
 use Rattle.mv_ast.specs.declared.program.Global.{Global}
 use Rattle.mv_ast.specs.declared.program.Local.{Local}
@@ -17,13 +16,9 @@ use Rattle.mv_ast.specs.Counts.{words_of_size}
 use Rattle.mv_ast.specs.Names.{any_of, names_local}
 use Rattle.mv_ast.specs.Plans.{same_truth, is_among, switch_global}
 use Rattle.mv_source_forms.specs.Lists.{all_of}
+pub use Rattle.mv_ast.specs.Types.{is_void}
 
 -- ---- what there is
-
-abbrev pub is_void : CType → Bool
-is_void Void = true
-is_void (Scalar kind) = false
-is_void (Pointer signature) = false
 
 abbrev pub size_of_local : Option Local → Option ℕ
 size_of_local None = None

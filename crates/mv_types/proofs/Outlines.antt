@@ -6,13 +6,10 @@ use Rattle.mv_check_outline.specs.Names.{among}
 use Rattle.mv_check_outline.specs.Outlined.{IsOutlineOf}
 use Rattle.mv_types.specs.Foreknown.{outline}
 
-abbrev Names : Type 0
-Names = List (List ℕ)
-
-abbrev made : Names → Names → Names → Names → Outline
+abbrev made : (functions attributed objects switches : List (List ℕ)) → Outline
 made f a b s = record { functions = f; attributed = a; objects = b; switches = s }
 
-alike : (f a b s F A B S : Names) → f ≡ F → a ≡ among A f → b ≡ B → s ≡ among S b → made f a b s ≡ made F (among A F) B (among S B)
+alike : (f a b s F A B S : List (List ℕ)) → f ≡ F → a ≡ among A f → b ≡ B → s ≡ among S b → made f a b s ≡ made F (among A F) B (among S B)
 alike f a b s F A B S e1 e2 e3 e4 = cc
 
 pub outlined_as : (items : List Item) (o : Outline) → IsOutlineOf items o → o ≡ outline items

@@ -41,9 +41,10 @@ use Rattle.mv_types.specs.Objects.{number_of, object_at, same_size, same_domain,
 use Rattle.mv_types.specs.Contents.{in_scope}
 use Rattle.mv_types.specs.Foreknown.{is_fixed}
 use Rattle.mv_types.specs.Functions.{definition_parameters}
-use Rattle.mv_types.specs.Repeated.{is_plain, is_bare, IsSettled, AreSettled}
+use Rattle.mv_types.specs.Repeated.{is_bare, IsSettled, AreSettled}
 use Rattle.mv_types.specs.Units.{base_of, named_declarator, declarator_judgement}
 use Rattle.mv_num.proofs.Lists.{set_there, last_there}
+use Rattle.mv_ast.specs.Shapes.{is_plain_shape}
 
 -- ---- lists
 
@@ -314,11 +315,11 @@ same_attributes h kind s (m ∷ ms) before q = absurd (cc)
 abbrev layer_of : Shape-F Shape Declarator Param → Shape-F Shapes Declarators Params
 layer_of = map-Shape Shape Declarator Param Shapes Declarators Params designated parameter_declarator parameter
 
-plain_is : (x : Shape) (t : CType) (fixed : Bool) (s : Scope) → is_plain (out-Shape x) ≡ true → designated x t fixed s ≡ Good (s, entity.Scalar t fixed)
+plain_is : (x : Shape) (t : CType) (fixed : Bool) (s : Scope) → is_plain_shape (out-Shape x) ≡ true → designated x t fixed s ≡ Good (s, entity.Scalar t fixed)
 plain_is x t fixed s q =
     ap (λ (z : Shapes). z t fixed s) (fold_out-Shape Shapes Declarators Params shape_step declarator_step param_step x) ∙ by (out-Shape x) q
   where
-    by : (y : Shape-F Shape Declarator Param) → is_plain y ≡ true → shape_step (layer_of y) t fixed s ≡ Good (s, entity.Scalar t fixed)
+    by : (y : Shape-F Shape Declarator Param) → is_plain_shape y ≡ true → shape_step (layer_of y) t fixed s ≡ Good (s, entity.Scalar t fixed)
     by shape.Plain q = refl
     by (shape.Array size) q = absurd (cc)
     by (shape.Function params) q = absurd (cc)
@@ -327,7 +328,7 @@ plain_is x t fixed s q =
 
 -- what the test of a bare name tells
 pub record IsBare (body : Option Line) (d : Declarator) : Type 0 where
-  pub plain : is_plain (out-Shape d.shape) ≡ true
+  pub plain : is_plain_shape (out-Shape d.shape) ≡ true
   pub called : d.name ≡ Some (name_of d)
   pub unmarked : is_filled d.marks ≡ false
   pub unvalued : d.initial ≡ None
@@ -356,9 +357,9 @@ name_is : (d : Declarator) (name : List ℕ) → d.name ≡ Some name → d.name
 name_is d name h = h ∙ ap (λ o. Some o) (sym (ap (λ (o : Option (List ℕ)). name_of (record d { name = o })) h))
 
 is_bare_parts : (body : Option Line) (d : Declarator) → is_bare body d ≡ true → IsBare body d
-is_bare_parts body d h = by (is_plain (out-Shape d.shape)) refl d.name refl (is_filled d.marks) refl d.initial refl body refl h
+is_bare_parts body d h = by (is_plain_shape (out-Shape d.shape)) refl d.name refl (is_filled d.marks) refl d.initial refl body refl h
   where
-    by : (a : Bool) → is_plain (out-Shape d.shape) ≡ a → (o : Option (List ℕ)) → d.name ≡ o → (m : Bool) → is_filled d.marks ≡ m → (v : Option Initial) → d.initial ≡ v →
+    by : (a : Bool) → is_plain_shape (out-Shape d.shape) ≡ a → (o : Option (List ℕ)) → d.name ≡ o → (m : Bool) → is_filled d.marks ≡ m → (v : Option Initial) → d.initial ≡ v →
         (l : Option Line) → body ≡ l → (a && (is_some o && (not m && (not (is_some v) && not (is_some l))))) ≡ true → IsBare body d
     by true p (Some name) q false r None s None t h = record { plain = p; called = name_is d name q; unmarked = r; unvalued = s; blockless = t }
     by true p (Some name) q false r None s (Some line) t h = absurd (cc)

@@ -3,8 +3,7 @@ use Rattle.std.specs.Prelude.{◌≡◌, ℕ, Bool, true, false, ◌&&◌, not, 
 use Rattle.mv_ast.specs.declared.program.CType.{CType}
 use Rattle.mv_ast.specs.declared.unit.Declarator.{Declarator}
 use Rattle.mv_ast.specs.declared.unit.Line.{Line}
-use Rattle.mv_ast.specs.declared.unit.Shape.{Shape-F, out-Shape}
-use Rattle.mv_ast.specs.declared.unit.Shape.TheOpen as shape
+use Rattle.mv_ast.specs.declared.unit.Shape.{out-Shape}
 use Rattle.mv_check_scope.specs.declared.meaning.Meaning.{Meaning}
 use Rattle.mv_check_scope.specs.Conversions.{is_void}
 use Rattle.mv_check_scope.specs.Spaces.{named}
@@ -15,17 +14,11 @@ use Rattle.mv_check_declarations.specs.Objects.{scalar}
 use Rattle.mv_types.specs.declared.contents.Contents.{Contents}
 use Rattle.mv_types.specs.declared.contents.Object.{Object}
 use Rattle.mv_types.specs.Objects.{number_of, agrees, again, domain_by}
-
-abbrev pub is_plain : {A B C : Type 0} → Shape-F A B C → Bool
-is_plain shape.Plain = true
-is_plain (shape.Array size) = false
-is_plain (shape.Function params) = false
-is_plain (shape.Pointer constant params) = false
-is_plain (shape.PointerArray constant size params) = false
+use Rattle.mv_ast.specs.Shapes.{is_plain_shape}
 
 -- the name of a scalar alone, with no attribute, initial value or block behind it
 abbrev pub is_bare : Option Line → Declarator → Bool
-is_bare body d = is_plain (out-Shape d.shape) && (is_some d.name && (not (is_filled d.marks) && (not (is_some d.initial) && not (is_some body))))
+is_bare body d = is_plain_shape (out-Shape d.shape) && (is_some d.name && (not (is_filled d.marks) && (not (is_some d.initial) && not (is_some body))))
 
 -- a name means an object that one more bare name of this type and domain leaves as it is
 pub record IsSettled (t : CType) (domain : Option (List ℕ)) (c : Contents) (name : List ℕ) : Type 0 where
