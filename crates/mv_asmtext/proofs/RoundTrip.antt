@@ -28,7 +28,8 @@ use Rattle.mv_asmtext.specs.Statements.{no_operands, with_operands, unlabelled, 
 use Rattle.mv_asmtext.proofs.NumberTexts.{hex_length}
 use Rattle.mv_asmtext.proofs.Pieces.{is_line_byte}
 use Rattle.mv_asmtext.proofs.PrintedLines.{IsLine, directive_text, operands_with, word_line, word_length, data_line, raw_length, entry_reads, entry_bytes, data_reads}
-use Rattle.mv_num.proofs.Booleans.{and_right, and_left, not-true}
+use Rattle.mv_num.proofs.Booleans.{and_right, and_left}
+use Rattle.std.proofs.lemmas.Bool.{not-true}
 
 -- ---- lines
 

@@ -29,7 +29,7 @@ use Rattle.mv_build.specs.Compiled.{IsLinkedOf, IsLinkedTo, IsLinkRefusal, IsSou
 use Rattle.mv_build.specs.Errors.{of_linking, of_selecting}
 use Rattle.mv_build.specs.Verdicts.{IsCoded, PassesLimit, large_frame, many_sites, much_data, long_text}
 use Rattle.mv_num.proofs.Lists.{there_at}
-use Rattle.mv_num.proofs.Options.{some_same}
+use Rattle.std.proofs.lemmas.Option.{same_Some}
 
 -- ---- frames
 
@@ -42,7 +42,7 @@ frames_fit p bodies codes generics have f g below there =
     let body = there_at bodies f (omega (arith, generics.one_each, below)) in
     let code = there_at codes f (omega (arith, have.one_each, below)) in
     let h = have.each f body.0 code.0 body.1 code.1 in
-    subst (λ (x : Function). frame_size p x ≤ frame_limit) (some_same h.function g (sym h.there ∙ there)) h.frame
+    subst (λ (x : Function). frame_size p x ≤ frame_limit) (same_Some h.function g (sym h.there ∙ there)) h.frame
 
 -- ---- links
 

@@ -4,7 +4,7 @@ use Rattle.std.specs.Prelude.{ℤ, pos, ◌-ℤ◌, option_and_then, slice_get, 
 use Rattle.std.proofs.lemmas.Bool.{le-ltb}
 use Rattle.std.proofs.lemmas.List.{length-map}
 use Rattle.std.proofs.lemmas.List.Elements.{All-nil, All-append}
-use Rattle.std.proofs.lemmas.Option.{slice_get_within, get_or_from_slice_get}
+use Rattle.std.proofs.lemmas.Option.{slice_get_within, get_or_from_slice_get, same_Some}
 use Rattle.mv_ast.specs.declared.program.Program.{Program}
 use Rattle.mv_descriptors.specs.declared.rows.FunctionRow.{FunctionRow}
 use Rattle.mv_descriptors.specs.declared.rows.VariantRow.{VariantRow}
@@ -43,7 +43,6 @@ use Rattle.mv_parts.proofs.Lists.{all_by_index, map_at, one_of_all}
 use Rattle.mv_parts.proofs.Numbers as numbered
 use Rattle.mv_count_words.proofs.Inlined.{addi_opcode, first_word, inline_plain, jump_opcode}
 use Rattle.mv_num.proofs.Lists.{there_at}
-use Rattle.mv_num.proofs.Options.{some_same}
 
 -- ---- lists
 
@@ -51,7 +50,7 @@ row_at : (entry : ℕ → ℕ) (number : ℕ) (vs : List PartVariant) (k : ℕ) 
     (v : PartVariant) × (slice_get vs k ≡ Some v) × (row ≡ variant_row (entry (number + k)) v)
 row_at entry number [] k row e = absurd (let bad : ⊥ = cc in bad)
 row_at entry number (v ∷ vs) zero row e =
-    let same = some_same (variant_row (entry number) v) row e in
+    let same = same_Some (variant_row (entry number) v) row e in
     let here : number ≡ number + 0 = omega arith in (v, refl, sym same ∙ ap (λ n. variant_row (entry n) v) here)
 row_at entry number (v ∷ vs) (suc k) row e =
     let found = row_at entry (suc number) vs k row e in

@@ -30,12 +30,12 @@ use Rattle.mv_linker.proofs.Entered.{in_text, next_in_text, entry_in_text, entry
 use Rattle.mv_linker.proofs.Slots.{slot_is_site, behind_slot}
 use Rattle.mv_linker.proofs.Rowed.{padded_zeros, switch_fits, function_fits, variant_clean, variant_fits, IsRowed, all_rowed, guard_fits, variant_guards, groups_of, function_counts, group_counts, group_guards, variant_row_count, are_few}
 use Rattle.mv_linker.proofs.Sited.{row_at, slots_of_codes, lines_call, IsAmong, among, site_is, sites_are, site_length}
-use Rattle.mv_num.proofs.Lists.{slice_get-left, slice_get-right}
+use Rattle.mv_num.proofs.Lists.{slice_get_left, slice_get_right}
 
 -- ---- codes by number
 
 pub function_code : (parts : Parts) (f : ℕ) (code : Labelled) → slice_get parts.functions f ≡ Some code → slice_get (codes parts) f ≡ Some code
-function_code parts f code found = slice_get-left parts.functions (variant_codes (function_variants parts.attributed)) f code found
+function_code parts f code found = slice_get_left parts.functions (variant_codes (function_variants parts.attributed)) f code found
 
 each_begins : (parts : Parts) (attributed : List PartFunction) → All (FitsPartFunction parts) attributed → All (λ (v : PartVariant). BeginsWithWords v.code) (function_variants attributed)
 each_begins parts [] all = All-nil (λ (v : PartVariant). BeginsWithWords v.code)
@@ -118,7 +118,7 @@ module _ (parts : Parts) (are : AreParts parts) (tables : FitTables parts) (sizi
 
   variant_there : (j : ℕ) (v : PartVariant) → slice_get (function_variants parts.attributed) j ≡ Some v → slice_get (codes parts) (length parts.functions + j) ≡ Some v.code
   variant_there j v found =
-      slice_get-right parts.functions (variant_codes (function_variants parts.attributed)) j v.code
+      slice_get_right parts.functions (variant_codes (function_variants parts.attributed)) j v.code
       (slice_get-map (λ (x : PartVariant). x.code) (function_variants parts.attributed) j ∙ ap (option_map (λ (x : PartVariant). x.code)) found)
 
   variant_rows_fit : All (FitsVariant image) image.variants

@@ -1,7 +1,7 @@
 -- Every statement is lowered correctly, at every bound.
 use Rattle.std.proofs.Common.{◌≡◌, ℕ, zero, suc, ◌+◌, ◌≤◌, Bool, true, false, cond, List, [], ◌∷◌, ◌++◌, map, length, Option, Some, None, refl, sym, ◌∙◌, subst, ap, arith}
 use Rattle.std.specs.Prelude.{not, ◌&&◌, ◌||◌, nat_eq, nat_lt, nat_le}
-use Rattle.std.proofs.lemmas.Bool.{ltb-true, leb-true, eq-eqb}
+use Rattle.std.proofs.lemmas.Bool.{ltb-true, leb-true, eq-eqb, not-true}
 use Rattle.std.proofs.lemmas.List.{length-map}
 use Rattle.mv_ir.specs.declared.stm.Stm.{Stm}
 use Rattle.mv_ir.specs.Outcome.{Returned, Leaves, Ends, Bound, Calls, spend}
@@ -41,7 +41,7 @@ use Rattle.mv_lower_spec.proofs.Bare.{bare_of, bare, bare_arms, labelled_switch}
 use Rattle.mv_lower_spec.proofs.Switches as switches
 use Rattle.mv_lower_spec.proofs.Clears as clears
 use Rattle.mv_lower_spec.proofs.Clears.{only, only_there}
-use Rattle.mv_num.proofs.Booleans.{and_cases, from_falsity, not-true}
+use Rattle.mv_num.proofs.Booleans.{and_cases, from_falsity}
 
 module _ (ground : Ground) (void : Bool)
     (limit : ℕ) (calls : ℕ → Calls) (context : ℕ → Context) (fits : ground.locals ≤ ground.room)

@@ -6,7 +6,8 @@ use Rattle.mv_ast.specs.declared.program.Arm.{Arm, out-Arm, map-Arm, fold_out-Ar
 use Rattle.mv_ast.specs.Names.{any_of}
 use Rattle.mv_source_forms.specs.Lists.{all_of}
 use Rattle.mv_source_forms.specs.Labels.{at_most_one, has_label, ArmLabels, later_arms, arms_labelled, labels_layer, arm_labels_layer, stmt_labelled, arm_labels}
-use Rattle.mv_num.proofs.Booleans.{and_cases, from_falsity, not-true}
+use Rattle.mv_num.proofs.Booleans.{and_cases, from_falsity}
+use Rattle.std.proofs.lemmas.Bool.{not-true}
 
 -- 1 for an arm without labels
 abbrev pub bare_of : List ℕ → ℕ

@@ -1,7 +1,7 @@
 -- Every expression is lowered correctly.
 use Rattle.std.proofs.Common.{◌≡◌, ℕ, ◌+◌, ◌<◌, ◌≤◌, Bool, true, false, cond, eqb, List, [], ◌∷◌, map, length, Option, Some, None, refl, sym, ◌∙◌, subst, ap, arith}
 use Rattle.std.specs.Prelude.{nat_eq, nat_lt, not, ◌&&◌, slice_get, slice_index}
-use Rattle.std.proofs.lemmas.Bool.{ltb-true, or_parts}
+use Rattle.std.proofs.lemmas.Bool.{ltb-true, or_parts, not-true}
 use Rattle.std.proofs.lemmas.List.{length-map}
 use Rattle.mv_num.specs.Words as word
 use Rattle.mv_ir.specs.declared.tree.Tree.{Tree}
@@ -41,7 +41,7 @@ use Rattle.mv_lower_spec.proofs.Elements.{element_of}
 use Rattle.mv_lower_spec.proofs.Arguments as arguments
 use Rattle.mv_lower_spec.proofs.Operators as operators
 use Rattle.mv_source_forms.proofs.ExpressionInduction.{FormChildren, TargetChildren, expr_ind}
-use Rattle.mv_num.proofs.Booleans.{and_cases, from_falsity, not-true}
+use Rattle.mv_num.proofs.Booleans.{and_cases, from_falsity}
 
 is_none : (o : Option ℕ) → is_scalar o ≡ true → o ≡ None
 is_none None e = refl

@@ -38,10 +38,6 @@ same_bools false false h k = refl
 pub from_falsity : {A : Type 0} → false ≡ true → A
 from_falsity e = absurd (cc)
 
-pub not-true : (v : Bool) → not v ≡ true → v ≡ false
-not-true true h = cc
-not-true false h = refl
-
 pub and_true : (a : Bool) → (a && true) ≡ a
 and_true true = refl
 and_true false = refl

@@ -6,10 +6,10 @@ use Rattle.std.proofs.lemmas.Bool.{lt-ltb}
 use Rattle.std.proofs.lemmas.List.Sums.{position_or_len_is, sum_by-cons, sum_by-append}
 use Rattle.std.proofs.lemmas.List.Elements.{All-contains, All-contains_itself, All-weaker}
 
-pub slice_get-left : {X : Type 0} (xs ys : List X) (i : ℕ) (x : X) → slice_get xs i ≡ Some x → slice_get (xs ++ ys) i ≡ Some x
-slice_get-left [] ys i x e = absurd (cc e)
-slice_get-left (z ∷ xs) ys zero x e = e
-slice_get-left (z ∷ xs) ys (suc i) x e = slice_get-left xs ys i x e
+pub slice_get_left : {X : Type 0} (xs ys : List X) (i : ℕ) (x : X) → slice_get xs i ≡ Some x → slice_get (xs ++ ys) i ≡ Some x
+slice_get_left [] ys i x e = absurd (cc e)
+slice_get_left (z ∷ xs) ys zero x e = e
+slice_get_left (z ∷ xs) ys (suc i) x e = slice_get_left xs ys i x e
 
 pub same_lists : (xs ys : List ℕ) → length xs ≡ length ys → ((i : ℕ) → i < length xs → slice_index xs i ≡ slice_index ys i) → xs ≡ ys
 same_lists [] [] e h = refl
@@ -39,10 +39,10 @@ pub length_map : {A B : Type 0} (f : A → B) (xs : List A) → length (map f xs
 length_map f [] = refl
 length_map f (x ∷ xs) = ap suc (length_map f xs)
 
-pub slice_get-right : {X : Type 0} (xs ys : List X) (i : ℕ) (x : X) → slice_get ys i ≡ Some x → slice_get (xs ++ ys) (length xs + i) ≡ Some x
-slice_get-right [] ys i x e = let none : i ≡ 0 + i = omega arith in subst (λ k. slice_get ys k ≡ Some x) none e
-slice_get-right (z ∷ xs) ys i x e =
-    let one : suc (length xs + i) ≡ suc (length xs) + i = omega arith in subst (λ k. slice_get (z ∷ (xs ++ ys)) k ≡ Some x) one (slice_get-right xs ys i x e)
+pub slice_get_right : {X : Type 0} (xs ys : List X) (i : ℕ) (x : X) → slice_get ys i ≡ Some x → slice_get (xs ++ ys) (length xs + i) ≡ Some x
+slice_get_right [] ys i x e = let none : i ≡ 0 + i = omega arith in subst (λ k. slice_get ys k ≡ Some x) none e
+slice_get_right (z ∷ xs) ys i x e =
+    let one : suc (length xs + i) ≡ suc (length xs) + i = omega arith in subst (λ k. slice_get (z ∷ (xs ++ ys)) k ≡ Some x) one (slice_get_right xs ys i x e)
 
 pub set_there : {A : Type 0} (xs : List A) (n : ℕ) (x y : A) → slice_get xs n ≡ Some x → slice_get (slice_set xs n y) n ≡ Some y
 set_there [] n x y h = absurd (cc)

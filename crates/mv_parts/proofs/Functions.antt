@@ -1,7 +1,7 @@
 -- The bodies of functions and their code, one by one.
 use Rattle.std.proofs.Common.{◌≡◌, ℕ, ◌<◌, ◌≤◌, List, [], ◌∷◌, ◌++◌, Some, length, map, slice_get, get_or, sym, ◌∙◌, ap, subst, arith}
 use Rattle.std.proofs.lemmas.List.{length-map}
-use Rattle.std.proofs.lemmas.Option.{slice_get-get_or}
+use Rattle.std.proofs.lemmas.Option.{slice_get-get_or, same_Some}
 use Rattle.mv_ast.specs.declared.program.Program.{Program}
 use Rattle.mv_ast.specs.declared.program.Function.{Function}
 use Rattle.mv_isa.specs.declared.labelled.Labelled.{Labelled}
@@ -18,7 +18,6 @@ use Rattle.mv_select.specs.Selected.{OnFrame}
 use Rattle.mv_parts.specs.Codes.{AreGenerics, IsGeneric, HasCode, FramesFit, PassesFrame, PassesFirstFrame, frame_size}
 use Rattle.mv_parts.proofs.Lists.{each_push, map_at}
 use Rattle.mv_num.proofs.Lists.{there_at}
-use Rattle.mv_num.proofs.Options.{some_same}
 
 -- ---- bodies
 
@@ -35,7 +34,7 @@ module _ (p : Program) where
       let g = there_at p.functions i (omega (arith, below, long)) in
       let here : slice_get bodies i ≡ Some body = slice_get-get_or bodies i body below ∙ ap Some (sym is) in
       let there : slice_get bodies i ≡ Some (lower_function p g.0) = ap (λ xs. slice_get xs i) e ∙ map_at (lower_function p) p.functions i g.0 g.1 in
-      record { function = g.0; there = g.1; is = some_same body (lower_function p g.0) (sym here ∙ there) }
+      record { function = g.0; there = g.1; is = same_Some body (lower_function p g.0) (sym here ∙ there) }
 
   pub whole_at : LoweredAreWhole → IsWellFormed p → (i : ℕ) (body : Body) → IsLowered p i body → IsWhole body
   whole_at whole formed i body h = subst IsWhole (sym h.is) (whole p i h.function (record { formed = formed; there = h.there }))
@@ -59,7 +58,7 @@ module _ (p : Program) where
 
       last : P (length bodies) other
       last h here =
-          let same = some_same lowered.function h (sym lowered.there ∙ (ap (λ k. slice_get p.functions k) (sym count) ∙ here)) in
+          let same = same_Some lowered.function h (sym lowered.there ∙ (ap (λ k. slice_get p.functions k) (sym count) ∙ here)) in
           subst (λ (x : Function). IsRenamed (lower_function p x) other) same (subst (λ x. IsRenamed x other) lowered.is renamed)
 
   -- ---- code
@@ -90,7 +89,7 @@ module _ (p : Program) where
 
         last : P (length codes) code
         last x with_body =
-            let same = some_same body x (sym body_is ∙ (ap (λ k. slice_get bodies k) (sym count) ∙ with_body)) in
+            let same = same_Some body x (sym body_is ∙ (ap (λ k. slice_get bodies k) (sym count) ∙ with_body)) in
             subst (λ (z : Body). HasCode p (length codes) z code) same (subst (λ k. HasCode p k body code) (sym count) has)
 
     -- the functions that have code have frames that are small enough
@@ -99,7 +98,7 @@ module _ (p : Program) where
         let body = there_at bodies f (omega (arith, below, within)) in
         let code = there_at codes f (omega (arith, count, below)) in
         let has = each f body.0 code.0 body.1 code.1 in
-        subst (λ (k : Function). frame_size p k ≤ frame_limit) (some_same has.function g (sym has.there ∙ there)) has.frame
+        subst (λ (k : Function). frame_size p k ≤ frame_limit) (same_Some has.function g (sym has.there ∙ there)) has.frame
 
   -- ---- refusals
 

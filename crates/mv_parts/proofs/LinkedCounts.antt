@@ -2,7 +2,7 @@
 use Rattle.std.proofs.Common.{◌≡◌, ℕ, ◌≤◌, true, cond, List, [], ◌∷◌, Some, length, map, slice_get, sum, sum_by, refl, sym, ap, ◌∙◌, subst, arith}
 use Rattle.std.proofs.lemmas.List.{length-map, map-append}
 use Rattle.std.proofs.lemmas.List.Sums.{sum_by-cons, sum_by-append}
-use Rattle.std.proofs.lemmas.Option.{slice_get_within}
+use Rattle.std.proofs.lemmas.Option.{slice_get_within, same_Some}
 use Rattle.mv_ast.specs.declared.program.Program.{Program}
 use Rattle.mv_ast.specs.declared.program.Function.{Function}
 use Rattle.mv_ast.specs.Counts.{assignments}
@@ -27,7 +27,6 @@ use Rattle.mv_parts.proofs.Lists.{all_by_index, map_at}
 use Rattle.mv_parts.proofs.LinkedParts.{IsOwnCode, IsAttributedPart, variant_part, own_code, as_many_parts, attributed_part}
 use Rattle.mv_parts.proofs.LinkedVariants.{made_variant, few_variants}
 use Rattle.mv_num.proofs.Lists.{there_at}
-use Rattle.mv_num.proofs.Options.{some_same}
 
 -- ---- slots
 
@@ -102,7 +101,7 @@ module _ (made : BodiesAreMade) (fit : GroupsFit) (p : Program) (bodies : List B
     one_each = are.code.one_each;
     each = λ f g code there is.
         let h = own_code p bodies tables functions attributed are f code is in
-        subst (λ (k : Function). source.IsCodeOf p k code) (some_same h.function g (sym h.there ∙ there)) (own_is p f code h);
+        subst (λ (k : Function). source.IsCodeOf p k code) (same_Some h.function g (sym h.there ∙ there)) (own_is p f code h);
   }
 
   -- the part of an attributed function
@@ -110,7 +109,7 @@ module _ (made : BodiesAreMade) (fit : GroupsFit) (p : Program) (bodies : List B
   part = attributed_part p bodies tables functions attributed are
 
   same_function : (n : ℕ) (g : Function) (a : PartFunction) → slice_get (attributed_functions p) n ≡ Some g → (is : slice_get attributed n ≡ Some a) → (part n a is).function ≡ g
-  same_function n g a there is = some_same (part n a is).function g (sym (part n a is).nth ∙ there)
+  same_function n g a there is = same_Some (part n a is).function g (sym (part n a is).nth ∙ there)
 
   pub have_variants : source.HaveVariants p attributed
   have_variants = record {
@@ -129,7 +128,7 @@ module _ (made : BodiesAreMade) (fit : GroupsFit) (p : Program) (bodies : List B
         each = λ i code at.
             let within = slice_get_within (variant_codes a.variants) i code at in
             let (v, there) = there_at a.variants i (omega (arith, within, long)) in
-            subst (source.IsCodeOf p (part n a is).function) (some_same v.code code (sym (map_at (λ (x : PartVariant). x.code) a.variants i v there) ∙ at))
+            subst (source.IsCodeOf p (part n a is).function) (same_Some v.code code (sym (map_at (λ (x : PartVariant). x.code) a.variants i v there) ∙ at))
             (variant_is made p n a (part n a is) i v there);
       }
 
@@ -140,7 +139,7 @@ module _ (made : BodiesAreMade) (fit : GroupsFit) (p : Program) (bodies : List B
         each = λ n g cs there at.
             let within = slice_get_within (variant_lists attributed) n cs at in
             let (a, is) = there_at attributed n (omega (arith, within, long)) in
-            let codes = some_same (variant_codes a.variants) cs (sym (map_at (λ (x : PartFunction). variant_codes x.variants) attributed n a is) ∙ at) in
+            let codes = same_Some (variant_codes a.variants) cs (sym (map_at (λ (x : PartFunction). variant_codes x.variants) attributed n a is) ∙ at) in
             subst (λ (ds : List Labelled). source.AreVariantCodes p g ds) codes
             (subst (λ (k : Function). source.AreVariantCodes p k (variant_codes a.variants)) (same_function n g a there is) (are_variant_codes n a is));
       }

@@ -6,7 +6,7 @@ use Rattle.mv_ast.specs.declared.program.Function.{Function}
 use Rattle.mv_ast.specs.Counts.{is_attributed}
 use Rattle.mv_variants.proofs.Functions.{attributed_there}
 use Rattle.mv_parts.specs.Numbers.{attributed_from, attributed_numbers}
-use Rattle.mv_num.proofs.Options.{some_same}
+use Rattle.std.proofs.lemmas.Option.{same_Some}
 
 abbrev chosen : List Function → List Function
 chosen gs = filter (λ (g : Function). g.attributed) gs
@@ -15,7 +15,7 @@ chosen gs = filter (λ (g : Function). g.attributed) gs
 pub number_among : (k : ℕ) (gs : List Function) (i : ℕ) (g : Function) → slice_get gs i ≡ Some g → g.attributed ≡ true → (n : ℕ) × (slice_get (attributed_from k gs) n ≡ Some (k + i))
 number_among k [] i g e a = absurd (let bad : ⊥ = cc in bad)
 number_among k (x ∷ gs) zero g e a =
-    let same = some_same x g e in
+    let same = same_Some x g e in
     let here : x.attributed ≡ true = ap (λ (h : Function). h.attributed) same ∙ a in
     let number : k ≡ k + 0 = omega arith in
     (0, ap (λ (t : Bool). slice_get (cond t (k ∷ attributed_from (suc k) gs) (attributed_from (suc k) gs)) 0) here ∙ ap (λ (m : ℕ). Some m) number)

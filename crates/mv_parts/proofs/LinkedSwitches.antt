@@ -3,7 +3,7 @@ use Rattle.std.proofs.Common.{◌≡◌, ℕ, zero, suc, ◌<◌, ◌≤◌, tru
 use Rattle.std.proofs.lemmas.List.{length-map}
 use Rattle.std.proofs.lemmas.List.Elements.{All-head, All-tail, All-map, All-weaker}
 use Rattle.std.proofs.lemmas.List.Sums.{sum-map, sum_by-le, sum_by_more_le}
-use Rattle.std.proofs.lemmas.Option.{slice_get_within, get_or_from_slice_get}
+use Rattle.std.proofs.lemmas.Option.{slice_get_within, get_or_from_slice_get, same_Some}
 use Rattle.mv_num.specs.Kinds.{kind_number, is_value, is_at_most}
 use Rattle.mv_ast.specs.declared.program.Program.{Program}
 use Rattle.mv_ast.specs.declared.program.Global.{Global}
@@ -27,7 +27,6 @@ use Rattle.mv_parts.proofs.LinkedLists.{one_in}
 use Rattle.mv_parts.proofs.Lists.{map_at, one_of_all}
 use Rattle.mv_parts.proofs.LinkedNames.{name_fits}
 use Rattle.mv_num.proofs.Lists.{there_at}
-use Rattle.mv_num.proofs.Options.{some_same}
 
 -- ---- data
 
@@ -120,7 +119,7 @@ valued p n h =
 pub all_valued : (p : Program) → HasTableFacts p → (ns : List ℕ) → All (λ n. n < length p.switches) ns → (i : ℕ) (d : Domain) → slice_get (map (domain p) ns) i ≡ Some d → IsValued d
 all_valued p facts [] all i d e = absurd (let bad : ⊥ = cc in bad)
 all_valued p facts (n ∷ ns) all zero d e =
-    subst IsValued (some_same (domain p n) d e) (valued p n (switch_of p facts n (All-head (λ k. k < length p.switches) n ns all)))
+    subst IsValued (same_Some (domain p n) d e) (valued p n (switch_of p facts n (All-head (λ k. k < length p.switches) n ns all)))
 all_valued p facts (n ∷ ns) all (suc i) d e = all_valued p facts ns (All-tail (λ k. k < length p.switches) n ns all) i d e
 
 -- rows that give ranges of such domains

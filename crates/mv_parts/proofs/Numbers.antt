@@ -2,13 +2,12 @@
 use Rattle.std.proofs.Common.{arith, ◌≡◌, ℕ, zero, suc, ◌+◌, ◌<◌, Bool, true, false, cond, List, [], ◌∷◌, ◌++◌, Some, length, take, get_or, slice_get, refl, sym, ◌∙◌, ap, subst}
 use Rattle.std.proofs.lemmas.List.{length-take-le, take_more}
 use Rattle.std.proofs.lemmas.List.Sums.{sum_by-cons}
-use Rattle.std.proofs.lemmas.Option.{slice_get-get_or}
+use Rattle.std.proofs.lemmas.Option.{slice_get-get_or, same_Some}
 use Rattle.mv_ast.specs.declared.program.Program.{Program}
 use Rattle.mv_ast.specs.declared.program.Function.{Function}
 use Rattle.mv_ast.specs.Plans.{attributed_before}
 use Rattle.mv_variants.proofs.Functions.{IsAttributed}
 use Rattle.mv_parts.specs.Numbers.{attributed_from, attributed_numbers}
-use Rattle.mv_num.proofs.Options.{some_same}
 
 -- ---- one more
 
@@ -73,7 +72,7 @@ later b f x gs n k e h =
 among : (f : ℕ) (x : Function) (gs : List Function) (k : ℕ) → ((n : ℕ) → slice_get (attributed_from (suc f) gs) n ≡ Some k → IsNumbered (suc f) gs n k) →
     (b : Bool) → x.attributed ≡ b → (n : ℕ) → slice_get (cond b (f ∷ attributed_from (suc f) gs) (attributed_from (suc f) gs)) n ≡ Some k → IsNumbered f (x ∷ gs) n k
 among f x gs k rest true e zero h =
-    let same = some_same f k h in
+    let same = same_Some f k h in
     record { index = 0; function = x; is = omega (arith, same); there = refl; attributed = e; place = refl }
 among f x gs k rest true e (suc n) h = subst (λ m. IsNumbered f (x ∷ gs) m k) (let one : 1 + n ≡ suc n = omega arith in one) (later true f x gs n k e (rest n h))
 among f x gs k rest false e n h = subst (λ m. IsNumbered f (x ∷ gs) m k) (let none : 0 + n ≡ n = omega arith in none) (later false f x gs n k e (rest n h))

@@ -1,7 +1,7 @@
 -- Tables of variants, and what is linked of them, one more at a time.
 use Rattle.std.proofs.Common.{arith, ◌≡◌, ℕ, ◌+◌, ◌<◌, List, [], ◌∷◌, ◌++◌, Some, length, map, take, get_or, slice_get, refl, sym, ap, ◌∙◌, subst}
 use Rattle.std.proofs.lemmas.List.{take_more, length-map, length-take-le, map-append}
-use Rattle.std.proofs.lemmas.Option.{slice_get_within, slice_get_read}
+use Rattle.std.proofs.lemmas.Option.{slice_get_within, slice_get_read, same_Some}
 use Rattle.mv_ast.specs.declared.program.Program.{Program}
 use Rattle.mv_ast.specs.declared.program.Function.{Function}
 use Rattle.mv_ir.specs.declared.body.Body.{Body}
@@ -14,7 +14,6 @@ use Rattle.mv_parts.specs.Numbers.{attributed_numbers}
 use Rattle.mv_parts.specs.Parts.{AreTables, IsPartVariant, IsPartFunction}
 use Rattle.mv_parts.proofs.Lists.{each_push, map_at}
 use Rattle.mv_parts.proofs.Numbers.{attributed_at}
-use Rattle.mv_num.proofs.Options.{some_same}
 
 -- ---- tables
 
@@ -23,7 +22,7 @@ pub lowered_from : (p : Program) (bodies : List Body) → bodies ≡ map (lower_
     IsLoweredFrom p f body
 lowered_from p bodies e f body below is g there =
     let here : slice_get bodies f ≡ Some body = slice_get_read bodies (length bodies) f body refl below is in
-    some_same body (lower_function p g) (sym here ∙ ap (λ xs. slice_get xs f) e ∙ map_at (lower_function p) p.functions f g there)
+    same_Some body (lower_function p g) (sym here ∙ ap (λ xs. slice_get xs f) e ∙ map_at (lower_function p) p.functions f g there)
 
 module _ (p : Program) where
   -- each of some tables has the variants of its function
@@ -42,7 +41,7 @@ module _ (p : Program) where
 
       last : P (length tables) variants
       last h with_number =
-          let same = some_same f h (sym at ∙ (ap (λ i. slice_get (attributed_numbers p) i) (sym count) ∙ with_number)) in
+          let same = same_Some f h (sym at ∙ (ap (λ i. slice_get (attributed_numbers p) i) (sym count) ∙ with_number)) in
           subst (λ i. AreVariantsOf p i variants) same are
 
 -- ---- variants that are linked
@@ -63,7 +62,7 @@ variant_push variants parts each j count v at part is k w q there here = each_pu
 
     last : P (length parts) part
     last x with_variant =
-        let same = some_same v x (sym at ∙ (ap (λ i. slice_get variants i) (sym count) ∙ with_variant)) in
+        let same = same_Some v x (sym at ∙ (ap (λ i. slice_get variants i) (sym count) ∙ with_variant)) in
         subst (λ (z : Variant). IsPartVariant z part) same is
 
 -- ---- functions that are linked
@@ -90,9 +89,9 @@ module _ (p : Program) (tables : List (List Variant)) where
 
       last : P (length parts) part
       last i_is x zs a b c =
-          let same_number = some_same f i_is (sym at ∙ (ap (λ i. slice_get (attributed_numbers p) i) (sym count) ∙ a)) in
-          let same_function = some_same g x (sym there ∙ (ap (λ i. slice_get p.functions i) same_number ∙ b)) in
-          let same_variants = some_same variants zs (sym in_table ∙ (ap (λ i. slice_get tables i) (sym count) ∙ c)) in
+          let same_number = same_Some f i_is (sym at ∙ (ap (λ i. slice_get (attributed_numbers p) i) (sym count) ∙ a)) in
+          let same_function = same_Some g x (sym there ∙ (ap (λ i. slice_get p.functions i) same_number ∙ b)) in
+          let same_variants = same_Some variants zs (sym in_table ∙ (ap (λ i. slice_get tables i) (sym count) ∙ c)) in
           subst (λ i. IsPartFunction x i zs part) same_number
           (subst (λ (ys : List Variant). IsPartFunction x f ys part) same_variants (subst (λ (y : Function). IsPartFunction y f variants part) same_function is))
 

@@ -1,7 +1,7 @@
 -- The own code of a program's functions.
 use Rattle.std.proofs.Common.{◌++◌, ◌≡◌, ℕ, ◌<◌, Bool, true, List, [], Some, None, length, slice_get, All, refl, sym, ap, ap₂, ◌∙◌, subst, arith}
 use Rattle.std.proofs.lemmas.List.Elements.{All-from_get_or, All-weaker}
-use Rattle.std.proofs.lemmas.Option.{slice_get_within}
+use Rattle.std.proofs.lemmas.Option.{slice_get_within, same_Some}
 use Rattle.mv_ast.specs.declared.program.Program.{Program}
 use Rattle.mv_ast.specs.declared.program.Function.{Function}
 use Rattle.mv_ast.specs.declared.program.Known.{Known}
@@ -28,7 +28,6 @@ use Rattle.mv_parts_bodies.specs.ProgramBodies.{AreLaidOut, IsOwnCode, IsWritten
 use Rattle.mv_parts_bodies.proofs.Facts.{Laws}
 use Rattle.mv_parts_bodies.proofs.Rooms.{rooms_are}
 use Rattle.mv_num.proofs.Lists.{there_at}
-use Rattle.mv_num.proofs.Options.{some_same}
 
 -- the code that is selected for a body is within the limits of selection
 pub is_within : (attributed : Bool) (body : Body) (code : Labelled) → IsCodeOf attributed body code → IsWithin attributed body
@@ -119,7 +118,7 @@ module _ (laws : Laws) (p : Program) (bodies : List Body) (tables : List (List V
   }
 
   code_of : (code : Labelled) → HasCode p f body code → IsCodeOf g.attributed body code
-  code_of code h = let same = some_same h.function g (sym h.there ∙ there) in subst (λ (x : Function). IsCodeOf x.attributed body code) same h.is_code
+  code_of code h = let same = same_Some h.function g (sym h.there ∙ there) in subst (λ (x : Function). IsCodeOf x.attributed body code) same h.is_code
 
   pub has_own_code : (code : Labelled) × (slice_get parts.functions f ≡ Some code) × IsOwnCode p y numbers g code
   has_own_code =

@@ -7,8 +7,8 @@ use Rattle.mv_linker.specs.declared.parts.PartVariant.{PartVariant}
 use Rattle.mv_linker.specs.Linked.{codes, function_variants, variant_codes}
 use Rattle.mv_parts.proofs.Lists.{map_at}
 use Rattle.mv_parts_bodies.specs.ProgramBodies.{variant_number}
-use Rattle.mv_num.proofs.Lists.{slice_get-left, get_right}
-use Rattle.mv_num.proofs.Options.{some_same}
+use Rattle.mv_num.proofs.Lists.{slice_get_left, get_right}
+use Rattle.std.proofs.lemmas.Option.{same_Some}
 
 abbrev count : PartFunction → ℕ
 count a = length a.variants
@@ -17,10 +17,10 @@ variant_at : (attributed : List PartFunction) (n j : ℕ) (a : PartFunction) (v 
     slice_get (function_variants attributed) (sum_by count (take n attributed) + j) ≡ Some v
 variant_at [] n j a v e at = absurd (cc e)
 variant_at (b ∷ attributed) zero j a v e at =
-    let same = some_same b a e in
+    let same = same_Some b a e in
     let place : sum_by count (take zero (b ∷ attributed)) + j ≡ j = omega arith in
     ap (slice_get (function_variants (b ∷ attributed))) place
-    ∙ slice_get-left b.variants (function_variants attributed) j v (subst (λ (z : PartFunction). slice_get z.variants j ≡ Some v) (sym same) at)
+    ∙ slice_get_left b.variants (function_variants attributed) j v (subst (λ (z : PartFunction). slice_get z.variants j ≡ Some v) (sym same) at)
 variant_at (b ∷ attributed) (suc n) j a v e at =
     let more = sum_by-cons count b (take n attributed) in
     let place : sum_by count (take (suc n) (b ∷ attributed)) + j ≡ length b.variants + (sum_by count (take n attributed) + j) = omega (arith, more) in

@@ -2,7 +2,7 @@
 use Rattle.std.proofs.Common.{◌≡◌, ℕ, ◌+◌, ◌*◌, ◌<◌, ◌≤◌, Bool, true, false, ◌&&◌, ◌||◌, cond, nat_lt, List, Option, Some, None, option_map, is_some, length, map, take, replicate, slice_get, All, refl, sym, ap, ap₂, ◌∙◌, subst, arith}
 use Rattle.std.specs.Prelude.{sum}
 use Rattle.std.proofs.lemmas.List.{length-map}
-use Rattle.std.proofs.lemmas.Option.{slice_get_within, slice_get-map}
+use Rattle.std.proofs.lemmas.Option.{slice_get_within, slice_get-map, same_Some}
 use Rattle.mv_num.specs.Kinds.{kind_number, is_value}
 use Rattle.mv_ast.specs.declared.program.Program.{Program}
 use Rattle.mv_ast.specs.declared.program.Function.{Function}
@@ -55,7 +55,6 @@ use Rattle.mv_parts_tables.specs.Laws.{AttributedAreTabled, HaveTables, RowsLead
 use Rattle.mv_parts_tables.proofs.Lists.{same_for_all}
 use Rattle.mv_parts_tables.proofs.Tabled.{entry, own_row, part_count, part_there, switch_rows, switches_there}
 use Rattle.mv_num.proofs.Lists.{there_at as some_at}
-use Rattle.mv_num.proofs.Options.{some_same}
 
 -- ---- attributed functions and their tables
 
@@ -115,7 +114,7 @@ module _ (leads : RowsLeadToVariants) (counted : PartsAreCounted) (p : Program) 
       let h = numbers.attributed_at p n number.0 number.1 in
       let place = numbers.place_of p n number.0 number.1 in
       let there = subst (λ k. slice_get (attributed_functions p) k ≡ Some h.function) place (fit.attributed_at p.functions number.0 h.function h.there h.attributed) in
-      let same = some_same h.function g (sym there ∙ at) in
+      let same = same_Some h.function g (sym there ∙ at) in
       let table = numbered p bodies tables parts are n number.0 number.1 g (h.there ∙ ap (λ (x : Function). Some x) same) in
       record { f = number.0; variants = table.0; nth = table.1 }
 
@@ -134,7 +133,7 @@ module _ (leads : RowsLeadToVariants) (counted : PartsAreCounted) (p : Program) 
   switch_address n s row at there =
       let own = map_at switch_row (part_switches p) n (part_switch p s) (map_at (part_switch p) p.switches n s at) in
       let found = subst (λ (all : List SwitchRow). slice_get all n ≡ Some (switch_row (part_switch p s))) (sym rows) own in
-      ap (λ (r : SwitchRow). r.address) (some_same row (switch_row (part_switch p s)) (sym there ∙ found))
+      ap (λ (r : SwitchRow). r.address) (same_Some row (switch_row (part_switch p s)) (sym there ∙ found))
 
   one_word : (n : ℕ) (s : Switch) → slice_get p.switches n ≡ Some s → global_words p s.global ≡ 1
   one_word n s at =
@@ -166,7 +165,7 @@ module _ (leads : RowsLeadToVariants) (counted : PartsAreCounted) (p : Program) 
   named_at : (n : ℕ) (g : Function) (row : FunctionRow) → IsOne n g → slice_get image.functions n ≡ Some row → take row.count row.switches ≡ g.switches
   named_at n g row one there =
       let own = own_row p bodies tables parts are image linked n one.f g one.variants one.nth in
-      ap (λ (r : FunctionRow). take r.count r.switches) (some_same row own.row (sym there ∙ own.there)) ∙ own.switches.named
+      ap (λ (r : FunctionRow). take r.count r.switches) (same_Some row own.row (sym there ∙ own.there)) ∙ own.switches.named
 
   there_at : (n : ℕ) (g : Function) → IsOne n g → All (λ s. s < length p.switches) g.switches
   there_at n g one =

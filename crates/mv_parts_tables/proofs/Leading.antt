@@ -24,7 +24,7 @@ use Rattle.mv_parts_tables.specs.Rows.{IsNth}
 use Rattle.mv_parts.proofs.Lists.{map_at}
 use Rattle.mv_parts_tables.proofs.Tabled.{groups, has_tables, own_row}
 use Rattle.mv_num.proofs.Lists.{there_at}
-use Rattle.mv_num.proofs.Options.{some_same}
+use Rattle.std.proofs.lemmas.Option.{same_Some}
 
 -- one body of a function's variants is that of one of them
 module _ (p : Program) (g : Function) (image : Fields) (variants : List Variant) (n : ℕ) (bodies : List Body) (are : bodies_of variants ≡ bodies) (made : MadeAreVariants) where
@@ -35,7 +35,7 @@ module _ (p : Program) (g : Function) (image : Fields) (variants : List Variant)
       let found = there_at variants led.place (omega (arith, count, below)) in
       let in_bodies : slice_get bodies led.place ≡ Some found.0.body =
       subst (λ (bs : List Body). slice_get bs led.place ≡ Some found.0.body) are (map_at (λ (v : Variant). v.body) variants led.place found.0 found.1) in
-      let same : led.result ≡ found.0.body = some_same led.result found.0.body (sym led.there ∙ in_bodies) in record {
+      let same : led.result ≡ found.0.body = same_Some led.result found.0.body (sym led.there ∙ in_bodies) in record {
         place = led.place;
         variant = found.0;
         there = found.1;

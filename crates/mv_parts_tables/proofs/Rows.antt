@@ -2,7 +2,7 @@
 use Rattle.std.proofs.Common.{◌≡◌, ℕ, zero, suc, ◌+◌, ◌≤◌, List, [], ◌∷◌, ◌++◌, Option, Some, None, is_some, unwrap_or, length, map, take, cond, slice_get, slice_index, refl, sym, ap, ◌∙◌, subst, arith}
 use Rattle.std.specs.Prelude.{sum_by}
 use Rattle.std.proofs.lemmas.List.Sums.{sum_by-cons}
-use Rattle.std.proofs.lemmas.Option.{slice_get_within}
+use Rattle.std.proofs.lemmas.Option.{slice_get_within, same_Some}
 use Rattle.std.proofs.Math.Seq.{take-nil}
 use Rattle.mv_ast.specs.declared.program.Program.{Program}
 use Rattle.mv_ast.specs.declared.program.Function.{Function}
@@ -30,8 +30,7 @@ use Rattle.mv_parts_tables.specs.Leads.{IsLedTo}
 use Rattle.mv_parts_tables.specs.Rows.{IsNth, RowShows, HasRowOf}
 use Rattle.mv_parts_tables.proofs.Tabled.{part_at, part_there}
 use Rattle.mv_parts_bound.proofs.Led.{under_is}
-use Rattle.mv_num.proofs.Lists.{slice_get-left, slice_get-right, there_at}
-use Rattle.mv_num.proofs.Options.{some_same}
+use Rattle.mv_num.proofs.Lists.{slice_get_left, slice_get_right, there_at}
 
 abbrev counted : FunctionRow → ℕ
 counted row = row.variants
@@ -44,17 +43,17 @@ found_at : (entry : ℕ → ℕ) (attributed : List PartFunction) (n j : ℕ) (a
     slice_get (function_variants attributed) (sum_by counted (take n (map (function_row entry) attributed)) + j) ≡ Some v
 found_at entry [] n j a v at there = absurd (let bad : ⊥ = cc in bad)
 found_at entry (b ∷ rest) zero j a v at there =
-    let same = some_same b a at in
+    let same = same_Some b a at in
     let none : j ≡ 0 + j = omega arith in
     subst (λ k. slice_get (b.variants ++ function_variants rest) k ≡ Some v) none
-    (slice_get-left b.variants (function_variants rest) j v (subst (λ (x : PartFunction). slice_get x.variants j ≡ Some v) (sym same) there))
+    (slice_get_left b.variants (function_variants rest) j v (subst (λ (x : PartFunction). slice_get x.variants j ≡ Some v) (sym same) there))
 found_at entry (b ∷ rest) (suc n) j a v at there =
     let rows = take n (map (function_row entry) rest) in
     let before = sum_by counted rows in
     let count = sum_by-cons counted (function_row entry b) rows in
     let index : length b.variants + (before + j) ≡ sum_by counted (function_row entry b ∷ rows) + j = omega (arith, count) in
     subst (λ k. slice_get (b.variants ++ function_variants rest) k ≡ Some v) index
-    (slice_get-right b.variants (function_variants rest) (before + j) v (found_at entry rest n j a v at there))
+    (slice_get_right b.variants (function_variants rest) (before + j) v (found_at entry rest n j a v at there))
 
 -- the rows of the first functions count their variants
 same_count : (entry : ℕ → ℕ) (attributed : List PartFunction) (n : ℕ) → sum_by counted (take n (map (function_row entry) attributed)) ≡ sum_by many (take n attributed)
@@ -70,7 +69,7 @@ row_at : (entry : ℕ → ℕ) (number : ℕ) (vs : List PartVariant) (j : ℕ) 
 row_at entry number [] j v e = absurd (let bad : ⊥ = cc in bad)
 row_at entry number (x ∷ vs) zero v e =
     let here : number ≡ number + 0 = omega arith in
-    ap (λ (w : PartVariant). Some (variant_row (entry number) w)) (some_same x v e) ∙ ap (λ k. Some (variant_row (entry k) v)) here
+    ap (λ (w : PartVariant). Some (variant_row (entry number) w)) (same_Some x v e) ∙ ap (λ k. Some (variant_row (entry k) v)) here
 row_at entry number (x ∷ vs) (suc j) v e =
     let next : suc number + j ≡ number + suc j = omega arith in row_at entry (suc number) vs j v e ∙ ap (λ k. Some (variant_row (entry k) v)) next
 

@@ -3,7 +3,7 @@ use Rattle.std.proofs.Common.{◌≡◌, ℕ, zero, suc, ◌<◌, ◌≤◌, ◌
 use Rattle.std.proofs.lemmas.List.{length-append}
 use Rattle.std.proofs.lemmas.List.Elements.{All-from_get_or, All-weaker}
 use Rattle.std.proofs.lemmas.List.FromFn.{length-map-range_with_len, get_or-map-range_with_len}
-use Rattle.std.proofs.lemmas.Option.{slice_get-get_or, slice_get_within}
+use Rattle.std.proofs.lemmas.Option.{slice_get-get_or, slice_get_within, same_Some}
 use Rattle.mv_ast.specs.declared.program.Program.{Program}
 use Rattle.mv_ast.specs.declared.program.Function.{Function}
 use Rattle.mv_ast.specs.declared.program.Global.{Global}
@@ -32,7 +32,6 @@ use Rattle.mv_refine_images.specs.Built.{HasWordsOfGlobals, IsBuilt}
 use Rattle.mv_refine_images.proofs.Facts.{Laws}
 use Rattle.mv_refine_images.proofs.Listed.{in_either}
 use Rattle.mv_num.proofs.Lists.{there_at}
-use Rattle.mv_num.proofs.Options.{some_same}
 
 -- the size of a global by its number
 pub size_is : (xs : List Global) (g : ℕ) → get_or (map (λ (x : Global). words_of_size x.size) xs) g 0 ≡ words_of_global (slice_get xs g)
@@ -133,7 +132,7 @@ module _ (laws : Laws) (p : Program) (image : Fields) (formed : IsWellFormed p) 
       let same = as_many in
       let g = there_at p.functions f (omega (arith, lt, same)) in
       let o = own f g.0 g.1 in
-      let is : o.0 ≡ code = some_same o.0 code (sym o.1 ∙ found) in
+      let is : o.0 ≡ code = same_Some o.0 code (sym o.1 ∙ found) in
       subst BeginsWithWords is (record {
         some = subst (λ (items : List Line). 1 ≤ least_words (line_at items 0)) (sym o.2.written.items) (omega arith);
         no_slot = ap (λ (items : List Line). is_slot (line_at items 0)) o.2.written.items;

@@ -13,8 +13,8 @@ use Rattle.mv_linker.specs.Linked.{codes, function_variants, variant_codes}
 use Rattle.mv_linker.specs.Tables.{function_row}
 use Rattle.mv_parts.proofs.Lists.{map_at}
 use Rattle.mv_refine_images.specs.Closed.{is_closed_to_function, is_closed_to_variants_of, closed_to_variants, closed_to_codes}
-use Rattle.mv_num.proofs.Lists.{slice_get-left}
-use Rattle.mv_num.proofs.Options.{some_same}
+use Rattle.mv_num.proofs.Lists.{slice_get_left}
+use Rattle.std.proofs.lemmas.Option.{same_Some}
 
 -- ---- elements of joined lists
 
@@ -69,17 +69,17 @@ module _ (p : Program) where
 
   -- that of a function stands at its number
   pub test_of_function : (parts : Parts) (f : ℕ) (g : Function) → slice_get p.functions f ≡ Some g → slice_get (closed_to_codes p parts) f ≡ Some (is_closed_to_function p g)
-  test_of_function parts f g here = slice_get-left (map (is_closed_to_function p) p.functions) (tests parts.attributed) f (is_closed_to_function p g) (map_at (is_closed_to_function p) p.functions f g here)
+  test_of_function parts f g here = slice_get_left (map (is_closed_to_function p) p.functions) (tests parts.attributed) f (is_closed_to_function p g) (map_at (is_closed_to_function p) p.functions f g here)
 
   among : (attributed : List PartFunction) (n j : ℕ) (a : PartFunction) (v : PartVariant) → slice_get attributed n ≡ Some a → slice_get a.variants j ≡ Some v →
       slice_get (tests attributed) (variants_of (take n attributed) + j) ≡ Some (is_closed_to_variants_of p (slice_get p.functions a.function))
   among [] n j a v e at = absurd (cc e)
   among (b ∷ attributed) zero j a v e at =
-      let same : b ≡ a = some_same b a e in
+      let same : b ≡ a = same_Some b a e in
       let test = λ (w : PartVariant). is_closed_to_variants_of p (slice_get p.functions a.function) in
       let none : 0 + j ≡ j = omega arith in
       subst (λ (c : PartFunction). slice_get (closed_to_variants p c ++ tests attributed) (0 + j) ≡ Some (is_closed_to_variants_of p (slice_get p.functions a.function))) (sym same)
-      (ap (slice_get (closed_to_variants p a ++ tests attributed)) none ∙ slice_get-left (closed_to_variants p a) (tests attributed) j (test v) (map_at test a.variants j v at))
+      (ap (slice_get (closed_to_variants p a ++ tests attributed)) none ∙ slice_get_left (closed_to_variants p a) (tests attributed) j (test v) (map_at test a.variants j v at))
   among (b ∷ attributed) (suc n) j a v e at =
       let sum = sum_by-cons (λ (c : PartFunction). length c.variants) b (take n attributed) in
       let count = length-map b.variants (λ (w : PartVariant). is_closed_to_variants_of p (slice_get p.functions b.function)) in

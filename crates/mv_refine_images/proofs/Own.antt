@@ -4,7 +4,7 @@ use Rattle.std.specs.Prelude.{Contains, nat_eq}
 use Rattle.std.proofs.lemmas.Bool.{and_from, cases_eq, cases_lt, le-leb, lt-ltb, or_right, or_left}
 use Rattle.std.proofs.lemmas.List.{length-append, length-map}
 use Rattle.std.proofs.lemmas.List.Sums.{sum_by_more}
-use Rattle.std.proofs.lemmas.Option.{get_or_from_slice_get, slice_get_within}
+use Rattle.std.proofs.lemmas.Option.{get_or_from_slice_get, slice_get_within, same_Some}
 use Rattle.mv_ast.specs.declared.program.Program.{Program}
 use Rattle.mv_ast.specs.declared.program.Function.{Function}
 use Rattle.mv_ast.specs.declared.program.Global.{Global}
@@ -38,7 +38,6 @@ use Rattle.mv_refine_images.proofs.Facts.{Laws}
 use Rattle.mv_refine_images.proofs.Host.{tables}
 use Rattle.mv_refine_images.proofs.Listed.{rows_count, test_of_variant, variants_of}
 use Rattle.mv_num.proofs.Lists.{there_at}
-use Rattle.mv_num.proofs.Options.{some_same}
 
 -- ---- tests that hold
 
@@ -56,14 +55,14 @@ in_data y test x a h (suc c) lt = ⊎_elim
 -- an element is among what its list is mapped to
 is_mapped : (f : ℕ → ℕ) (ss : List ℕ) (i s : ℕ) → slice_get ss i ≡ Some s → is_among (f s) (map f ss) ≡ true
 is_mapped f [] i s e = absurd (cc e)
-is_mapped f (z ∷ ss) zero s e = let same : z ≡ s = some_same z s e in or_left (nat_eq (f s) (f z)) (is_among (f s) (map f ss)) (eq-eqb (f s) (f z) (ap f (sym same)))
+is_mapped f (z ∷ ss) zero s e = let same : z ≡ s = same_Some z s e in or_left (nat_eq (f s) (f z)) (is_among (f s) (map f ss)) (eq-eqb (f s) (f z) (ap f (sym same)))
 is_mapped f (z ∷ ss) (suc i) s e = or_right (nat_eq (f s) (f z)) (is_among (f s) (map f ss)) (is_mapped f ss i s e)
 
 -- the address of a variant's row is that of its code
 row_at : (address : ℕ → ℕ) (vs : List PartVariant) (number k : ℕ) (row : VariantRow) → slice_get (variant_rows address number vs) k ≡ Some row → row.address ≡ address (number + k)
 row_at address [] number k row e = absurd (cc e)
 row_at address (v ∷ vs) number zero row e =
-    let none : number ≡ number + 0 = omega arith in ap (λ (r : VariantRow). r.address) (sym (some_same _ row e)) ∙ ap address none
+    let none : number ≡ number + 0 = omega arith in ap (λ (r : VariantRow). r.address) (sym (same_Some _ row e)) ∙ ap address none
 row_at address (v ∷ vs) number (suc k) row e =
     let one : suc number + k ≡ number + suc k = omega arith in row_at address vs (suc number) k row e ∙ ap address one
 
@@ -129,7 +128,7 @@ module _ (laws : Laws) (p : Program) (image : Fields) (formed : IsWellFormed p) 
       is_data_where image parts sizing p test a ≡ true → is_closed_from image parts sizing p f tests pc a ≡ true
   from_closed [] f k pc a test e word holds = absurd (cc e)
   from_closed (t ∷ tests) f zero pc a test e word holds =
-      let same : t ≡ test = some_same t test e in
+      let same : t ≡ test = same_Some t test e in
       let none : f + 0 ≡ f = omega arith in
       or_left (is_word_of image parts sizing p f pc && is_data_where image parts sizing p t a) (is_closed_from image parts sizing p (suc f) tests pc a)
       (and_from (is_word_of image parts sizing p f pc) (is_data_where image parts sizing p t a) (subst (λ z. is_word_of image parts sizing p z pc ≡ true) none word)
@@ -228,7 +227,7 @@ module _ (laws : Laws) (p : Program) (image : Fields) (formed : IsWellFormed p) 
           let h = numbered.attributed_at p n part.0.function number in
           let place = numbered.place_of p n part.0.function number in
           let nth = attributed_at p.functions part.0.function h.function h.there h.attributed in
-          let same : h.function ≡ g = some_same h.function g (sym nth ∙ ap (slice_get (attributed_functions p)) place ∙ here) in
+          let same : h.function ≡ g = same_Some h.function g (sym nth ∙ ap (slice_get (attributed_functions p)) place ∙ here) in
           h.there ∙ ap Some same
 
       word_closed : is_closed_from image parts sizing p 0 (closed_to_codes p parts) pc a ≡ true

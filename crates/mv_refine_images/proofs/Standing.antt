@@ -47,7 +47,7 @@ use Rattle.mv_refine_images.proofs.Data.{as_many, laid_out, set_out, follow, own
 use Rattle.mv_refine_images.proofs.Facts.{Laws}
 use Rattle.mv_refine_images.proofs.Listed.{one_each, rows_count, test_of_function, test_of_variant}
 use Rattle.mv_refine_images.proofs.Patched.{patched_functions_stand}
-use Rattle.mv_num.proofs.Options.{some_same}
+use Rattle.std.proofs.lemmas.Option.{same_Some}
 
 module _ (laws : Laws) (p : Program) (image : Fields) (formed : IsWellFormed p) (have_words : HasWordsOfGlobals p) (built : IsBuilt p image) where
   open linked_program p image built use {parts, sizing, y, numbers, at, attributed, shut}
@@ -65,7 +65,7 @@ module _ (laws : Laws) (p : Program) (image : Fields) (formed : IsWellFormed p) 
   pub is_one : (n f : ℕ) (g : Function) → IsAttributed parts n f → slice_get p.functions f ≡ Some g → g.attributed ≡ true
   is_one n f g is here =
       let h = numbered.attributed_at p n f (subst (λ (ns : List ℕ). slice_get ns n ≡ Some f) numbers_are is) in
-      let same = some_same h.function g (sym h.there ∙ here) in ap (λ (x : Function). x.attributed) (sym same) ∙ h.attributed
+      let same = same_Some h.function g (sym h.there ∙ here) in ap (λ (x : Function). x.attributed) (sym same) ∙ h.attributed
 
   -- what code names stands where the stubs do
   module _ (k : ℕ) (items : List Line) (from : ℕ) (placed : IsPlacedCode parts image sizing k items from) where
@@ -199,7 +199,7 @@ module _ (laws : Laws) (p : Program) (image : Fields) (formed : IsWellFormed p) 
 
       -- the function of which it is one
       function_is : own_part.function.function ≡ f
-      function_is = some_same own_part.function.function f (sym (map_at (λ (a : PartFunction). a.function) parts.attributed n own_part.function own_part.there) ∙ numbered_there)
+      function_is = same_Some own_part.function.function f (sym (map_at (λ (a : PartFunction). a.function) parts.attributed n own_part.function own_part.there) ∙ numbered_there)
 
       reads_open : (x : ℕ) → is_among x (globals_read v.body.code) ≡ true → is_closed_to_variant p g x ≡ false
       reads_open = variant_reads p g v.body c.reads c.no_switch

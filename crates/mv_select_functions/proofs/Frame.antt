@@ -1,7 +1,7 @@
 -- The frame of a function: where its cells stand, and that they stand apart.
 use Rattle.std.proofs.Common.{◌≡◌, inl, inr, ⊎_elim, ℕ, zero, suc, ◌+◌, ◌*◌, ◌%◌, ◌^◌, ◌<◌, ◌≤◌, ◌⊎◌, Bool, true, not, ◌&&◌, ◌||◌, eqb, ltb, max, List, [], ◌∷◌, length, slice_index, None, refl, sym, ap, ◌∙◌, subst, arith}
 use Rattle.std.proofs.Math.Nat.{le-max_left, le-max_right}
-use Rattle.std.proofs.lemmas.Bool.{eqb-true, ltb-true, ltb-false, lt-ltb, le-ltb, eq-eqb}
+use Rattle.std.proofs.lemmas.Bool.{eqb-true, ltb-true, ltb-false, lt-ltb, le-ltb, eq-eqb, not-true}
 use Rattle.mv_ast.specs.Traps.{depth_limit}
 use Rattle.mv_isa.specs.Code.{IsPlace}
 use Rattle.mv_isa.specs.Execution.{Access}
@@ -18,7 +18,7 @@ use Rattle.mv_select_calls.specs.Laws.{IsOfFrame, IsCaller}
 use Rattle.mv_select_functions.specs.FunctionCode.{words_before, Shape, bytes_of}
 use Rattle.mv_select_functions.specs.Functions as functions
 use Rattle.mv_select_functions.specs.Functions.{IsStack, IsWord, IsLaid, IsMemory, StandsInWords, site_of, IsAmple}
-use Rattle.mv_num.proofs.Booleans.{and_right, and_left, or_true, or_cases, not-true}
+use Rattle.mv_num.proofs.Booleans.{and_right, and_left, or_true, or_cases}
 
 -- ---- arrays in a row
 

@@ -2,7 +2,7 @@
 use Rattle.std.proofs.Common.{◌≡◌, ◌&&◌, ℕ, ◌+◌, ◌-◌, ◌<◌, ◌≤◌, ◌^◌, Bool, true, false, cond, ltb, List, [], ◌∷◌, length, Some, None, Contains, slice_index, refl, sym, ap, ◌∙◌, subst, arith}
 use Rattle.std.proofs.lemmas.Bool.{ltb-true}
 use Rattle.std.proofs.lemmas.List.{get_or_append_left}
-use Rattle.std.proofs.lemmas.Option.{none-some}
+use Rattle.std.proofs.lemmas.Option.{none-some, same_Some}
 use Rattle.mv_isa.specs.declared.instr.Instr.{Instr}
 use Rattle.mv_isa.specs.Code.{IsPlace}
 use Rattle.mv_isa.specs.Execution.{Access}
@@ -41,7 +41,6 @@ use Rattle.mv_select_inline.proofs.Shapes.{Shape, empty_done, number_done, param
 use Rattle.mv_select_control.specs.Laws.{uses_in}
 use Rattle.mv_num.proofs.Booleans.{and_left}
 use Rattle.mv_ir.proofs.Joining.{items_count}
-use Rattle.mv_num.proofs.Options.{some_same}
 
 -- a choice that gives something was made by a test that holds
 pub chosen_test : {A : Type 0} (b : Bool) (a p : A) → cond b (Some a) None ≡ Some p → b ≡ true
@@ -49,7 +48,7 @@ chosen_test true a p e = refl
 chosen_test false a p e = absurd (none-some p e)
 
 pub chosen : {A : Type 0} (b : Bool) (a p : A) → cond b (Some a) None ≡ Some p → a ≡ p
-chosen true a p e = some_same a p e
+chosen true a p e = same_Some a p e
 chosen false a p e = absurd (none-some p e)
 
 module _ {M : Type 0} (access : Access M) (y : Layout) (laid : IsLaid y) (machine : Machine M) (memory : IsMemory access y machine)
@@ -129,7 +128,7 @@ module _ {M : Type 0} (access : Access M) (y : Layout) (laid : IsLaid y) (machin
   of_return : (x : Tree-F Tree) (p : Instr × Instr) → return_layer y.place body.params x ≡ Some p → Fine (roll-Stm (stm.Return (roll-Tree x)) ∷ []) ≡ true
       → body.code ≡ roll-Stm (stm.Return (roll-Tree x)) ∷ [] → S p (E (roll-Stm (stm.Return (roll-Tree x)) ∷ []))
   of_return (tree.Number n) p e fine is =
-      as_shape (number_pair n) p (Returned (Some n) w) (E (roll-Stm (stm.Return (roll-Tree (tree.Number n))) ∷ [])) (some_same (number_pair n) p e) (returns (tree.Number n))
+      as_shape (number_pair n) p (Returned (Some n) w) (E (roll-Stm (stm.Return (roll-Tree (tree.Number n))) ∷ [])) (same_Some (number_pair n) p e) (returns (tree.Number n))
       (number_done access y laid machine memory reach ample runs budget far bound body at here depth live args k i spare w stands enters paid asked n (ltb-true n (2 ^ 32) (named (tree.Number n) (returned_fine (roll-Tree (tree.Number n)) fine))))
   of_return (tree.Temp t) p e fine is =
       let lt = is_argument t (chosen_test (ltb t body.params) (parameter_pair t) p e) in
@@ -138,7 +137,7 @@ module _ {M : Type 0} (access : Access M) (y : Layout) (laid : IsLaid y) (machin
       (parameter_done access y laid machine memory reach ample runs budget far bound body at here depth live args k i spare w stands enters paid asked t lt)
   of_return (tree.Global g) p e fine is =
       let reads : reach.is_read g ≡ true = named (tree.Global g) (returned_fine (roll-Tree (tree.Global g)) fine) in
-      as_shape (load_pair (y.place g)) p (Returned (Some (scalar w.globals g)) w) (E (roll-Stm (stm.Return (roll-Tree (tree.Global g))) ∷ [])) (some_same (load_pair (y.place g)) p e)
+      as_shape (load_pair (y.place g)) p (Returned (Some (scalar w.globals g)) w) (E (roll-Stm (stm.Return (roll-Tree (tree.Global g))) ∷ [])) (same_Some (load_pair (y.place g)) p e)
       (returns (tree.Global g) ∙ ap (λ o. Returned (Some (read_as o (scalar w.globals g))) w) (fn.free g reads))
       (load_done access y laid machine memory reach ample runs budget far bound body at here depth live args k i spare w stands enters paid asked g reads (fn.read g reads) (subst (λ c. Contains (scalars_read c) g) (sym is) (read_alone g)) (fn.free g reads))
   of_return (tree.Function f) p e fine is = absurd (none-some p e)
@@ -182,7 +181,7 @@ module _ {M : Type 0} (access : Access M) (y : Layout) (laid : IsLaid y) (machin
 
   of_code : (code : List Stm) (p : Instr × Instr) → code_pair y.place body.params code ≡ Some p → Fine code ≡ true → body.code ≡ code → S p (E code)
   unfolding statement_pair
-  of_code [] p e fine is = as_shape _ p (Returned None w) (E []) (some_same _ p e) refl (empty_done access y laid machine memory reach ample runs budget far bound body at here depth live args k i spare w stands enters paid asked)
+  of_code [] p e fine is = as_shape _ p (Returned None w) (E []) (same_Some _ p e) refl (empty_done access y laid machine memory reach ample runs budget far bound body at here depth live args k i spare w stands enters paid asked)
   of_code (s ∷ []) p e fine is = subst (λ z. Fine (z ∷ []) ≡ true → body.code ≡ z ∷ [] → S p (E (z ∷ []))) (roll-out-Stm s) (of_statement (out-Stm s) p e) fine is
   of_code (s ∷ t ∷ code) p e fine is = absurd (none-some p e)
 

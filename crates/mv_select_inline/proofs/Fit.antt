@@ -1,7 +1,7 @@
 -- The two instructions of a body have encodings.
 use Rattle.std.proofs.Common.{◌≡◌, ℕ, ◌<◌, ◌≤◌, Bool, true, false, cond, eqb, ltb, List, [], ◌∷◌, pos, Some, subst, arith}
 use Rattle.std.proofs.lemmas.Bool.{ltb-true}
-use Rattle.std.proofs.lemmas.Option.{none-some}
+use Rattle.std.proofs.lemmas.Option.{none-some, same_Some}
 use Rattle.mv_isa.specs.declared.instr.Instr.{Instr}
 use Rattle.mv_isa.specs.declared.instr.Instr.TheVariants.{Lui, Addi}
 use Rattle.mv_isa.specs.Encoding.{Fits}
@@ -18,7 +18,6 @@ use Rattle.mv_select_statements.specs.StatementCode.{first}
 use Rattle.mv_select_inline.specs.InlineOf.{number_pair, parameter_pair, load_pair, store_pair, return_layer, return_pair, set_layer, set_pair, statement_layer, statement_pair, code_pair}
 use Rattle.mv_select_inline.specs.Laws.{InlineFits}
 use Rattle.mv_select_inline.proofs.Bodies.{chosen_test, chosen}
-use Rattle.mv_num.proofs.Options.{some_same}
 
 abbrev Both : Instr × Instr → Type 0
 Both p = Fits p.0 × Fits p.1
@@ -48,9 +47,9 @@ module _ (place : ℕ → ℕ) (params : ℕ) (few : params ≤ 8) where
   small t e = omega (arith, ltb-true t params e, few)
 
   of_return : (x : Tree-F Tree) (p : Instr × Instr) → return_layer place params x ≡ Some p → Both p
-  of_return (tree.Number n) p e = subst Both (some_same (number_pair n) p e) (number_fit n)
+  of_return (tree.Number n) p e = subst Both (same_Some (number_pair n) p e) (number_fit n)
   of_return (tree.Temp t) p e = subst Both (chosen (ltb t params) (parameter_pair t) p e) (parameter_fit t (small t (chosen_test (ltb t params) (parameter_pair t) p e)))
-  of_return (tree.Global g) p e = subst Both (some_same (load_pair (place g)) p e) (load_fit (place g))
+  of_return (tree.Global g) p e = subst Both (same_Some (load_pair (place g)) p e) (load_fit (place g))
   of_return (tree.Function f) p e = absurd (none-some p e)
   of_return (tree.Unary o a) p e = absurd (none-some p e)
   of_return (tree.Binary o a b) p e = absurd (none-some p e)
@@ -85,7 +84,7 @@ module _ (place : ℕ → ℕ) (params : ℕ) (few : params ≤ 8) where
 
   of_code : (code : List Stm) (p : Instr × Instr) → code_pair place params code ≡ Some p → Both p
   unfolding statement_pair
-  of_code [] p e = subst Both (some_same (nop, nop) p e) (nop_fits, nop_fits)
+  of_code [] p e = subst Both (same_Some (nop, nop) p e) (nop_fits, nop_fits)
   of_code (s ∷ []) p e = of_statement (out-Stm s) p e
   of_code (s ∷ t ∷ code) p e = absurd (none-some p e)
 

@@ -1,7 +1,7 @@
 -- What the two instructions of each shape do.
 use Rattle.std.proofs.Common.{◌≡◌, ◌≢◌, inl, ⊎_elim, ℕ, ◌+◌, ◌*◌, ◌<◌, ◌≤◌, ◌^◌, Bool, true, cond, eqb, List, length, pos, Some, None, Contains, slice_index, refl, sym, ap, ◌∙◌, subst, arith}
 use Rattle.std.proofs.lemmas.Bool.{cases_eq, eq-eqb, ne_eqb}
-use Rattle.std.proofs.lemmas.Option.{none-some}
+use Rattle.std.proofs.lemmas.Option.{none-some, same_Some}
 use Rattle.mv_num.specs.Words.{word_of, add}
 use Rattle.mv_isa.specs.declared.instr.Instr.{Instr}
 use Rattle.mv_isa.specs.declared.instr.Instr.TheVariants.{Lui, Lw, Sw, Addi}
@@ -31,7 +31,6 @@ use Rattle.mv_select_inline.specs.Laws.{LoadsRead, IsDone}
 use Rattle.mv_select_inline.proofs.Steps.{globals_site, own, nop_sets, begun, two_steps, Came, comes}
 use Rattle.mv_select_inline.proofs.Stored.{set_in, Put, stored_global}
 use Rattle.mv_num.proofs.Numbers.{word_of_pos}
-use Rattle.mv_num.proofs.Options.{some_same}
 
 no_load : (y : Layout) (bound : List (ℕ × ℕ)) (body : Body) (i : Instr) (regs : List ℕ) → loads_from i regs ≡ None → LoadsRead y bound body i regs
 no_load y bound body i regs none a e = absurd (none-some a (sym none ∙ e))
@@ -174,7 +173,7 @@ module _ {M : Type 0} (access : Access M) (y : Layout) (laid : IsLaid y) (machin
       ap (λ c. cond c (access.load m a 4) None) may ∙ ap (λ b. access.load m b 4) same ∙ stands.globals.loads g 0 lt in
       by_two (Lui first (pos (upper_bits a))) (Lw first first (lower_bits a)) up (scalar w.globals g) (upper_below a) (stands.globals.words g 0 lt)
       (lui_sets (own access y machine reach runs budget far) m first (pos (upper_bits a)) R up refl) (lw_sets (own access y machine reach runs budget far) m first first (lower_bits a) mid a (scalar w.globals g) to loads)
-      refl (λ b e. (g, reads, free, sym (some_same (add (reg mid first) (word_of (lower_bits a))) b e) ∙ to))
+      refl (λ b e. (g, reads, free, sym (same_Some (add (reg mid first) (word_of (lower_bits a))) b e) ∙ to))
 
   -- ---- a store of a parameter
 
