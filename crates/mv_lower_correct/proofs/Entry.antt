@@ -20,7 +20,8 @@ use Rattle.mv_ir.specs.Meaning.{Contents, first_items, first_arrays, entry_state
 use Rattle.mv_ir.specs.Levels.{Code, read_under, switches_read, one_if, frame_of_call}
 use Rattle.mv_ir.specs.Programs.{setting_of, place_if, next_place, code_from, code_of}
 use Rattle.mv_ir.proofs.Joining.{items_count}
-use Rattle.mv_lower_spec.specs.Correct.{Ground, resting, ShowsAround, Shows, seen}
+use Rattle.mv_ir.specs.KnownFunctions.{seen}
+use Rattle.mv_lower_spec.specs.Correct.{Ground, resting, ShowsAround, Shows}
 use Rattle.mv_source_forms.specs.Names.{global_words, size_in}
 use Rattle.mv_lower_spec.specs.Functions.{elements_of, array_sizes, lower_function, lower_program}
 use Rattle.mv_lower_spec.proofs.Forms.{word_is}

@@ -13,6 +13,7 @@ use Rattle.mv_source_forms.specs.Names.{is_scalar, size_in}
 use Rattle.mv_lower_spec.specs.Functions.{elements_of, array_sizes}
 use Rattle.mv_lower_shape.proofs.Expressions.{is_used}
 use Rattle.mv_num.proofs.Lists.{sum_cons}
+use Rattle.mv_num.proofs.Booleans.{one_or_none}
 
 -- ---- marks
 
@@ -94,10 +95,6 @@ module _ (ls : List Local) (room : ℕ) where
   abbrev used_word : ℕ → ℕ
   used_word t = cond (is_used (length ls) (size_in ls) room t) 1 0
 
-  bit_within : (z : Bool) → cond z 1 0 ≤ 1
-  bit_within true = omega arith
-  bit_within false = omega arith
-
   -- a local's temporary is used where the local is a scalar
   used_local : (t : ℕ) → t < length ls → used_word t ≤ scalar_word (size_in ls t)
   used_local t lt = by (nat_lt t (length ls)) (lt-ltb t (length ls) lt) (is_scalar (size_in ls t))
@@ -118,11 +115,11 @@ module _ (ls : List Local) (room : ℕ) where
       omega (arith, each, behind, locals, words_of_locals ls)
     where
       at_most_one : (t : ℕ) → used_word t ≤ 1
-      at_most_one t = bit_within (is_used (length ls) (size_in ls) room t)
+      at_most_one t = one_or_none (is_used (length ls) (size_in ls) room t)
 
       marked : (i t : ℕ) → cond (mark_at (interval b t) i) 1 0 ≤ used_word t
       marked i t = by (is_used (length ls) (size_in ls) room t) refl
         where
           by : (z : Bool) → is_used (length ls) (size_in ls) room t ≡ z → cond (mark_at (interval b t) i) 1 0 ≤ cond z 1 0
-          by true e = bit_within (mark_at (interval b t) i)
+          by true e = one_or_none (mark_at (interval b t) i)
           by false e = let k : cond (mark_at (interval b t) i) 1 0 ≡ 0 = ap {B = ℕ} (λ z. cond z 1 0) (filled_none false (all_marks b t) i (unused t e)) in omega (arith, k)

@@ -137,13 +137,8 @@ passed v (l ∷ ls) =
 
 -- ---- states
 
--- what stands behind code, where control goes on behind it
-abbrev state_of : ir.Outcome → State → State
-state_of (Next s) other = s
-state_of _ other = other
-
 same_state : (s1 s2 : State) → Next s1 ≡ Next s2 → s1 ≡ s2
-same_state s1 s2 e = ap (λ o. state_of o s1) e
+same_state s1 s2 e = cc
 
 first_place : (xs : List ℕ) (n : ℕ) → slice_index (slice_set xs n 0) n ≡ 0
 first_place [] n = refl

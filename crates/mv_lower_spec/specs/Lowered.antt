@@ -195,16 +195,16 @@ lower_all (e ∷ es) n =
     let x = kept_if (is_empty rest.code) n (e n) in
     record { code = x.code ++ rest.code; trees = x.tree ∷ rest.trees; top = max x.top rest.top }
 
--- where a call leaves its value, and the tree that reads it: a void function has none
-abbrev pub place_of_result : Bool → ℕ → Option ℕ
-place_of_result void n = cond void None (Some n)
+-- what a call leaves, or where, and the tree that reads it: a void function has none
+abbrev pub unless_void : Bool → ℕ → Option ℕ
+unless_void void n = cond void None (Some n)
 
 abbrev pub result_tree : Bool → ℕ → Tree
 result_tree void n = cond void (number 0) (temp n)
 
 abbrev pub lower_call_to : Bool → Callee → Arguments → List Tree → Lowering
 lower_call_to void f all args n = record {
-  code = all.code ++ call (place_of_result void n) f args ∷ [];
+  code = all.code ++ call (unless_void void n) f args ∷ [];
   tree = result_tree void n;
   top = max (n + 1) all.top;
 }

@@ -16,8 +16,9 @@ use Rattle.mv_meaning.specs.declared.state.Flow.{Flow}
 use Rattle.mv_meaning.specs.declared.state.Flow.TheVariants.{Goes, Breaks, Continues, Returns}
 use Rattle.mv_meaning.specs.Meaning.{Evaluation, returned_value}
 use Rattle.mv_lower_spec.specs.Lowered.{Lowering, number, temp, binary, set, write, choose}
-use Rattle.mv_lower_spec.specs.Correct.{Ground, resting, Shows, ran, end_of, seen, is_astray}
+use Rattle.mv_lower_spec.specs.Correct.{Ground, resting, Shows, ran, end_of, is_astray}
 use Rattle.mv_ir.specs.Operators as operators
+use Rattle.mv_ir.specs.KnownFunctions.{seen}
 
 -- ---- statements
 
