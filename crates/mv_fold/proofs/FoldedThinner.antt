@@ -23,8 +23,8 @@ use Rattle.mv_ir.proofs.Joining.{any_reads_append}
 use Rattle.mv_fold.specs.declared.uses.Use.{Use}
 use Rattle.mv_fold.specs.Simple.{constant, number, one_or, two_or, simple_node, simple_tree, layer_jumps, jumps, ended, simple_callee, alone, division, choice, simple_layer, simple_stm, simple_code}
 use Rattle.mv_fold.specs.Needed.{tree_uses, trees_uses, layer_uses, stm_uses, code_uses, IsNeeded, needed_layer, needed_stm, needed_code}
-use Rattle.mv_fold.proofs.SimpleKept.{jumps_roll, simple_tree_roll, simple_stm_roll}
-use Rattle.mv_fold.proofs.NeededEquations.{stm_uses_roll, needed_stm_roll}
+use Rattle.mv_fold.proofs.SimpleKept.{jumps_roll, simple_tree_roll, each_simple}
+use Rattle.mv_fold.proofs.NeededEquations.{stm_uses_roll, each_left}
 use Rattle.mv_fold.proofs.Closing.{Closed, left, right, among, for_body, closed}
 use Rattle.mv_fold.proofs.Thinner.{Covers, covers_append, Implies, Thins, code_flow, IsThinner, layer_of, flow_one, flow_append, thinner_one, thinner_many, thinner_trans, thinner_append, thinner_none, ReadsLess, plain_thins, on_next, on_leaves, on_restarts, on_nothing, if_thins, loop_thins, block_thins, KeepsIntervals, thinner_body, or_both}
 use Rattle.std.proofs.lemmas.Bool.{or_right, or_left}
@@ -319,11 +319,8 @@ thin_layer (stm.Call r f args) h = thin_one (stm.Call r f args) (stm.Call r (sim
 thin_layer (stm.Known r k args) h = thin_one (stm.Known r k args) (stm.Known r k (map simple_tree args)) (next_thins args (map simple_tree args) r (many_less args))
 thin_layer (stm.Return v) h = thin_one (stm.Return v) (stm.Return (simple_tree v)) (plain_thins every (v ∷ []) (simple_tree v ∷ []) None (λ r. false) (one_less v) (on_nothing every))
 
-stm_thin : (s : Stm) → IsThin s
-stm_thin = stm_ind IsThin (λ x h. subst (Thinner (roll-Stm x ∷ [])) (sym (simple_stm_roll x)) (thin_layer x h))
-
 simple_thinner : (code : List Stm) → Thinner code (simple_code code)
-simple_thinner code = code_thin code (stms_ind IsThin stm_thin code)
+simple_thinner code = code_thin code (each_simple (λ s. Thinner (s ∷ [])) thin_layer code)
 
 -- ---- without the sets that aren't needed
 
@@ -407,11 +404,8 @@ module _ (needed : ℕ → Bool) where
   left_layer (stm.Known r k args) h a = kept (stm.Known r k args) (next args r (reads_many args a))
   left_layer (stm.Return v) h a = kept (stm.Return v) (plain_thins needed (v ∷ []) (v ∷ []) None (λ r. false) (one v a) (on_nothing needed))
 
-  stm_left : (s : Stm) → IsLeft s
-  stm_left = stm_ind IsLeft (λ x h a. subst (IsThinner needed (roll-Stm x ∷ [])) (sym (needed_stm_roll needed x)) (left_layer x h (subst (Closed needed) (stm_uses_roll x) a)))
-
   needed_thinner : (code : List Stm) → Closed needed (code_uses code) → IsThinner needed code (needed_code needed code)
-  needed_thinner code c = kids_left code (stms_ind IsLeft stm_left code) c
+  needed_thinner code c = kids_left code (each_left needed (λ s left. Closed needed (stm_uses s) → IsThinner needed (s ∷ []) left) (λ x h a. left_layer x h (subst (Closed needed) (stm_uses_roll x) a)) code) c
 
 -- ---- bodies
 

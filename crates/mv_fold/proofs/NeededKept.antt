@@ -25,7 +25,7 @@ use Rattle.mv_ir.specs.Keeps.{KeepsBody}
 use Rattle.mv_ir.specs.declared.body.Body.{Body}
 use Rattle.mv_ir.specs.Measures.{joined, callee_trees}
 use Rattle.mv_ir.specs.Live.{reads_temp}
-use Rattle.mv_ir.proofs.Induction.{Each, TreeChildren, tree_ind, StmChildren, stm_ind, stms_ind}
+use Rattle.mv_ir.proofs.Induction.{Each, TreeChildren, tree_ind, StmChildren}
 use Rattle.mv_ir.proofs.Rolls.{value_roll, reads_temp_roll}
 use Rattle.mv_ir.proofs.Keeping.{map_append, one_meaning}
 use Rattle.mv_ir.proofs.Relating.{Places, under, in_block, in_loop, OutcomeRel, RunRel, MeaningRel, nil_rel, append_rel, places_weaker, block_rel, loop_rel}
@@ -33,7 +33,7 @@ use Rattle.mv_ir.proofs.RelatedStatements.{SameIn, SameTreesIn, SameCalleeIn, Pu
 use Rattle.mv_fold.specs.Simple.{alone}
 use Rattle.mv_fold.specs.declared.uses.Use.{Use}
 use Rattle.mv_fold.specs.Needed.{tree_uses, trees_uses, layer_uses, stm_uses, code_uses, IsNeeded, needed_layer, needed_stm, needed_code}
-use Rattle.mv_fold.proofs.NeededEquations.{stm_uses_roll, needed_stm_roll}
+use Rattle.mv_fold.proofs.NeededEquations.{stm_uses_roll, each_left}
 use Rattle.mv_fold.proofs.Reached.{eqb_self}
 use Rattle.mv_fold.proofs.Closing.{Among, Closed, left, right, among, for_body, closed}
 
@@ -190,11 +190,8 @@ module _ (setting : Setting) (frame : Frame) (needed : ℕ → Bool) where
   related_layer (stm.Known r k args) h a = one (stm.Known r k args) (stm.Known r k args) (known_rel setting frame Agree q r r k args args (many_in args a) (puts r))
   related_layer (stm.Return v) h a = one (stm.Return v) (stm.Return v) (return_rel setting frame Agree q v v (same_in v (for_body needed v a)))
 
-  related : (s : Stm) → IsRelated s
-  related = stm_ind IsRelated (λ x h a. subst (λ l. R (m (roll-Stm x) ∷ []) (map m l)) (sym (needed_stm_roll needed x)) (related_layer x h (subst (Closed needed) (stm_uses_roll x) a)))
-
   pub code_related : (code : List Stm) → Closed needed (code_uses code) → R (map m code) (map m (needed_code needed code))
-  code_related code a = kids code (stms_ind IsRelated related code) a
+  code_related code a = kids code (each_left needed (λ s left. Closed needed (stm_uses s) → R (m s ∷ []) (map m left)) (λ x h a. related_layer x h (subst (Closed needed) (stm_uses_roll x) a)) code) a
 
   pub agree_self : (xs : List ℕ) → Agree xs xs
   agree_self xs = record { long = refl; same = λ t r. refl }

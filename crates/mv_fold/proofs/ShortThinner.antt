@@ -6,7 +6,7 @@ use Rattle.mv_ir.specs.declared.stm.Stm.TheOpen.{Stm-F}
 use Rattle.mv_ir.specs.declared.stm.Stm.TheOpen as stm
 use Rattle.mv_ir.specs.declared.stm.Stm.TheViews.{roll-Stm}
 use Rattle.mv_ir.specs.declared.body.Body.{Body}
-use Rattle.mv_ir.specs.Live.{any_reads, Around, Flow, with_after, live_in_order, marks_in_order, flow, nowhere}
+use Rattle.mv_ir.specs.Live.{any_reads, Around, Flow, with_after, live_in_order, marks_in_order, flow, nowhere, live_at_start}
 use Rattle.mv_ir.proofs.Rolls.{flow_roll}
 use Rattle.mv_fold.specs.Shortened.{shortened}
 use Rattle.mv_fold.proofs.Shortening.{temp, set, store, return, shortened_is}
@@ -39,21 +39,17 @@ fits_behind t b b' h = record { next = λ e. (h e, refl); leaves = λ n e. from_
 bare : (mask xs ys : List Bool) → Covers mask (xs ++ []) (ys ++ []) → Covers mask xs ys
 bare mask xs ys h = subst (λ l. Covers mask l ys) (append-nil xs) (subst (Covers mask (xs ++ [])) (append-nil ys) h)
 
--- whether a temporary is live at the start of code that ends a body
-abbrev at_end : ℕ → List Stm → Bool
-at_end t code = live_in_order (map (flow t) code) nowhere
-
 behind : (s : Stm) (xs ys : List Stm) → Thin xs ys → Thin (s ∷ xs) (s ∷ ys)
 unfolding Thin
 behind s xs ys (n, k) =
     let (m, h) = same s in (
       m ++ n,
       record {
-        live = λ t e. (h.live t (with_after nowhere (at_end t xs)) (with_after nowhere (at_end t ys)) (fits_behind t (at_end t xs) (at_end t ys) (k.live t)) e).0;
+        live = λ t e. (h.live t (with_after nowhere (live_at_start t xs)) (with_after nowhere (live_at_start t ys)) (fits_behind t (live_at_start t xs) (live_at_start t ys) (k.live t)) e).0;
         marks = λ t.
             let here =
-            bare m ((flow t s).marks (with_after nowhere (at_end t xs))) ((flow t s).marks (with_after nowhere (at_end t ys)))
-            (h.marks t (with_after nowhere (at_end t xs)) (with_after nowhere (at_end t ys)) (fits_behind t (at_end t xs) (at_end t ys) (k.live t)))
+            bare m ((flow t s).marks (with_after nowhere (live_at_start t xs))) ((flow t s).marks (with_after nowhere (live_at_start t ys)))
+            (h.marks t (with_after nowhere (live_at_start t xs)) (with_after nowhere (live_at_start t ys)) (fits_behind t (live_at_start t xs) (live_at_start t ys) (k.live t)))
             in
             covers_append m _ _ n _ _ here (k.marks t);
       },

@@ -6,7 +6,7 @@ use Rattle.mv_ir.specs.Live.{mark_at, any, filled, marks_length, live_at_start, 
 use Rattle.mv_ir.proofs.Keeping.{map_append}
 use Rattle.mv_ir.proofs.Joining.{greatest_most, greatest_within}
 use Rattle.mv_regalloc.specs.Scan.{Interval, used, holds, over}
-use Rattle.mv_regalloc.specs.Intervals.{first_from, last_from, span, beginning, by_first, range, given, allotted}
+use Rattle.mv_regalloc.specs.Intervals.{first_from, last_from, span, beginning, by_first, range, given, allotted, others, positions}
 use Rattle.mv_regalloc.proofs.Apart.{AllApart, scan_apart}
 use Rattle.mv_regalloc.proofs.Counted.{held, scan_held, scan_used, held_used, Begun}
 use Rattle.mv_regalloc.proofs.Marks.{code_long}
@@ -148,10 +148,7 @@ module _ (b : Body) (has : HasTemps b) where
   abbrev marks : ℕ → List Bool
   marks = all_marks b
 
-  abbrev long : ℕ
-  long = marks_length (marks 0)
-
-  pub same_long : (t : ℕ) → marks_length (marks t) ≡ long
+  pub same_long : (t : ℕ) → marks_length (marks t) ≡ positions b
   same_long t = ap suc (code_long t b.code nowhere ∙ sym (code_long 0 b.code nowhere))
 
   pub param_marked : (t : ℕ) → t < b.params → mark_at (marks t) 0 ≡ true
@@ -167,17 +164,14 @@ module _ (b : Body) (has : HasTemps b) where
       by (inl l) = let a = has 0 b.temps (param_marked b.temps l) in absurd (omega (arith, a))
       by (inr l) = l
 
-  abbrev others : List Interval
-  others = by_first marks (range b.params (b.temps - b.params)) 0 long
-
   abbrev counted : ℕ → ℕ
   counted i = count_at i (map (interval b) (below b.temps))
 
-  pub count_is : (i : ℕ) → counted i ≡ over i others + held i (given marks b.params)
+  pub count_is : (i : ℕ) → counted i ≡ over i (others b) + held i (given marks b.params)
   count_is i =
       let le = enough_temps in
       let e : b.temps ≡ b.params + (b.temps - b.params) = omega (arith, le) in
-      ap (λ n. count_at i (map (interval b) (below n))) e ∙ whole_count marks i long b.params (b.temps - b.params) same_long any_param
+      ap (λ n. count_at i (map (interval b) (below n))) e ∙ whole_count marks i (positions b) b.params (b.temps - b.params) same_long any_param
 
   -- all parameters hold the start
   first_zero : (t : ℕ) → t < b.params → first_from 0 (marks t) ≡ 0
@@ -198,19 +192,19 @@ module _ (b : Body) (has : HasTemps b) where
   begun_params (suc n) h = let e = first_zero n h in ((omega (arith, e)), begun_params n (omega (arith, h)))
 
   bounded : (i : ℕ) → counted i ≤ most_intervals b
-  bounded i = by (cases_lt i long)
+  bounded i = by (cases_lt i (positions b))
     where
-      by : (i < long) ⊎ (long ≤ i) → counted i ≤ most_intervals b
-      by (inl l) = greatest_most long counted i l
+      by : (i < positions b) ⊎ (positions b ≤ i) → counted i ≤ most_intervals b
+      by (inl l) = greatest_most (positions b) counted i l
       by (inr l) = let e = past_count (interval b) i (below b.temps) (λ t. let x = filled_length false (marks t) in let y = same_long t in omega (arith, x, y, l)) in omega (arith, e)
 
   pub scan_all_apart : AllApart (allotted b)
-  scan_all_apart = scan_apart (given marks b.params) others (given_apart marks b.params)
+  scan_all_apart = scan_apart (given marks b.params) (others b) (given_apart marks b.params)
 
   pub uses_most : used (allotted b) ≡ most_intervals b
   uses_most =
       let params_fit : used (given marks b.params) ≤ most_intervals b =
       (let x = given_used marks b.params in let y = held_params b.params (omega arith) in let z = count_is 0 in let w = bounded 0 in omega (arith, x, y, z, w)) in
-      let few = scan_used (most_intervals b) 0 (given marks b.params) others (by_first_order marks (range b.params (b.temps - b.params)) 0 long) (begun_params b.params (omega arith)) params_fit (λ k. let z = count_is k in let w = bounded k in omega (arith, z, w)) in
-      let many = greatest_within long counted (used (allotted b)) (λ i lt. let z = count_is i in let h = scan_held i (given marks b.params) others in let u = held_used i (allotted b) scan_all_apart in omega (arith, z, h, u)) in
+      let few = scan_used (most_intervals b) 0 (given marks b.params) (others b) (by_first_order marks (range b.params (b.temps - b.params)) 0 (positions b)) (begun_params b.params (omega arith)) params_fit (λ k. let z = count_is k in let w = bounded k in omega (arith, z, w)) in
+      let many = greatest_within (positions b) counted (used (allotted b)) (λ i lt. let z = count_is i in let h = scan_held i (given marks b.params) (others b) in let u = held_used i (allotted b) scan_all_apart in omega (arith, z, h, u)) in
       omega (arith, few, many)

@@ -40,9 +40,17 @@ abbrev pub given : (ℕ → List Bool) → ℕ → List Placed
 given marks zero = []
 given marks (suc n) = record { interval = span marks n; number = n } ∷ given marks n
 
--- the parameters, and then the others in the order of their first positions
+-- how many positions a body has
+abbrev pub positions : Body → ℕ
+positions b = marks_length (all_marks b 0)
+
+-- the intervals of the temporaries that aren't parameters, in the order of their first positions
+abbrev pub others : Body → List Interval
+others b = by_first (all_marks b) (range b.params (b.temps - b.params)) 0 (positions b)
+
+-- the parameters, and then the others
 abbrev pub allotted : Body → List Placed
-allotted b = scan (given (all_marks b) b.params) (by_first (all_marks b) (range b.params (b.temps - b.params)) 0 (marks_length (all_marks b 0)))
+allotted b = scan (given (all_marks b) b.params) (others b)
 
 -- The second body means what the first means, at no greater cost. It has as many temporaries as there are intervals
 -- over one position at most, and no more intervals over a position. It is whole as well, its temporaries are its own,
