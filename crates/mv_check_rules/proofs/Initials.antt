@@ -28,6 +28,7 @@ use Rattle.mv_check_rules.specs.Nodes.{Given, Nothing, Value, Values, Characters
 use Rattle.mv_check_rules.specs.Rules.{all_convert}
 use Rattle.mv_check_rules.specs.Declarations.{given, expressions_of}
 use Rattle.mv_check_rules.proofs.Agreement.{mapped}
+use Rattle.mv_num.proofs.Booleans.{and_true}
 
 -- ---- a scope with other locals
 
@@ -80,10 +81,6 @@ module _ (t : CType) (s : Scope) where
   abbrev behind : Converted → List Expr → Converted
   behind x es = record { all = x.all && all_convert t es; values = x.values ++ map (converted_to t) es }
 
-  and_true : (b : Bool) → b ≡ (b && true)
-  and_true true = refl
-  and_true false = refl
-
   all_more : (a b c : Bool) → ((a && b) && not c) ≡ (a && not (not b || c))
   all_more true true c = refl
   all_more true false c = refl
@@ -96,7 +93,7 @@ module _ (t : CType) (s : Scope) where
   }
 
   converted_agree : (ns : List Node) (x : Converted) → through (converted_value t s) ns x ≡ mapped (behind x) (each (map (value_judgement s) ns))
-  converted_agree [] x = λ i. Good (record { all = and_true x.all i; values = sym (append-nil x.values) i })
+  converted_agree [] x = λ i. Good (record { all = sym (and_true x.all) i; values = sym (append-nil x.values) i })
   converted_agree (n ∷ ns) x = by (value_judgement s n) (converted_agree ns)
     where
       on : (e : Expr) (j : Judged (List Expr)) → mapped (behind (with_converted t x e)) j ≡ mapped (behind x) (and_then j (λ rest. Good (e ∷ rest)))
