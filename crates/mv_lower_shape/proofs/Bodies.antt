@@ -13,10 +13,10 @@ use Rattle.mv_ir.proofs.Induction.{Each}
 use Rattle.mv_ir.proofs.Rolls.{depth_roll, flow_roll, reads_temp_roll}
 use Rattle.mv_ast.specs.declared.program.Program.{Program}
 use Rattle.mv_ast.specs.declared.program.Function.{Function}
-use Rattle.mv_ast.specs.Counts.{nodes, depth}
+use Rattle.mv_ast.specs.Counts.{nodes, depth, elements_of}
 use Rattle.mv_lower_spec.specs.Lowered.{number}
 use Rattle.mv_source_forms.specs.Names.{is_scalar, is_void, size_in}
-use Rattle.mv_lower_spec.specs.Functions.{elements_of, array_sizes, lower_body, outermost, ending, lower_function}
+use Rattle.mv_lower_spec.specs.Functions.{array_sizes, lower_body, outermost, ending, lower_function}
 use Rattle.mv_lower_spec.proofs.Depths.{ShallowCode, both_parts}
 use Rattle.mv_lower_shape.proofs.Asked.{Globals, IsAsked}
 use Rattle.mv_lower_shape.specs.Allowances.{allowance}

@@ -8,9 +8,9 @@ use Rattle.mv_ir.specs.Live.{any, filled, mark_at, all_marks, interval, count_at
 use Rattle.mv_ir.proofs.Keeping.{map_append}
 use Rattle.mv_ir.proofs.Joining.{greatest_within}
 use Rattle.mv_ast.specs.declared.program.Local.{Local}
-use Rattle.mv_ast.specs.Counts.{words_of_size}
+use Rattle.mv_ast.specs.Counts.{words_of_size, elements_of}
 use Rattle.mv_source_forms.specs.Names.{is_scalar, size_in}
-use Rattle.mv_lower_spec.specs.Functions.{elements_of, array_sizes}
+use Rattle.mv_lower_spec.specs.Functions.{array_sizes}
 use Rattle.mv_lower_shape.proofs.Expressions.{is_used}
 use Rattle.mv_num.proofs.Lists.{sum_cons}
 use Rattle.mv_num.proofs.Booleans.{one_or_none}

@@ -1,14 +1,13 @@
 -- Statements take at most eight free temporaries for each level of depth of their expressions.
-use Rattle.std.proofs.Common.{◌≡◌, ℕ, ◌+◌, ◌*◌, ◌≤◌, Bool, true, cond, List, [], ◌∷◌, map, max, Option, Some, None, ◌∙◌, ap, arith}
+use Rattle.std.proofs.Common.{◌≡◌, ℕ, ◌+◌, ◌*◌, ◌≤◌, Bool, true, cond, List, [], ◌∷◌, map, Option, Some, None, ◌∙◌, ap, arith}
 use Rattle.std.specs.Prelude.{◌&&◌, nat_lt, option_to_list}
 use Rattle.mv_ir.proofs.Induction.{Each}
 use Rattle.mv_ir.proofs.Keeping.{map_append}
 use Rattle.mv_ast.specs.declared.program.Expr.{Expr}
 use Rattle.mv_ast.specs.declared.program.Stmt.{Stmt, Stmt-F}
 use Rattle.mv_ast.specs.declared.program.Stmt.TheOpen as stmt
-use Rattle.mv_ast.specs.declared.program.Arm.{Arm, Arm-F, fold-Arm}
-use Rattle.mv_ast.specs.Counts.{greatest, expr_depth, stmt_depth}
-use Rattle.mv_ast.specs.Layers.{stmt_parts, stmt_expressions}
+use Rattle.mv_ast.specs.declared.program.Arm.{Arm, fold-Arm}
+use Rattle.mv_ast.specs.Counts.{greatest, expr_depth, stmt_depth, depth_layer, arm_depth_layer}
 use Rattle.mv_ast.specs.Names.{any_of, names_local}
 use Rattle.mv_lower_spec.specs.Lower.{lower_expr}
 use Rattle.mv_lower_spec.specs.Statements.{Jumps, Placed, LoweredArm, in_body, in_arm, values_top, arms_top}
@@ -20,12 +19,6 @@ use Rattle.mv_lower_shape.proofs.Folds.{limited_stmts, sequences, limits_of}
 use Rattle.mv_source_forms.proofs.StatementFolds.{StmtFolds, stmt_fold, stmt_folds, along_stmts}
 use Rattle.mv_source_forms.proofs.StatementInduction.{StmtChildren}
 use Rattle.mv_num.proofs.Booleans.{and_cases}
-
-abbrev depth_layer : Stmt-F ℕ ℕ → ℕ
-depth_layer s = max (greatest (map expr_depth (stmt_expressions s))) (greatest (stmt_parts s))
-
-abbrev arm_depth_layer : Arm-F ℕ ℕ → ℕ
-arm_depth_layer a = greatest a.body
 
 abbrev arm_depth : Arm → ℕ
 arm_depth = fold-Arm ℕ ℕ depth_layer arm_depth_layer
