@@ -27,7 +27,7 @@ use Rattle.mv_lower_spec.specs.Correct as c
 use Rattle.mv_lower_spec.specs.Correct.{Scene, val, Shows, Reached, Shown, CorrectFor, Correct, AllReached, AllShown, AllCorrect}
 use Rattle.mv_lower_spec.proofs.Running as run
 use Rattle.mv_lower_spec.proofs.Running.{nodes_number, nodes_temp}
-use Rattle.mv_lower_spec.proofs.Sequences as sequences
+use Rattle.mv_meaning.proofs.Sequences as sequences
 use Rattle.mv_lower_spec.proofs.Showing as show
 
 no : {A : Type 0} → true ≡ false → A

@@ -27,7 +27,7 @@ use Rattle.mv_lower_spec.proofs.Running.{nodes_number}
 use Rattle.mv_lower_spec.proofs.Forms as forms
 use Rattle.mv_lower_spec.proofs.Forms.{word_is, with_word_is, with_word_same, with_word_other, other_word, with_word_count, with_word_lengths, stored_alike, held_is_none}
 use Rattle.mv_lower_spec.proofs.Elements as elements_proofs
-use Rattle.mv_lower_spec.proofs.Sequences.{after_zero}
+use Rattle.mv_meaning.proofs.Sequences.{after_zero}
 use Rattle.mv_lower_spec.proofs.Flows as flows
 use Rattle.mv_lower_spec.proofs.Flows.{code}
 use Rattle.mv_num.proofs.Numbers.{zeros_at}

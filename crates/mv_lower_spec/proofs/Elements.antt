@@ -34,7 +34,7 @@ use Rattle.mv_lower_spec.proofs.Showing as show
 use Rattle.mv_lower_spec.proofs.Operators as operators
 use Rattle.mv_lower_spec.proofs.Operators.{converted_nodes}
 use Rattle.mv_lower_spec.proofs.Control as control
-use Rattle.mv_lower_spec.proofs.Sequences as sequences
+use Rattle.mv_meaning.proofs.Sequences as sequences
 use Rattle.mv_lower_spec.proofs.Forms as forms
 use Rattle.mv_lower_spec.proofs.Forms.{word_is, with_word_same, with_word_other, other_word, with_word_count, with_word_lengths, held_is_none}
 use Rattle.mv_ast.proofs.Common.{objects_at}

@@ -35,7 +35,7 @@ use Rattle.mv_lower_spec.proofs.Running.{nodes_binary}
 use Rattle.mv_lower_spec.proofs.Forms as forms
 use Rattle.mv_lower_spec.proofs.Control as control
 use Rattle.mv_lower_spec.proofs.Showing as show
-use Rattle.mv_lower_spec.proofs.Sequences as sequences
+use Rattle.mv_meaning.proofs.Sequences as sequences
 use Rattle.mv_lower_spec.proofs.Elements as elements
 use Rattle.mv_lower_spec.proofs.Elements.{element_of}
 use Rattle.mv_lower_spec.proofs.Arguments as arguments
