@@ -27,7 +27,7 @@ use Rattle.mv_accepts_bodies.proofs.ExprJudged.{value_kept, effect_kept}
 use Rattle.mv_check_expressions.specs.Seen.{object_at, element_at}
 use Rattle.mv_check_expressions.specs.Calls.{known_params, with_index}
 use Rattle.mv_source_forms.specs.Scopes.{layer_in}
-use Rattle.mv_source_forms.specs.Uses.{known_parameters, order_is_there, known_is_there, form_calls_known, target_in_parts, calls_known}
+use Rattle.mv_source_forms.specs.Uses.{known_parameters, order_is_there, known_is_there, form_calls_known, target_in_parts, calls_known, target_calls_known}
 use Rattle.mv_accepts_bodies.specs.Formed.{AreShaped}
 use Rattle.mv_accepts_bodies.proofs.Tests.{all_tested, all_last_tested, one_tested, two_tested, three_tested}
 use Rattle.mv_accepts_bodies.proofs.ExprProperty.{NamesKnown, IsPlanned, IsOrder, ExprProperty}
@@ -35,9 +35,6 @@ use Rattle.mv_accepts_bodies.proofs.ExprProperty.{NamesKnown, IsPlanned, IsOrder
 module _ (p : Program) where
   abbrev K : Expr → Type 0
   K e = calls_known p e ≡ true
-
-  abbrev target_fold : Target → Bool
-  target_fold = fold-Target Bool Bool Bool (form_calls_known p) target_in_parts layer_in
 
   abbrev layer_of : Form-F Form Target Expr → Bool
   layer_of z = form_calls_known p (map-Form Form Target Expr Bool Bool Bool (fold-Form Bool Bool Bool (form_calls_known p) target_in_parts layer_in) (fold-Target Bool Bool Bool (form_calls_known p) target_in_parts layer_in) (calls_known p) z)
@@ -50,14 +47,14 @@ module _ (p : Program) where
       fold_out-Expr Bool Bool Bool (form_calls_known p) target_in_parts layer_in (typed t w) ∙
       (fold_out-Form Bool Bool Bool (form_calls_known p) target_in_parts layer_in w ∙ (ap layer_of o ∙ h))
 
-  by_target : (l : Target) (z : Target-F Form Target Expr) → out-Target l ≡ z → target_layer_of z ≡ true → target_fold l ≡ true
+  by_target : (l : Target) (z : Target-F Form Target Expr) → out-Target l ≡ z → target_layer_of z ≡ true → target_calls_known p l ≡ true
   by_target l z o h = fold_out-Target Bool Bool Bool (form_calls_known p) target_in_parts layer_in l ∙ (ap target_layer_of o ∙ h)
 
-  object_known : (s : Storage) → target_fold (object_at s) ≡ true
+  object_known : (s : Storage) → target_calls_known p (object_at s) ≡ true
   object_known (storage.Global g) = by_target _ (open_form.Global g) (outs-Global g) refl
   object_known (storage.Local l) = by_target _ (open_form.Local l) (outs-Local l) refl
 
-  element_known : (s : Storage) (i : Expr) → K i → target_fold (element_at s i) ≡ true
+  element_known : (s : Storage) (i : Expr) → K i → target_calls_known p (element_at s i) ≡ true
   element_known (storage.Global g) i h = by_target _ (open_form.GlobalAt g i) (outs-GlobalAt g i) (one_tested (calls_known p i) h)
   element_known (storage.Local l) i h = by_target _ (open_form.LocalAt l i) (outs-LocalAt l i) (one_tested (calls_known p i) h)
 
@@ -89,21 +86,21 @@ module _ (p : Program) where
     calling = record {
       scope = s;
       of_expr = K;
-      of_target = λ l. target_fold l ≡ true;
+      of_target = λ l. target_calls_known p l ≡ true;
       variable = λ name v q. object_known v.storage;
       element = λ name a i q h. element_known a.storage i h;
       number = λ t n. by_form t (form.Number n) (open_form.Number n) (outs-Number n) refl;
       function = λ t g. by_form t (form.Function g) (open_form.Function g) (outs-Function g) refl;
-      read = λ t l h. by_form t (form.Read l) (open_form.Read l) (outs-Read l) (one_tested (target_fold l) h);
+      read = λ t l h. by_form t (form.Read l) (open_form.Read l) (outs-Read l) (one_tested (target_calls_known p l) h);
       unary = λ t op a h. by_form t (form.Unary op a) (open_form.Unary op a) (outs-Unary op a) (one_tested (calls_known p a) h);
       binary = λ t op a b h k. by_form t (form.Binary op a b) (open_form.Binary op a b) (outs-Binary op a b) (two_tested (calls_known p a) (calls_known p b) h k);
       both = λ t a b h k. by_form t (form.Both a b) (open_form.Both a b) (outs-Both a b) (two_tested (calls_known p a) (calls_known p b) h k);
       either = λ t a b h k. by_form t (form.Either a b) (open_form.Either a b) (outs-Either a b) (two_tested (calls_known p a) (calls_known p b) h k);
       choose = λ t c a b g h k. by_form t (form.Choose c a b) (open_form.Choose c a b) (outs-Choose c a b) (three_tested (calls_known p c) (calls_known p a) (calls_known p b) g h k);
       convert = λ t a h. by_form t (form.Convert a) (open_form.Convert a) (outs-Convert a) (one_tested (calls_known p a) h);
-      assign = λ t l a h k. by_form t (form.Set l a) (open_form.Set l a) (outs-Set l a) (two_tested (target_fold l) (calls_known p a) h k);
-      change = λ t op kind l a h k. by_form t (form.Change op kind l a) (open_form.Change op kind l a) (outs-Change op kind l a) (two_tested (target_fold l) (calls_known p a) h k);
-      after = λ t up l h. by_form t (form.After up l) (open_form.After up l) (outs-After up l) (one_tested (target_fold l) h);
+      assign = λ t l a h k. by_form t (form.Set l a) (open_form.Set l a) (outs-Set l a) (two_tested (target_calls_known p l) (calls_known p a) h k);
+      change = λ t op kind l a h k. by_form t (form.Change op kind l a) (open_form.Change op kind l a) (outs-Change op kind l a) (two_tested (target_calls_known p l) (calls_known p a) h k);
+      after = λ t up l h. by_form t (form.After up l) (open_form.After up l) (outs-After up l) (one_tested (target_calls_known p l) h);
       direct = λ t g args h. by_form t (form.Direct g args) (open_form.Direct g args) (outs-Direct g args) (all_tested (calls_known p) args h);
       through = λ t args e h k. by_form t (form.Through args e) (open_form.Through args e) (outs-Through args e) (all_last_tested (map (calls_known p) args) (calls_known p e) (all_tested (calls_known p) args h) k);
       call = λ k n args names order count h. by_form int (form.Known (with_index k n) args) (open_form.Known (with_index k n) args) (outs-Known (with_index k n) args)

@@ -14,7 +14,7 @@ use Rattle.mv_ast.specs.declared.program.Signature.{Signature}
 use Rattle.mv_ast.specs.declared.program.Expr.{Expr, Expr-F, roll-Expr, out-roll-Expr}
 use Rattle.mv_ast.specs.declared.program.Form.{Form, Form-F, roll-Form, out-Form, out-roll-Form}
 use Rattle.mv_ast.specs.declared.program.Form.TheOpen as form
-use Rattle.mv_ast.specs.declared.program.Target.{Target, Target-F, fold-Target, roll-Target, out-Target, out-roll-Target}
+use Rattle.mv_ast.specs.declared.program.Target.{Target, Target-F, roll-Target, out-Target, out-roll-Target}
 use Rattle.mv_ir.specs.WellFormed.{known_arguments}
 use Rattle.mv_ir.proofs.Induction.{Each}
 use Rattle.mv_source_forms.specs.Typing.{HasType, LvalueHasType, global_types, parameter_types, types_of}
@@ -24,7 +24,7 @@ use Rattle.mv_source_forms.specs.Names.{is_scalar, is_own_switch, names_form, na
 use Rattle.mv_source_forms.proofs.ExpressionFolds.{ExprFolds, expr_fold, expr_folds, expr_family, along_exprs}
 use Rattle.mv_source_forms.proofs.ExpressionInduction.{FormChildren, TargetChildren}
 use Rattle.mv_source_forms.specs.Scopes.{form_in, target_in, layer_in, names_declared, target_names_declared}
-use Rattle.mv_source_forms.specs.Uses.{known_parameters, known_is_there, form_calls_known, target_in_parts, calls_known}
+use Rattle.mv_source_forms.specs.Uses.{known_parameters, known_is_there, form_calls_known, target_in_parts, calls_known, target_calls_known}
 use Rattle.mv_source_forms.proofs.Tests.{one_holds, two_hold, last_apart}
 use Rattle.mv_source_forms.specs.WellFormed.{IsWithinLimits}
 use Rattle.mv_lower_shape.specs.Reads.{LvalueReads, reads_layer, lvalue_reads, inner_reads, target_reads}
@@ -57,9 +57,6 @@ module _ (p : Program) (own : ℕ) (fn : Function) (globals : Globals) (locals :
     (free outer inner : ℕ → Bool) (narrow : (l : ℕ) → free l ≡ true → outer l ≡ true → inner l ≡ true) where
   open held_in p own globals use {Holds, Good}
   open asking globals locals sizes inner use {within as I, place}
-
-  abbrev target_known : Target → Bool
-  target_known = fold-Target Bool Bool Bool (form_calls_known p) target_in_parts layer_in
 
   -- an lvalue may be stored to, and read where the sets hold it
   pub record Reached (a : Access) (itself : Reading) : Type 0 where
@@ -150,7 +147,7 @@ module _ (p : Program) (own : ℕ) (fn : Function) (globals : Globals) (locals :
   layer : (x : Form-F Form Target Expr) → FormChildren P Q S x → (t : CType) → (let w = judged.form_layer x in Good (HasType p fn t x × FormParts p fn x) (w.1.0.0 t) w.1.0.1 w.1.1.0 w.1.1.1 → w.0 ≡ true)
   layer (form.Number n) h t g = refl
   layer (form.Read x) h t g =
-      let reached = h t (record { typed = (g.typed.0, g.typed.1); named = g.named; declared = one_holds (target_names_declared outer x) g.declared; known = one_holds (target_known x) g.known; held = holds_right (itself x) (index x) g.held }) in
+      let reached = h t (record { typed = (g.typed.0, g.typed.1); named = g.named; declared = one_holds (target_names_declared outer x) g.declared; known = one_holds (target_calls_known p x) g.known; held = holds_right (itself x) (index x) g.held }) in
       reached.read (holds_left (itself x) (index x) g.held)
   layer (form.Function f) h t g = refl
   layer (form.Unary op a) h t g = h (record { typed = g.typed.1; named = g.named; declared = one_holds (D a) g.declared; known = one_holds (K a) g.known; held = g.held })
@@ -168,20 +165,20 @@ module _ (p : Program) (own : ℕ) (fn : Function) (globals : Globals) (locals :
   layer (form.Set x a) h t g =
       let ns = and_cases (target_is_well_named p own locals sizes free x) (N a) g.named in
       let ds = two_hold (target_names_declared outer x) (D a) g.declared in
-      let ks = two_hold (target_known x) (K a) g.known in
+      let ks = two_hold (target_calls_known p x) (K a) g.known in
       let reached = h.0 t (record { typed = (g.typed.0.0, g.typed.1.0); named = ns.0; declared = ds.0; known = ks.0; held = holds_left (index x) (R a) g.held }) in
       and_from (place x).stored (I a) reached.stored (h.1 (record { typed = g.typed.1.1; named = ns.1; declared = ds.1; known = ks.1; held = holds_right (index x) (R a) g.held }))
   layer (form.Change op kind x a) h t g =
       let ns = and_cases (target_is_well_named p own locals sizes free x) (N a) g.named in
       let ds = two_hold (target_names_declared outer x) (D a) g.declared in
-      let ks = two_hold (target_known x) (K a) g.known in
+      let ks = two_hold (target_calls_known p x) (K a) g.known in
       let both : Reading = λ s z. itself x s z || index x s z in
       let ahead = holds_left both (R a) g.held in
       let reached = h.0 t (record { typed = (g.typed.0.2, g.typed.1.0); named = ns.0; declared = ds.0; known = ks.0; held = holds_right (itself x) (index x) ahead }) in
       and_from (place x).read ((place x).stored && I a) (reached.read (holds_left (itself x) (index x) ahead))
       (and_from (place x).stored (I a) reached.stored (h.1 (record { typed = g.typed.1.1; named = ns.1; declared = ds.1; known = ks.1; held = holds_right both (R a) g.held })))
   layer (form.After up x) h t g =
-      let reached = h t (record { typed = (g.typed.0.1, g.typed.1); named = g.named; declared = one_holds (target_names_declared outer x) g.declared; known = one_holds (target_known x) g.known; held = holds_right (itself x) (index x) g.held }) in
+      let reached = h t (record { typed = (g.typed.0.1, g.typed.1); named = g.named; declared = one_holds (target_names_declared outer x) g.declared; known = one_holds (target_calls_known p x) g.known; held = holds_right (itself x) (index x) g.held }) in
       and_from (place x).read (place x).stored (reached.read (holds_left (itself x) (index x) g.held)) reached.stored
   layer (form.Direct f args) h t g =
       let ns = and_cases _ (all_of (map N args)) g.named in
