@@ -19,16 +19,16 @@ use Rattle.mv_ir.specs.declared.stm.Stm.TheViews.{roll-Stm}
 use Rattle.mv_ir.specs.declared.stm.Stm.TheFolds.{map-Stm}
 use Rattle.mv_ir.specs.World.{Setting, Frame}
 use Rattle.mv_ir.specs.Trees.{Value, tree_value, unary, binary, value}
-use Rattle.mv_ir.specs.Outcome.{Returned, Outcome, Next, Leaves, Restarts, Ends, Meaning, in_order}
-use Rattle.mv_ir.specs.Meaning.{statement, meaning, code_meaning, entry_state, body_end}
+use Rattle.mv_ir.specs.Outcome.{Meaning, in_order}
+use Rattle.mv_ir.specs.Meaning.{meaning, code_meaning, entry_state}
 use Rattle.mv_ir.specs.Keeps.{KeepsBody}
 use Rattle.mv_ir.specs.declared.body.Body.{Body}
 use Rattle.mv_ir.specs.Measures.{joined, callee_trees}
 use Rattle.mv_ir.specs.Live.{reads_temp}
 use Rattle.mv_ir.proofs.Induction.{Each, TreeChildren, tree_ind, StmChildren}
 use Rattle.mv_ir.proofs.Rolls.{value_roll, reads_temp_roll}
-use Rattle.mv_ir.proofs.Keeping.{map_append, one_meaning}
-use Rattle.mv_ir.proofs.Relating.{Places, under, in_block, in_loop, OutcomeRel, RunRel, MeaningRel, nil_rel, append_rel, places_weaker, block_rel, loop_rel}
+use Rattle.mv_ir.proofs.Keeping.{map_append, one_meaning, layer_means}
+use Rattle.mv_ir.proofs.Relating.{Places, under, in_block, in_loop, RunRel, MeaningRel, nil_rel, append_rel, places_weaker, block_rel, loop_rel, end_same}
 use Rattle.mv_ir.proofs.RelatedStatements.{SameIn, SameTreesIn, SameCalleeIn, Puts, set_rel, set_global_rel, divide_rel, check_rel, read_rel, write_rel, zero_rel, if_rel, break_rel, back_rel, call_rel, known_rel, return_rel}
 use Rattle.mv_fold.specs.Simple.{alone}
 use Rattle.mv_fold.specs.declared.uses.Use.{Use}
@@ -131,14 +131,11 @@ module _ (setting : Setting) (frame : Frame) (needed : ℕ → Bool) where
       subst (λ l. R (map m (s ∷ b)) l) (sym (map_append m (needed_stm needed s) (joined (map (needed_stm needed) b))))
       (append_rel Agree Agree q (m s ∷ []) (map m (needed_stm needed s)) (map m b) (map m (joined (map (needed_stm needed) b))) (h.0 (left needed (stm_uses s) _ a)) (kids b h.1 (right needed (stm_uses s) _ a)))
 
-  abbrev layer_means : Stm-F Stm → Meaning
-  layer_means x = statement setting frame (map-Stm Stm Meaning m x)
-
   -- one statement, kept as one
-  one : (x y : Stm-F Stm) → MeaningRel Agree q (layer_means x) (layer_means y) → R (m (roll-Stm x) ∷ []) (map m (alone y))
+  one : (x y : Stm-F Stm) → MeaningRel Agree q (layer_means setting frame x) (layer_means setting frame y) → R (m (roll-Stm x) ∷ []) (map m (alone y))
   one x y h bound s s' e =
       subst (λ r. RunRel q (code_meaning setting frame (roll-Stm x ∷ []) bound s) r) (sym (one_meaning setting frame y bound s'))
-      (subst (λ r. RunRel q r (layer_means y bound s')) (sym (one_meaning setting frame x bound s)) (h bound s s' e))
+      (subst (λ r. RunRel q r (layer_means setting frame y bound s')) (sym (one_meaning setting frame x bound s)) (h bound s s' e))
 
   -- a set that nobody reads
   dropped : (t : ℕ) (v : Tree) → needed t ≡ false → R (m (roll-Stm (stm.Set t v)) ∷ []) []
@@ -197,24 +194,6 @@ module _ (setting : Setting) (frame : Frame) (needed : ℕ → Bool) where
   agree_self xs = record { long = refl; same = λ t r. refl }
 
 -- ---- bodies
-
-end_same : (q : Places) (o o' : Outcome) → OutcomeRel q o o' → body_end o ≡ body_end o'
-end_same q (Next s) (Next s') h = ap (λ w. Returned None w) h.world
-end_same q (Next s) (Leaves n s') h = absurd h
-end_same q (Next s) (Restarts n s') h = absurd h
-end_same q (Next s) (Ends e) h = absurd h
-end_same q (Leaves n s) (Next s') h = absurd h
-end_same q (Leaves n s) (Leaves n' s') h = ap (λ w. Returned None w) h.1.world
-end_same q (Leaves n s) (Restarts n' s') h = absurd h
-end_same q (Leaves n s) (Ends e) h = absurd h
-end_same q (Restarts n s) (Next s') h = absurd h
-end_same q (Restarts n s) (Leaves n' s') h = absurd h
-end_same q (Restarts n s) (Restarts n' s') h = ap (λ w. Returned None w) h.1.world
-end_same q (Restarts n s) (Ends e) h = absurd h
-end_same q (Ends e) (Next s') h = absurd h
-end_same q (Ends e) (Leaves n s') h = absurd h
-end_same q (Ends e) (Restarts n s') h = absurd h
-end_same q (Ends e) (Ends e') h = h
 
 pub needed_keeps : (b : Body) (needed : ℕ → Bool) → IsNeeded needed (code_uses b.code) → KeepsBody b (record b { code = needed_code needed b.code })
 needed_keeps b needed h setting frame contents args bound w =

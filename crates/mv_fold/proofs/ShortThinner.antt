@@ -7,10 +7,10 @@ use Rattle.mv_ir.specs.declared.stm.Stm.TheOpen as stm
 use Rattle.mv_ir.specs.declared.stm.Stm.TheViews.{roll-Stm}
 use Rattle.mv_ir.specs.declared.body.Body.{Body}
 use Rattle.mv_ir.specs.Live.{any_reads, Around, Flow, with_after, live_in_order, marks_in_order, flow, nowhere, live_at_start}
-use Rattle.mv_ir.proofs.Rolls.{flow_roll}
+use Rattle.mv_ir.proofs.Rolls.{flow_roll, flow_of_layer}
 use Rattle.mv_fold.specs.Shortened.{shortened}
 use Rattle.mv_fold.proofs.Shortening.{temp, set, store, return, shortened_is}
-use Rattle.mv_fold.proofs.Thinner.{Covers, covers_trans, composed, covers_append, FitsAround, code_flow, layer_of, flow_one, nowhere_fits, KeepsIntervals, body_intervals}
+use Rattle.mv_fold.proofs.Thinner.{Covers, covers_trans, composed, covers_append, FitsAround, code_flow, flow_one, nowhere_fits, KeepsIntervals, body_intervals}
 use Rattle.mv_fold.proofs.FoldedThinner.{every, same, code_same}
 use Rattle.mv_num.proofs.Booleans.{from_falsity}
 
@@ -63,8 +63,8 @@ leave n = (false ∷ [], record { live = λ t e. from_falsity e; marks = λ t. s
 
 abbrev pair : Stm-F Stm → Stm-F Stm → ℕ → Flow
 pair x y t = record {
-  live = λ r. live_in_order (layer_of every x t ∷ layer_of every y t ∷ []) r;
-  marks = λ r. marks_in_order (layer_of every x t ∷ layer_of every y t ∷ []) r;
+  live = λ r. live_in_order (flow_of_layer x t ∷ flow_of_layer y t ∷ []) r;
+  marks = λ r. marks_in_order (flow_of_layer x t ∷ flow_of_layer y t ∷ []) r;
 }
 
 flow_pair : (x y : Stm-F Stm) → flows (roll-Stm x ∷ roll-Stm y ∷ []) ≡ pair x y
@@ -73,7 +73,7 @@ flow_pair x y = λ i t. record {
   marks = λ r. marks_in_order (flow_roll t x i ∷ flow_roll t y i ∷ []) r;
 }
 
-pair_thin : (x y z : Stm-F Stm) → ThinAt (true ∷ false ∷ []) (pair x y) (layer_of every z) → Thin (roll-Stm x ∷ roll-Stm y ∷ []) (roll-Stm z ∷ [])
+pair_thin : (x y z : Stm-F Stm) → ThinAt (true ∷ false ∷ []) (pair x y) (flow_of_layer z) → Thin (roll-Stm x ∷ roll-Stm y ∷ []) (roll-Stm z ∷ [])
 unfolding Thin
 pair_thin x y z h = (
   true ∷ false ∷ [],

@@ -15,8 +15,8 @@ use Rattle.mv_meaning.specs.Meaning.{flow_of_all, frame_of, deeper, back_in, cal
 use Rattle.mv_ir.specs.declared.stm.Stm.{Stm}
 use Rattle.mv_ir.specs.declared.stm.Stm.TheOpen as stm
 use Rattle.mv_ir.specs.World as code_world
-use Rattle.mv_ir.specs.Outcome.{State, Returned, Ends, Run, Bound, Calls, Call, spend, then_do}
-use Rattle.mv_ir.specs.Meaning.{Contents, entry_state, body_end, body_from, cleared}
+use Rattle.mv_ir.specs.Outcome.{State, Returned, Ends, Bound, Calls, Call, spend, then_do}
+use Rattle.mv_ir.specs.Meaning.{Contents, entry_state, body_from, cleared, call_from}
 use Rattle.mv_ir.specs.Levels.{Code, one_if, called, levels}
 use Rattle.mv_ir.specs.Programs.{setting_of, place_if, code_of}
 use Rattle.mv_ir.proofs.Keeping.{one_meaning}
@@ -43,9 +43,6 @@ use Rattle.mv_lower_correct.proofs.Pairs.{Nothing, steady_same}
 use Rattle.mv_lower_correct.proofs.KnownAgree.{OwnIsLive, same_reads, known_agrees}
 use Rattle.mv_lower_correct.proofs.Entry.{entry_frame, ground_of, frame_for, code_for, code_is, shows_entry, agrees}
 use Rattle.mv_num.proofs.Booleans.{and_cases, from_falsity}
-
-abbrev pub call_from : Run → Call
-call_from r = record { cost = r.cost; end = body_end r.outcome }
 
 -- ---- what a body comes to
 
