@@ -6,12 +6,13 @@ use Rattle.mv_ir.specs.declared.stm.Stm.TheOpen.{Stm-F}
 use Rattle.mv_ir.specs.declared.stm.Stm.TheOpen as stm
 use Rattle.mv_ir.specs.declared.stm.Stm.TheViews.{roll-Stm}
 use Rattle.mv_ir.specs.declared.body.Body.{Body}
-use Rattle.mv_ir.specs.Live.{reads_temp, any_reads, is, Around, Flow, with_after, at_place, around_block, around_loop, live_in_order, marks_in_order, live_at_loop, plain, goes_next, flow, nowhere, live_at_start, all_marks, IsWhole, any, filled, interval, mark_at, HasTemps, count_at, below, marks_length, most_intervals}
+use Rattle.mv_ir.specs.Live.{reads_temp, any_reads, is, Around, Flow, with_after, at_place, around_block, around_loop, live_in_order, marks_in_order, live_at_loop, plain, goes_next, flow, nowhere, live_at_start, all_marks, IsWhole, filled, interval, mark_at, HasTemps, count_at, below, marks_length, most_intervals}
 use Rattle.mv_ir.proofs.Rolls.{flow_roll, flow_of_layer}
 use Rattle.mv_ir.proofs.Keeping.{map_append}
 use Rattle.mv_ir.proofs.Joining.{greatest_most, greatest_within, live_append, marks_append}
 use Rattle.std.proofs.lemmas.Bool.{or_right, or_left}
 use Rattle.mv_num.proofs.Booleans.{or_cases, and_cases, from_falsity}
+use Rattle.mv_ast.specs.Names.{any_of}
 
 -- ---- marks: which positions stay, and that none of these is marked where it wasn't
 
@@ -75,19 +76,19 @@ covers_mark (true ∷ ms) (x ∷ xs) (y ∷ ys) h (suc i) e = covers_mark ms xs 
 covers_mark (false ∷ ms) [] ys h i e = absurd h
 covers_mark (false ∷ ms) (x ∷ xs) ys h i e = covers_mark ms xs ys h i e
 
-covers_any : (ms xs ys : List Bool) → Covers ms xs ys → any ys ≡ true → any xs ≡ true
+covers_any : (ms xs ys : List Bool) → Covers ms xs ys → any_of ys ≡ true → any_of xs ≡ true
 covers_any [] [] [] h e = e
 covers_any [] [] (y ∷ ys) h e = absurd h
 covers_any [] (x ∷ xs) ys h e = absurd h
 covers_any (true ∷ ms) [] ys h e = absurd h
 covers_any (true ∷ ms) (x ∷ xs) [] h e = absurd h
-covers_any (true ∷ ms) (x ∷ xs) (y ∷ ys) h e = by (covers_any ms xs ys h.1) (or_cases y (any ys) e)
+covers_any (true ∷ ms) (x ∷ xs) (y ∷ ys) h e = by (covers_any ms xs ys h.1) (or_cases y (any_of ys) e)
   where
-    by : (any ys ≡ true → any xs ≡ true) → (y ≡ true) ⊎ (any ys ≡ true) → (x || any xs) ≡ true
-    by more (inl here) = or_left x (any xs) (h.0 here)
-    by more (inr there) = or_right x (any xs) (more there)
+    by : (any_of ys ≡ true → any_of xs ≡ true) → (y ≡ true) ⊎ (any_of ys ≡ true) → (x || any_of xs) ≡ true
+    by more (inl here) = or_left x (any_of xs) (h.0 here)
+    by more (inr there) = or_right x (any_of xs) (more there)
 covers_any (false ∷ ms) [] ys h e = absurd h
-covers_any (false ∷ ms) (x ∷ xs) ys h e = or_right x (any xs) (covers_any ms xs ys h e)
+covers_any (false ∷ ms) (x ∷ xs) ys h e = or_right x (any_of xs) (covers_any ms xs ys h e)
 
 pub or_both : (a b c d : Bool) → (c ≡ true → a ≡ true) → (d ≡ true → b ≡ true) → (c || d) ≡ true → (a || b) ≡ true
 or_both a b c d h k e = by (or_cases c d e)
@@ -106,7 +107,7 @@ covers_filled [] (x ∷ xs) ys h b b' g i e = absurd h
 covers_filled (true ∷ ms) [] ys h b b' g i e = absurd h
 covers_filled (true ∷ ms) (x ∷ xs) [] h b b' g i e = absurd h
 covers_filled (true ∷ ms) (x ∷ xs) (y ∷ ys) h b b' g zero e =
-    and_both (b || x) (x || any xs) (b' || y) (y || any ys) (or_both b x b' y g h.0) (or_both x (any xs) y (any ys) h.0 (covers_any ms xs ys h.1)) e
+    and_both (b || x) (x || any_of xs) (b' || y) (y || any_of ys) (or_both b x b' y g h.0) (or_both x (any_of xs) y (any_of ys) h.0 (covers_any ms xs ys h.1)) e
 covers_filled (true ∷ ms) (x ∷ xs) (y ∷ ys) h b b' g (suc i) e = covers_filled ms xs ys h.1 (b || x) (b' || y) (or_both b x b' y g h.0) i e
 covers_filled (false ∷ ms) [] ys h b b' g i e = absurd h
 covers_filled (false ∷ ms) (x ∷ xs) ys h b b' g i e = covers_filled ms xs ys h (b || x) b' (λ c. or_left b x (g c)) i e

@@ -4,11 +4,12 @@ use Rattle.std.specs.Prelude.{◌||◌, ◌&&◌, not, nat_lt, sum}
 use Rattle.std.proofs.lemmas.Bool.{or_parts, and_right, lt-ltb, cases_lt}
 use Rattle.mv_ir.specs.declared.body.Body.{Body}
 use Rattle.mv_ir.specs.Measures.{total}
-use Rattle.mv_ir.specs.Live.{any, filled, mark_at, all_marks, interval, count_at, below, marks_length, most_intervals}
+use Rattle.mv_ir.specs.Live.{filled, mark_at, all_marks, interval, count_at, below, marks_length, most_intervals}
 use Rattle.mv_ir.proofs.Keeping.{map_append}
 use Rattle.mv_ir.proofs.Joining.{greatest_within}
 use Rattle.mv_ast.specs.declared.program.Local.{Local}
 use Rattle.mv_ast.specs.Counts.{words_of_size, elements_of}
+use Rattle.mv_ast.specs.Names.{any_of}
 use Rattle.mv_source_forms.specs.Names.{is_scalar, size_in}
 use Rattle.mv_lower_spec.specs.Functions.{array_sizes}
 use Rattle.mv_lower_shape.proofs.Expressions.{is_used}
@@ -17,15 +18,15 @@ use Rattle.mv_num.proofs.Booleans.{one_or_none}
 
 -- ---- marks
 
-filled_none : (begun : Bool) (xs : List Bool) (i : ℕ) → any xs ≡ false → mark_at (filled begun xs) i ≡ false
+filled_none : (begun : Bool) (xs : List Bool) (i : ℕ) → any_of xs ≡ false → mark_at (filled begun xs) i ≡ false
 filled_none begun [] i e = refl
-filled_none begun (x ∷ xs) zero e = and_right (begun || x) (x || any xs) e
-filled_none begun (x ∷ xs) (suc i) e = filled_none (begun || x) xs i (or_parts x (any xs) e).1
+filled_none begun (x ∷ xs) zero e = and_right (begun || x) (x || any_of xs) e
+filled_none begun (x ∷ xs) (suc i) e = filled_none (begun || x) xs i (or_parts x (any_of xs) e).1
 
-pub marked_none : (xs : List Bool) (i : ℕ) → any xs ≡ false → mark_at xs i ≡ false
+pub marked_none : (xs : List Bool) (i : ℕ) → any_of xs ≡ false → mark_at xs i ≡ false
 marked_none [] i e = refl
-marked_none (x ∷ xs) zero e = (or_parts x (any xs) e).0
-marked_none (x ∷ xs) (suc i) e = marked_none xs i (or_parts x (any xs) e).1
+marked_none (x ∷ xs) zero e = (or_parts x (any_of xs) e).0
+marked_none (x ∷ xs) (suc i) e = marked_none xs i (or_parts x (any_of xs) e).1
 
 -- ---- sums over numbers
 
@@ -105,7 +106,7 @@ module _ (ls : List Local) (room : ℕ) where
       by false e s = absurd cc
 
   -- temporaries that aren't used are marked nowhere: what is counted is at most the scalars, and the temporaries behind the locals
-  pub few_intervals : (b : Body) → b.temps ≡ room → length ls ≤ room → ((t : ℕ) → is_used (length ls) (size_in ls) room t ≡ false → any (all_marks b t) ≡ false) →
+  pub few_intervals : (b : Body) → b.temps ≡ room → length ls ≤ room → ((t : ℕ) → is_used (length ls) (size_in ls) room t ≡ false → any_of (all_marks b t) ≡ false) →
       most_intervals b + sum (array_sizes ls) + length ls ≤ sum (map (λ l. words_of_size l.size) ls) + room
   few_intervals b temps le unused =
       let each = greatest_within (marks_length (all_marks b 0)) (λ i. count_at i (map (interval b) (below b.temps))) (sum_below room used_word)

@@ -3,7 +3,7 @@ use Rattle.std.proofs.Common.{arith, ◌≡◌, ℕ, suc, ◌+◌, ◌-◌, ◌*
 use Rattle.std.specs.Prelude.{slice_index, replicate}
 use Rattle.std.proofs.lemmas.Bool.{cases_eq, eq-eqb, ne_eqb}
 use Rattle.std.proofs.lemmas.List.{drop_all, drop_more, get_or-map, get_or-reverse, length-drop, length-map, length-reverse, length-replicate}
-use Rattle.mv_ir.specs.Live.{mark_at, any, marks_length}
+use Rattle.mv_ir.specs.Live.{mark_at, marks_length}
 use Rattle.mv_regalloc.specs.declared.parts.Part.{Part}
 use Rattle.mv_regalloc.specs.declared.told.Firsts.{Firsts}
 use Rattle.mv_regalloc.specs.declared.told.Places.{Places}
@@ -19,6 +19,7 @@ use Rattle.mv_regalloc.proofs.Putting.{put_as, put_none}
 use Rattle.mv_regalloc.proofs.SharedSets.{bit_in}
 use Rattle.mv_regalloc.proofs.WordBits.{none_in}
 use Rattle.mv_num.proofs.Numbers.{zeros_at}
+use Rattle.mv_ast.specs.Names.{any_of}
 
 -- ---- some temporaries
 
@@ -177,7 +178,7 @@ row_told parts number v s s' h = record {
 pub record EndsSoFar (rows : List Bits) (n : ℕ) (s : Firsts) : Type 0 where
   pub long : length s.values ≡ n
   pub room : n ≤ length s.told * 64
-  pub told : (t : ℕ) → t < n → word_bit s.told t ≡ any (column t rows)
+  pub told : (t : ℕ) → t < n → word_bit s.told t ≡ any_of (column t rows)
   pub values : (t : ℕ) → t < n → slice_index s.values t ≡ behind_last (column t rows)
 
 module _ (parts : List Part) (number n : ℕ) (s s' : Firsts) where
@@ -197,11 +198,11 @@ module _ (parts : List Part) (number n : ℕ) (s s' : Firsts) where
     room = (let a = k.room in let b = h.long in omega (arith, a, b));
     told = λ t l. next_told v h k.long t l ∙ ap (λ c. mark_at row t || c) (k.told t l);
     values = λ t l.
-        next_value v h k.long t l ∙ ap (λ c. cond (mark_at row t && not c) v (slice_index s.values t)) (k.told t l) ∙ ap (cond (mark_at row t && not (any (column t rows))) v) (k.values t l) ∙
-        by (mark_at row t) (column t rows) (any (column t rows)) refl (e ∙ sym (column_long t rows));
+        next_value v h k.long t l ∙ ap (λ c. cond (mark_at row t && not c) v (slice_index s.values t)) (k.told t l) ∙ ap (cond (mark_at row t && not (any_of (column t rows))) v) (k.values t l) ∙
+        by (mark_at row t) (column t rows) (any_of (column t rows)) refl (e ∙ sym (column_long t rows));
   }
     where
-      by : (r : Bool) (xs : List Bool) (a : Bool) → any xs ≡ a → v ≡ marks_length xs → cond (r && not (any xs)) v (behind_last xs) ≡ cond (any xs) (behind_last xs) (cond r (marks_length xs) 0)
+      by : (r : Bool) (xs : List Bool) (a : Bool) → any_of xs ≡ a → v ≡ marks_length xs → cond (r && not (any_of xs)) v (behind_last xs) ≡ cond (any_of xs) (behind_last xs) (cond r (marks_length xs) 0)
       by r xs true a m = ap (λ c. cond (r && not c) v (behind_last xs)) a ∙ off r ∙ ap (λ c. cond c (behind_last xs) (cond r (marks_length xs) 0)) (sym a)
         where
           off : (r : Bool) → cond (r && false) v (behind_last xs) ≡ behind_last xs
