@@ -20,8 +20,9 @@ use Rattle.mv_ir.specs.Live.{layer_reads_temp, reads_temp, any_reads, Around, Fl
 use Rattle.mv_ir.proofs.Induction.{Each, TreeChildren, tree_ind, StmChildren, stm_ind, stms_ind}
 use Rattle.mv_ir.proofs.Rolls.{reads_temp_roll, flow_of_layer}
 use Rattle.mv_ir.proofs.Joining.{any_reads_append}
+use Rattle.mv_ir.specs.Rolled.{number}
 use Rattle.mv_fold.specs.declared.uses.Use.{Use}
-use Rattle.mv_fold.specs.Simple.{constant, number, one_or, two_or, simple_node, simple_tree, layer_jumps, jumps, ended, simple_callee, alone, division, choice, simple_layer, simple_stm, simple_code}
+use Rattle.mv_fold.specs.Simple.{constant, one_or, two_or, simple_node, simple_tree, layer_jumps, jumps, ended, simple_callee, alone, division, choice, simple_layer, simple_stm, simple_code}
 use Rattle.mv_fold.specs.Needed.{tree_uses, trees_uses, layer_uses, stm_uses, code_uses, IsNeeded, needed_layer, needed_stm, needed_code}
 use Rattle.mv_fold.proofs.SimpleKept.{jumps_roll, simple_tree_roll, each_simple}
 use Rattle.mv_fold.proofs.NeededEquations.{stm_uses_roll, each_left}

@@ -18,13 +18,14 @@ use Rattle.mv_ir.specs.Measures.{joined, callee_trees, layer_trees, stm_trees, t
 use Rattle.mv_ir.proofs.Induction.{Each, TreeChildren, tree_ind, StmChildren}
 use Rattle.mv_ir.proofs.Rolls.{nodes_roll, depth_roll, reads_roll}
 use Rattle.mv_ir.proofs.Joining.{depth_positive}
-use Rattle.mv_fold.specs.Simple.{constant, number, one_or, two_or, simple_node, simple_tree, jumps, ended, simple_callee, alone, division, choice, simple_layer, simple_stm, simple_code}
+use Rattle.mv_ir.specs.Rolled.{number, temp}
+use Rattle.mv_fold.specs.Simple.{constant, one_or, two_or, simple_node, simple_tree, jumps, ended, simple_callee, alone, division, choice, simple_layer, simple_stm, simple_code}
 use Rattle.mv_fold.specs.Needed.{needed_layer, needed_stm, needed_code}
 use Rattle.mv_fold.specs.Shortened.{shortened}
 use Rattle.mv_fold.specs.Folded.{simple_body, IsNoGreater}
 use Rattle.mv_fold.proofs.SimpleKept.{nodes_some, simple_tree_roll, each_simple}
 use Rattle.mv_fold.proofs.NeededEquations.{each_left}
-use Rattle.mv_fold.proofs.Shortening.{temp, shortened_is}
+use Rattle.mv_fold.proofs.Shortening.{shortened_is}
 use Rattle.mv_fold.proofs.Within.{Among, among_append, none_among, Amount, Less, less_refl, less_trans, with, less_with, less_nothing, less_left, less_right, of_trees, of_trees_append, amount, amount_append, layer_amount, Within, within_append, within_one, within_many, no_greater}
 
 -- ---- trees

@@ -22,8 +22,9 @@ use Rattle.mv_ir.proofs.Keeping.{meaning_roll, one_meaning, layer_means}
 use Rattle.mv_ir.proofs.Relating.{Places, under, in_block, in_loop, OutcomeRel, MeaningRel, nil_rel, cons_rel, places_weaker, block_rel, loop_rel}
 use Rattle.mv_ir.proofs.RelatedStatements.{SameIn, SameTreesIn, SameCalleeIn, Puts, set_rel, set_global_rel, divide_rel, check_rel, read_rel, write_rel, zero_rel, if_rel, break_rel, back_rel, call_rel, known_rel, return_rel}
 use Rattle.mv_ir.proofs.Joining.{temps_enough}
+use Rattle.mv_ir.specs.Rolled.{temp, set, set_global, return_with}
 use Rattle.mv_fold.specs.Shortened.{shortened}
-use Rattle.mv_fold.proofs.Shortening.{temp, set, store, return, shortened_is}
+use Rattle.mv_fold.proofs.Shortening.{shortened_is}
 
 module _ (temps : ℕ) (setting : Setting) (frame : Frame) where
   -- ---- there stay as many temporaries
@@ -145,22 +146,22 @@ module _ (temps : ℕ) (setting : Setting) (frame : Frame) where
   read_back t n xs globals lt room =
       ap (λ f. f (slice_set xs t n) globals) (value_roll setting.numbers frame.bound (tree.Temp t)) ∙ get_or-set_same xs t n 0 (omega (arith, lt, room))
 
-  stored : (t g : ℕ) (v : Tree) → t < temps → KeepsEnd (set t v ∷ store g (temp t) ∷ []) (store g v ∷ [])
+  stored : (t g : ℕ) (v : Tree) → t < temps → KeepsEnd (set t v ∷ set_global g (temp t) ∷ []) (set_global g v ∷ [])
   unfolding KeepsEnd
   stored t g v lt bound st room =
       let n = value setting.numbers frame.bound v st.temps st.world.globals in
-      subst (λ r. KeepsCall (call_from r) (call_from (code_meaning setting frame (store g v ∷ []) bound st))) (sym (two t v (stm.SetGlobal g (temp t)) bound st))
+      subst (λ r. KeepsCall (call_from r) (call_from (code_meaning setting frame (set_global g v ∷ []) bound st))) (sym (two t v (stm.SetGlobal g (temp t)) bound st))
       (subst (λ r. KeepsCall (call_from (spend (8 + 3 * nodes v) (layer_means setting frame (stm.SetGlobal g (temp t)) bound (record st { temps = slice_set st.temps t n })))) (call_from r)) (sym (one_meaning setting frame (stm.SetGlobal g v) bound st))
       (record {
         same = ap (λ k. Returned None (with_global st.world g (slice_set (slice_index_or st.world.globals g []) 0 k))) (read_back t n st.temps st.world.globals lt room);
         cheaper = omega arith;
       }))
 
-  returned : (t : ℕ) (v : Tree) → t < temps → KeepsEnd (set t v ∷ return (temp t) ∷ []) (return v ∷ [])
+  returned : (t : ℕ) (v : Tree) → t < temps → KeepsEnd (set t v ∷ return_with (temp t) ∷ []) (return_with v ∷ [])
   unfolding KeepsEnd
   returned t v lt bound st room =
       let n = value setting.numbers frame.bound v st.temps st.world.globals in
-      subst (λ r. KeepsCall (call_from r) (call_from (code_meaning setting frame (return v ∷ []) bound st))) (sym (two t v (stm.Return (temp t)) bound st))
+      subst (λ r. KeepsCall (call_from r) (call_from (code_meaning setting frame (return_with v ∷ []) bound st))) (sym (two t v (stm.Return (temp t)) bound st))
       (subst (λ r. KeepsCall (call_from (spend (8 + 3 * nodes v) (layer_means setting frame (stm.Return (temp t)) bound (record st { temps = slice_set st.temps t n })))) (call_from r)) (sym (one_meaning setting frame (stm.Return v) bound st))
       (record { same = ap (λ k. Returned (Some k) st.world) (read_back t n st.temps st.world.globals lt room); cheaper = omega arith }))
 

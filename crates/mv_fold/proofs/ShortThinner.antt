@@ -8,8 +8,9 @@ use Rattle.mv_ir.specs.declared.stm.Stm.TheViews.{roll-Stm}
 use Rattle.mv_ir.specs.declared.body.Body.{Body}
 use Rattle.mv_ir.specs.Live.{any_reads, Around, Flow, with_after, live_in_order, marks_in_order, flow, nowhere, live_at_start}
 use Rattle.mv_ir.proofs.Rolls.{flow_roll, flow_of_layer}
+use Rattle.mv_ir.specs.Rolled.{temp, set, set_global, return_with}
 use Rattle.mv_fold.specs.Shortened.{shortened}
-use Rattle.mv_fold.proofs.Shortening.{temp, set, store, return, shortened_is}
+use Rattle.mv_fold.proofs.Shortening.{shortened_is}
 use Rattle.mv_fold.proofs.Thinner.{Covers, covers_trans, composed, covers_append, FitsAround, code_flow, flow_one, nowhere_fits, KeepsIntervals, body_intervals}
 use Rattle.mv_fold.proofs.FoldedThinner.{every, same, code_same}
 use Rattle.mv_num.proofs.Booleans.{from_falsity}
@@ -88,13 +89,13 @@ marked_first : (a b c : Bool) → ((a || false) || false) ≡ true → ((a || b)
 marked_first true b c e = refl
 marked_first false b c e = from_falsity e
 
-stored : (t g : ℕ) (v : Tree) → Thin (set t v ∷ store g (temp t) ∷ []) (store g v ∷ [])
+stored : (t g : ℕ) (v : Tree) → Thin (set t v ∷ set_global g (temp t) ∷ []) (set_global g v ∷ [])
 stored t g v = pair_thin (stm.Set t v) (stm.SetGlobal g (temp t)) (stm.SetGlobal g v) (record {
   live = λ u e. read_first (any_reads u (v ∷ [])) _ e;
   marks = λ u. ((λ e. marked_first (any_reads u (v ∷ [])) _ _ e), tt);
 })
 
-returned : (t : ℕ) (v : Tree) → Thin (set t v ∷ return (temp t) ∷ []) (return v ∷ [])
+returned : (t : ℕ) (v : Tree) → Thin (set t v ∷ return_with (temp t) ∷ []) (return_with v ∷ [])
 returned t v = pair_thin (stm.Set t v) (stm.Return (temp t)) (stm.Return v) (record {
   live = λ u e. read_first (any_reads u (v ∷ [])) _ e;
   marks = λ u. ((λ e. marked_first (any_reads u (v ∷ [])) _ _ e), tt);

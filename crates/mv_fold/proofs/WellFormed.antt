@@ -15,6 +15,7 @@ use Rattle.mv_ir.proofs.Induction.{Each, StmChildren}
 use Rattle.mv_ir.proofs.Rolls.{targets_roll, named_roll, arguments_roll}
 use Rattle.mv_ir.proofs.Keeping.{map_append}
 use Rattle.mv_ir.proofs.Lists.{joined_append}
+use Rattle.mv_ir.specs.Rolled.{temp}
 use Rattle.mv_fold.specs.Simple.{constant, simple_tree, jumps, ended, simple_callee, alone, division, choice, simple_layer, simple_stm, simple_code}
 use Rattle.mv_fold.specs.Needed.{needed_layer, needed_stm, needed_code}
 use Rattle.mv_fold.specs.Shortened.{shortened}
@@ -22,7 +23,7 @@ use Rattle.mv_fold.specs.Folded.{simple_body, IsNoGreater}
 use Rattle.mv_fold.proofs.Reached.{cons_head, cons_tail}
 use Rattle.mv_fold.proofs.SimpleKept.{each_simple}
 use Rattle.mv_fold.proofs.NeededEquations.{each_left}
-use Rattle.mv_fold.proofs.Shortening.{temp, shortened_is}
+use Rattle.mv_fold.proofs.Shortening.{shortened_is}
 use Rattle.mv_num.proofs.Booleans.{and_cases, and_true}
 use Rattle.mv_num.proofs.Lists.{length_map}
 
