@@ -22,25 +22,18 @@ use Rattle.mv_lower_spec.specs.LowerStatements.{lower_optional, lower_stmt, lowe
 use Rattle.mv_source_forms.proofs.StatementFolds.{along_stmts}
 use Rattle.mv_source_forms.proofs.StatementInduction.{StmtChildren}
 use Rattle.mv_lower_shape.proofs.Folds.{lowered_stmts, sequences}
-use Rattle.mv_lower_names.proofs.Naming.{TreeNames, StmNames, CodeNames, both, then, number_names, temp_names, binary_names, set_names, write_names, zero_names, choose_names, return_names, break_names, repeat_names, enclosed_names}
+use Rattle.mv_lower_names.proofs.Naming.{StmNames, then, number_names, temp_names, binary_names, set_names, write_names, zero_names, choose_names, return_names, break_names, repeat_names, enclosed_names, naming}
 use Rattle.mv_lower_names.proofs.Premises.{KnownOf, Optional, StmtKnown, StmtsKnown}
 use Rattle.mv_lower_names.proofs.Expressions.{FineLowering, expr_fine}
 
 module _ (F : ℕ → Type 0) (K : Known → Type 0) (C : ℕ → Type 0) (zero_is : C 0) (one_is : C 1) (greatest_is : C 4294967295) where
-  abbrev T : Tree → Type 0
-  T = TreeNames F K C
-
-  abbrev X : List Stm → Type 0
-  X = CodeNames F K C
+  open naming F K C use {T, X, join}
 
   abbrev FL : Lowering → Type 0
   FL = FineLowering F K C zero_is one_is greatest_is
 
   abbrev FinePlaced : Placed → Type 0
   FinePlaced a = (j : Jumps) → X (a j).code
-
-  abbrev join : (xs ys : List Stm) → X xs → X ys → X (xs ++ ys)
-  join = both F K C
 
   -- all numbers below one may stand in the code
   abbrev Below : ℕ → Type 0
