@@ -1,9 +1,7 @@
 -- What an expression is lowered to: statements, and a tree for its value at their end.
 use Rattle.std.specs.Prelude.{ℕ, ◌+◌, cond, Bool, true, false, ◌&&◌, List, [], ◌∷◌, ◌++◌, max, nat_le, Option, Some, None}
 use Rattle.mv_ir.specs.declared.tree.Tree.{Tree}
-use Rattle.mv_ir.specs.declared.tree.Tree.TheOpen as tree
 use Rattle.mv_ir.specs.declared.stm.Stm.{Stm}
-use Rattle.mv_ir.specs.declared.stm.Stm.TheOpen as stm
 use Rattle.mv_ir.specs.declared.stm.Array.{Array}
 use Rattle.mv_ir.specs.declared.stm.Callee.{Callee}
 use Rattle.mv_ir.specs.declared.stm.Callee.TheVariants as callee
