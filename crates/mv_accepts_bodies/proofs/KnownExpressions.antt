@@ -25,26 +25,23 @@ use Rattle.mv_accepts_bodies.proofs.ExprJudged.{value_kept, effect_kept}
 use Rattle.mv_check_expressions.specs.Seen.{object_at, element_at}
 use Rattle.mv_check_expressions.specs.Calls.{known_params, with_index}
 use Rattle.mv_source_forms.specs.Scopes.{form_in}
-use Rattle.mv_source_forms.specs.Uses.{known_parameters, order_is_there, known_is_there, form_calls_known, target_in_parts, calls_known}
+use Rattle.mv_source_forms.specs.Uses.{known_parameters, order_is_there, known_is_there, form_calls_known, target_in_parts, calls_known, target_calls_known}
 use Rattle.mv_accepts_bodies.specs.Formed.{AreShaped}
 use Rattle.mv_accepts_bodies.proofs.Tests.{all_tested, one_tested}
-use Rattle.mv_accepts_bodies.proofs.TestedForms.{is_known_call, target_holds, by_target, converted_tested, tested}
+use Rattle.mv_accepts_bodies.proofs.TestedForms.{is_known_call, by_target, converted_tested, tested}
 use Rattle.mv_accepts_bodies.proofs.ExprProperty.{NamesKnown, IsPlanned, IsOrder, ExprProperty}
 
 module _ (p : Program) where
-  abbrev target_known : Target → Bool
-  target_known = target_holds (form_calls_known p) target_in_parts
-
   -- a form asks its parts alone, but for the call of a known function
   asks_parts : (z : Form-F Bool Bool Bool) → is_known_call z ≡ false → form_in z ≡ true → form_calls_known p z ≡ true
   asks_parts (open_form.Known k args) q h = absurd (cc)
   asks_parts z q h = h
 
-  object_known : (s : Storage) → target_known (object_at s) ≡ true
+  object_known : (s : Storage) → target_calls_known p (object_at s) ≡ true
   object_known (storage.Global g) = by_target (form_calls_known p) target_in_parts _ (open_form.Global g) (outs-Global g) refl
   object_known (storage.Local l) = by_target (form_calls_known p) target_in_parts _ (open_form.Local l) (outs-Local l) refl
 
-  element_known : (s : Storage) (i : Expr) → calls_known p i ≡ true → target_known (element_at s i) ≡ true
+  element_known : (s : Storage) (i : Expr) → calls_known p i ≡ true → target_calls_known p (element_at s i) ≡ true
   element_known (storage.Global g) i h = by_target (form_calls_known p) target_in_parts _ (open_form.GlobalAt g i) (outs-GlobalAt g i) (one_tested (calls_known p i) h)
   element_known (storage.Local l) i h = by_target (form_calls_known p) target_in_parts _ (open_form.LocalAt l i) (outs-LocalAt l i) (one_tested (calls_known p i) h)
 

@@ -5,8 +5,9 @@ use Rattle.mv_num.specs.declared.kind.Kind.TheVariants.{Int}
 use Rattle.mv_ast.specs.declared.place.Place.{Place}
 use Rattle.mv_ast.specs.declared.program.CType.{CType}
 use Rattle.mv_ast.specs.declared.program.CType.TheVariants.{Void, Scalar, Pointer}
+use Rattle.mv_ast.specs.Names.{any_of}
 use Rattle.mv_check_expressions.specs.Judged.{Good, Broken}
-use Rattle.mv_check_expressions.specs.TypeNames.{are, named_kind, named_type, as_scalar, any_is, judged_type, type_or_broken}
+use Rattle.mv_check_expressions.specs.TypeNames.{are, named_kind, named_type, as_scalar, judged_type, type_or_broken}
 
 -- a type that is no pointer
 abbrev pub IsPlain : CType → Type 0
@@ -30,7 +31,7 @@ named_plain enums words = by (nat_eq enums 0) (are words (19 ∷ [])) (nat_eq en
 
 -- the type that specifiers name
 pub plain_type : (place : Place) (flags : List Bool) (words : List ℕ) (t : CType) → judged_type place flags words ≡ Good t → IsPlain t
-plain_type place flags words t h = by (any_is flags) (named_type (length flags) words) (named_plain (length flags) words) h
+plain_type place flags words t h = by (any_of flags) (named_type (length flags) words) (named_plain (length flags) words) h
   where
     by : (b : Bool) (o : Option CType) → PlainOption o → (if b then Broken place 1 else type_or_broken place o) ≡ Good t → IsPlain t
     by true o k g = absurd (cc)

@@ -14,10 +14,11 @@ use Rattle.mv_ast.specs.declared.unit.Mark.{Mark}
 use Rattle.mv_ast.specs.declared.unit.Shape.{Shape-F, out-Shape}
 use Rattle.mv_ast.specs.declared.unit.Shape.TheOpen as shape
 use Rattle.mv_ast.specs.declared.unit.Specs.{Specs, out-Specs}
+use Rattle.mv_ast.specs.Names.{any_of}
 use Rattle.mv_check_scope.specs.declared.scope.Scope.{Scope}
 use Rattle.mv_check_expressions.specs.declared.constant.Constant.{Constant}
 use Rattle.mv_check_expressions.specs.Judged.{Broken}
-use Rattle.mv_check_expressions.specs.TypeNames.{are, named_kind, named_type, as_scalar, any_is, undeclared_enum, type_or_broken, type_of}
+use Rattle.mv_check_expressions.specs.TypeNames.{are, named_kind, named_type, as_scalar, undeclared_enum, type_or_broken, type_of}
 use Rattle.mv_check_declarations.specs.declared.attributes.Attribute.{Attribute}
 use Rattle.mv_check_declarations.specs.declared.attributes.Holder.{Holder}
 use Rattle.mv_check_declarations.specs.declared.attributes.Position.TheVariants as position
@@ -114,7 +115,7 @@ scalar_admits (Pointer s) c h = λ u. absurd u
 
 -- the values of an attribute fit the type that is found before the enums are declared, and so that behind them
 type_admits : (s : Scope) (specs : Specs) (t : CType) → IsNamed specs t → (c : Constant) → Fits (kind_of (type_of s specs)) c → IsOf t c.value
-type_admits s specs t n c h = by (any_is flags) refl h (int_named tags words t n)
+type_admits s specs t n c h = by (any_of flags) refl h (int_named tags words t n)
   where
     tags : List EnumSpec
     tags = (out-Specs specs).tags
@@ -131,10 +132,10 @@ type_admits s specs t n c h = by (any_is flags) refl h (int_named tags words t n
     here : named_type (length flags) words ≡ Some t
     here = ap (λ m. named_type m words) (length-map tags (undeclared_enum s)) ∙ n
 
-    none : tags ≡ [] → any_is flags ≡ false
-    none q = ap (λ (x : List EnumSpec). any_is (map (undeclared_enum s) x)) q
+    none : tags ≡ [] → any_of flags ≡ false
+    none q = ap (λ (x : List EnumSpec). any_of (map (undeclared_enum s) x)) q
 
-    by : (b : Bool) → any_is flags ≡ b → Fits (kind_of (if b then Broken place 1 else type_or_broken place (named_type (length flags) words))) c →
+    by : (b : Bool) → any_of flags ≡ b → Fits (kind_of (if b then Broken place 1 else type_or_broken place (named_type (length flags) words))) c →
         (tags ≡ []) ⊎ (t ≡ Scalar Int) → IsOf t c.value
     by true q g (inl e) = absurd (let r : true ≡ false = sym q ∙ none e in cc)
     by true q g (inr e) = subst (λ u. IsOf u c.value) (sym e) (int_is c.value)

@@ -5,8 +5,8 @@ use Rattle.std.specs.List.{All, AllByRecursion, filter, flat_map}
 use Rattle.mv_ast.specs.declared.program.Program.{Program}
 use Rattle.mv_ast.specs.declared.program.Function.{Function}
 use Rattle.mv_ast.specs.declared.program.Local.{Local}
-use Rattle.mv_ast.specs.Counts.{words_of_size, assignments}
-use Rattle.mv_check_limits.specs.Limits.{Limit, elements, own_switches, first_above, excess, first_some, limits, first_exceeded, global_sizes, local_sizes}
+use Rattle.mv_ast.specs.Counts.{words_of_size, assignments, elements_of}
+use Rattle.mv_check_limits.specs.Limits.{Limit, own_switches, first_above, excess, first_some, limits, first_exceeded, global_sizes, local_sizes}
 use Rattle.mv_check_limits.proofs.Bounds.{first_at_most}
 use Rattle.mv_check_limits.proofs.Orders.{none_first, not_exceeded}
 use Rattle.mv_source_forms.specs.WellFormed.{program_nodes, IsWithinLimits}
@@ -37,27 +37,27 @@ parted n (x ∷ xs) ys h = by (nat_lt n x) (λ g. parted n xs ys g) h
 
 -- ---- elements
 
-words_few : (size : Option ℕ) → elements size ≤ 262144 → words_of_size size ≤ 262144
+words_few : (size : Option ℕ) → elements_of size ≤ 262144 → words_of_size size ≤ 262144
 words_few None h = omega arith
 words_few (Some n) h = h
 
-sizes_few : {X : Type 0} (size : X → Option ℕ) (xs : List X) → first_above 262144 (map (λ x. elements (size x)) xs) ≡ None →
+sizes_few : {X : Type 0} (size : X → Option ℕ) (xs : List X) → first_above 262144 (map (λ x. elements_of (size x)) xs) ≡ None →
     AllByRecursion (λ x. words_of_size (size x) ≤ 262144) xs
 sizes_few size [] h = tt
 sizes_few size (x ∷ xs) h =
-    let p = first_at_most 262144 (elements (size x)) _ h in (words_few (size x) p.0, sizes_few size xs p.1)
+    let p = first_at_most 262144 (elements_of (size x)) _ h in (words_few (size x) p.0, sizes_few size xs p.1)
 
-all_sizes_few : {X : Type 0} (size : X → Option ℕ) (xs : List X) → first_above 262144 (map (λ x. elements (size x)) xs) ≡ None →
+all_sizes_few : {X : Type 0} (size : X → Option ℕ) (xs : List X) → first_above 262144 (map (λ x. elements_of (size x)) xs) ≡ None →
     All (λ x. words_of_size (size x) ≤ 262144) xs
 all_sizes_few size xs h = All-from_recursion (λ x. words_of_size (size x) ≤ 262144) xs (sizes_few size xs h)
 
 abbrev FewElements : Function → Type 0
 FewElements f = All (λ l. words_of_size l.size ≤ 262144) f.locals
 
-locals_few : (fs : List Function) → first_above 262144 (flat_map (λ f. map (λ l. elements l.size) f.locals) fs) ≡ None → AllByRecursion FewElements fs
+locals_few : (fs : List Function) → first_above 262144 (flat_map (λ f. map (λ l. elements_of l.size) f.locals) fs) ≡ None → AllByRecursion FewElements fs
 locals_few [] h = tt
 locals_few (f ∷ fs) h =
-    let p = parted 262144 (map (λ l. elements l.size) f.locals) (flat_map (λ f. map (λ l. elements l.size) f.locals) fs) h in
+    let p = parted 262144 (map (λ l. elements_of l.size) f.locals) (flat_map (λ f. map (λ l. elements_of l.size) f.locals) fs) h in
     (all_sizes_few (λ (l : Local). l.size) f.locals p.0, locals_few fs p.1)
 
 -- ---- attributed functions

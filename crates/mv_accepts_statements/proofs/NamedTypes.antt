@@ -4,8 +4,9 @@ use Rattle.std.proofs.lemmas.List.{length-map}
 use Rattle.mv_ast.specs.declared.place.Place.{Place}
 use Rattle.mv_ast.specs.declared.program.CType.{CType}
 use Rattle.mv_ast.specs.declared.unit.Specs.{Specs, out-Specs}
+use Rattle.mv_ast.specs.Names.{any_of}
 use Rattle.mv_check_scope.specs.declared.scope.Scope.{Scope}
-use Rattle.mv_check_expressions.specs.TypeNames.{named_type, any_is, undeclared_enum, type_or_broken, type_of}
+use Rattle.mv_check_expressions.specs.TypeNames.{named_type, undeclared_enum, type_or_broken, type_of}
 use Rattle.mv_check_declarations.specs.declared.attributes.Position.{Position}
 use Rattle.mv_check_declarations.specs.Specifiers.{at_file, type_by_rules}
 use Rattle.mv_accepts_expressions.proofs.Plain.{IsPlain, PlainOption, named_plain}
@@ -25,7 +26,7 @@ type_named : (s : Scope) (specs : Specs) → IfGood (type_of s specs) (IsNamed s
 type_named s specs =
     let f = out-Specs specs in
     let flags : List Bool = map (undeclared_enum s) f.tags in
-    if_kept (IsNamed specs) (any_is flags) f.place 1 (type_or_broken f.place (named_type (length flags) f.words)) (λ q.
+    if_kept (IsNamed specs) (any_of flags) f.place 1 (type_or_broken f.place (named_type (length flags) f.words)) (λ q.
     if_more (λ t. named_type (length flags) f.words ≡ Some t) (IsNamed specs) (type_or_broken f.place (named_type (length flags) f.words))
     (λ t h. ap (λ n. named_type n f.words) (sym (length-map f.tags (undeclared_enum s))) ∙ h) (option_named f.place (named_type (length flags) f.words)))
 

@@ -11,9 +11,10 @@ use Rattle.mv_ast.specs.declared.unit.Declarator.{Declarator}
 use Rattle.mv_ast.specs.declared.unit.Item.{Item}
 use Rattle.mv_ast.specs.declared.unit.Line.{Line}
 use Rattle.mv_ast.specs.declared.unit.Unit as tree
+use Rattle.mv_ast.specs.Counts.{elements_of}
 use Rattle.mv_check_expressions.specs.Judged.{Good}
 use Rattle.mv_check_limits.specs.declared.excess.Exceeded.{Exceeded}
-use Rattle.mv_check_limits.specs.Limits.{Limit, elements, first_above, reported, excess, first_some, functions_limit, globals_limit, parameters_limit, switches_limit, values_limit, switches_of_function_limit, assignments_limit, elements_limit, global_sizes, local_sizes}
+use Rattle.mv_check_limits.specs.Limits.{Limit, first_above, reported, excess, first_some, functions_limit, globals_limit, parameters_limit, switches_limit, values_limit, switches_of_function_limit, assignments_limit, elements_limit, global_sizes, local_sizes}
 use Rattle.mv_check_limits.specs.Ordered.{unit_parameters, global_elements, local_elements, declarator_elements, item_elements, unit_elements, in_text, first_excess}
 use Rattle.mv_check_limits.proofs.Told.{both_none}
 use Rattle.mv_check_rules.specs.Nodes.{Global}
@@ -55,11 +56,11 @@ module _ (n : ℕ) where
   within_lists f (x ∷ xs) h = within_more (f x) (flat_map f xs) (h zero x refl) (within_lists f xs (λ i y q. h (suc i) y q))
 
 -- the elements of a global, and of a function's locals, stand under its own name
-own_global : (g : program_global.Global) → global_elements (Some g.name) g ≡ elements g.size ∷ []
-own_global g = ap (λ (b : Bool). if b then elements g.size ∷ [] else []) (name_itself g.name)
+own_global : (g : program_global.Global) → global_elements (Some g.name) g ≡ elements_of g.size ∷ []
+own_global g = ap (λ (b : Bool). if b then elements_of g.size ∷ [] else []) (name_itself g.name)
 
-own_locals : (f : Function) → local_elements (Some f.name) f ≡ map (λ l. elements l.size) f.locals
-own_locals f = ap (λ (b : Bool). if b then map (λ l. elements l.size) f.locals else []) (name_itself f.name)
+own_locals : (f : Function) → local_elements (Some f.name) f ≡ map (λ l. elements_of l.size) f.locals
+own_locals f = ap (λ (b : Bool). if b then map (λ l. elements_of l.size) f.locals else []) (name_itself f.name)
 
 module _ (u : tree.Unit) (known : ItemsAreForeknown) where
   abbrev W : Type 0
@@ -128,9 +129,9 @@ module _ (u : tree.Unit) (known : ItemsAreForeknown) where
     elements_within : (n : ℕ) → first_above n (unit_elements u P) ≡ None → first_above n (global_sizes P ++ local_sizes P) ≡ None
     elements_within n h =
         within_more n (global_sizes P) (local_sizes P)
-        (within_all n (λ g. elements g.size) P.globals (λ i g q.
+        (within_all n (λ g. elements_of g.size) P.globals (λ i g q.
         subst (λ xs. first_above n xs ≡ None) (own_global g) (within_at n (global_elements (Some g.name)) P.globals (global_told i g q P n h) i g q)))
-        (within_lists n (λ f. map (λ l. elements l.size) f.locals) P.functions (λ i f q.
+        (within_lists n (λ f. map (λ l. elements_of l.size) f.locals) P.functions (λ i f q.
         subst (λ xs. first_above n xs ≡ None) (own_locals f)
         (within_at n (local_elements (Some f.name)) P.functions (all_at (λ (f : Function). F f.name) P.functions functions_told i f q P n h) i f q)))
 

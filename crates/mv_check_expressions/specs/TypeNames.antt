@@ -8,6 +8,7 @@ use Rattle.mv_ast.specs.declared.program.CType.TheVariants.{Void, Scalar}
 use Rattle.mv_ast.specs.declared.unit.Specs.{Specs, out-Specs}
 use Rattle.mv_ast.specs.declared.unit.EnumSpec.{EnumSpec, out-EnumSpec}
 use Rattle.mv_ast.specs.Keywords as keywords
+use Rattle.mv_ast.specs.Names.{any_of}
 use Rattle.mv_check_scope.specs.declared.scope.Scope.{Scope}
 use Rattle.mv_check_scope.specs.Scoped.{tag_of}
 use Rattle.mv_check_expressions.specs.RuleNumbers as rules
@@ -53,10 +54,6 @@ abbrev pub is_undeclared : Scope → Option (List ℕ) → Bool → Bool
 is_undeclared scope None without_list = false
 is_undeclared scope (Some tag) without_list = without_list && is_none (tag_of scope tag)
 
-abbrev pub any_is : List Bool → Bool
-any_is [] = false
-any_is (b ∷ bs) = b || any_is bs
-
 abbrev pub type_or_broken : Place → Option CType → Judged CType
 type_or_broken place None = Broken place rules.declarations
 type_or_broken place (Some t) = Good t
@@ -64,7 +61,7 @@ type_or_broken place (Some t) = Good t
 -- names: a tag isn't declared; declarations: the words and enums name no type
 abbrev pub judged_type : Place → List Bool → List ℕ → Judged CType
 judged_type place undeclared words =
-    if any_is undeclared then Broken place rules.names else type_or_broken place (named_type (length undeclared) words)
+    if any_of undeclared then Broken place rules.names else type_or_broken place (named_type (length undeclared) words)
 
 abbrev pub undeclared_enum : Scope → EnumSpec → Bool
 undeclared_enum scope e = let f = out-EnumSpec e in is_undeclared scope f.tag (is_none f.members)

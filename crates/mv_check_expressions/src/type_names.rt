@@ -2,7 +2,8 @@
 
 ghost use Rattle.std.specs.Prelude.{◌≡◌, map};
 ghost use Rattle.mv_check_expressions.specs.Judged.{IsJudged};
-ghost use Rattle.mv_check_expressions.specs.TypeNames.{stands_in, are, all_stand_in, named_kind, named_type, undeclared_enum, any_is, type_of};
+ghost use Rattle.mv_check_expressions.specs.TypeNames.{stands_in, are, all_stand_in, named_kind, named_type, undeclared_enum, type_of};
+ghost use Rattle.mv_ast.specs.Names.{any_of};
 
 use crate::error::RuleError;
 use crate::rules;
@@ -99,7 +100,7 @@ fn is_undeclared(scope: &Scope, e: &EnumSpec) -> bool
 }
 
 fn any_undeclared(scope: &Scope, enums: &[EnumSpec]) -> bool
-    ensures { result ≡ any_is (map (undeclared_enum scope.now) enums.now) }
+    ensures { result ≡ any_of (map (undeclared_enum scope.now) enums.now) }
 {
     for e in enums {
         if is_undeclared(scope, e) {

@@ -10,7 +10,8 @@ use Rattle.mv_ast.specs.declared.unit.Declarator.{Declarator}
 use Rattle.mv_ast.specs.declared.unit.Item.{Item}
 use Rattle.mv_ast.specs.declared.unit.Line.{Line}
 use Rattle.mv_ast.specs.declared.unit.Unit as unit
-use Rattle.mv_check_limits.specs.Limits.{elements, first_above, elements_limit, global_sizes, local_sizes}
+use Rattle.mv_ast.specs.Counts.{elements_of}
+use Rattle.mv_check_limits.specs.Limits.{first_above, elements_limit, global_sizes, local_sizes}
 use Rattle.mv_check_limits.specs.Ordered.{has_name, global_elements, local_elements, declarator_elements, item_elements, unit_elements, ordered_elements}
 
 pub both_none : (a b : Option ℕ) → option_or a b ≡ None → (a ≡ None) × (b ≡ None)
@@ -32,19 +33,19 @@ module _ (n : ℕ) where
   chosen_none true xs h = h
   chosen_none false xs h = refl
 
-  globals_none : (name : Option (List ℕ)) (gs : List Global) → first_above n (map (λ g. elements g.size) gs) ≡ None →
+  globals_none : (name : Option (List ℕ)) (gs : List Global) → first_above n (map (λ g. elements_of g.size) gs) ≡ None →
       first_above n (concat (map (global_elements name) gs)) ≡ None
   globals_none name [] h = refl
   globals_none name (g ∷ gs) h =
-      let both = parts_none (elements g.size ∷ []) (map (λ g. elements g.size) gs) h in
-      joined_none (global_elements name g) (concat (map (global_elements name) gs)) (chosen_none (has_name g.name name) (elements g.size ∷ []) both.0) (globals_none name gs both.1)
+      let both = parts_none (elements_of g.size ∷ []) (map (λ g. elements_of g.size) gs) h in
+      joined_none (global_elements name g) (concat (map (global_elements name) gs)) (chosen_none (has_name g.name name) (elements_of g.size ∷ []) both.0) (globals_none name gs both.1)
 
-  functions_none : (name : Option (List ℕ)) (fs : List Function) → first_above n (flat_map (λ f. map (λ l. elements l.size) f.locals) fs) ≡ None →
+  functions_none : (name : Option (List ℕ)) (fs : List Function) → first_above n (flat_map (λ f. map (λ l. elements_of l.size) f.locals) fs) ≡ None →
       first_above n (concat (map (local_elements name) fs)) ≡ None
   functions_none name [] h = refl
   functions_none name (f ∷ fs) h =
-      let both = parts_none (map (λ l. elements l.size) f.locals) (flat_map (λ f. map (λ l. elements l.size) f.locals) fs) h in
-      joined_none (local_elements name f) (concat (map (local_elements name) fs)) (chosen_none (has_name f.name name) (map (λ l. elements l.size) f.locals) both.0) (functions_none name fs both.1)
+      let both = parts_none (map (λ l. elements_of l.size) f.locals) (flat_map (λ f. map (λ l. elements_of l.size) f.locals) fs) h in
+      joined_none (local_elements name f) (concat (map (local_elements name) fs)) (chosen_none (has_name f.name name) (map (λ l. elements_of l.size) f.locals) both.0) (functions_none name fs both.1)
 
   module _ (p : Program) (h : first_above n (elements_limit p).counts ≡ None) where
     declarator_none : (body : Option Line) (d : Declarator) → first_above n (declarator_elements p body d) ≡ None

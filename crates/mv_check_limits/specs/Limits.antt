@@ -3,7 +3,7 @@ use Rattle.std.specs.Prelude.{ℕ, List, [], ◌∷◌, ◌++◌, map, length, n
 use Rattle.std.specs.List.{find, flat_map}
 use Rattle.mv_ast.specs.declared.program.Program.{Program}
 use Rattle.mv_ast.specs.declared.program.Function.{Function}
-use Rattle.mv_ast.specs.Counts.{assignments}
+use Rattle.mv_ast.specs.Counts.{assignments, elements_of}
 use Rattle.mv_check_limits.specs.declared.counts.Counts.{Counts}
 use Rattle.mv_check_limits.specs.declared.excess.Exceeded.{Exceeded}
 
@@ -12,11 +12,6 @@ pub record Limit : Type 0 where
   pub number : ℕ
   pub greatest : ℕ
   pub counts : List ℕ
-
--- the elements of an array; a scalar has none
-abbrev pub elements : Option ℕ → ℕ
-elements None = 0
-elements (Some size) = size
 
 abbrev pub functions_limit : Program → Limit
 functions_limit p = record { number = 1; greatest = 1000; counts = length p.functions ∷ [] }
@@ -53,10 +48,10 @@ assignments_limit p = record { number = 7; greatest = 64; counts = map (λ f. as
 
 -- elements of each array of the globals, and of each function's locals
 abbrev pub global_sizes : Program → List ℕ
-global_sizes p = map (λ g. elements g.size) p.globals
+global_sizes p = map (λ g. elements_of g.size) p.globals
 
 abbrev pub local_sizes : Program → List ℕ
-local_sizes p = flat_map (λ f. map (λ l. elements l.size) f.locals) p.functions
+local_sizes p = flat_map (λ f. map (λ l. elements_of l.size) f.locals) p.functions
 
 -- the globals come first: a program doesn't tell which of its functions stand before which of its globals
 abbrev pub elements_limit : Program → Limit

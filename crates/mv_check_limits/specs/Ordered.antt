@@ -14,9 +14,10 @@ use Rattle.mv_ast.specs.declared.unit.Param.{Param, Param-F, fold-Param}
 use Rattle.mv_ast.specs.declared.unit.Line.{Line, Line-F, fold-Line}
 use Rattle.mv_ast.specs.declared.unit.Act.{Act, Act-F, fold-Act}
 use Rattle.mv_ast.specs.declared.unit.Act.TheOpen as act
+use Rattle.mv_ast.specs.Counts.{elements_of}
 use Rattle.mv_check_limits.specs.declared.counts.Counts.{Counts}
 use Rattle.mv_check_limits.specs.declared.excess.Exceeded.{Exceeded}
-use Rattle.mv_check_limits.specs.Limits.{Limit, elements, functions_limit, globals_limit, parameters_limit, switches_limit, values_limit, switches_of_function_limit, assignments_limit, elements_limit, first_above, excess, first_some}
+use Rattle.mv_check_limits.specs.Limits.{Limit, functions_limit, globals_limit, parameters_limit, switches_limit, values_limit, switches_of_function_limit, assignments_limit, elements_limit, first_above, excess, first_some}
 
 -- ---- parameters: a function, or a pointer to one, is declared before its parameters are
 
@@ -87,10 +88,10 @@ has_name name None = false
 has_name name (Some declared) = pointwise nat_eq name declared
 
 abbrev pub global_elements : Option (List ℕ) → Global → List ℕ
-global_elements name g = if has_name g.name name then elements g.size ∷ [] else []
+global_elements name g = if has_name g.name name then elements_of g.size ∷ [] else []
 
 abbrev pub local_elements : Option (List ℕ) → Function → List ℕ
-local_elements name f = if has_name f.name name then map (λ l. elements l.size) f.locals else []
+local_elements name f = if has_name f.name name then map (λ l. elements_of l.size) f.locals else []
 
 -- a block behind a declarator defines the function
 abbrev pub declarator_elements : Program → Option Line → Declarator → List ℕ

@@ -1,9 +1,9 @@
 // The first count of a program that exceeds a limit.
 
 ghost use Rattle.std.specs.Prelude.{◌≡◌, ◌≤◌, [], ◌∷◌, None, map, IsTrue, length, nat_lt};
-ghost use Rattle.mv_ast.specs.Counts.{assignments, product_of};
+ghost use Rattle.mv_ast.specs.Counts.{assignments, product_of, elements_of};
 ghost use Rattle.mv_ast.specs.Plans.{switch_domain};
-ghost use Rattle.mv_check_limits.specs.Limits.{first_above, elements, own_switches, global_sizes, local_sizes, parameters_limit, values_limit, switches_of_function_limit, assignments_limit, elements_limit};
+ghost use Rattle.mv_check_limits.specs.Limits.{first_above, own_switches, global_sizes, local_sizes, parameters_limit, values_limit, switches_of_function_limit, assignments_limit, elements_limit};
 ghost use Rattle.mv_check_limits.specs.Ordered.{counts_of, ordered_parameters};
 
 use crate::parameters::parameters_of_unit;
@@ -102,7 +102,7 @@ pub fn switches_of_functions(program: &Program) -> Option<u64>
 
 // The elements of an array.
 pub fn elements(size: Option<u32>) -> u64
-    ensures { result ≡ elements size }
+    ensures { result ≡ elements_of size }
 {
     match size {
         Some(size) => u64::from(size),
@@ -123,7 +123,7 @@ fn global_elements(program: &Program) -> Option<u64>
 
 // The first array of some locals that is too long.
 pub fn elements_of(locals: &[Local]) -> Option<u64>
-    ensures { result ≡ first_above 262144 (map (λ l. elements l.size) locals.now) }
+    ensures { result ≡ first_above 262144 (map (λ l. elements_of l.size) locals.now) }
 {
     locals
         .iter()

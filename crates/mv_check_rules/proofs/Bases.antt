@@ -8,9 +8,10 @@ use Rattle.mv_ast.specs.declared.program.CType.{CType}
 use Rattle.mv_ast.specs.declared.program.CType.TheVariants as ctype
 use Rattle.mv_ast.specs.declared.unit.Declarator.{Declarator}
 use Rattle.mv_ast.specs.declared.unit.Specs.{Specs, out-Specs}
+use Rattle.mv_ast.specs.Names.{any_of}
 use Rattle.mv_check_scope.specs.declared.scope.Scope.{Scope}
 use Rattle.mv_check_expressions.specs.Judged.{Judged, Good, Broken, and_then}
-use Rattle.mv_check_expressions.specs.TypeNames.{any_is, undeclared_enum, type_of, type_or_broken, named_type}
+use Rattle.mv_check_expressions.specs.TypeNames.{undeclared_enum, type_of, type_or_broken, named_type}
 use Rattle.mv_check_declarations.specs.declared.attributes.Attribute.{Attribute}
 use Rattle.mv_check_declarations.specs.declared.attributes.Holder.{Holder}
 use Rattle.mv_check_declarations.specs.declared.attributes.Position.{Position}
@@ -41,15 +42,15 @@ module _ (p : Position) (specs : Specs) where
   abbrev end : Scope → (number : Option ℕ) → (again undeclared : Bool) → Option Attribute → Behind code_specified.Specified
   end s number again undeclared a = and_then (type_by_rules p undeclared again specs s) (λ t. Good (s, specified t number a))
 
-  concludes : (y : Specified) → (list_any is_undeclared y.enums ≡ false → any_is (map (undeclared_enum y.scope) (out-Specs specs).tags) ≡ false) →
+  concludes : (y : Specified) → (list_any is_undeclared y.enums ≡ false → any_of (map (undeclared_enum y.scope) (out-Specs specs).tags) ≡ false) →
       concluded (out-Specs specs).place y.scope (node.Specifiers ((out-Specs specs).hidden && is_local p) y.enums (type_of_words specs)) (base_of specs y) ≡
       mapped (over base_of_specified) (end y.scope (last_number y.enums) (list_any is_again y.enums) (list_any is_undeclared y.enums) (attribute_of y.attribute))
   unfolding type_by_rules
   concludes y h =
       by (list_any is_undeclared y.enums) (list_any is_again y.enums) ((out-Specs specs).hidden && is_local p)
-      (any_is (map (undeclared_enum y.scope) (out-Specs specs).tags)) (type_of_words specs) h ∙
+      (any_of (map (undeclared_enum y.scope) (out-Specs specs).tags)) (type_of_words specs) h ∙
       ap (λ n. found (list_any is_undeclared y.enums) (list_any is_again y.enums) ((out-Specs specs).hidden && is_local p)
-      (any_is (map (undeclared_enum y.scope) (out-Specs specs).tags)) (named_type n (out-Specs specs).words))
+      (any_of (map (undeclared_enum y.scope) (out-Specs specs).tags)) (named_type n (out-Specs specs).words))
       (sym (length-map (out-Specs specs).tags (undeclared_enum y.scope)))
     where
       place : Place
@@ -82,7 +83,7 @@ module _ (p : Position) (specs : Specs) where
 
 pub specifiers_agree : SpecifiersAgree
 specifiers_agree p bs names specs s q =
-    then_known (λ z. list_any is_undeclared z.enums ≡ false → any_is (map (undeclared_enum z.scope) (out-Specs specs).tags) ≡ false)
+    then_known (λ z. list_any is_undeclared z.enums ≡ false → any_of (map (undeclared_enum z.scope) (out-Specs specs).tags) ≡ false)
     (over base_of_specified) _ _ (concludes p specs)
     (in_order (specifier bs (kind_named s specs)) (specifiers_in_order (out-Specs specs).tags (out-Specs specs).marks) start)
     (declared_behind bs (kind_named s specs) (out-Specs specs).tags (out-Specs specs).marks start) ∙

@@ -28,7 +28,8 @@ use Rattle.mv_check_rules.specs.Nodes.{Given, Nothing, Value, Values, Characters
 use Rattle.mv_check_rules.specs.Rules.{all_convert}
 use Rattle.mv_check_rules.specs.Declarations.{given, expressions_of}
 use Rattle.mv_check_rules.proofs.Agreement.{mapped}
-use Rattle.mv_check_rules.proofs.Parts.{and_true, none_fails}
+use Rattle.mv_check_rules.proofs.Parts.{none_fails}
+use Rattle.mv_num.proofs.Booleans.{and_true}
 
 -- ---- a scope with other locals
 
@@ -88,7 +89,7 @@ module _ (t : CType) (s : Scope) where
   }
 
   converted_agree : (ns : List Node) (x : Converted) → through (converted_value t s) ns x ≡ mapped (behind x) (each (map (value_judgement s) ns))
-  converted_agree [] x = λ i. Good (record { all = and_true x.all i; values = sym (append-nil x.values) i })
+  converted_agree [] x = λ i. Good (record { all = sym (and_true x.all) i; values = sym (append-nil x.values) i })
   converted_agree (n ∷ ns) x = by (value_judgement s n) (converted_agree ns)
     where
       on : (e : Expr) (j : Judged (List Expr)) → mapped (behind (with_converted t x e)) j ≡ mapped (behind x) (and_then j (λ rest. Good (e ∷ rest)))

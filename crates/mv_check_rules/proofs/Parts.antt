@@ -16,10 +16,6 @@ pub or_false : (b : Bool) → b ≡ b || false
 or_false true = refl
 or_false false = refl
 
-pub and_true : (b : Bool) → b ≡ b && true
-and_true true = refl
-and_true false = refl
-
 -- of two tests and of those behind them, by those that fail
 pub none_fails : (a b rest : Bool) → ((a && b) && not rest) ≡ (a && not (not b || rest))
 none_fails true true rest = refl

@@ -8,6 +8,7 @@ use Rattle.mv_ast.specs.declared.place.Place.{Place}
 use Rattle.mv_ast.specs.declared.unit.EnumSpec.{EnumSpec, out-EnumSpec}
 use Rattle.mv_ast.specs.declared.unit.Mark.{Mark}
 use Rattle.mv_ast.specs.declared.unit.Member.{Member, out-Member}
+use Rattle.mv_ast.specs.Names.{any_of}
 use Rattle.mv_check_scope.specs.declared.meaning.Meaning.{Meaning}
 use Rattle.mv_check_scope.specs.declared.meaning.Meaning.TheVariants as meaning
 use Rattle.mv_check_scope.specs.declared.scope.Scope.{Scope}
@@ -15,7 +16,7 @@ use Rattle.mv_check_scope.specs.Names.{Names}
 use Rattle.mv_check_scope.specs.Scoped.{tag_of, tag_declared}
 use Rattle.mv_check_scope.specs.Spaces.{named, or_else, meaning_in}
 use Rattle.mv_check_expressions.specs.Judged.{Judged, Good, Broken, and_then}
-use Rattle.mv_check_expressions.specs.TypeNames.{any_is, undeclared_enum}
+use Rattle.mv_check_expressions.specs.TypeNames.{undeclared_enum}
 use Rattle.mv_check_expressions.specs.TypeNames as names
 use Rattle.mv_check_rules.specs.Nodes.{Bearer, Enumeration, Again, Numbered}
 use Rattle.mv_check_rules.specs.Nodes as node
@@ -132,7 +133,7 @@ enums_in (Marked m ∷ l) = enums_in l
 
 -- Where no enum named a tag that isn't declared, none does behind them all.
 abbrev AllDeclared : List EnumSpec → Scope → Type 0
-AllDeclared es s = any_is (map (undeclared_enum s) es) ≡ false
+AllDeclared es s = any_of (map (undeclared_enum s) es) ≡ false
 
 abbrev Ends : List EnumSpec → Specified → Specified → Type 0
 Ends es y z = Grows y.scope z.scope × (list_any is_undeclared z.enums ≡ false → (list_any is_undeclared y.enums ≡ false) × AllDeclared es z.scope)
@@ -177,7 +178,7 @@ module _ (bs : List Bearer) (k : Option Kind) where
         λ h.
             let more = sym (any_more is_undeclared y.enums d.1) ∙ (q.1 h).0 in (
               first_false (list_any is_undeclared y.enums) (is_undeclared d.1) more,
-              or_from (undeclared_enum z.scope e) (any_is (map (undeclared_enum z.scope) (enums_in l)))
+              or_from (undeclared_enum z.scope e) (any_of (map (undeclared_enum z.scope) (enums_in l)))
                   (enum_grows (out-EnumSpec e).tag (is_none (out-EnumSpec e).members) y.scope z.scope (λ t g. p.0 t (q.0 t g))
                   (p.1 ∙ second_false (list_any is_undeclared y.enums) (is_undeclared d.1) more)) (q.1 h).1,
             ),
@@ -209,5 +210,5 @@ module _ (bs : List Bearer) (k : Option Kind) where
       IfGood (λ z. list_any is_undeclared z.enums ≡ false → AllDeclared es z.scope) (in_order (specifier bs k) (specifiers_in_order es ms) y)
   declared_behind es ms y =
       if_so (Ends (enums_in (specifiers_in_order es ms)) y) (λ z. list_any is_undeclared z.enums ≡ false → AllDeclared es z.scope)
-      (λ z p h. ap (λ l. any_is (map (undeclared_enum z.scope) l)) (sym (enums_of_text es ms)) ∙ (p.1 h).1)
+      (λ z p h. ap (λ l. any_of (map (undeclared_enum z.scope) l)) (sym (enums_of_text es ms)) ∙ (p.1 h).1)
       (in_order (specifier bs k) (specifiers_in_order es ms) y) (ends (specifiers_in_order es ms) y)

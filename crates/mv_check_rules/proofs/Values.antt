@@ -30,7 +30,8 @@ use Rattle.mv_check_rules.specs.Rules.{all_convert, array_size, concluded}
 use Rattle.mv_check_rules.specs.Declarations.{given}
 use Rattle.mv_check_rules.specs.Units.{address_or, constant_word, constant_expression, word_of}
 use Rattle.mv_check_rules.proofs.Agreement.{mapped}
-use Rattle.mv_check_rules.proofs.Parts.{IfGood, and_true, none_fails}
+use Rattle.mv_check_rules.proofs.Parts.{IfGood, none_fails}
+use Rattle.mv_num.proofs.Booleans.{and_true}
 
 -- ---- values in their order
 
@@ -187,7 +188,7 @@ words_agree l (Some (initial.Chars bytes)) s = refl
 -- ---- what the words of a list are
 
 pub all_convert_added : (t : CType) (es : List Expr) (x : Words) → (added (add_word t) x es).all ≡ (x.all && all_convert t es)
-all_convert_added t [] x = and_true x.all
+all_convert_added t [] x = sym (and_true x.all)
 all_convert_added t (e ∷ es) x = all_convert_added t es (add_word t x e) ∙ none_fails x.all (converts e t) (list_any (λ e. not (converts e t)) es)
 
 pub words_added : (t : CType) (es : List Expr) (x : Words) → (added (add_word t) x es).words ≡ x.words ++ map (word_of t) es

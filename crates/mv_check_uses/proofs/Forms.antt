@@ -11,9 +11,11 @@ use Rattle.mv_ast.specs.declared.program.Form.TheVariants.{outs-Number, outs-Rea
 use Rattle.mv_ast.specs.declared.program.Target.{Target, Target-F, out-Target, map-Target, fold_out-Target}
 use Rattle.mv_ast.specs.declared.program.Target as target
 use Rattle.mv_ast.specs.declared.program.Target.TheVariants.{outs-Global, outs-Local, outs-GlobalAt, outs-LocalAt}
+use Rattle.mv_ast.specs.Flags.{flagged}
+use Rattle.mv_ast.proofs.Flags.{flagged_both}
 use Rattle.mv_check_uses.specs.Uses.{form_layer, target_layer, expr_layer, expr_globals}
-use Rattle.mv_check_uses.specs.Flags.{flagged, form_globals, target_globals, exprs_globals, optional_globals}
-use Rattle.mv_check_uses.proofs.Flagging.{flagged_both, flagged_push}
+use Rattle.mv_check_uses.specs.Flags.{form_globals, target_globals, exprs_globals, optional_globals}
+use Rattle.mv_check_uses.proofs.Flagging.{flagged_push}
 
 -- ---- expressions
 

@@ -5,9 +5,10 @@ use Rattle.mv_ast.specs.declared.program.Switch.{Switch}
 use Rattle.mv_ast.specs.declared.program.Stmt.{Stmt}
 use Rattle.mv_ast.specs.Counts.{greatest}
 use Rattle.mv_ast.specs.Plans.{is_among}
+use Rattle.mv_ast.specs.Flags.{is_set, flagged}
+use Rattle.mv_ast.proofs.Flags.{set_from_none}
 use Rattle.mv_check_uses.specs.Uses.{numbers_from, switches_named}
-use Rattle.mv_check_uses.specs.Flags.{flagged, is_set, no_flags, stmts_globals}
-use Rattle.mv_check_uses.proofs.Flagging.{set_from_none}
+use Rattle.mv_check_uses.specs.Flags.{no_flags, stmts_globals}
 
 -- ---- one switch more
 

@@ -9,9 +9,11 @@ use Rattle.mv_ast.specs.declared.program.Stmt.{Stmt, Stmt-F, out-Stmt, map-Stmt,
 use Rattle.mv_ast.specs.declared.program.Stmt as at
 use Rattle.mv_ast.specs.declared.program.Stmt.TheVariants.{outs-Block, outs-Clear, outs-Express, outs-If, outs-While, outs-Do, outs-For, outs-Switch, outs-Break, outs-Continue, outs-Return}
 use Rattle.mv_ast.specs.declared.program.Arm.{Arm, fold_out-Arm}
+use Rattle.mv_ast.specs.Flags.{flagged}
+use Rattle.mv_ast.proofs.Flags.{flagged_both}
 use Rattle.mv_check_uses.specs.Uses.{expr_globals, stmt_layer, arm_layer, stmt_globals}
-use Rattle.mv_check_uses.specs.Flags.{flagged, exprs_globals, optional_globals, stmts_globals, arm_globals, arms_globals}
-use Rattle.mv_check_uses.proofs.Flagging.{flagged_both, flagged_push}
+use Rattle.mv_check_uses.specs.Flags.{exprs_globals, optional_globals, stmts_globals, arm_globals, arms_globals}
+use Rattle.mv_check_uses.proofs.Flagging.{flagged_push}
 
 -- ---- lists
 

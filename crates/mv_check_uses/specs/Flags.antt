@@ -1,5 +1,5 @@
 -- What flags of globals say, and what parts of trees name.
-use Rattle.std.specs.Prelude.{ℕ, suc, Bool, true, false, List, [], ◌∷◌, map, replicate, slice_set, slice_index_or, option_to_list, Option}
+use Rattle.std.specs.Prelude.{ℕ, suc, Bool, false, List, [], ◌∷◌, map, replicate, option_to_list, Option}
 use Rattle.std.specs.List.{concat}
 use Rattle.mv_ast.specs.declared.program.Switch.{Switch}
 use Rattle.mv_ast.specs.declared.program.Expr.{Expr}
@@ -11,14 +11,6 @@ use Rattle.mv_ast.specs.Counts.{greatest}
 use Rattle.mv_check_uses.specs.Uses.{form_layer, target_layer, expr_layer, expr_globals, stmt_layer, arm_layer, stmt_globals}
 
 -- ---- flags
-
--- the flags with those of some numbers set; a number behind their end sets none
-abbrev pub flagged : List ℕ → List Bool → List Bool
-flagged [] flags = flags
-flagged (n ∷ ns) flags = flagged ns (slice_set flags n true)
-
-abbrev pub is_set : List Bool → ℕ → Bool
-is_set flags n = slice_index_or flags n false
 
 -- flags, none set, for the globals of some switches
 abbrev pub no_flags : List Switch → List Bool

@@ -1,7 +1,8 @@
 // Flags of globals.
 ghost use Rattle.std.specs.Prelude.{◌≡◌, ◌+◌, true, IfOk, map, slice_set};
 ghost use Rattle.mv_ast.specs.Counts.{greatest};
-ghost use Rattle.mv_check_uses.specs.Flags.{is_set, no_flags};
+ghost use Rattle.mv_ast.specs.Flags.{is_set};
+ghost use Rattle.mv_check_uses.specs.Flags.{no_flags};
 
 use mv_ast::program::Switch;
 use mv_num::list::List;

@@ -1,7 +1,8 @@
 // Sets the flags of the globals that trees name, in one walk over them.
 ghost use Rattle.std.specs.Prelude.{◌≡◌};
 ghost use Rattle.mv_check_uses.specs.Uses.{expr_globals, stmt_globals};
-ghost use Rattle.mv_check_uses.specs.Flags.{flagged, form_globals, target_globals, exprs_globals, optional_globals, stmts_globals, arms_globals};
+ghost use Rattle.mv_check_uses.specs.Flags.{form_globals, target_globals, exprs_globals, optional_globals, stmts_globals, arms_globals};
+ghost use Rattle.mv_ast.specs.Flags.{flagged};
 
 use crate::flags::set;
 use mv_ast::program::{Arm, Expr, Form, Stmt, Target};

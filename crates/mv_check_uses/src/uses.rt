@@ -1,7 +1,7 @@
 // The switches that a function names.
 ghost use Rattle.std.specs.Prelude.{◌≡◌, IfOk};
 ghost use Rattle.mv_check_uses.specs.Uses.{numbers_from, switches_named};
-ghost use Rattle.mv_check_uses.specs.Flags.{is_set};
+ghost use Rattle.mv_ast.specs.Flags.{is_set};
 
 use crate::flags::{is_set, no_flags};
 use crate::marks::mark_stmts;

@@ -12,13 +12,13 @@ use Rattle.mv_ir.proofs.Keeping.{map_append}
 use Rattle.mv_ir.proofs.Rolls.{same_functions}
 use Rattle.mv_clone.specs.Bind.{bound_stm, bound_code}
 use Rattle.mv_clone.proofs.Bound.{bound_stm_roll}
-use Rattle.mv_fold.specs.Simple.{constant, number, simple_tree, jumps, ended, simple_callee, alone, division, choice, simple_layer, simple_stm, simple_code}
+use Rattle.mv_fold.specs.Simple.{constant, simple_tree, jumps, ended, simple_callee, alone, division, choice, simple_layer, simple_stm, simple_code}
 use Rattle.mv_fold.specs.Shortened.{shortened}
 use Rattle.mv_fold.specs.Needed.{needed_layer, needed_stm, needed_code}
 use Rattle.mv_fold.specs.Folded.{simple_body}
 use Rattle.mv_fold.proofs.SimpleKept.{simple_stm_roll}
 use Rattle.mv_fold.proofs.NeededEquations.{needed_stm_roll}
-use Rattle.mv_fold.proofs.Shortening.{temp, shortened_is}
+use Rattle.mv_fold.proofs.Shortening.{shortened_is}
 use Rattle.mv_regalloc.specs.Rename.{renamed_stm, renamed_code}
 use Rattle.mv_regalloc.proofs.RenamedTrees.{renamed_stm_roll}
 use Rattle.mv_select_control.specs.Encoded.{words_layer, stm_words, own_words}
@@ -26,6 +26,7 @@ use Rattle.mv_select_control.proofs.FlowEncoded.{words_roll}
 use Rattle.mv_lower_shape.specs.Allowances.{layer_allowance, stm_allowance, allowance}
 use Rattle.mv_parts_bound.proofs.Weights.{bound_parts, renamed_parts}
 use Rattle.mv_ir.proofs.Joining.{total_append}
+use Rattle.mv_ir.specs.Rolled.{number, temp}
 
 -- ---- the words that a statement takes are those that it is allowed
 

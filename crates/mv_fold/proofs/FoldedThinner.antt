@@ -18,15 +18,16 @@ use Rattle.mv_ir.specs.Trees.{unary, binary, divide}
 use Rattle.mv_ir.specs.Measures.{joined, callee_trees}
 use Rattle.mv_ir.specs.Live.{layer_reads_temp, reads_temp, any_reads, Around, Flow, with_after, live_in_order, plain, goes_next, flow}
 use Rattle.mv_ir.proofs.Induction.{Each, TreeChildren, tree_ind, StmChildren, stm_ind, stms_ind}
-use Rattle.mv_ir.proofs.Rolls.{reads_temp_roll}
+use Rattle.mv_ir.proofs.Rolls.{reads_temp_roll, flow_of_layer}
 use Rattle.mv_ir.proofs.Joining.{any_reads_append}
+use Rattle.mv_ir.specs.Rolled.{number}
 use Rattle.mv_fold.specs.declared.uses.Use.{Use}
-use Rattle.mv_fold.specs.Simple.{constant, number, one_or, two_or, simple_node, simple_tree, layer_jumps, jumps, ended, simple_callee, alone, division, choice, simple_layer, simple_stm, simple_code}
+use Rattle.mv_fold.specs.Simple.{constant, one_or, two_or, simple_node, simple_tree, layer_jumps, jumps, ended, simple_callee, alone, division, choice, simple_layer, simple_stm, simple_code}
 use Rattle.mv_fold.specs.Needed.{tree_uses, trees_uses, layer_uses, stm_uses, code_uses, IsNeeded, needed_layer, needed_stm, needed_code}
-use Rattle.mv_fold.proofs.SimpleKept.{jumps_roll, simple_tree_roll, simple_stm_roll}
-use Rattle.mv_fold.proofs.NeededEquations.{stm_uses_roll, needed_stm_roll}
+use Rattle.mv_fold.proofs.SimpleKept.{jumps_roll, simple_tree_roll, each_simple}
+use Rattle.mv_fold.proofs.NeededEquations.{stm_uses_roll, each_left}
 use Rattle.mv_fold.proofs.Closing.{Closed, left, right, among, for_body, closed}
-use Rattle.mv_fold.proofs.Thinner.{Covers, covers_append, Implies, Thins, code_flow, IsThinner, layer_of, flow_one, flow_append, thinner_one, thinner_many, thinner_trans, thinner_append, thinner_none, ReadsLess, plain_thins, on_next, on_leaves, on_restarts, on_nothing, if_thins, loop_thins, block_thins, KeepsIntervals, thinner_body, or_both}
+use Rattle.mv_fold.proofs.Thinner.{Covers, covers_append, Implies, Thins, code_flow, IsThinner, flow_one, flow_append, thinner_one, thinner_many, thinner_trans, thinner_append, thinner_none, ReadsLess, plain_thins, on_next, on_leaves, on_restarts, on_nothing, if_thins, loop_thins, block_thins, KeepsIntervals, thinner_body, or_both}
 use Rattle.std.proofs.lemmas.Bool.{or_right, or_left}
 use Rattle.mv_num.proofs.Booleans.{or_cases, from_falsity}
 use Rattle.std.proofs.lemmas.Map.Views.{exact_unsigned_eq}
@@ -38,7 +39,7 @@ module _ (needed : ℕ → Bool) where
   abbrev IsGone : List Stm → Type 0
   IsGone xs = (mask : List Bool) × ((t : ℕ) (r : Around) → Covers mask ((code_flow needed xs t).marks r) [])
 
-  gone_one : (x : Stm-F Stm) (mask : List Bool) → ((t : ℕ) (r : Around) → Covers mask ((layer_of needed x t).marks r) []) → IsGone (roll-Stm x ∷ [])
+  gone_one : (x : Stm-F Stm) (mask : List Bool) → ((t : ℕ) (r : Around) → Covers mask ((flow_of_layer x t).marks r) []) → IsGone (roll-Stm x ∷ [])
   gone_one x mask h = (mask, λ t r. subst (λ (f : ℕ → Flow). Covers mask ((f t).marks r) []) (sym (flow_one needed x)) (h t r))
 
   gone_append : (xs ys : List Stm) → IsGone xs → IsGone ys → IsGone (xs ++ ys)
@@ -52,7 +53,7 @@ module _ (needed : ℕ → Bool) where
   kids_gone [] h = ([], λ t r. tt)
   kids_gone (s ∷ b) h = gone_append (s ∷ []) b h.0 (kids_gone b h.1)
 
-  leaf_gone : (x : Stm-F Stm) → ((t : ℕ) (r : Around) → Covers (false ∷ []) ((layer_of needed x t).marks r) []) → IsGone (roll-Stm x ∷ [])
+  leaf_gone : (x : Stm-F Stm) → ((t : ℕ) (r : Around) → Covers (false ∷ []) ((flow_of_layer x t).marks r) []) → IsGone (roll-Stm x ∷ [])
   leaf_gone x h = gone_one x (false ∷ []) h
 
   gone_layer : (x : Stm-F Stm) → StmChildren OneGone x → OneGone (roll-Stm x)
@@ -89,7 +90,7 @@ Thinner = IsThinner every
 same_reads : (ts : List Tree) → ReadsLess every ts ts
 same_reads ts t e = (e, refl)
 
-leaf : (x : Stm-F Stm) → Thins every (true ∷ []) (layer_of every x) (layer_of every x) → Thinner (roll-Stm x ∷ []) (roll-Stm x ∷ [])
+leaf : (x : Stm-F Stm) → Thins every (true ∷ []) (flow_of_layer x) (flow_of_layer x) → Thinner (roll-Stm x ∷ []) (roll-Stm x ∷ [])
 leaf x h = thinner_one every x x (true ∷ []) h
 
 abbrev pub IsSame : Stm → Type 0
@@ -126,7 +127,7 @@ code_same code = kids_same code (stms_ind IsSame same code)
 
 -- behind a statement that never goes on, nothing matters
 abbrev Stops : Stm-F Stm → Type 0
-Stops x = (t : ℕ) (r : Around) (b : Bool) → ((layer_of every x t).live (with_after r b) ≡ (layer_of every x t).live r) × ((layer_of every x t).marks (with_after r b) ≡ (layer_of every x t).marks r)
+Stops x = (t : ℕ) (r : Around) (b : Bool) → ((flow_of_layer x t).live (with_after r b) ≡ (flow_of_layer x t).live r) × ((flow_of_layer x t).marks (with_after r b) ≡ (flow_of_layer x t).marks r)
 
 stopped : (x : Stm-F Stm) (xs : List Stm) → Stops x → Thinner (roll-Stm x ∷ xs) (roll-Stm x ∷ [])
 stopped x xs h =
@@ -266,7 +267,7 @@ kids_thin (s ∷ b) h = thinner_append every (s ∷ []) (simple_stm s) b (joined
 code_thin : (b : List Stm) → Each IsThin b → Thinner b (simple_code b)
 code_thin b h = thinner_trans every b (joined (map simple_stm b)) (simple_code b) (kids_thin b h) (ended_thinner (joined (map simple_stm b)))
 
-abbrev thin_one : (x y : Stm-F Stm) → Thins every (true ∷ []) (layer_of every x) (layer_of every y) → Thinner (roll-Stm x ∷ []) (alone y)
+abbrev thin_one : (x y : Stm-F Stm) → Thins every (true ∷ []) (flow_of_layer x) (flow_of_layer y) → Thinner (roll-Stm x ∷ []) (alone y)
 thin_one x y h = thinner_one every x y (true ∷ []) h
 
 next_thins : (ts ts' : List Tree) (writes : Option ℕ) → Less ts ts' → Thins every (true ∷ []) (λ t. plain t ts writes goes_next) (λ t. plain t ts' writes goes_next)
@@ -319,11 +320,8 @@ thin_layer (stm.Call r f args) h = thin_one (stm.Call r f args) (stm.Call r (sim
 thin_layer (stm.Known r k args) h = thin_one (stm.Known r k args) (stm.Known r k (map simple_tree args)) (next_thins args (map simple_tree args) r (many_less args))
 thin_layer (stm.Return v) h = thin_one (stm.Return v) (stm.Return (simple_tree v)) (plain_thins every (v ∷ []) (simple_tree v ∷ []) None (λ r. false) (one_less v) (on_nothing every))
 
-stm_thin : (s : Stm) → IsThin s
-stm_thin = stm_ind IsThin (λ x h. subst (Thinner (roll-Stm x ∷ [])) (sym (simple_stm_roll x)) (thin_layer x h))
-
 simple_thinner : (code : List Stm) → Thinner code (simple_code code)
-simple_thinner code = code_thin code (stms_ind IsThin stm_thin code)
+simple_thinner code = code_thin code (each_simple (λ s. Thinner (s ∷ [])) thin_layer code)
 
 -- ---- without the sets that aren't needed
 
@@ -364,7 +362,7 @@ module _ (needed : ℕ → Bool) where
       by (inl v) = (e, (reads_many (callee_trees f) (left needed (trees_uses (callee_trees f)) (trees_uses ts) c) t v).1)
       by (inr v) = (e, (reads_many ts (right needed (trees_uses (callee_trees f)) (trees_uses ts) c) t v).1)
 
-  kept : (x : Stm-F Stm) → Thins needed (true ∷ []) (layer_of needed x) (layer_of needed x) → IsThinner needed (roll-Stm x ∷ []) (alone x)
+  kept : (x : Stm-F Stm) → Thins needed (true ∷ []) (flow_of_layer x) (flow_of_layer x) → IsThinner needed (roll-Stm x ∷ []) (alone x)
   kept x h = thinner_one needed x x (true ∷ []) h
 
   next : (ts : List Tree) (writes : Option ℕ) → ReadsLess needed ts ts → Thins needed (true ∷ []) (λ t. plain t ts writes goes_next) (λ t. plain t ts writes goes_next)
@@ -407,11 +405,8 @@ module _ (needed : ℕ → Bool) where
   left_layer (stm.Known r k args) h a = kept (stm.Known r k args) (next args r (reads_many args a))
   left_layer (stm.Return v) h a = kept (stm.Return v) (plain_thins needed (v ∷ []) (v ∷ []) None (λ r. false) (one v a) (on_nothing needed))
 
-  stm_left : (s : Stm) → IsLeft s
-  stm_left = stm_ind IsLeft (λ x h a. subst (IsThinner needed (roll-Stm x ∷ [])) (sym (needed_stm_roll needed x)) (left_layer x h (subst (Closed needed) (stm_uses_roll x) a)))
-
   needed_thinner : (code : List Stm) → Closed needed (code_uses code) → IsThinner needed code (needed_code needed code)
-  needed_thinner code c = kids_left code (stms_ind IsLeft stm_left code) c
+  needed_thinner code c = kids_left code (each_left needed (λ s left. Closed needed (stm_uses s) → IsThinner needed (s ∷ []) left) (λ x h a. left_layer x h (subst (Closed needed) (stm_uses_roll x) a)) code) c
 
 -- ---- bodies
 

@@ -15,16 +15,17 @@ use Rattle.mv_ir.specs.declared.stm.Stm.TheViews.{roll-Stm}
 use Rattle.mv_ir.specs.declared.stm.Stm.TheFolds.{map-Stm}
 use Rattle.mv_ir.specs.Trees.{unary, binary, divide, node_count, nodes, node_depth, depth}
 use Rattle.mv_ir.specs.Measures.{joined, callee_trees, layer_trees, stm_trees, trees, layer_reads, tree_reads, layer_arrays, stm_arrays, layer_size, stm_size, layer_calls, stm_calls}
-use Rattle.mv_ir.proofs.Induction.{Each, TreeChildren, tree_ind, StmChildren, stm_ind, stms_ind}
+use Rattle.mv_ir.proofs.Induction.{Each, TreeChildren, tree_ind, StmChildren}
 use Rattle.mv_ir.proofs.Rolls.{nodes_roll, depth_roll, reads_roll}
 use Rattle.mv_ir.proofs.Joining.{depth_positive}
-use Rattle.mv_fold.specs.Simple.{constant, number, one_or, two_or, simple_node, simple_tree, jumps, ended, simple_callee, alone, division, choice, simple_layer, simple_stm, simple_code}
+use Rattle.mv_ir.specs.Rolled.{number, temp}
+use Rattle.mv_fold.specs.Simple.{constant, one_or, two_or, simple_node, simple_tree, jumps, ended, simple_callee, alone, division, choice, simple_layer, simple_stm, simple_code}
 use Rattle.mv_fold.specs.Needed.{needed_layer, needed_stm, needed_code}
 use Rattle.mv_fold.specs.Shortened.{shortened}
 use Rattle.mv_fold.specs.Folded.{simple_body, IsNoGreater}
-use Rattle.mv_fold.proofs.SimpleKept.{nodes_some, simple_tree_roll, simple_stm_roll}
-use Rattle.mv_fold.proofs.NeededEquations.{needed_stm_roll}
-use Rattle.mv_fold.proofs.Shortening.{temp, shortened_is}
+use Rattle.mv_fold.proofs.SimpleKept.{nodes_some, simple_tree_roll, each_simple}
+use Rattle.mv_fold.proofs.NeededEquations.{each_left}
+use Rattle.mv_fold.proofs.Shortening.{shortened_is}
 use Rattle.mv_fold.proofs.Within.{Among, among_append, none_among, Amount, Less, less_refl, less_trans, with, less_with, less_nothing, less_left, less_right, of_trees, of_trees_append, amount, amount_append, layer_amount, Within, within_append, within_one, within_many, no_greater}
 
 -- ---- trees
@@ -236,11 +237,8 @@ within_layer (stm.Call r f args) h = leaf (stm.Call r f args) (stm.Call r (simpl
 within_layer (stm.Known r k args) h = leaf (stm.Known r k args) (stm.Known r k (map simple_tree args)) (many_less args) (omega arith) (omega arith) (none_among [])
 within_layer (stm.Return v) h = leaf (stm.Return v) (stm.Return (simple_tree v)) (one_less v) (omega arith) (omega arith) (none_among [])
 
-stm_within : (s : Stm) → IsWithin s
-stm_within = stm_ind IsWithin (λ x h. subst (Within (roll-Stm x ∷ [])) (sym (simple_stm_roll x)) (within_layer x h))
-
 simple_within : (code : List Stm) → Within code (simple_code code)
-simple_within code = code_within code (stms_ind IsWithin stm_within code)
+simple_within code = code_within code (each_simple (λ s. Within (s ∷ [])) within_layer code)
 
 -- ---- without the sets that aren't needed
 
@@ -273,11 +271,8 @@ module _ (needed : ℕ → Bool) where
   left_layer (stm.Known r k args) h = less_refl _
   left_layer (stm.Return v) h = less_refl _
 
-  stm_left : (s : Stm) → IsLeft s
-  stm_left = stm_ind IsLeft (λ x h. subst (Within (roll-Stm x ∷ [])) (sym (needed_stm_roll needed x)) (left_layer x h))
-
   needed_within : (code : List Stm) → Within code (needed_code needed code)
-  needed_within code = kids_left code (stms_ind IsLeft stm_left code)
+  needed_within code = kids_left code (each_left needed (λ s. Within (s ∷ [])) left_layer code)
 
 -- ---- its end shortened
 

@@ -1,5 +1,5 @@
 -- What is read, and what is kept, at each variant.
-use Rattle.std.proofs.Common.{◌≡◌, ℕ, ◌+◌, ◌<◌, Bool, true, false, cond, List, [], ◌∷◌, ◌++◌, map, Option, Some, None, refl, sym, ◌∙◌, ap, append_assoc, append-nil}
+use Rattle.std.proofs.Common.{◌≡◌, ℕ, ◌+◌, ◌<◌, Bool, true, false, cond, List, [], ◌∷◌, ◌++◌, map, Option, Some, None, refl, sym, ◌∙◌, ap, subst, append_assoc, append-nil}
 use Rattle.mv_num.specs.declared.kind.Kind.{Kind}
 use Rattle.mv_ir.specs.declared.tree.Tree.{Tree}
 use Rattle.mv_ir.specs.declared.tree.Tree as tr
@@ -20,6 +20,7 @@ use Rattle.mv_ir.specs.declared.stm.Stm.TheVariants.{rolls-Set, rolls-SetGlobal,
 use Rattle.mv_ir.specs.declared.stm.Stm.TheViews.{roll-Stm}
 use Rattle.mv_ir.specs.declared.stm.Stm.TheFolds.{fold-roll-Stm, map-Stm}
 use Rattle.mv_ir.specs.Measures.{callee_trees}
+use Rattle.mv_ir.proofs.Induction.{Each, StmChildren, stm_ind, stms_ind}
 use Rattle.mv_fold.specs.declared.uses.Use.{Use}
 use Rattle.mv_fold.specs.Needed.{layer_tree_uses, tree_uses, trees_uses, layer_uses, stm_uses, code_uses, needed_layer, needed_stm, needed_code}
 
@@ -34,6 +35,12 @@ stm_uses_roll x = fold-roll-Stm (List Use) layer_uses x
 pub needed_stm_roll : (needed : ℕ → Bool) (x : Stm-F Stm) → needed_stm needed (roll-Stm x) ≡ needed_layer needed (map-Stm Stm (List Stm) (needed_stm needed) x)
 unfolding needed_stm
 needed_stm_roll needed x = fold-roll-Stm (List Stm) (needed_layer needed) x
+
+-- what holds of what is left of each layer, of the statements of some code
+pub each_left : (needed : ℕ → Bool) (P : Stm → List Stm → Type 0) →
+    ((x : Stm-F Stm) → StmChildren (λ s. P s (needed_stm needed s)) x → P (roll-Stm x) (needed_layer needed (map-Stm Stm (List Stm) (needed_stm needed) x))) →
+    (code : List Stm) → Each (λ s. P s (needed_stm needed s)) code
+each_left needed P layer = stms_ind (λ s. P s (needed_stm needed s)) (stm_ind (λ s. P s (needed_stm needed s)) (λ x h. subst (P (roll-Stm x)) (sym (needed_stm_roll needed x)) (layer x h)))
 
 -- ---- reads
 

@@ -19,21 +19,21 @@ use Rattle.mv_ir.specs.declared.stm.Stm.TheViews.{roll-Stm}
 use Rattle.mv_ir.specs.declared.stm.Stm.TheFolds.{map-Stm}
 use Rattle.mv_ir.specs.World.{Setting, Frame}
 use Rattle.mv_ir.specs.Trees.{Value, tree_value, unary, binary, value}
-use Rattle.mv_ir.specs.Outcome.{Returned, Outcome, Next, Leaves, Restarts, Ends, Meaning, in_order}
-use Rattle.mv_ir.specs.Meaning.{statement, meaning, code_meaning, entry_state, body_end}
+use Rattle.mv_ir.specs.Outcome.{Meaning, in_order}
+use Rattle.mv_ir.specs.Meaning.{meaning, code_meaning, entry_state}
 use Rattle.mv_ir.specs.Keeps.{KeepsBody}
 use Rattle.mv_ir.specs.declared.body.Body.{Body}
 use Rattle.mv_ir.specs.Measures.{joined, callee_trees}
 use Rattle.mv_ir.specs.Live.{reads_temp}
-use Rattle.mv_ir.proofs.Induction.{Each, TreeChildren, tree_ind, StmChildren, stm_ind, stms_ind}
+use Rattle.mv_ir.proofs.Induction.{Each, TreeChildren, tree_ind, StmChildren}
 use Rattle.mv_ir.proofs.Rolls.{value_roll, reads_temp_roll}
-use Rattle.mv_ir.proofs.Keeping.{map_append, one_meaning}
-use Rattle.mv_ir.proofs.Relating.{Places, under, in_block, in_loop, OutcomeRel, RunRel, MeaningRel, nil_rel, append_rel, places_weaker, block_rel, loop_rel}
+use Rattle.mv_ir.proofs.Keeping.{map_append, one_meaning, layer_means}
+use Rattle.mv_ir.proofs.Relating.{Places, under, in_block, in_loop, RunRel, MeaningRel, nil_rel, append_rel, places_weaker, block_rel, loop_rel, end_same}
 use Rattle.mv_ir.proofs.RelatedStatements.{SameIn, SameTreesIn, SameCalleeIn, Puts, set_rel, set_global_rel, divide_rel, check_rel, read_rel, write_rel, zero_rel, if_rel, break_rel, back_rel, call_rel, known_rel, return_rel}
 use Rattle.mv_fold.specs.Simple.{alone}
 use Rattle.mv_fold.specs.declared.uses.Use.{Use}
 use Rattle.mv_fold.specs.Needed.{tree_uses, trees_uses, layer_uses, stm_uses, code_uses, IsNeeded, needed_layer, needed_stm, needed_code}
-use Rattle.mv_fold.proofs.NeededEquations.{stm_uses_roll, needed_stm_roll}
+use Rattle.mv_fold.proofs.NeededEquations.{stm_uses_roll, each_left}
 use Rattle.mv_fold.proofs.Reached.{eqb_self}
 use Rattle.mv_fold.proofs.Closing.{Among, Closed, left, right, among, for_body, closed}
 
@@ -131,14 +131,11 @@ module _ (setting : Setting) (frame : Frame) (needed : ℕ → Bool) where
       subst (λ l. R (map m (s ∷ b)) l) (sym (map_append m (needed_stm needed s) (joined (map (needed_stm needed) b))))
       (append_rel Agree Agree q (m s ∷ []) (map m (needed_stm needed s)) (map m b) (map m (joined (map (needed_stm needed) b))) (h.0 (left needed (stm_uses s) _ a)) (kids b h.1 (right needed (stm_uses s) _ a)))
 
-  abbrev layer_means : Stm-F Stm → Meaning
-  layer_means x = statement setting frame (map-Stm Stm Meaning m x)
-
   -- one statement, kept as one
-  one : (x y : Stm-F Stm) → MeaningRel Agree q (layer_means x) (layer_means y) → R (m (roll-Stm x) ∷ []) (map m (alone y))
+  one : (x y : Stm-F Stm) → MeaningRel Agree q (layer_means setting frame x) (layer_means setting frame y) → R (m (roll-Stm x) ∷ []) (map m (alone y))
   one x y h bound s s' e =
       subst (λ r. RunRel q (code_meaning setting frame (roll-Stm x ∷ []) bound s) r) (sym (one_meaning setting frame y bound s'))
-      (subst (λ r. RunRel q r (layer_means y bound s')) (sym (one_meaning setting frame x bound s)) (h bound s s' e))
+      (subst (λ r. RunRel q r (layer_means setting frame y bound s')) (sym (one_meaning setting frame x bound s)) (h bound s s' e))
 
   -- a set that nobody reads
   dropped : (t : ℕ) (v : Tree) → needed t ≡ false → R (m (roll-Stm (stm.Set t v)) ∷ []) []
@@ -190,34 +187,13 @@ module _ (setting : Setting) (frame : Frame) (needed : ℕ → Bool) where
   related_layer (stm.Known r k args) h a = one (stm.Known r k args) (stm.Known r k args) (known_rel setting frame Agree q r r k args args (many_in args a) (puts r))
   related_layer (stm.Return v) h a = one (stm.Return v) (stm.Return v) (return_rel setting frame Agree q v v (same_in v (for_body needed v a)))
 
-  related : (s : Stm) → IsRelated s
-  related = stm_ind IsRelated (λ x h a. subst (λ l. R (m (roll-Stm x) ∷ []) (map m l)) (sym (needed_stm_roll needed x)) (related_layer x h (subst (Closed needed) (stm_uses_roll x) a)))
-
   pub code_related : (code : List Stm) → Closed needed (code_uses code) → R (map m code) (map m (needed_code needed code))
-  code_related code a = kids code (stms_ind IsRelated related code) a
+  code_related code a = kids code (each_left needed (λ s left. Closed needed (stm_uses s) → R (m s ∷ []) (map m left)) (λ x h a. related_layer x h (subst (Closed needed) (stm_uses_roll x) a)) code) a
 
   pub agree_self : (xs : List ℕ) → Agree xs xs
   agree_self xs = record { long = refl; same = λ t r. refl }
 
 -- ---- bodies
-
-end_same : (q : Places) (o o' : Outcome) → OutcomeRel q o o' → body_end o ≡ body_end o'
-end_same q (Next s) (Next s') h = ap (λ w. Returned None w) h.world
-end_same q (Next s) (Leaves n s') h = absurd h
-end_same q (Next s) (Restarts n s') h = absurd h
-end_same q (Next s) (Ends e) h = absurd h
-end_same q (Leaves n s) (Next s') h = absurd h
-end_same q (Leaves n s) (Leaves n' s') h = ap (λ w. Returned None w) h.1.world
-end_same q (Leaves n s) (Restarts n' s') h = absurd h
-end_same q (Leaves n s) (Ends e) h = absurd h
-end_same q (Restarts n s) (Next s') h = absurd h
-end_same q (Restarts n s) (Leaves n' s') h = absurd h
-end_same q (Restarts n s) (Restarts n' s') h = ap (λ w. Returned None w) h.1.world
-end_same q (Restarts n s) (Ends e) h = absurd h
-end_same q (Ends e) (Next s') h = absurd h
-end_same q (Ends e) (Leaves n s') h = absurd h
-end_same q (Ends e) (Restarts n s') h = absurd h
-end_same q (Ends e) (Ends e') h = h
 
 pub needed_keeps : (b : Body) (needed : ℕ → Bool) → IsNeeded needed (code_uses b.code) → KeepsBody b (record b { code = needed_code needed b.code })
 needed_keeps b needed h setting frame contents args bound w =

@@ -6,10 +6,11 @@ use Rattle.std.proofs.lemmas.List.Elements.{All-more, All-map, All-weaker, All-f
 use Rattle.std.proofs.lemmas.List.Sums.{sum_by-le, sum_by-set}
 use Rattle.std.specs.Ordering.{ord_max}
 use Rattle.mv_fold.specs.declared.uses.Use.{Use}
-use Rattle.mv_fold.specs.Needed.{flag, counts, used_in, IsNeeded}
+use Rattle.mv_fold.specs.Needed.{counts, used_in, IsNeeded}
 use Rattle.mv_fold.specs.Reaching.{row, Fits, read_by, one_if, IsReached, IsVisited}
 use Rattle.mv_num.proofs.Booleans.{or_cases, and_cases, same_bools}
 use Rattle.std.proofs.lemmas.Map.Views.{exact_unsigned_eq}
+use Rattle.mv_ast.specs.Flags.{is_set}
 
 -- ---- what is used, by what is read for each row
 
@@ -18,9 +19,9 @@ pub record IsSearched (count : ℕ) (uses : List Use) (flags : List Bool) (order
   pub reached : IsReached flags order
   pub long : length flags ≡ count
   pub below : next ≤ length order
-  pub body : (t : ℕ) → Contains (read_by 0 uses) t → flag flags t ≡ true
-  pub closed : (u t : ℕ) → Contains (take next order) u → Contains (read_by (u + 1) uses) t → flag flags t ≡ true
-  pub justified : (t : ℕ) → flag flags t ≡ true → used_in (flag flags) uses t ≡ true
+  pub body : (t : ℕ) → Contains (read_by 0 uses) t → is_set flags t ≡ true
+  pub closed : (u t : ℕ) → Contains (take next order) u → Contains (read_by (u + 1) uses) t → is_set flags t ≡ true
+  pub justified : (t : ℕ) → is_set flags t ≡ true → used_in (is_set flags) uses t ≡ true
 
 pub eqb_self : (n : ℕ) → eqb n n ≡ true
 eqb_self n = grind arith
@@ -108,7 +109,7 @@ used_grows f g h (x ∷ xs) t e = by (used_grows f g h xs t) (or_cases _ _ e)
 -- ---- tables
 
 -- what is flagged stands in the table
-pub flagged_below : (flags : List Bool) (t : ℕ) → flag flags t ≡ true → t < length flags
+pub flagged_below : (flags : List Bool) (t : ℕ) → is_set flags t ≡ true → t < length flags
 flagged_below flags t h = by (cases_lt t (length flags))
   where
     by : (t < length flags) ⊎ (length flags ≤ t) → t < length flags
@@ -143,7 +144,7 @@ module _ (read : List ℕ) (i d : ℕ) (lt : i < length read) (first : List Bool
   itself = subst (λ l. Contains l x) (sym (take_more read i d lt)) (Contains-push (take i read) x)
 
   -- it was flagged already
-  pub visited_again : flag flags x ≡ true → IsVisited (take (i + 1) read) first before flags order
+  pub visited_again : is_set flags x ≡ true → IsVisited (take (i + 1) read) first before flags order
   visited_again e = record {
     reached = h.reached;
     long = h.long;
@@ -153,16 +154,16 @@ module _ (read : List ℕ) (i d : ℕ) (lt : i < length read) (first : List Bool
     only = λ t f. only t (h.only t f);
   }
     where
-      there : (t : ℕ) → Contains (take i read) t ⊎ (x ≡ t) → flag flags t ≡ true
+      there : (t : ℕ) → Contains (take i read) t ⊎ (x ≡ t) → is_set flags t ≡ true
       there t (inl c) = h.found t c
-      there t (inr same) = subst (λ n. flag flags n ≡ true) same e
+      there t (inr same) = subst (λ n. is_set flags n ≡ true) same e
 
-      only : (t : ℕ) → (flag first t ≡ true) ⊎ Contains (take i read) t → (flag first t ≡ true) ⊎ Contains (take (i + 1) read) t
+      only : (t : ℕ) → (is_set first t ≡ true) ⊎ Contains (take i read) t → (is_set first t ≡ true) ⊎ Contains (take (i + 1) read) t
       only t (inl f) = inl f
       only t (inr c) = inr (still t c)
 
   -- it is flagged now
-  pub visited_now : x < length flags → flag flags x ≡ false → IsVisited (take (i + 1) read) first before (set flags x true) (order ++ x ∷ [])
+  pub visited_now : x < length flags → is_set flags x ≡ false → IsVisited (take (i + 1) read) first before (set flags x true) (order ++ x ∷ [])
   visited_now within e = record {
     reached = record {
       listed = λ t f. listed t (cases_eq t x) f;
@@ -176,33 +177,33 @@ module _ (read : List ℕ) (i d : ℕ) (lt : i < length read) (first : List Bool
     only = λ t f. only t (cases_eq t x) f;
   }
     where
-      now : flag (set flags x true) x ≡ true
+      now : is_set (set flags x true) x ≡ true
       now = get_or-set_same flags x true false within
 
-      grows : (t : ℕ) → flag flags t ≡ true → flag (set flags x true) t ≡ true
+      grows : (t : ℕ) → is_set flags t ≡ true → is_set (set flags x true) t ≡ true
       grows t f = by (cases_eq t x)
         where
-          by : (t ≡ x) ⊎ (t ≡ x → ⊥) → flag (set flags x true) t ≡ true
-          by (inl same) = subst (λ n. flag (set flags x true) n ≡ true) (sym same) now
+          by : (t ≡ x) ⊎ (t ≡ x → ⊥) → is_set (set flags x true) t ≡ true
+          by (inl same) = subst (λ n. is_set (set flags x true) n ≡ true) (sym same) now
           by (inr other) = get_or-set_other flags x t true false other ∙ f
 
-      listed : (t : ℕ) → (t ≡ x) ⊎ (t ≡ x → ⊥) → flag (set flags x true) t ≡ true → Contains (order ++ x ∷ []) t
+      listed : (t : ℕ) → (t ≡ x) ⊎ (t ≡ x → ⊥) → is_set (set flags x true) t ≡ true → Contains (order ++ x ∷ []) t
       listed t (inl same) f = subst (Contains (order ++ x ∷ [])) (sym same) (Contains-push order x)
       listed t (inr other) f = Contains-append_left order (x ∷ []) t (h.reached.listed t (sym (get_or-set_other flags x t true false other) ∙ f))
 
-      flagged : (t : ℕ) → Contains order t ⊎ (x ≡ t) → flag (set flags x true) t ≡ true
+      flagged : (t : ℕ) → Contains order t ⊎ (x ≡ t) → is_set (set flags x true) t ≡ true
       flagged t (inl c) = grows t (h.reached.flagged t c)
-      flagged t (inr same) = subst (λ n. flag (set flags x true) n ≡ true) same now
+      flagged t (inr same) = subst (λ n. is_set (set flags x true) n ≡ true) same now
 
-      there : (t : ℕ) → Contains (take i read) t ⊎ (x ≡ t) → flag (set flags x true) t ≡ true
+      there : (t : ℕ) → Contains (take i read) t ⊎ (x ≡ t) → is_set (set flags x true) t ≡ true
       there t (inl c) = grows t (h.found t c)
-      there t (inr same) = subst (λ n. flag (set flags x true) n ≡ true) same now
+      there t (inr same) = subst (λ n. is_set (set flags x true) n ≡ true) same now
 
-      before_or : (t : ℕ) → (flag first t ≡ true) ⊎ Contains (take i read) t → (flag first t ≡ true) ⊎ Contains (take (i + 1) read) t
+      before_or : (t : ℕ) → (is_set first t ≡ true) ⊎ Contains (take i read) t → (is_set first t ≡ true) ⊎ Contains (take (i + 1) read) t
       before_or t (inl f) = inl f
       before_or t (inr c) = inr (still t c)
 
-      only : (t : ℕ) → (t ≡ x) ⊎ (t ≡ x → ⊥) → flag (set flags x true) t ≡ true → (flag first t ≡ true) ⊎ Contains (take (i + 1) read) t
+      only : (t : ℕ) → (t ≡ x) ⊎ (t ≡ x → ⊥) → is_set (set flags x true) t ≡ true → (is_set first t ≡ true) ⊎ Contains (take (i + 1) read) t
       only t (inl same) f = inr (subst (Contains (take (i + 1) read)) (sym same) itself)
       only t (inr other) f = before_or t (h.only t (sym (get_or-set_other flags x t true false other) ∙ f))
 
@@ -216,7 +217,7 @@ temp_counts : (f : ℕ → Bool) (u : ℕ) → f u ≡ true → (user : Option �
 temp_counts f u c None e = let zero_is : 0 ≡ u + 1 = e in absurd (omega arith)
 temp_counts f u c (Some t) e = let same : t ≡ u = omega (arith, e) in ap f same ∙ c
 
-no_flag : (n t : ℕ) → flag (replicate n false) t ≡ true → ⊥
+no_flag : (n t : ℕ) → is_set (replicate n false) t ≡ true → ⊥
 no_flag n t h = by (cases_lt t n)
   where
     by : (t < n) ⊎ (n ≤ t) → ⊥
@@ -233,9 +234,9 @@ search_begun count uses flags order h = record {
   justified = λ t f. by t (h.only t f);
 }
   where
-    by : (t : ℕ) → (flag (replicate count false) t ≡ true) ⊎ Contains (read_by 0 uses) t → used_in (flag flags) uses t ≡ true
+    by : (t : ℕ) → (is_set (replicate count false) t ≡ true) ⊎ Contains (read_by 0 uses) t → used_in (is_set flags) uses t ≡ true
     by t (inl f) = absurd (no_flag count t f)
-    by t (inr c) = used_from_read (flag flags) 0 uses t (body_counts (flag flags)) c
+    by t (inr c) = used_from_read (is_set flags) 0 uses t (body_counts (is_set flags)) c
 
 pub search_on : (count : ℕ) (uses : List Use) (flags : List Bool) (order : List ℕ) (next d : ℕ) (flags' : List Bool) (order' : List ℕ) →
     IsSearched count uses flags order next → next < length order → IsVisited (read_by (get_or order next d + 1) uses) flags order flags' order' → IsSearched count uses flags' order' (next + 1)
@@ -254,22 +255,22 @@ search_on count uses flags order next d flags' order' s lt v = record {
     begun : take (next + 1) order' ≡ take next order ++ u ∷ []
     begun = ap (take (next + 1)) v.behind.1 ∙ take-append-le (next + 1) order v.behind.0 (omega (arith, lt)) ∙ take_more order next d lt
 
-    closed : (w t : ℕ) → Contains (take next order) w ⊎ (u ≡ w) → Contains (read_by (w + 1) uses) t → flag flags' t ≡ true
+    closed : (w t : ℕ) → Contains (take next order) w ⊎ (u ≡ w) → Contains (read_by (w + 1) uses) t → is_set flags' t ≡ true
     closed w t (inl c) r = v.kept t (s.closed w t c r)
     closed w t (inr same) r = v.found t (subst (λ n. Contains (read_by (n + 1) uses) t) (sym same) r)
 
-    itself : flag flags' u ≡ true
+    itself : is_set flags' u ≡ true
     itself = v.kept u (s.reached.flagged u (Contains-get_or order next d lt))
 
-    justified : (t : ℕ) → (flag flags t ≡ true) ⊎ Contains (read_by (u + 1) uses) t → used_in (flag flags') uses t ≡ true
-    justified t (inl f) = used_grows (flag flags) (flag flags') v.kept uses t (s.justified t f)
-    justified t (inr c) = used_from_read (flag flags') (u + 1) uses t (temp_counts (flag flags') u itself) c
+    justified : (t : ℕ) → (is_set flags t ≡ true) ⊎ Contains (read_by (u + 1) uses) t → used_in (is_set flags') uses t ≡ true
+    justified t (inl f) = used_grows (is_set flags) (is_set flags') v.kept uses t (s.justified t f)
+    justified t (inr c) = used_from_read (is_set flags') (u + 1) uses t (temp_counts (is_set flags') u itself) c
 
 -- at the end
-pub searched_all : (count : ℕ) (uses : List Use) (flags : List Bool) (order : List ℕ) (next : ℕ) → IsSearched count uses flags order next → length order ≤ next → IsNeeded (flag flags) uses
-searched_all count uses flags order next s le t = same_bools (flag flags t) (used_in (flag flags) uses t) (s.justified t) (λ h. by (read_from_used (flag flags) uses t h))
+pub searched_all : (count : ℕ) (uses : List Use) (flags : List Bool) (order : List ℕ) (next : ℕ) → IsSearched count uses flags order next → length order ≤ next → IsNeeded (is_set flags) uses
+searched_all count uses flags order next s le t = same_bools (is_set flags t) (used_in (is_set flags) uses t) (s.justified t) (λ h. by (read_from_used (is_set flags) uses t h))
   where
-    by : Read (flag flags) uses t → flag flags t ≡ true
+    by : Read (is_set flags) uses t → is_set flags t ≡ true
     by (inl c) = s.body t c
     by (inr (u, f, c)) = s.closed u t (subst (λ l. Contains l u) (sym (take_all next order le)) (s.reached.listed u f)) c
 

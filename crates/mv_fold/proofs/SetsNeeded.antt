@@ -12,7 +12,7 @@ use Rattle.mv_ir.specs.declared.stm.Stm.TheViews.{roll-Stm}
 use Rattle.mv_ir.specs.declared.stm.Stm.TheFolds.{fold-roll-Stm, map-Stm}
 use Rattle.mv_ir.specs.Measures.{total, callee_trees, layer_trees, stm_trees, trees}
 use Rattle.mv_ir.specs.Live.{layer_reads_temp, reads_temp, any_reads}
-use Rattle.mv_ir.proofs.Induction.{Each, TreeChildren, tree_ind, StmChildren, stm_ind, stms_ind}
+use Rattle.mv_ir.proofs.Induction.{Each, TreeChildren, tree_ind, StmChildren}
 use Rattle.mv_ir.proofs.Rolls.{trees_roll, reads_temp_roll}
 use Rattle.mv_ir.proofs.Keeping.{map_append}
 use Rattle.mv_ir.proofs.Joining.{total_append, any_reads_append, trees_append}
@@ -20,8 +20,8 @@ use Rattle.mv_fold.specs.declared.uses.Use.{Use}
 use Rattle.mv_fold.specs.Simple.{alone}
 use Rattle.mv_fold.specs.Needed.{layer_tree_uses, tree_uses, trees_uses, layer_uses, stm_uses, code_uses, counts, used_in, IsNeeded, needed_layer, needed_stm, needed_code}
 use Rattle.mv_fold.specs.Form.{layer_unread, unread}
-use Rattle.mv_fold.proofs.NeededEquations.{tree_uses_roll, stm_uses_roll, needed_stm_roll}
-use Rattle.mv_num.proofs.Booleans.{or_false}
+use Rattle.mv_fold.proofs.NeededEquations.{tree_uses_roll, stm_uses_roll, each_left}
+use Rattle.mv_num.proofs.Booleans.{or_false, and_false}
 
 module _ (needed : ℕ → Bool) (t : ℕ) where
   used_append : (xs ys : List Use) → used_in needed (xs ++ ys) t ≡ (used_in needed xs t || used_in needed ys t)
@@ -34,19 +34,15 @@ module _ (needed : ℕ → Bool) (t : ℕ) where
     abbrev IsRead : Tree → Type 0
     IsRead x = used_in needed (tree_uses user x) t ≡ (counts needed user && reads_temp t x)
 
-    nothing : (c : Bool) → false ≡ (c && false)
-    nothing true = refl
-    nothing false = refl
-
     both : (c a b : Bool) → ((c && a) || (c && b)) ≡ (c && (a || b))
     both true a b = refl
     both false a b = refl
 
     read_layer : (x : Tree-F Tree) → TreeChildren IsRead x → used_in needed (layer_tree_uses user (map-Tree Tree (List Use) (tree_uses user) x)) t ≡ (counts needed user && layer_reads_temp t (map-Tree Tree Bool (reads_temp t) x))
-    read_layer (tree.Number n) h = nothing (counts needed user)
+    read_layer (tree.Number n) h = sym (and_false (counts needed user))
     read_layer (tree.Temp n) h = or_false (counts needed user && eqb n t)
-    read_layer (tree.Global n) h = nothing (counts needed user)
-    read_layer (tree.Function n) h = nothing (counts needed user)
+    read_layer (tree.Global n) h = sym (and_false (counts needed user))
+    read_layer (tree.Function n) h = sym (and_false (counts needed user))
     read_layer (tree.Unary o x) h = h
     read_layer (tree.Binary o x y) h =
         used_append (tree_uses user x) (tree_uses user y) ∙ ap (λ b. b || used_in needed (tree_uses user y) t) h.0 ∙ ap (λ b. (counts needed user && reads_temp t x) || b) h.1 ∙ both (counts needed user) (reads_temp t x) (reads_temp t y)
@@ -108,11 +104,8 @@ module _ (needed : ℕ → Bool) (t : ℕ) where
   left_layer (stm.Known r k args) h = many_read args ∙ alone_reads (stm.Known r k args)
   left_layer (stm.Return v) h = one_read v ∙ alone_reads (stm.Return v)
 
-  left : (s : Stm) → IsLeft s
-  left = stm_ind IsLeft (λ x h. ap (λ l. used_in needed l t) (stm_uses_roll x) ∙ left_layer x h ∙ ap read_in (sym (needed_stm_roll needed x)))
-
   pub used_is_read : (code : List Stm) → used_in needed (code_uses code) t ≡ any_reads t (trees (needed_code needed code))
-  used_is_read code = kids_left code (stms_ind IsLeft left code)
+  used_is_read code = kids_left code (each_left needed (λ s left. used_in needed (stm_uses s) t ≡ read_in left) (λ x h. ap (λ l. used_in needed l t) (stm_uses_roll x) ∙ left_layer x h) code)
 
 -- ---- sets of what is needed alone
 
@@ -156,11 +149,8 @@ module _ (needed : ℕ → Bool) (all : List Tree) (every : (t : ℕ) → needed
   none_layer (stm.Known r k args) h = leaf_none (stm.Known r k args) refl
   none_layer (stm.Return v) h = leaf_none (stm.Return v) refl
 
-  none : (s : Stm) → IsReadBy s
-  none = stm_ind IsReadBy (λ x h. ap unread_in (needed_stm_roll needed x) ∙ none_layer x h)
-
   none_in : (code : List Stm) → unread_in (needed_code needed code) ≡ 0
-  none_in code = kids_none code (stms_ind IsReadBy none code)
+  none_in code = kids_none code (each_left needed (λ s left. unread_in left ≡ 0) none_layer code)
 
 pub none_unread : (needed : ℕ → Bool) (code : List Stm) → IsNeeded needed (code_uses code) → total (map (unread (trees (needed_code needed code))) (needed_code needed code)) ≡ 0
 none_unread needed code h = none_in needed (trees (needed_code needed code)) (λ t e. sym (used_is_read needed t code) ∙ sym (h t) ∙ e) code

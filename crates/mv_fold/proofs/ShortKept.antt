@@ -10,21 +10,21 @@ use Rattle.mv_ir.specs.declared.stm.Stm.{Stm}
 use Rattle.mv_ir.specs.declared.stm.Stm.TheOpen.{Stm-F}
 use Rattle.mv_ir.specs.declared.stm.Stm.TheOpen as stm
 use Rattle.mv_ir.specs.declared.stm.Stm.TheViews.{roll-Stm}
-use Rattle.mv_ir.specs.declared.stm.Stm.TheFolds.{map-Stm}
 use Rattle.mv_ir.specs.declared.body.Body.{Body}
 use Rattle.mv_ir.specs.World.{Setting, Frame}
 use Rattle.mv_ir.specs.Trees.{value, nodes}
 use Rattle.mv_ir.specs.Outcome.{State, Returned, Outcome, Next, Leaves, Restarts, Ends, Run, Call, Bound, Meaning, spend, goes_on, in_order}
-use Rattle.mv_ir.specs.Meaning.{statement, meaning, code_meaning, with_global, entry_state, body_end}
+use Rattle.mv_ir.specs.Meaning.{meaning, code_meaning, with_global, entry_state, call_from}
 use Rattle.mv_ir.specs.Keeps.{KeepsCall, KeepsBody}
 use Rattle.mv_ir.proofs.Induction.{Each, StmChildren, stm_ind}
 use Rattle.mv_ir.proofs.Rolls.{value_roll}
-use Rattle.mv_ir.proofs.Keeping.{meaning_roll, one_meaning}
+use Rattle.mv_ir.proofs.Keeping.{meaning_roll, one_meaning, layer_means}
 use Rattle.mv_ir.proofs.Relating.{Places, under, in_block, in_loop, OutcomeRel, MeaningRel, nil_rel, cons_rel, places_weaker, block_rel, loop_rel}
 use Rattle.mv_ir.proofs.RelatedStatements.{SameIn, SameTreesIn, SameCalleeIn, Puts, set_rel, set_global_rel, divide_rel, check_rel, read_rel, write_rel, zero_rel, if_rel, break_rel, back_rel, call_rel, known_rel, return_rel}
 use Rattle.mv_ir.proofs.Joining.{temps_enough}
+use Rattle.mv_ir.specs.Rolled.{temp, set, set_global, return_with}
 use Rattle.mv_fold.specs.Shortened.{shortened}
-use Rattle.mv_fold.proofs.Shortening.{temp, set, store, return, shortened_is}
+use Rattle.mv_fold.proofs.Shortening.{shortened_is}
 
 module _ (temps : ℕ) (setting : Setting) (frame : Frame) where
   -- ---- there stay as many temporaries
@@ -65,9 +65,6 @@ module _ (temps : ℕ) (setting : Setting) (frame : Frame) where
   same_under zero xs ys e = e
   same_under (suc n) xs ys e = e
 
-  abbrev layer_means : Stm-F Stm → Meaning
-  layer_means x = statement setting frame (map-Stm Stm Meaning m x)
-
   abbrev IsLong : Stm → Type 0
   IsLong s = MeaningRel Long q (m s) (m s)
 
@@ -75,7 +72,7 @@ module _ (temps : ℕ) (setting : Setting) (frame : Frame) where
   kids [] h = nil_rel Long q
   kids (s ∷ b) h = cons_rel Long Long q (m s) (m s) (map m b) (map m b) h.0 (kids b h.1)
 
-  long_layer : (x : Stm-F Stm) → StmChildren IsLong x → MeaningRel Long q (layer_means x) (layer_means x)
+  long_layer : (x : Stm-F Stm) → StmChildren IsLong x → MeaningRel Long q (layer_means setting frame x) (layer_means setting frame x)
   long_layer (stm.Set t v) h = set_rel setting frame Long q t t v v (same_in v) (writes t)
   long_layer (stm.SetGlobal g v) h = set_global_rel setting frame Long q g v v (same_in v) keeps
   long_layer (stm.Divide t o x y) h = divide_rel setting frame Long q t t o x x y y (same_in x) (same_in y) (writes t)
@@ -104,11 +101,8 @@ module _ (temps : ℕ) (setting : Setting) (frame : Frame) where
 
   -- ---- at the end of a body
 
-  abbrev ended : Run → Call
-  ended r = record { cost = r.cost; end = body_end r.outcome }
-
   KeepsEnd : List Stm → List Stm → Type 0
-  KeepsEnd xs ys = (bound : Bound) (st : State) → temps ≤ length st.temps → KeepsCall (ended (code_meaning setting frame xs bound st)) (ended (code_meaning setting frame ys bound st))
+  KeepsEnd xs ys = (bound : Bound) (st : State) → temps ≤ length st.temps → KeepsCall (call_from (code_meaning setting frame xs bound st)) (call_from (code_meaning setting frame ys bound st))
 
   same_call : (c : Call) → KeepsCall c c
   same_call c = record { same = refl; cheaper = omega arith }
@@ -124,7 +118,7 @@ module _ (temps : ℕ) (setting : Setting) (frame : Frame) where
       let b = k bound st room in
       record { same = a.same ∙ b.same; cheaper = omega (arith, a.cheaper, b.cheaper) }
 
-  goes_kept : (n : ℕ) (o : Outcome) (f g : State → Run) → ((st : State) → o ≡ Next st → KeepsCall (ended (f st)) (ended (g st))) → KeepsCall (ended (spend n (goes_on o f))) (ended (spend n (goes_on o g)))
+  goes_kept : (n : ℕ) (o : Outcome) (f g : State → Run) → ((st : State) → o ≡ Next st → KeepsCall (call_from (f st)) (call_from (g st))) → KeepsCall (call_from (spend n (goes_on o f))) (call_from (spend n (goes_on o g)))
   goes_kept n (Next st) f g h = let k = h st refl in record { same = k.same; cheaper = omega (arith, k.cheaper) }
   goes_kept n (Leaves k st) f g h = same_call _
   goes_kept n (Restarts k st) f g h = same_call _
@@ -138,11 +132,11 @@ module _ (temps : ℕ) (setting : Setting) (frame : Frame) where
   leave : (n : ℕ) → KeepsEnd (roll-Stm (stm.Break n) ∷ []) []
   unfolding KeepsEnd
   leave n bound st room =
-      subst (λ r. KeepsCall (ended r) (ended (in_order [] bound st))) (sym (one_meaning setting frame (stm.Break n) bound st)) (record { same = refl; cheaper = omega arith })
+      subst (λ r. KeepsCall (call_from r) (call_from (in_order [] bound st))) (sym (one_meaning setting frame (stm.Break n) bound st)) (record { same = refl; cheaper = omega arith })
 
   -- a set and another statement, one after the other
   two : (t : ℕ) (v : Tree) (y : Stm-F Stm) (bound : Bound) (st : State) →
-      code_meaning setting frame (set t v ∷ roll-Stm y ∷ []) bound st ≡ spend (8 + 3 * nodes v) (layer_means y bound (record st { temps = slice_set st.temps t (value setting.numbers frame.bound v st.temps st.world.globals) }))
+      code_meaning setting frame (set t v ∷ roll-Stm y ∷ []) bound st ≡ spend (8 + 3 * nodes v) (layer_means setting frame y bound (record st { temps = slice_set st.temps t (value setting.numbers frame.bound v st.temps st.world.globals) }))
   two t v y bound st =
       ap (λ (f : Meaning). spend (f bound st).cost (goes_on (f bound st).outcome (in_order (m (roll-Stm y) ∷ []) bound))) (meaning_roll setting frame (stm.Set t v)) ∙
       ap (spend (8 + 3 * nodes v)) (one_meaning setting frame y bound (record st { temps = slice_set st.temps t (value setting.numbers frame.bound v st.temps st.world.globals) }))
@@ -152,27 +146,27 @@ module _ (temps : ℕ) (setting : Setting) (frame : Frame) where
   read_back t n xs globals lt room =
       ap (λ f. f (slice_set xs t n) globals) (value_roll setting.numbers frame.bound (tree.Temp t)) ∙ get_or-set_same xs t n 0 (omega (arith, lt, room))
 
-  stored : (t g : ℕ) (v : Tree) → t < temps → KeepsEnd (set t v ∷ store g (temp t) ∷ []) (store g v ∷ [])
+  stored : (t g : ℕ) (v : Tree) → t < temps → KeepsEnd (set t v ∷ set_global g (temp t) ∷ []) (set_global g v ∷ [])
   unfolding KeepsEnd
   stored t g v lt bound st room =
       let n = value setting.numbers frame.bound v st.temps st.world.globals in
-      subst (λ r. KeepsCall (ended r) (ended (code_meaning setting frame (store g v ∷ []) bound st))) (sym (two t v (stm.SetGlobal g (temp t)) bound st))
-      (subst (λ r. KeepsCall (ended (spend (8 + 3 * nodes v) (layer_means (stm.SetGlobal g (temp t)) bound (record st { temps = slice_set st.temps t n })))) (ended r)) (sym (one_meaning setting frame (stm.SetGlobal g v) bound st))
+      subst (λ r. KeepsCall (call_from r) (call_from (code_meaning setting frame (set_global g v ∷ []) bound st))) (sym (two t v (stm.SetGlobal g (temp t)) bound st))
+      (subst (λ r. KeepsCall (call_from (spend (8 + 3 * nodes v) (layer_means setting frame (stm.SetGlobal g (temp t)) bound (record st { temps = slice_set st.temps t n })))) (call_from r)) (sym (one_meaning setting frame (stm.SetGlobal g v) bound st))
       (record {
         same = ap (λ k. Returned None (with_global st.world g (slice_set (slice_index_or st.world.globals g []) 0 k))) (read_back t n st.temps st.world.globals lt room);
         cheaper = omega arith;
       }))
 
-  returned : (t : ℕ) (v : Tree) → t < temps → KeepsEnd (set t v ∷ return (temp t) ∷ []) (return v ∷ [])
+  returned : (t : ℕ) (v : Tree) → t < temps → KeepsEnd (set t v ∷ return_with (temp t) ∷ []) (return_with v ∷ [])
   unfolding KeepsEnd
   returned t v lt bound st room =
       let n = value setting.numbers frame.bound v st.temps st.world.globals in
-      subst (λ r. KeepsCall (ended r) (ended (code_meaning setting frame (return v ∷ []) bound st))) (sym (two t v (stm.Return (temp t)) bound st))
-      (subst (λ r. KeepsCall (ended (spend (8 + 3 * nodes v) (layer_means (stm.Return (temp t)) bound (record st { temps = slice_set st.temps t n })))) (ended r)) (sym (one_meaning setting frame (stm.Return v) bound st))
+      subst (λ r. KeepsCall (call_from r) (call_from (code_meaning setting frame (return_with v ∷ []) bound st))) (sym (two t v (stm.Return (temp t)) bound st))
+      (subst (λ r. KeepsCall (call_from (spend (8 + 3 * nodes v) (layer_means setting frame (stm.Return (temp t)) bound (record st { temps = slice_set st.temps t n })))) (call_from r)) (sym (one_meaning setting frame (stm.Return v) bound st))
       (record { same = ap (λ k. Returned (Some k) st.world) (read_back t n st.temps st.world.globals lt room); cheaper = omega arith }))
 
   end_kept : (code : List Stm) (bound : Bound) (st : State) → temps ≤ length st.temps →
-      KeepsCall (ended (code_meaning setting frame code bound st)) (ended (code_meaning setting frame (shortened temps code) bound st))
+      KeepsCall (call_from (code_meaning setting frame code bound st)) (call_from (code_meaning setting frame (shortened temps code) bound st))
   unfolding KeepsEnd
   end_kept = shortened_is temps KeepsEnd (record { same = same; both = both; behind = behind; leave = leave; stored = stored; returned = returned })
 

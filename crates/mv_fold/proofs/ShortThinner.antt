@@ -1,16 +1,17 @@
 -- Shortening the end of a body's code keeps the body whole, and makes no interval longer.
-use Rattle.std.proofs.Common.{◌≡◌, ℕ, ◌<◌, Bool, true, false, ◌||◌, List, [], ◌∷◌, ◌++◌, map, refl, sym, subst, append-nil}
+use Rattle.std.proofs.Common.{◌≡◌, ℕ, ◌<◌, Bool, true, false, ◌||◌, List, [], ◌∷◌, ◌++◌, refl, sym, subst, append-nil}
 use Rattle.mv_ir.specs.declared.tree.Tree.{Tree}
 use Rattle.mv_ir.specs.declared.stm.Stm.{Stm}
 use Rattle.mv_ir.specs.declared.stm.Stm.TheOpen.{Stm-F}
 use Rattle.mv_ir.specs.declared.stm.Stm.TheOpen as stm
 use Rattle.mv_ir.specs.declared.stm.Stm.TheViews.{roll-Stm}
 use Rattle.mv_ir.specs.declared.body.Body.{Body}
-use Rattle.mv_ir.specs.Live.{any_reads, Around, Flow, with_after, live_in_order, marks_in_order, flow, nowhere}
-use Rattle.mv_ir.proofs.Rolls.{flow_roll}
+use Rattle.mv_ir.specs.Live.{any_reads, Around, Flow, with_after, live_in_order, marks_in_order, flow, nowhere, live_at_start}
+use Rattle.mv_ir.proofs.Rolls.{flow_roll, flow_of_layer}
+use Rattle.mv_ir.specs.Rolled.{temp, set, set_global, return_with}
 use Rattle.mv_fold.specs.Shortened.{shortened}
-use Rattle.mv_fold.proofs.Shortening.{temp, set, store, return, shortened_is}
-use Rattle.mv_fold.proofs.Thinner.{Covers, covers_trans, composed, covers_append, FitsAround, code_flow, layer_of, flow_one, nowhere_fits, KeepsIntervals, body_intervals}
+use Rattle.mv_fold.proofs.Shortening.{shortened_is}
+use Rattle.mv_fold.proofs.Thinner.{Covers, covers_trans, composed, covers_append, FitsAround, code_flow, flow_one, nowhere_fits, KeepsIntervals, body_intervals}
 use Rattle.mv_fold.proofs.FoldedThinner.{every, same, code_same}
 use Rattle.mv_num.proofs.Booleans.{from_falsity}
 
@@ -39,21 +40,17 @@ fits_behind t b b' h = record { next = λ e. (h e, refl); leaves = λ n e. from_
 bare : (mask xs ys : List Bool) → Covers mask (xs ++ []) (ys ++ []) → Covers mask xs ys
 bare mask xs ys h = subst (λ l. Covers mask l ys) (append-nil xs) (subst (Covers mask (xs ++ [])) (append-nil ys) h)
 
--- whether a temporary is live at the start of code that ends a body
-abbrev at_end : ℕ → List Stm → Bool
-at_end t code = live_in_order (map (flow t) code) nowhere
-
 behind : (s : Stm) (xs ys : List Stm) → Thin xs ys → Thin (s ∷ xs) (s ∷ ys)
 unfolding Thin
 behind s xs ys (n, k) =
     let (m, h) = same s in (
       m ++ n,
       record {
-        live = λ t e. (h.live t (with_after nowhere (at_end t xs)) (with_after nowhere (at_end t ys)) (fits_behind t (at_end t xs) (at_end t ys) (k.live t)) e).0;
+        live = λ t e. (h.live t (with_after nowhere (live_at_start t xs)) (with_after nowhere (live_at_start t ys)) (fits_behind t (live_at_start t xs) (live_at_start t ys) (k.live t)) e).0;
         marks = λ t.
             let here =
-            bare m ((flow t s).marks (with_after nowhere (at_end t xs))) ((flow t s).marks (with_after nowhere (at_end t ys)))
-            (h.marks t (with_after nowhere (at_end t xs)) (with_after nowhere (at_end t ys)) (fits_behind t (at_end t xs) (at_end t ys) (k.live t)))
+            bare m ((flow t s).marks (with_after nowhere (live_at_start t xs))) ((flow t s).marks (with_after nowhere (live_at_start t ys)))
+            (h.marks t (with_after nowhere (live_at_start t xs)) (with_after nowhere (live_at_start t ys)) (fits_behind t (live_at_start t xs) (live_at_start t ys) (k.live t)))
             in
             covers_append m _ _ n _ _ here (k.marks t);
       },
@@ -67,8 +64,8 @@ leave n = (false ∷ [], record { live = λ t e. from_falsity e; marks = λ t. s
 
 abbrev pair : Stm-F Stm → Stm-F Stm → ℕ → Flow
 pair x y t = record {
-  live = λ r. live_in_order (layer_of every x t ∷ layer_of every y t ∷ []) r;
-  marks = λ r. marks_in_order (layer_of every x t ∷ layer_of every y t ∷ []) r;
+  live = λ r. live_in_order (flow_of_layer x t ∷ flow_of_layer y t ∷ []) r;
+  marks = λ r. marks_in_order (flow_of_layer x t ∷ flow_of_layer y t ∷ []) r;
 }
 
 flow_pair : (x y : Stm-F Stm) → flows (roll-Stm x ∷ roll-Stm y ∷ []) ≡ pair x y
@@ -77,7 +74,7 @@ flow_pair x y = λ i t. record {
   marks = λ r. marks_in_order (flow_roll t x i ∷ flow_roll t y i ∷ []) r;
 }
 
-pair_thin : (x y z : Stm-F Stm) → ThinAt (true ∷ false ∷ []) (pair x y) (layer_of every z) → Thin (roll-Stm x ∷ roll-Stm y ∷ []) (roll-Stm z ∷ [])
+pair_thin : (x y z : Stm-F Stm) → ThinAt (true ∷ false ∷ []) (pair x y) (flow_of_layer z) → Thin (roll-Stm x ∷ roll-Stm y ∷ []) (roll-Stm z ∷ [])
 unfolding Thin
 pair_thin x y z h = (
   true ∷ false ∷ [],
@@ -92,13 +89,13 @@ marked_first : (a b c : Bool) → ((a || false) || false) ≡ true → ((a || b)
 marked_first true b c e = refl
 marked_first false b c e = from_falsity e
 
-stored : (t g : ℕ) (v : Tree) → Thin (set t v ∷ store g (temp t) ∷ []) (store g v ∷ [])
+stored : (t g : ℕ) (v : Tree) → Thin (set t v ∷ set_global g (temp t) ∷ []) (set_global g v ∷ [])
 stored t g v = pair_thin (stm.Set t v) (stm.SetGlobal g (temp t)) (stm.SetGlobal g v) (record {
   live = λ u e. read_first (any_reads u (v ∷ [])) _ e;
   marks = λ u. ((λ e. marked_first (any_reads u (v ∷ [])) _ _ e), tt);
 })
 
-returned : (t : ℕ) (v : Tree) → Thin (set t v ∷ return (temp t) ∷ []) (return v ∷ [])
+returned : (t : ℕ) (v : Tree) → Thin (set t v ∷ return_with (temp t) ∷ []) (return_with v ∷ [])
 returned t v = pair_thin (stm.Set t v) (stm.Return (temp t)) (stm.Return v) (record {
   live = λ u e. read_first (any_reads u (v ∷ [])) _ e;
   marks = λ u. ((λ e. marked_first (any_reads u (v ∷ [])) _ _ e), tt);

@@ -9,21 +9,10 @@ use Rattle.mv_ir.specs.declared.stm.Stm.{Stm, out-Stm}
 use Rattle.mv_ir.specs.declared.stm.Stm.TheOpen.{Stm-F}
 use Rattle.mv_ir.specs.declared.stm.Stm.TheOpen as stm
 use Rattle.mv_ir.specs.declared.stm.Stm.TheViews.{roll-Stm, roll-out-Stm}
+use Rattle.mv_ir.specs.Rolled.{temp, set, set_global, return_with}
 use Rattle.mv_fold.specs.Shortened.{layer_leaves, leaves, without_leave, layer_is_temp, is_temp, where_true, layer_taking, taking, layer_as_one, as_one, or_both, in_front, carried, shortened}
 use Rattle.mv_fold.proofs.Ends.{leaves_roll, is_temp_roll, taking_roll, as_one_roll}
 use Rattle.std.proofs.lemmas.Map.Views.{exact_unsigned_eq}
-
-abbrev pub temp : ℕ → Tree
-temp t = roll-Tree (tree.Temp t)
-
-abbrev pub set : ℕ → Tree → Stm
-set t v = roll-Stm (stm.Set t v)
-
-abbrev pub store : ℕ → Tree → Stm
-store g v = roll-Stm (stm.SetGlobal g v)
-
-abbrev pub return : Tree → Stm
-return v = roll-Stm (stm.Return v)
 
 -- a relation of code at the end of a body with so many temporaries
 pub record Shortens (temps : ℕ) (P : List Stm → List Stm → Type 0) : Type 0 where
@@ -31,8 +20,8 @@ pub record Shortens (temps : ℕ) (P : List Stm → List Stm → Type 0) : Type 
   pub both : (xs ys zs : List Stm) → P xs ys → P ys zs → P xs zs
   pub behind : (s : Stm) (xs ys : List Stm) → P xs ys → P (s ∷ xs) (s ∷ ys)
   pub leave : (n : ℕ) → P (roll-Stm (stm.Break n) ∷ []) []
-  pub stored : (t g : ℕ) (v : Tree) → t < temps → P (set t v ∷ store g (temp t) ∷ []) (store g v ∷ [])
-  pub returned : (t : ℕ) (v : Tree) → t < temps → P (set t v ∷ return (temp t) ∷ []) (return v ∷ [])
+  pub stored : (t g : ℕ) (v : Tree) → t < temps → P (set t v ∷ set_global g (temp t) ∷ []) (set_global g v ∷ [])
+  pub returned : (t : ℕ) (v : Tree) → t < temps → P (set t v ∷ return_with (temp t) ∷ []) (return_with v ∷ [])
 
 module _ (temps : ℕ) (P : List Stm → List Stm → Type 0) (h : Shortens temps P) where
   -- ---- a jump that leaves
@@ -80,13 +69,13 @@ module _ (temps : ℕ) (P : List Stm → List Stm → Type 0) (h : Shortens temp
   -- ---- two statements as one
 
   module _ (t : ℕ) (v : Tree) (lt : t < temps) where
-    stored_where : (g : ℕ) (x : Tree) (c : Bool) → is_temp t x ≡ c → P (set t v ∷ store g x ∷ []) (or_both (where_true c (stm.SetGlobal g v)) (set t v) (store g x))
-    stored_where g x false e = h.same (set t v ∷ store g x ∷ [])
-    stored_where g x true e = subst (λ y. P (set t v ∷ store g y ∷ []) (store g v ∷ [])) (sym (a_temp t x e)) (h.stored t g v lt)
+    stored_where : (g : ℕ) (x : Tree) (c : Bool) → is_temp t x ≡ c → P (set t v ∷ set_global g x ∷ []) (or_both (where_true c (stm.SetGlobal g v)) (set t v) (set_global g x))
+    stored_where g x false e = h.same (set t v ∷ set_global g x ∷ [])
+    stored_where g x true e = subst (λ y. P (set t v ∷ set_global g y ∷ []) (set_global g v ∷ [])) (sym (a_temp t x e)) (h.stored t g v lt)
 
-    returned_where : (x : Tree) (c : Bool) → is_temp t x ≡ c → P (set t v ∷ return x ∷ []) (or_both (where_true c (stm.Return v)) (set t v) (return x))
-    returned_where x false e = h.same (set t v ∷ return x ∷ [])
-    returned_where x true e = subst (λ y. P (set t v ∷ return y ∷ []) (return v ∷ [])) (sym (a_temp t x e)) (h.returned t v lt)
+    returned_where : (x : Tree) (c : Bool) → is_temp t x ≡ c → P (set t v ∷ return_with x ∷ []) (or_both (where_true c (stm.Return v)) (set t v) (return_with x))
+    returned_where x false e = h.same (set t v ∷ return_with x ∷ [])
+    returned_where x true e = subst (λ y. P (set t v ∷ return_with y ∷ []) (return_with v ∷ [])) (sym (a_temp t x e)) (h.returned t v lt)
 
     taking_rolled : (x : Stm-F Stm) → P (set t v ∷ roll-Stm x ∷ []) (or_both (layer_taking t v x) (set t v) (roll-Stm x))
     taking_rolled (stm.SetGlobal g x) = stored_where g x (is_temp t x) refl

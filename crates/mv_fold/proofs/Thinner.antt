@@ -5,14 +5,14 @@ use Rattle.mv_ir.specs.declared.stm.Stm.{Stm}
 use Rattle.mv_ir.specs.declared.stm.Stm.TheOpen.{Stm-F}
 use Rattle.mv_ir.specs.declared.stm.Stm.TheOpen as stm
 use Rattle.mv_ir.specs.declared.stm.Stm.TheViews.{roll-Stm}
-use Rattle.mv_ir.specs.declared.stm.Stm.TheFolds.{map-Stm}
 use Rattle.mv_ir.specs.declared.body.Body.{Body}
-use Rattle.mv_ir.specs.Live.{reads_temp, any_reads, is, Around, Flow, with_after, at_place, around_block, around_loop, live_in_order, marks_in_order, live_at_loop, plain, goes_next, layer_flow, flow, nowhere, live_at_start, all_marks, IsWhole, any, filled, interval, mark_at, HasTemps, count_at, below, marks_length, most_intervals}
-use Rattle.mv_ir.proofs.Rolls.{flow_roll}
+use Rattle.mv_ir.specs.Live.{reads_temp, any_reads, is, Around, Flow, with_after, at_place, around_block, around_loop, live_in_order, marks_in_order, live_at_loop, plain, goes_next, flow, nowhere, live_at_start, all_marks, IsWhole, filled, interval, mark_at, HasTemps, count_at, below, marks_length, most_intervals}
+use Rattle.mv_ir.proofs.Rolls.{flow_roll, flow_of_layer}
 use Rattle.mv_ir.proofs.Keeping.{map_append}
 use Rattle.mv_ir.proofs.Joining.{greatest_most, greatest_within, live_append, marks_append}
 use Rattle.std.proofs.lemmas.Bool.{or_right, or_left}
 use Rattle.mv_num.proofs.Booleans.{or_cases, and_cases, from_falsity}
+use Rattle.mv_ast.specs.Names.{any_of}
 
 -- ---- marks: which positions stay, and that none of these is marked where it wasn't
 
@@ -76,19 +76,19 @@ covers_mark (true ∷ ms) (x ∷ xs) (y ∷ ys) h (suc i) e = covers_mark ms xs 
 covers_mark (false ∷ ms) [] ys h i e = absurd h
 covers_mark (false ∷ ms) (x ∷ xs) ys h i e = covers_mark ms xs ys h i e
 
-covers_any : (ms xs ys : List Bool) → Covers ms xs ys → any ys ≡ true → any xs ≡ true
+covers_any : (ms xs ys : List Bool) → Covers ms xs ys → any_of ys ≡ true → any_of xs ≡ true
 covers_any [] [] [] h e = e
 covers_any [] [] (y ∷ ys) h e = absurd h
 covers_any [] (x ∷ xs) ys h e = absurd h
 covers_any (true ∷ ms) [] ys h e = absurd h
 covers_any (true ∷ ms) (x ∷ xs) [] h e = absurd h
-covers_any (true ∷ ms) (x ∷ xs) (y ∷ ys) h e = by (covers_any ms xs ys h.1) (or_cases y (any ys) e)
+covers_any (true ∷ ms) (x ∷ xs) (y ∷ ys) h e = by (covers_any ms xs ys h.1) (or_cases y (any_of ys) e)
   where
-    by : (any ys ≡ true → any xs ≡ true) → (y ≡ true) ⊎ (any ys ≡ true) → (x || any xs) ≡ true
-    by more (inl here) = or_left x (any xs) (h.0 here)
-    by more (inr there) = or_right x (any xs) (more there)
+    by : (any_of ys ≡ true → any_of xs ≡ true) → (y ≡ true) ⊎ (any_of ys ≡ true) → (x || any_of xs) ≡ true
+    by more (inl here) = or_left x (any_of xs) (h.0 here)
+    by more (inr there) = or_right x (any_of xs) (more there)
 covers_any (false ∷ ms) [] ys h e = absurd h
-covers_any (false ∷ ms) (x ∷ xs) ys h e = or_right x (any xs) (covers_any ms xs ys h e)
+covers_any (false ∷ ms) (x ∷ xs) ys h e = or_right x (any_of xs) (covers_any ms xs ys h e)
 
 pub or_both : (a b c d : Bool) → (c ≡ true → a ≡ true) → (d ≡ true → b ≡ true) → (c || d) ≡ true → (a || b) ≡ true
 or_both a b c d h k e = by (or_cases c d e)
@@ -107,7 +107,7 @@ covers_filled [] (x ∷ xs) ys h b b' g i e = absurd h
 covers_filled (true ∷ ms) [] ys h b b' g i e = absurd h
 covers_filled (true ∷ ms) (x ∷ xs) [] h b b' g i e = absurd h
 covers_filled (true ∷ ms) (x ∷ xs) (y ∷ ys) h b b' g zero e =
-    and_both (b || x) (x || any xs) (b' || y) (y || any ys) (or_both b x b' y g h.0) (or_both x (any xs) y (any ys) h.0 (covers_any ms xs ys h.1)) e
+    and_both (b || x) (x || any_of xs) (b' || y) (y || any_of ys) (or_both b x b' y g h.0) (or_both x (any_of xs) y (any_of ys) h.0 (covers_any ms xs ys h.1)) e
 covers_filled (true ∷ ms) (x ∷ xs) (y ∷ ys) h b b' g (suc i) e = covers_filled ms xs ys h.1 (b || x) (b' || y) (or_both b x b' y g h.0) i e
 covers_filled (false ∷ ms) [] ys h b b' g i e = absurd h
 covers_filled (false ∷ ms) (x ∷ xs) ys h b b' g i e = covers_filled ms xs ys h (b || x) b' (λ c. or_left b x (g c)) i e
@@ -166,19 +166,16 @@ module _ (needed : ℕ → Bool) where
   abbrev pub IsThinner : List Stm → List Stm → Type 0
   IsThinner xs ys = (mask : List Bool) × Thins mask (code_flow xs) (code_flow ys)
 
-  abbrev pub layer_of : Stm-F Stm → ℕ → Flow
-  layer_of x t = layer_flow t (map-Stm Stm Flow (flow t) x)
-
-  code_flow_one : (x : Stm-F Stm) (t : ℕ) → code_flow (roll-Stm x ∷ []) t ≡ layer_of x t
+  code_flow_one : (x : Stm-F Stm) (t : ℕ) → code_flow (roll-Stm x ∷ []) t ≡ flow_of_layer x t
   code_flow_one x t = λ i. record { live = λ r. (flow_roll t x i).live r; marks = λ r. (append-nil ((flow t (roll-Stm x)).marks r) ∙ ap (λ f. f.marks r) (flow_roll t x)) i }
 
-  pub flow_one : (x : Stm-F Stm) → code_flow (roll-Stm x ∷ []) ≡ layer_of x
+  pub flow_one : (x : Stm-F Stm) → code_flow (roll-Stm x ∷ []) ≡ flow_of_layer x
   flow_one x = λ i t. code_flow_one x t i
 
-  pub thinner_one : (x y : Stm-F Stm) (mask : List Bool) → Thins mask (layer_of x) (layer_of y) → IsThinner (roll-Stm x ∷ []) (roll-Stm y ∷ [])
-  thinner_one x y mask h = (mask, subst (λ f. Thins mask f (code_flow (roll-Stm y ∷ []))) (sym (flow_one x)) (subst (Thins mask (layer_of x)) (sym (flow_one y)) h))
+  pub thinner_one : (x y : Stm-F Stm) (mask : List Bool) → Thins mask (flow_of_layer x) (flow_of_layer y) → IsThinner (roll-Stm x ∷ []) (roll-Stm y ∷ [])
+  thinner_one x y mask h = (mask, subst (λ f. Thins mask f (code_flow (roll-Stm y ∷ []))) (sym (flow_one x)) (subst (Thins mask (flow_of_layer x)) (sym (flow_one y)) h))
 
-  pub thinner_many : (x : Stm-F Stm) (ys : List Stm) (mask : List Bool) → Thins mask (layer_of x) (code_flow ys) → IsThinner (roll-Stm x ∷ []) ys
+  pub thinner_many : (x : Stm-F Stm) (ys : List Stm) (mask : List Bool) → Thins mask (flow_of_layer x) (code_flow ys) → IsThinner (roll-Stm x ∷ []) ys
   thinner_many x ys mask h = (mask, subst (λ f. Thins mask f (code_flow ys)) (sym (flow_one x)) h)
 
   fits_self : (t : ℕ) (r r' : Around) → FitsAround t r r' → FitsAround t r' r'
@@ -274,7 +271,7 @@ module _ (needed : ℕ → Bool) where
     marks = λ t r r' e. ((λ v. (live t r r' e v).0), covers_append m _ _ n _ _ (ha.marks t r r' e) (hb.marks t r r' e));
   })
     where
-      live : (t : ℕ) (r r' : Around) → FitsAround t r r' → Implies t ((layer_of (stm.If x a b) t).live r) ((layer_of (stm.If x' a' b') t).live r')
+      live : (t : ℕ) (r r' : Around) → FitsAround t r r' → Implies t ((flow_of_layer (stm.If x a b) t).live r) ((flow_of_layer (stm.If x' a' b') t).live r')
       live t r r' e = or_implies t _ _ _ _ (h t) (or_implies t _ _ _ _ (ha.live t r r' e) (hb.live t r r' e))
 
   at_place_implies : (t : ℕ) (b b' : Bool) (f f' : ℕ → Bool) → Implies t b b' → ((n : ℕ) → Implies t (f n) (f' n)) → (n : ℕ) → Implies t (at_place b f n) (at_place b' f' n)

@@ -11,18 +11,19 @@ use Rattle.mv_ir.specs.declared.body.Body.{Body}
 use Rattle.mv_ir.specs.Measures.{joined}
 use Rattle.mv_ir.specs.Live.{HasTemps}
 use Rattle.mv_ir.specs.WellFormed.{all_true, all_around, layer_targets, stm_targets, layer_named, stm_named, named, has_room, is_there, known_arguments, layer_arguments, stm_arguments, IsWellFormed}
-use Rattle.mv_ir.proofs.Induction.{Each, StmChildren, stm_ind, stms_ind}
+use Rattle.mv_ir.proofs.Induction.{Each, StmChildren}
 use Rattle.mv_ir.proofs.Rolls.{targets_roll, named_roll, arguments_roll}
 use Rattle.mv_ir.proofs.Keeping.{map_append}
 use Rattle.mv_ir.proofs.Lists.{joined_append}
+use Rattle.mv_ir.specs.Rolled.{temp}
 use Rattle.mv_fold.specs.Simple.{constant, simple_tree, jumps, ended, simple_callee, alone, division, choice, simple_layer, simple_stm, simple_code}
 use Rattle.mv_fold.specs.Needed.{needed_layer, needed_stm, needed_code}
 use Rattle.mv_fold.specs.Shortened.{shortened}
 use Rattle.mv_fold.specs.Folded.{simple_body, IsNoGreater}
 use Rattle.mv_fold.proofs.Reached.{cons_head, cons_tail}
-use Rattle.mv_fold.proofs.SimpleKept.{simple_stm_roll}
-use Rattle.mv_fold.proofs.NeededEquations.{needed_stm_roll}
-use Rattle.mv_fold.proofs.Shortening.{temp, shortened_is}
+use Rattle.mv_fold.proofs.SimpleKept.{each_simple}
+use Rattle.mv_fold.proofs.NeededEquations.{each_left}
+use Rattle.mv_fold.proofs.Shortening.{shortened_is}
 use Rattle.mv_num.proofs.Booleans.{and_cases, and_true}
 use Rattle.mv_num.proofs.Lists.{length_map}
 
@@ -210,11 +211,8 @@ kept_layer (stm.Call r f args) h = with_arguments (stm.Call r f args) (stm.Call 
 kept_layer (stm.Known r k args) h = with_arguments (stm.Known r k args) (stm.Known r k (map simple_tree args)) (λ n. nat_eq n (known_arguments k)) (length args) (length (map simple_tree args)) refl refl (same_length args)
 kept_layer (stm.Return v) h = alike (stm.Return v) (stm.Return (simple_tree v)) refl
 
-stm_kept : (s : Stm) → IsKept s
-stm_kept = stm_ind IsKept (λ x h. subst (Kept (roll-Stm x ∷ [])) (sym (simple_stm_roll x)) (kept_layer x h))
-
 simple_kept : (code : List Stm) → Kept code (simple_code code)
-simple_kept code = code_kept code (stms_ind IsKept stm_kept code)
+simple_kept code = code_kept code (each_simple (λ s. Kept (s ∷ [])) kept_layer code)
 
 -- ---- without the sets that aren't needed
 
@@ -247,11 +245,8 @@ module _ (needed : ℕ → Bool) where
   left_layer (stm.Known r k args) h = keep_refl _
   left_layer (stm.Return v) h = keep_refl _
 
-  stm_left : (s : Stm) → IsLeft s
-  stm_left = stm_ind IsLeft (λ x h. subst (Kept (roll-Stm x ∷ [])) (sym (needed_stm_roll needed x)) (left_layer x h))
-
   needed_kept : (code : List Stm) → Kept code (needed_code needed code)
-  needed_kept code = kids_left code (stms_ind IsLeft stm_left code)
+  needed_kept code = kids_left code (each_left needed (λ s. Kept (s ∷ [])) left_layer code)
 
 -- ---- its end shortened
 

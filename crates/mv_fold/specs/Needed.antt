@@ -1,5 +1,5 @@
 -- The temporaries that code needs, and the code without the sets of all others.
-use Rattle.std.specs.Prelude.{ℕ, ◌≡◌, Bool, true, false, cond, eqb, ◌&&◌, ◌||◌, List, [], ◌∷◌, ◌++◌, map, Option, Some, None, slice_index_or}
+use Rattle.std.specs.Prelude.{ℕ, ◌≡◌, Bool, true, false, cond, eqb, ◌&&◌, ◌||◌, List, [], ◌∷◌, ◌++◌, map, Option, Some, None}
 use Rattle.mv_ir.specs.declared.tree.Tree.{Tree}
 use Rattle.mv_ir.specs.declared.tree.Tree.TheOpen.{Tree-F}
 use Rattle.mv_ir.specs.declared.tree.Tree.TheOpen as tree
@@ -67,10 +67,6 @@ used_in needed (x ∷ xs) t = (counts needed x.user && eqb x.used t) || used_in 
 -- needed is exactly what the body or a needed temporary reads
 abbrev pub IsNeeded : (ℕ → Bool) → List Use → Type 0
 IsNeeded needed uses = (t : ℕ) → needed t ≡ used_in needed uses t
-
--- a table of flags; what is behind its end isn't needed
-abbrev pub flag : List Bool → ℕ → Bool
-flag flags t = slice_index_or flags t false
 
 -- ---- without the sets of the others
 

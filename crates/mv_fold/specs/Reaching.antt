@@ -2,7 +2,7 @@
 use Rattle.std.specs.Prelude.{ℕ, ◌+◌, ◌≡◌, ◌<◌, ◌≤◌, ◌⊎◌, Bool, true, cond, eqb, List, ◌++◌, map, length, Option, Some, None, Contains, filter, sum_by, slice_index_or, Vec}
 use Rattle.std.specs.Global.{Global}
 use Rattle.mv_fold.specs.declared.uses.Use.{Use}
-use Rattle.mv_fold.specs.Needed.{flag}
+use Rattle.mv_ast.specs.Flags.{is_set}
 
 -- the body's row is the first
 abbrev pub row : Option ℕ → ℕ
@@ -26,8 +26,8 @@ one_if b = cond b 1 0
 
 -- a list of what is flagged, each once
 pub record IsReached (flags : List Bool) (order : List ℕ) : Type 0 where
-  pub listed : (t : ℕ) → flag flags t ≡ true → Contains order t
-  pub flagged : (t : ℕ) → Contains order t → flag flags t ≡ true
+  pub listed : (t : ℕ) → is_set flags t ≡ true → Contains order t
+  pub flagged : (t : ℕ) → Contains order t → is_set flags t ≡ true
   pub counted : sum_by one_if flags ≡ length order
 
 -- what is read was flagged, and nothing else
@@ -35,6 +35,6 @@ pub record IsVisited (read : List ℕ) (flags : List Bool) (order : List ℕ) (f
   pub reached : IsReached flags' order'
   pub long : length flags' ≡ length flags
   pub behind : (more : List ℕ) × (order' ≡ order ++ more)
-  pub kept : (t : ℕ) → flag flags t ≡ true → flag flags' t ≡ true
-  pub found : (t : ℕ) → Contains read t → flag flags' t ≡ true
-  pub only : (t : ℕ) → flag flags' t ≡ true → (flag flags t ≡ true) ⊎ Contains read t
+  pub kept : (t : ℕ) → is_set flags t ≡ true → is_set flags' t ≡ true
+  pub found : (t : ℕ) → Contains read t → is_set flags' t ≡ true
+  pub only : (t : ℕ) → is_set flags' t ≡ true → (is_set flags t ≡ true) ⊎ Contains read t

@@ -1,14 +1,15 @@
 // Which temporaries are needed, by what reads them.
 ghost use Rattle.std.specs.Prelude.{◌≡◌, ◌<◌, ◌+◌, ◌^◌, [], IfOk, OnOk, All, length, replicate, false};
-ghost use Rattle.mv_fold.specs.Needed.{flag, IsNeeded};
+ghost use Rattle.mv_fold.specs.Needed.{IsNeeded};
 ghost use Rattle.mv_fold.specs.Reaching.{row, Fits, AreRows, IsReached, IsVisited};
+ghost use Rattle.mv_ast.specs.Flags.{is_set};
 
 use crate::uses::Use;
 use std::alloc::{AllocError, Global};
 
 /// The temporaries that are needed, in time and memory linear in the reads and in the greatest number of a temporary.
 pub fn needed(alloc: Global, uses: &[Use]) -> Result<Vec<bool>, AllocError>
-    ensures { IfOk result (λ flags. IsNeeded (flag flags.items) uses.now) }
+    ensures { IfOk result (λ flags. IsNeeded (is_set flags.items) uses.now) }
 {
     let count = count(uses);
     let rows = rows(alloc, uses, count)?;

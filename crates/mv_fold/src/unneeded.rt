@@ -1,6 +1,7 @@
 // Code without the sets of temporaries that aren't needed.
 ghost use Rattle.std.specs.Prelude.{◌≡◌, ◌++◌, ◌∷◌, [], IfOk, OnOk};
-ghost use Rattle.mv_fold.specs.Needed.{flag, needed_stm, needed_code};
+ghost use Rattle.mv_fold.specs.Needed.{needed_stm, needed_code};
+ghost use Rattle.mv_ast.specs.Flags.{is_set};
 
 use mv_ir::stm::{Callee, Stm};
 use mv_ir::tree::Tree;
@@ -48,7 +49,7 @@ fn copy_callee(alloc: Global, callee: &Callee) -> Result<Callee, AllocError>
 
 /// Whether a temporary is flagged.
 fn is_flagged(flags: &[bool], temp: u32) -> bool
-    ensures { result ≡ flag flags.now temp }
+    ensures { result ≡ is_set flags.now temp }
 {
     match flags.get(temp as usize) {
         Some(flag) => *flag,
@@ -65,7 +66,7 @@ fn put(code: &mut List<Stm>, stm: Stm) -> Result<(), AllocError>
 /// The code without the sets of temporaries that aren't flagged.
 #[cycle(needed)]
 pub fn needed_code(alloc: Global, flags: &[bool], code: &List<Stm>) -> Result<List<Stm>, AllocError>
-    ensures { IfOk result (λ kept. kept ≡ needed_code (flag flags.now) code.now) }
+    ensures { IfOk result (λ kept. kept ≡ needed_code (is_set flags.now) code.now) }
 {
     let mut kept = List::new(alloc);
     for stm in code.as_slice() {
@@ -82,7 +83,7 @@ fn add_needed(
     stm: &Stm,
     kept: &mut List<Stm>,
 ) -> Result<(), AllocError>
-    ensures { OnOk result (kept.new ≡ kept.old ++ needed_stm (flag flags.now) stm.now) }
+    ensures { OnOk result (kept.new ≡ kept.old ++ needed_stm (is_set flags.now) stm.now) }
 {
     match stm {
         Stm::Set(t, v) => {

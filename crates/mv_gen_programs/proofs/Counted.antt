@@ -9,8 +9,7 @@ use Rattle.mv_ast.specs.declared.program.Known.TheVariants as known
 use Rattle.mv_ast.specs.declared.program.Stmt.{Stmt, Stmt-F}
 use Rattle.mv_ast.specs.declared.program.Stmt.TheVariants as stmt
 use Rattle.mv_ast.specs.declared.program.Target.TheVariants as target
-use Rattle.mv_ast.specs.Counts.{greatest, form_sum, target_sum, form_greatest, target_greatest, one_more_than, expr_nodes, expr_depth, stmt_nodes_step, arm_nodes_step, stmt_nodes, stmt_depth, nodes, depth}
-use Rattle.mv_ast.specs.Layers.{stmt_parts, stmt_expressions}
+use Rattle.mv_ast.specs.Counts.{greatest, form_sum, target_sum, form_greatest, target_greatest, one_more_than, expr_nodes, expr_depth, stmt_nodes_step, arm_nodes_step, stmt_nodes, stmt_depth, nodes, depth, depth_layer, arm_depth_layer}
 use Rattle.mv_check_scope.specs.Conversions.{int, typed}
 use Rattle.mv_gen_programs.proofs.Values.{read_local, read_global, constant, binary, choose}
 use Rattle.mv_gen_programs.proofs.Bodies.{form_expression}
@@ -209,29 +208,23 @@ depth_put a = let h = folded.of_known form_greatest target_greatest one_more_tha
 depth_commit : expr_depth (typed int (form.Known (known.Plan 0 0) [])) ≡ 1
 depth_commit = folded.of_known form_greatest target_greatest one_more_than (known.Plan 0 0) []
 
-abbrev depth_step : Stmt-F ℕ ℕ → ℕ
-depth_step s = max (greatest (map expr_depth (stmt_expressions s))) (greatest (stmt_parts s))
-
-abbrev arm_depth : Arm-F ℕ ℕ → ℕ
-arm_depth a = greatest a.body
-
 depth_express : (e : Expr) → stmt_depth (stmt.Express e) ≡ expr_depth e
-depth_express e = let h = folded.of_express depth_step arm_depth e in omega (arith, h)
+depth_express e = let h = folded.of_express depth_layer arm_depth_layer e in omega (arith, h)
 
 depth_block : (xs : List Stmt) → stmt_depth (stmt.Block xs) ≡ greatest (map stmt_depth xs)
-depth_block xs = let h = folded.of_block depth_step arm_depth xs in omega (arith, h)
+depth_block xs = let h = folded.of_block depth_layer arm_depth_layer xs in omega (arith, h)
 
 depth_return : (e : Expr) → stmt_depth (stmt.Return (Some e)) ≡ expr_depth e
-depth_return e = let h = folded.of_return depth_step arm_depth (Some e) in omega (arith, h)
+depth_return e = let h = folded.of_return depth_layer arm_depth_layer (Some e) in omega (arith, h)
 
 depth_clear : (l : ℕ) → stmt_depth (stmt.Clear l []) ≡ 0
-depth_clear l = folded.of_clear depth_step arm_depth l []
+depth_clear l = folded.of_clear depth_layer arm_depth_layer l []
 
 depth_if : (e : Expr) (x : Stmt) → stmt_depth (stmt.If e (x ∷ []) []) ≡ max (expr_depth e) (stmt_depth x)
-depth_if e x = let h = folded.of_if depth_step arm_depth e (x ∷ []) [] in omega (arith, h)
+depth_if e x = let h = folded.of_if depth_layer arm_depth_layer e (x ∷ []) [] in omega (arith, h)
 
 depth_for : (x : Stmt) (a b : Expr) (y : Stmt) → stmt_depth (stmt.For (x ∷ []) (Some a) (Some b) (y ∷ [])) ≡ max (max (expr_depth a) (expr_depth b)) (max (stmt_depth x) (stmt_depth y))
-depth_for x a b y = let h = folded.of_for depth_step arm_depth (x ∷ []) (Some a) (Some b) (y ∷ []) in omega (arith, h)
+depth_for x a b y = let h = folded.of_for depth_layer arm_depth_layer (x ∷ []) (Some a) (Some b) (y ∷ []) in omega (arith, h)
 
 expression_depth : (f j c : ℕ) → expr_depth (form_expression f j c) ≤ 4
 expression_depth zero j c =

@@ -5,10 +5,10 @@ use Rattle.std.specs.List.{flat_map}
 use Rattle.std.proofs.lemmas.Bool.{le-ltb}
 use Rattle.mv_ast.specs.declared.program.Function.{Function}
 use Rattle.mv_ast.specs.declared.program.Program.{Program}
-use Rattle.mv_ast.specs.Counts.{assignments, product_of}
+use Rattle.mv_ast.specs.Counts.{assignments, product_of, elements_of}
 use Rattle.mv_ast.specs.Plans.{switch_domain}
 use Rattle.mv_check_limits.specs.declared.excess.Exceeded.{Exceeded}
-use Rattle.mv_check_limits.specs.Limits.{Limit, elements, functions_limit, globals_limit, parameters_limit, switches_limit, values_limit, own_switches as counted_switches, switches_of_function_limit, assignments_limit, elements_limit, first_above, reported, excess, first_some, first_exceeded}
+use Rattle.mv_check_limits.specs.Limits.{Limit, functions_limit, globals_limit, parameters_limit, switches_limit, values_limit, own_switches as counted_switches, switches_of_function_limit, assignments_limit, elements_limit, first_above, reported, excess, first_some, first_exceeded}
 use Rattle.mv_check_limits.proofs.Orders.{none_in_order}
 use Rattle.mv_check_rules.proofs.Units.{same_judgement}
 use Rattle.mv_front.specs.Verdicts.{IsProgram}
@@ -73,8 +73,8 @@ module _ (seed count : ℕ) where
   assignments_most : (i f j c : ℕ) → j < 4 → assignments p (marked_function i f j c) ≤ 64
   assignments_most i f j c h = omega (arith, assignments_few i f j c h)
 
-  locals_most : (i n : ℕ) (rest : List Function) → AtMost 262144 (flat_map (λ f. map (λ l. elements l.size) f.locals) rest) →
-      AtMost 262144 (flat_map (λ f. map (λ l. elements l.size) f.locals) (marked_functions seed i n ++ rest))
+  locals_most : (i n : ℕ) (rest : List Function) → AtMost 262144 (flat_map (λ f. map (λ l. elements_of l.size) f.locals) rest) →
+      AtMost 262144 (flat_map (λ f. map (λ l. elements_of l.size) f.locals) (marked_functions seed i n ++ rest))
   unfolding marked_functions
   locals_most i zero rest h = h
   locals_most i (suc n) rest h = (omega arith, locals_most (suc i) n rest h)

@@ -13,6 +13,7 @@ use Rattle.mv_meaning.specs.Growth.{capped}
 use Rattle.mv_meaning.specs.Loops.{arms_from}
 use Rattle.mv_meaning.proofs.Equations.{arm_of_lem}
 use Rattle.mv_meaning.proofs.SwitchArms.{leads_to}
+use Rattle.mv_meaning.proofs.Sequences.{in_order_both, after_then}
 use Rattle.mv_interpret.specs.declared.state.Here.{Here}
 use Rattle.mv_interpret.specs.declared.state.State.{State}
 use Rattle.mv_interpret.specs.declared.state.Halt.{Halt}
@@ -22,39 +23,11 @@ use Rattle.mv_interpret.proofs.Steps.{went_on, stopped_there, within, counted_on
 
 -- ---- what goes on from statements one after the other
 
-module _ {F A : Type 0} where
-  after-after : (n m : ℕ) (o : Outcome F A) → after (n + m) o ≡ after n (after m o)
-  after-after n m (Came v f w k) = let e : n + m + k ≡ n + (m + k) = omega arith in ap (Came v f w) e
-  after-after n m (Stopped s w k) = let e : n + m + k ≡ n + (m + k) = omega arith in ap (Stopped s w) e
-
-  after-zero : (o : Outcome F A) → after 0 o ≡ o
-  after-zero (Came v f w k) = let e : 0 + k ≡ k = omega arith in ap (Came v f w) e
-  after-zero (Stopped s w k) = let e : 0 + k ≡ k = omega arith in ap (Stopped s w) e
-
-and_then-after : {A B : Type 0} (n : ℕ) (o : Outcome Frame A) (next : A → Evaluation B) → and_then (after n o) next ≡ after n (and_then o next)
-and_then-after {B = B} n (Came v f w k) next = after-after n k (next v f w)
-and_then-after n (Stopped s w k) next = refl
-
 -- two ways to go on from an outcome, of which one goes through the other
 joined : {A B C : Type 0} (o : Outcome Frame A) (whole : A → Evaluation C) (first : A → Evaluation B) (next : B → Evaluation C) →
     ((v : A) (f : Frame) (w : World) → whole v f w ≡ and_then (first v f w) next) → and_then o whole ≡ and_then (and_then o first) next
-joined (Came v f w n) whole first next h = ap (after n) (h v f w) ∙ sym (and_then-after n (first v f w) next)
+joined (Came v f w n) whole first next h = ap (after n) (h v f w) ∙ sym (after_then n (first v f w) next)
 joined (Stopped s w n) whole first next h = refl
-
-then_on-append : (flow : Flow) (xs ys : List (Evaluation Flow)) (f : Frame) (w : World) →
-    in_order (xs ++ ys) f w ≡ bind (in_order xs) (λ flow. then_on flow (in_order ys)) f w →
-    then_on flow (in_order (xs ++ ys)) f w ≡ and_then (then_on flow (in_order xs) f w) (λ flow'. then_on flow' (in_order ys))
-then_on-append Goes xs ys f w h = h
-then_on-append Breaks xs ys f w h = refl
-then_on-append Continues xs ys f w h = refl
-then_on-append (Returns v) xs ys f w h = refl
-
-in_order-append : (xs ys : List (Evaluation Flow)) (f : Frame) (w : World) →
-    in_order (xs ++ ys) f w ≡ bind (in_order xs) (λ flow. then_on flow (in_order ys)) f w
-in_order-append [] ys f w = sym (after-zero (in_order ys f w))
-in_order-append (x ∷ xs) ys f w =
-    joined (x f w) (λ flow. then_on flow (in_order (xs ++ ys))) (λ flow. then_on flow (in_order xs)) (λ flow. then_on flow (in_order ys))
-    (λ flow f' w'. then_on-append flow xs ys f' w' (in_order-append xs ys f' w'))
 
 behind : (flow : Flow) (next : Evaluation Flow) (f : Frame) (w : World) → (flow ≡ Goes → ⊥) →
     bind (then_on flow next) after_switch f w ≡ Came (behind_switch flow) f w 0
@@ -72,7 +45,7 @@ module _ (p : Program) (context : Context) where
   arms_from-cons a arms f w =
       let rest : List (Evaluation Flow) = bodies_of (map (arm_of p context) arms) in
       ap (λ (d : ArmDenotation). and_then (in_order (d.body ++ rest) f w) after_switch) (arm_of_lem p context a) ∙
-      (ap (λ o. and_then o after_switch) (in_order-append (map (flow_of p context) a.body) rest f w) ∙
+      (ap (λ o. and_then o after_switch) (in_order_both (map (flow_of p context) a.body) rest f w) ∙
       sym (joined (flow_of_all p context a.body f w) (λ flow. bind (then_on flow (in_order rest)) after_switch) (λ flow. then_on flow (in_order rest)) after_switch
       (λ flow f' w'. refl)))
 

@@ -1,6 +1,6 @@
 -- Statements whose trees have the same values and whose parts keep the meaning keep it, in frames that may read
 -- their switches differently.
-use Rattle.std.proofs.Common.{◌≡◌, ℕ, ◌+◌, ◌*◌, ◌≤◌, Bool, true, false, cond, eqb, ltb, List, [], ◌∷◌, map, length, refl, ◌∙◌, subst, ap, arith, Option, Some}
+use Rattle.std.proofs.Common.{◌≡◌, ℕ, ◌+◌, ◌*◌, ◌≤◌, cond, eqb, ltb, List, [], ◌∷◌, map, length, refl, ◌∙◌, subst, ap, arith, Option, Some}
 use Rattle.std.specs.Prelude.{slice_index, slice_set, slice_index_or}
 use Rattle.mv_ir.specs.declared.tree.Tree.{Tree}
 use Rattle.mv_ir.specs.declared.stm.Array.{Array}
@@ -14,7 +14,7 @@ use Rattle.mv_ir.specs.Trees.{Value, value, nodes, nodes_of_all, divide}
 use Rattle.mv_ir.specs.Outcome.{State, Returned, Outcome, Next, Ends, Run, Meaning, in_order}
 use Rattle.mv_ir.specs.Meaning.{elements, with_temp, with_world, with_global, with_elements, traps, At, goal_of, goal, callee_nodes, call_to, known_end, statement}
 use Rattle.mv_ir.specs.Keeps.{KeepsRun, KeepsMeaning}
-use Rattle.mv_ir.proofs.Keeping.{run_refl, run_equal, spend_keeps, loop_keeps, block_keeps}
+use Rattle.mv_ir.proofs.Keeping.{run_refl, run_equal, spend_keeps, loop_keeps, block_keeps, either_keeps}
 
 -- the same value, with no more nodes
 pub record SameTree (numbers : List ℕ) (bound bound' : List (ℕ × ℕ)) (t t' : Tree) : Type 0 where
@@ -146,15 +146,11 @@ module _ (setting : Setting) (depth live : ℕ) (bound bound' : List (ℕ × ℕ
 
   -- ---- of parts
 
-  either : (c : Bool) (r1 r1' r2 r2' : Run) → KeepsRun r1 r1' → KeepsRun r2 r2' → KeepsRun (cond c r1 r2) (cond c r1' r2')
-  either true r1 r1' r2 r2' h k = h
-  either false r1 r1' r2 r2' h k = k
-
   pub if_alike : (t t' : Tree) (x x' y y' : List Meaning) → Same t t' → KeepsMeaning (in_order x) (in_order x') → KeepsMeaning (in_order y) (in_order y') → KeepsMeaning (act (stm.If t x y)) (act' (stm.If t' x' y'))
   if_alike t t' x x' y y' ht hx hy b s =
       spend_keeps (8 + 3 * nodes t) (8 + 3 * nodes t') _ _ (omega (arith, ht.smaller))
       (subst (λ v. KeepsRun (cond (eqb (value setting.numbers bound t s.temps s.world.globals) 0) (in_order y b s) (in_order x b s)) (cond (eqb (v s.temps s.world.globals) 0) (in_order y' b s) (in_order x' b s))) ht.value
-      (either (eqb (value setting.numbers bound t s.temps s.world.globals) 0) _ _ _ _ (hy b s) (hx b s)))
+      (either_keeps (eqb (value setting.numbers bound t s.temps s.world.globals) 0) _ _ _ _ (hy b s) (hx b s)))
 
   pub loop_alike : (x x' : List Meaning) → KeepsMeaning (in_order x) (in_order x') → KeepsMeaning (act (stm.Loop x)) (act' (stm.Loop x'))
   loop_alike x x' h = loop_keeps (in_order x) (in_order x') h

@@ -1,5 +1,5 @@
 -- Measures of lists that are put together, of a tree, and of what a body begins with.
-use Rattle.std.proofs.Common.{◌≡◌, ℕ, zero, suc, ◌+◌, ◌-◌, ◌<◌, ◌≤◌, List, [], ◌∷◌, ◌++◌, length, map, max, refl, sym, ◌∙◌, ap, subst, arith, append_assoc, ◌⊎◌, inl, inr}
+use Rattle.std.proofs.Common.{◌≡◌, ℕ, zero, suc, ◌+◌, ◌-◌, ◌<◌, ◌≤◌, Bool, List, [], ◌∷◌, ◌++◌, length, map, max, refl, sym, ◌∙◌, ap, subst, arith, append_assoc, ◌⊎◌, inl, inr}
 use Rattle.std.specs.Prelude.{◌||◌}
 use Rattle.std.proofs.Math.Bool.{or_assoc}
 use Rattle.std.proofs.lemmas.Bool.{cases_lt}
@@ -17,6 +17,7 @@ use Rattle.mv_ir.proofs.Induction.{Each, TreeChildren, tree_ind}
 use Rattle.mv_ir.proofs.Keeping.{map_append}
 use Rattle.mv_ir.proofs.Lists.{joined_append}
 use Rattle.mv_ir.proofs.Rolls.{depth_roll}
+use Rattle.mv_ast.specs.Names.{any_of}
 
 -- ---- lists
 
@@ -77,6 +78,10 @@ marks_append (x ∷ xs) ys r =
     ap (λ b. x.marks (with_after r b) ++ marks_in_order (xs ++ ys) r) (live_append xs ys r) ∙
     ap (λ l. x.marks (with_after r (live_in_order xs (with_after r (live_in_order ys r)))) ++ l) (marks_append xs ys r) ∙
     sym (append_assoc (x.marks (with_after r (live_in_order xs (with_after r (live_in_order ys r))))) (marks_in_order xs (with_after r (live_in_order ys r))) (marks_in_order ys r))
+
+pub any_append : (xs ys : List Bool) → any_of (xs ++ ys) ≡ (any_of xs || any_of ys)
+any_append [] ys = refl
+any_append (x ∷ xs) ys = ap (λ b. x || b) (any_append xs ys) ∙ sym (or_assoc x (any_of xs) (any_of ys))
 
 pub greatest_most : (n : ℕ) (f : ℕ → ℕ) (i : ℕ) → i < n → f i ≤ greatest_up_to n f
 greatest_most zero f i lt = absurd (omega (arith, lt))

@@ -1,5 +1,5 @@
 -- To keep the meaning is reflexive and transitive, and if the parts keep it, the whole does.
-use Rattle.std.proofs.Common.{◌≡◌, ℕ, zero, suc, ◌+◌, ◌≤◌, List, [], ◌∷◌, ◌++◌, map, refl, sym, ◌∙◌, subst, ap, arith}
+use Rattle.std.proofs.Common.{◌≡◌, ℕ, zero, suc, ◌+◌, ◌≤◌, Bool, true, false, cond, List, [], ◌∷◌, ◌++◌, map, refl, sym, ◌∙◌, subst, ap, arith}
 use Rattle.mv_ir.specs.declared.stm.Stm.{Stm}
 use Rattle.mv_ir.specs.declared.stm.Stm.TheOpen.{Stm-F}
 use Rattle.mv_ir.specs.declared.stm.Stm.TheViews.{roll-Stm}
@@ -96,18 +96,25 @@ pub loop_keeps : (m m' : Meaning) → KeepsMeaning m m' → KeepsMeaning (loop m
 loop_keeps m m' h [] s = turn_keeps (m [] s) (m' [] s) _ _ (h [] s) (λ s1. run_refl _)
 loop_keeps m m' h (calls ∷ below) s = turn_keeps (m (calls ∷ below) s) (m' (calls ∷ below) s) _ _ (h (calls ∷ below) s) (loop_keeps m m' h below)
 
+pub either_keeps : (c : Bool) (r1 r1' r2 r2' : Run) → KeepsRun r1 r1' → KeepsRun r2 r2' → KeepsRun (cond c r1 r2) (cond c r1' r2')
+either_keeps true r1 r1' r2 r2' h k = h
+either_keeps false r1 r1' r2 r2' h k = k
+
 -- ---- code
 
 pub map_append : {A B : Type 0} (f : A → B) (xs ys : List A) → map f (xs ++ ys) ≡ map f xs ++ map f ys
 map_append f [] ys = refl
 map_append f (x ∷ xs) ys = ap (λ l. f x ∷ l) (map_append f xs ys)
 
--- one statement
-pub meaning_roll : (setting : Setting) (frame : Frame) (x : Stm-F Stm) → meaning setting frame (roll-Stm x) ≡ statement setting frame (map-Stm Stm Meaning (meaning setting frame) x)
+-- what one statement means, from what those in it mean
+abbrev pub layer_means : Setting → Frame → Stm-F Stm → Meaning
+layer_means setting frame x = statement setting frame (map-Stm Stm Meaning (meaning setting frame) x)
+
+pub meaning_roll : (setting : Setting) (frame : Frame) (x : Stm-F Stm) → meaning setting frame (roll-Stm x) ≡ layer_means setting frame x
 unfolding meaning
 meaning_roll setting frame x = fold-roll-Stm Meaning (statement setting frame) x
 
-pub one_meaning : (setting : Setting) (frame : Frame) (x : Stm-F Stm) (bound : Bound) (s : State) → code_meaning setting frame (roll-Stm x ∷ []) bound s ≡ statement setting frame (map-Stm Stm Meaning (meaning setting frame) x) bound s
+pub one_meaning : (setting : Setting) (frame : Frame) (x : Stm-F Stm) (bound : Bound) (s : State) → code_meaning setting frame (roll-Stm x ∷ []) bound s ≡ layer_means setting frame x bound s
 one_meaning setting frame x bound s =
     alone (meaning setting frame (roll-Stm x) bound s) ∙ ap (λ m. m bound s) (meaning_roll setting frame x)
 

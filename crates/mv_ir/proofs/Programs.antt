@@ -1,5 +1,5 @@
 -- If each function of a program keeps its meaning, they do so together: at each bound, at no greater cost.
-use Rattle.std.proofs.Common.{arith, ℕ, zero, suc, Bool, true, false, cond, eqb, ltb, List, [], ◌∷◌, map, Option, Some, None, refl, sym, ◌∙◌, subst, ap}
+use Rattle.std.proofs.Common.{arith, ℕ, zero, suc, cond, eqb, ltb, List, [], ◌∷◌, map, Option, Some, None, refl, sym, ◌∙◌, subst, ap}
 use Rattle.std.specs.Prelude.{slice_get}
 use Rattle.mv_ir.specs.declared.stm.Stm.{Stm}
 use Rattle.mv_ir.specs.declared.stm.Stm.TheOpen.{Stm-F}
@@ -13,7 +13,7 @@ use Rattle.mv_ir.specs.Keeps.{KeepsRun, KeepsCall}
 use Rattle.mv_ir.specs.KeptPrograms.{KeepsFunction, KeepsFunctions, KeepsBound}
 use Rattle.mv_ir.specs.Levels.{Code, called, levels, frame_of_call}
 use Rattle.mv_ir.proofs.Induction.{Each, StmChildren, stm_ind, stms_ind}
-use Rattle.mv_ir.proofs.Keeping.{run_refl, spend_keeps, then_keeps, turn_keeps, meaning_roll}
+use Rattle.mv_ir.proofs.Keeping.{run_refl, spend_keeps, then_keeps, turn_keeps, meaning_roll, either_keeps}
 
 -- the same statement over callees that keep the meaning
 abbrev pub IsMonotone : Meaning → Type 0
@@ -32,10 +32,6 @@ loop_monotone m h [] (c' ∷ b') k s = absurd k
 loop_monotone m h (c ∷ b) [] k s = absurd k
 loop_monotone m h (c ∷ b) (c' ∷ b') k s = turn_keeps _ _ _ _ (h (c ∷ b) (c' ∷ b') k s) (loop_monotone m h b b' k.1)
 
-either : (c : Bool) (r1 r1' r2 r2' : Run) → KeepsRun r1 r1' → KeepsRun r2 r2' → KeepsRun (cond c r1 r2) (cond c r1' r2')
-either true r1 r1' r2 r2' h k = h
-either false r1 r1' r2 r2' h k = k
-
 within_keeps : (r : Option ℕ) (f : ℕ) (args : List ℕ) (depth live : ℕ) (s : State) (b b' : Bound) → KeepsBound b b' →
     KeepsRun (within b (λ calls. made_call r s (calls f args depth live s.world)) s) (within b' (λ calls. made_call r s (calls f args depth live s.world)) s)
 within_keeps r f args depth live s [] [] k = run_refl _
@@ -48,7 +44,7 @@ within_keeps r f args depth live s (c ∷ b) (c' ∷ b') k =
 call_monotone : (g : Goal) (depth live : ℕ) (r : Option ℕ) (args : List ℕ) → IsMonotone (call_to g depth live r args)
 call_monotone Nowhere depth live r args b b' k s = run_refl _
 call_monotone Null depth live r args b b' k s = run_refl _
-call_monotone (At f) depth live r args b b' k s = either (ltb depth 512) _ _ _ _ (within_keeps r f args depth live s b b' k) (run_refl _)
+call_monotone (At f) depth live r args b b' k s = either_keeps (ltb depth 512) _ _ _ _ (within_keeps r f args depth live s b b' k) (run_refl _)
 
 module _ (setting : Setting) (frame : Frame) where
   abbrev m : Stm → Meaning
@@ -67,7 +63,7 @@ module _ (setting : Setting) (frame : Frame) where
   layer_monotone (stm.Write a i v) h b b' k s = run_refl _
   layer_monotone (stm.Zero l) h b b' k s = run_refl _
   layer_monotone (stm.If t x y) h b b' k s =
-      spend_keeps _ _ _ _ (omega arith) (either (eqb (of_tree setting frame t s) 0) _ _ _ _ (in_order_monotone (map m y) (each_map y h.1) b b' k s) (in_order_monotone (map m x) (each_map x h.0) b b' k s))
+      spend_keeps _ _ _ _ (omega arith) (either_keeps (eqb (of_tree setting frame t s) 0) _ _ _ _ (in_order_monotone (map m y) (each_map y h.1) b b' k s) (in_order_monotone (map m x) (each_map x h.0) b b' k s))
   layer_monotone (stm.Loop x) h b b' k s = loop_monotone (in_order (map m x)) (in_order_monotone (map m x) (each_map x h)) b b' k s
   layer_monotone (stm.Block x) h b b' k s = block_monotone (in_order (map m x)) (in_order_monotone (map m x) (each_map x h)) b b' k s
   layer_monotone (stm.Break n) h b b' k s = run_refl _

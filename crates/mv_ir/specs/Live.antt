@@ -11,6 +11,7 @@ use Rattle.mv_ir.specs.declared.stm.Stm.TheOpen as stm
 use Rattle.mv_ir.specs.declared.stm.Stm.TheFolds.{fold-Stm}
 use Rattle.mv_ir.specs.declared.body.Body.{Body}
 use Rattle.mv_ir.specs.Measures.{callee_trees}
+use Rattle.mv_ast.specs.Names.{any_of}
 
 -- ---- reads and writes
 
@@ -130,14 +131,10 @@ all_marks b t = (live_at_start t b.code || ltb t b.params) ∷ marks_in_order (m
 abbrev pub IsWhole : Body → Type 0
 IsWhole b = (t : ℕ) → live_at_start t b.code ≡ true → t < b.params
 
-abbrev pub any : List Bool → Bool
-any [] = false
-any (x ∷ xs) = x || any xs
-
 -- the least range that holds all marks
 abbrev pub filled : Bool → List Bool → List Bool
 filled begun [] = []
-filled begun (x ∷ xs) = ((begun || x) && (x || any xs)) ∷ filled (begun || x) xs
+filled begun (x ∷ xs) = ((begun || x) && (x || any_of xs)) ∷ filled (begun || x) xs
 
 -- for each position, whether the temporary's interval holds it
 abbrev pub interval : Body → ℕ → List Bool

@@ -176,11 +176,13 @@ body_end (Leaves n s) = Returned None s.world
 body_end (Restarts n s) = Returned None s.world
 body_end (Ends e) = e
 
+-- a call whose body runs so
+abbrev pub call_from : Run → Call
+call_from r = record { cost = r.cost; end = body_end r.outcome }
+
 -- what a body does of its arguments, in a frame with these contents, at a bound
 abbrev pub body_from : Setting → Frame → Contents → Body → List ℕ → Bound → World → Call
-body_from setting frame contents body args bound w =
-    let r = code_meaning setting frame body.code bound (entry_state contents body args w) in
-    record { cost = r.cost; end = body_end r.outcome }
+body_from setting frame contents body args bound w = call_from (code_meaning setting frame body.code bound (entry_state contents body args w))
 
 abbrev pub cleared : Contents
 cleared = record { temps = λ i. 0; arrays = λ l i. 0 }

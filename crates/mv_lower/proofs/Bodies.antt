@@ -1,11 +1,8 @@
 -- The code of functions, and what their bodies say of it.
-use Rattle.std.proofs.Common.{◌≡◌, ℕ, suc, ◌+◌, ◌*◌, ◌%◌, ◌^◌, ◌<◌, ◌≤◌, Bool, true, false, cond, ◌&&◌, List, [], ◌∷◌, ◌++◌, map, take, drop, length, get_or, replicate, max, refl, sym, ap, ◌∙◌, arith, append-nil, append_assoc}
-use Rattle.std.specs.Prelude.{◌||◌, nat_eq, slice_set}
+use Rattle.std.proofs.Common.{◌≡◌, ℕ, suc, ◌+◌, ◌*◌, ◌%◌, ◌^◌, ◌<◌, ◌≤◌, Bool, true, false, cond, ◌&&◌, List, [], ◌∷◌, ◌++◌, map, take, drop, length, get_or, max, refl, sym, ap, ◌∙◌, arith, append-nil, append_assoc}
+use Rattle.std.specs.Prelude.{◌||◌}
 use Rattle.std.proofs.Math.Nat.{add-mod-mod, mod-add-mod}
-use Rattle.std.proofs.lemmas.List.{get_or-replicate, length-replicate, drop_all, take_more}
-use Rattle.std.proofs.lemmas.List.{get_or-set_other, length-set}
-use Rattle.std.proofs.lemmas.Grind.{get_or-set_at}
-use Rattle.std.proofs.lemmas.Bool.{eqb-true, eqb-false}
+use Rattle.std.proofs.lemmas.List.{drop_all, take_more}
 use Rattle.mv_num.specs.Words as word
 use Rattle.mv_ast.specs.declared.program.Function.{Function}
 use Rattle.mv_ast.specs.declared.program.Global.{Global}
@@ -20,12 +17,13 @@ use Rattle.mv_lower_spec.specs.Statements.{Code, return_with}
 use Rattle.mv_lower_spec.specs.Functions.{outermost, lower_body, lower_function_code, lower_function, array_sizes, names_global, functions_called, address_behind, rooms_from, marked_from}
 use Rattle.mv_lower.specs.Statements.{stmt_at, stmts_at}
 use Rattle.mv_ast.specs.declared.program.Program.{Program}
+use Rattle.mv_ast.specs.Flags.{is_set}
+use Rattle.mv_ast.proofs.Flags.{set_from_none}
 use Rattle.mv_lower.specs.declared.names.Marks.{Marks}
-use Rattle.mv_lower.specs.Naming.{flagged, Flags, marked, seen_marks, code_names}
-use Rattle.mv_lower.specs.Programs.{ended, no_marks, is_set, is_named, AreMarks}
+use Rattle.mv_lower.specs.Naming.{Flags, marked, seen_marks, code_names}
+use Rattle.mv_lower.specs.Programs.{ended, no_marks, is_named, AreMarks}
 use Rattle.mv_lower_expressions.proofs.Forms.{map_push}
 use Rattle.mv_lower.proofs.Switching.{next_item}
-use Rattle.mv_num.proofs.Booleans.{or_false, or_taken_in}
 
 -- ---- code
 
@@ -43,21 +41,6 @@ pub ended_value : (c : Code) → ended false c ≡ record { code = c.code ++ ret
 ended_value c = refl
 
 pub ruleset endings = (ended_void, ended_value)
-
--- ---- flags
-
-pub is_set_flagged : (ns : List ℕ) (flags : List Bool) (k : ℕ) → k < length flags → is_set (flagged ns flags) k ≡ (is_set flags k || is_among k ns)
-is_set_flagged [] flags k h = sym (or_false (is_set flags k))
-is_set_flagged (n ∷ ns) flags k h =
-    let long = length-set flags n true in
-    is_set_flagged ns (slice_set flags n true) k (omega (arith, long)) ∙ by (nat_eq k n) refl
-  where
-    by : (b : Bool) → nat_eq k n ≡ b → (is_set (slice_set flags n true) k || is_among k ns) ≡ (is_set flags k || (nat_eq k n || is_among k ns))
-    by true e =
-        let same = eqb-true k n e in
-        ap (λ b. b || is_among k ns) (get_or-set_at flags n k true false same (omega arith)) ∙
-        (or_taken_in (is_set flags k) (is_among k ns) ∙ ap (λ b. is_set flags k || (b || is_among k ns)) (sym e))
-    by false e = ap (λ b. b || is_among k ns) (get_or-set_other flags n k true false (eqb-false k n e)) ∙ ap (λ b. is_set flags k || (b || is_among k ns)) (sym e)
 
 -- ---- rooms and marks
 
@@ -125,14 +108,6 @@ map_step f xs i x old new h e o n =
     n ∙ (ap (λ l. l ++ f x ∷ []) o ∙ (sym (map_push f (take i xs) x) ∙ ap (λ l. map f l) (ap (λ y. take i xs ++ y ∷ []) e ∙ sym (take_more xs i x h))))
 
 -- ---- marks
-
-is_set_none : (n k : ℕ) → k < n → is_set (replicate n false) k ≡ false
-is_set_none n k h = get_or-replicate n k false false h
-
-set_from_none : (n : ℕ) (ns : List ℕ) (k : ℕ) → k < n → is_set (flagged ns (replicate n false)) k ≡ is_among k ns
-set_from_none n ns k h =
-    let long = length-replicate n false in
-    is_set_flagged ns (replicate n false) k (omega (arith, long)) ∙ ap (λ b. b || is_among k ns) (is_set_none n k h)
 
 pub marks_of : (p : Program) (code : List Stm) (m : Marks) →
     seen_marks m ≡ marked (code_names code) (no_marks (length p.globals) (length p.functions)) → AreMarks p code m

@@ -1,8 +1,9 @@
 -- What trees and statements name, at each variant.
-use Rattle.std.specs.Prelude.{slice_set}
-use Rattle.std.proofs.Common.{◌≡◌, ℕ, true, ◌+◌, ◌<◌, Bool, List, [], ◌∷◌, ◌++◌, map, take, length, get_or, Option, refl, sym, ap, ◌∙◌, append_assoc, append-nil}
+use Rattle.std.proofs.Common.{◌≡◌, ℕ, ◌+◌, ◌<◌, Bool, List, [], ◌∷◌, ◌++◌, map, take, length, get_or, Option, refl, sym, ap, ◌∙◌, append_assoc, append-nil}
 use Rattle.mv_num.specs.declared.kind.Kind.{Kind}
 use Rattle.mv_ast.specs.declared.program.Known.{Known}
+use Rattle.mv_ast.specs.Flags.{flagged}
+use Rattle.mv_ast.proofs.Flags.{flagged_both}
 use Rattle.mv_ir.specs.declared.tree.Tree.{Tree}
 use Rattle.mv_ir.specs.declared.tree.Tree as tr
 use Rattle.mv_ir.specs.declared.tree.Tree.TheOpen as tree
@@ -21,13 +22,9 @@ use Rattle.mv_ir.specs.Measures.{joined, layer_trees, tree_reads, stm_trees, arr
 use Rattle.mv_ir.specs.WellFormed.{stm_named, layer_named}
 use Rattle.mv_ir.proofs.Rolls.{reads_roll, trees_roll, named_roll}
 use Rattle.mv_lower_spec.specs.Functions.{callee_called, layer_called, stm_called}
-use Rattle.mv_lower.specs.Naming.{flagged, Flags, Names, marked, tree_names, trees_names, global_names, function_names, array_names, callee_names, stm_names, code_names}
+use Rattle.mv_lower.specs.Naming.{Flags, Names, marked, tree_names, trees_names, global_names, function_names, array_names, callee_names, stm_names, code_names}
 use Rattle.mv_lower_expressions.proofs.Emitting.{number_is, temp_is, global_is, function_is, unary_is, binary_is, narrow_is, set_is, set_global_is, divide_is, check_is, read_is, write_is, zero_is, if_is, loop_is, block_is, break_is, call_is, known_is, return_is}
 use Rattle.mv_lower_spec.proofs.Common.{called_roll}
-
-flagged_both : (xs ys : List ℕ) (flags : List Bool) → flagged (xs ++ ys) flags ≡ flagged ys (flagged xs flags)
-flagged_both [] ys flags = refl
-flagged_both (x ∷ xs) ys flags = flagged_both xs ys (slice_set flags x true)
 
 -- ---- trees
 
@@ -118,12 +115,12 @@ names_read t a i m = by_two _ (stm.Read t a i) (read_is t a i) m (array_names a)
 pub names_write : (a : Array) (i v : Tree) (m : Flags) → marked (stm_names (at.Write a i v)) m ≡ marked (tree_names v) (marked (tree_names i) (marked (array_names a) m))
 names_write a i v m = by_three _ (stm.Write a i v) (write_is a i v) m (array_names a) (tree_names i) (tree_names v) (same_names _ _ _ _ _ _ (ap (λ l. tree_reads i ++ l) (one v)) refl refl)
 
-nothing : (m : Flags) → marked (names_of [] [] []) m ≡ m
+pub none_named : (m : Flags) → marked (names_of [] [] []) m ≡ m
 unfolding marked
-nothing m = refl
+none_named m = refl
 
 pub names_zero : (l : ℕ) (m : Flags) → marked (stm_names (at.Zero l)) m ≡ m
-names_zero l m = by_one _ (stm.Zero l) (zero_is l) m (names_of [] [] []) refl ∙ nothing m
+names_zero l m = by_one _ (stm.Zero l) (zero_is l) m (names_of [] [] []) refl ∙ none_named m
 
 pub names_if : (t : Tree) (a b : List Stm) (m : Flags) → marked (stm_names (at.If t a b)) m ≡ marked (code_names b) (marked (code_names a) (marked (tree_names t) m))
 names_if t a b m =
@@ -137,10 +134,10 @@ pub names_block : (b : List Stm) (m : Flags) → marked (stm_names (at.Block b))
 names_block b m = by_one _ (stm.Block b) (block_is b) m (code_names b) refl
 
 pub names_break : (n : ℕ) (m : Flags) → marked (stm_names (at.Break n)) m ≡ m
-names_break n m = by_one _ (stm.Break n) (break_is n) m (names_of [] [] []) refl ∙ nothing m
+names_break n m = by_one _ (stm.Break n) (break_is n) m (names_of [] [] []) refl ∙ none_named m
 
 pub names_back : (n : ℕ) (m : Flags) → marked (stm_names (at.Back n)) m ≡ m
-names_back n m = by_one _ (stm.Back n) (sym (rolls-Back n)) m (names_of [] [] []) refl ∙ nothing m
+names_back n m = by_one _ (stm.Back n) (sym (rolls-Back n)) m (names_of [] [] []) refl ∙ none_named m
 
 pub names_call : (r : Option ℕ) (f : Callee) (args : List Tree) (m : Flags) → marked (stm_names (at.Call r f args)) m ≡ marked (trees_names args) (marked (callee_names f) m)
 names_call r f args m =
@@ -178,8 +175,5 @@ code_push code i s m h e =
     (ap (λ arrays. joined (map array_read arrays)) (joined_push stm_named code i s h ∙ ap (λ u. joined (map stm_named (take i code)) ++ stm_named u) (sym e)) ∙ joined_both array_read (joined (map stm_named (take i code))) (stm_named s))
     (joined_push stm_called code i s h ∙ ap (λ u. joined (map stm_called (take i code)) ++ stm_called u) (sym e))) ∙
     marked_both (code_names (take i code)) (stm_names s) m
-
-pub none_named : (m : Flags) → marked (names_of [] [] []) m ≡ m
-none_named m = nothing m
 
 pub ruleset pushes = (none_named, trees_push, code_push)

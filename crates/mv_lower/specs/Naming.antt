@@ -1,5 +1,5 @@
 -- What code names: the globals that it reads as scalars, those that it stores to or names as arrays, and the functions that it calls.
-use Rattle.std.specs.Prelude.{ℕ, Bool, true, List, [], ◌∷◌, map, slice_set}
+use Rattle.std.specs.Prelude.{ℕ, Bool, List, [], ◌∷◌, map}
 use Rattle.mv_ir.specs.declared.tree.Tree.{Tree}
 use Rattle.mv_ir.specs.declared.stm.Array.{Array}
 use Rattle.mv_ir.specs.declared.stm.Callee.{Callee}
@@ -8,13 +8,9 @@ use Rattle.mv_ir.specs.Measures.{joined, tree_reads, stm_trees, array_read, call
 use Rattle.mv_ir.specs.WellFormed.{stm_named}
 use Rattle.mv_lower_spec.specs.Functions.{callee_called, stm_called}
 use Rattle.mv_lower.specs.declared.names.Marks.{Marks}
+use Rattle.mv_ast.specs.Flags.{flagged}
 
 -- ---- flags
-
--- the flags with those of some numbers set; a number behind their end sets none
-abbrev pub flagged : List ℕ → List Bool → List Bool
-flagged [] flags = flags
-flagged (n ∷ ns) flags = flagged ns (slice_set flags n true)
 
 pub record Flags : Type 0 where
   pub read : List Bool

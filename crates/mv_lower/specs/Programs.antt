@@ -1,9 +1,10 @@
 -- What flags of a program's globals and functions say, and how large a program may be.
-use Rattle.std.specs.Prelude.{ℕ, ◌+◌, ◌*◌, ◌<◌, ◌^◌, ◌≡◌, Bool, false, ◌||◌, List, ◌++◌, replicate, length, slice_index_or, All}
+use Rattle.std.specs.Prelude.{ℕ, ◌+◌, ◌*◌, ◌<◌, ◌^◌, ◌≡◌, Bool, false, ◌||◌, List, ◌++◌, replicate, length, All}
 use Rattle.mv_ir.specs.declared.stm.Stm.{Stm}
 use Rattle.mv_ast.specs.declared.program.Program.{Program}
 use Rattle.mv_ast.specs.declared.program.Function.{Function}
 use Rattle.mv_ast.specs.Plans.{is_among}
+use Rattle.mv_ast.specs.Flags.{is_set}
 use Rattle.mv_lower_spec.specs.Functions.{ending, names_global, functions_called}
 use Rattle.mv_lower_spec.specs.Statements.{Code}
 use Rattle.mv_lower.specs.declared.names.Marks.{Marks}
@@ -20,9 +21,6 @@ ended void c = record { code = c.code ++ ending void; top = c.top }
 
 abbrev pub no_marks : ℕ → ℕ → Flags
 no_marks globals functions = record { read = replicate globals false; stored = replicate globals false; called = replicate functions false }
-
-abbrev pub is_set : List Bool → ℕ → Bool
-is_set flags n = slice_index_or flags n false
 
 abbrev pub is_named : Marks → ℕ → Bool
 is_named m g = is_set m.read.items g || is_set m.stored.items g

@@ -1,9 +1,11 @@
 // The lowering of functions and programs.
 ghost use Rattle.std.specs.Prelude.{◌≡◌, ◌<◌, ◌^◌, ◌&&◌, false, IfOk, map, length, replicate};
 ghost use Rattle.mv_ast.specs.Plans.{switch_global};
-ghost use Rattle.mv_lower_spec.specs.Functions.{array_sizes, elements_of, lower_function_code, rooms_from, marked_from, lower_function};
+ghost use Rattle.mv_ast.specs.Flags.{is_set};
+ghost use Rattle.mv_ast.specs.Counts.{elements_of};
+ghost use Rattle.mv_lower_spec.specs.Functions.{array_sizes, lower_function_code, rooms_from, marked_from, lower_function};
 ghost use Rattle.mv_lower.specs.Statements.{seen_code};
-ghost use Rattle.mv_lower.specs.Programs.{ended, no_marks, is_set, is_named, AreMarks, HasRoom, IsSmall};
+ghost use Rattle.mv_lower.specs.Programs.{ended, no_marks, is_named, AreMarks, HasRoom, IsSmall};
 ghost use Rattle.mv_lower.specs.Naming.{seen_marks};
 
 use crate::code::{Code, Jumps};

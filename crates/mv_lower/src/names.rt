@@ -1,7 +1,8 @@
 // What code names.
 ghost use Rattle.std.specs.Prelude.{◌≡◌, true, IfOk, slice_set};
-ghost use Rattle.mv_lower.specs.Naming.{seen_marks, marked, flagged, tree_names, trees_names, global_names, function_names, array_names, callee_names, stm_names, code_names};
+ghost use Rattle.mv_lower.specs.Naming.{seen_marks, marked, tree_names, trees_names, global_names, function_names, array_names, callee_names, stm_names, code_names};
 ghost use Rattle.mv_ir.specs.Measures.{tree_reads};
+ghost use Rattle.mv_ast.specs.Flags.{flagged};
 
 use mv_ir::stm::{Array, Callee, Stm};
 use mv_ir::tree::Tree;

@@ -10,11 +10,11 @@ use Rattle.mv_ir.specs.Outcome.{Call}
 use Rattle.mv_ir.specs.Meaning.{body_from}
 use Rattle.mv_ir.specs.Programs.{setting_of}
 use Rattle.mv_source_forms.specs.Names.{is_void}
-use Rattle.mv_lower_spec.specs.Correct.{is_astray}
+use Rattle.mv_lower_spec.specs.Correct.{is_astray, CallHalted}
 use Rattle.mv_lower_spec.specs.Law.{strict_context}
 use Rattle.mv_lower_spec.specs.Functions.{lower_function}
 use Rattle.mv_lower_correct.specs.Laws.{callee_frame}
-use Rattle.mv_lower_correct.proofs.Knot.{BodyDoes, BodyHalted, called_does}
+use Rattle.mv_lower_correct.proofs.Knot.{BodyDoes, called_does}
 use Rattle.mv_lower_calls.specs.SourceCalls.{as_call, any_frame, call_by_source, source_call, source_levels, Promises}
 use Rattle.mv_lower_calls.specs.Laws.{BodiesAreRight}
 use Rattle.mv_lower_calls.proofs.Calls.{stopped_end, call_is, source_agreed}
@@ -29,7 +29,7 @@ module _ (p : Program) (void : Bool) (live : ℕ) (w : World) (x : Call) where
       by : (z : Bool) → is_astray why ≡ z → Promises x (as_call void (back_in any_frame w (Stopped why left work)))
       by true e = inl (stopped_end why left true e)
       by false e =
-          let halted : BodyHalted x why left work = h in
+          let halted : CallHalted x why left work = h in
           let cost : x.cost ≡ halted.cost = ap (λ (y : Call). y.cost) (halted.ends e) in
           inr (ap (λ (y : Call). y.end) (halted.ends e) ∙ sym (stopped_end why left false e), omega (arith, cost, halted.paid))
 

@@ -12,8 +12,9 @@ use Rattle.mv_meaning.specs.declared.state.Flow.{Flow}
 use Rattle.mv_meaning.specs.Meaning.{flow_of_all, frame_of, deeper, back_in, call_of}
 use Rattle.mv_ir.specs.World as code_world
 use Rattle.mv_ir.specs.Outcome.{End, Stuck, Call}
+use Rattle.mv_ir.specs.KnownFunctions.{seen}
 use Rattle.mv_source_forms.specs.Names.{is_void, takes}
-use Rattle.mv_lower_spec.specs.Correct.{CallShown, seen, end_of, is_astray}
+use Rattle.mv_lower_spec.specs.Correct.{CallShown, end_of, is_astray}
 use Rattle.mv_lower_spec.specs.Law.{strict_context}
 use Rattle.mv_source_forms.specs.WellFormed.{IsWellFormedFunction}
 use Rattle.mv_lower_correct.proofs.Knot.{Agreed, lowered_calls, all_agreed}

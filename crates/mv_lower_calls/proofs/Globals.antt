@@ -11,11 +11,11 @@ use Rattle.mv_meaning.specs.declared.state.Frame.{Frame}
 use Rattle.mv_meaning.specs.declared.state.Flow.{Flow}
 use Rattle.mv_meaning.specs.Meaning.{flow_of_all, frame_of, deeper, back_in, call_of, popped}
 use Rattle.mv_ir.specs.World as code_world
-use Rattle.mv_ir.specs.KnownFunctions.{seen_from}
+use Rattle.mv_ir.specs.KnownFunctions.{seen_from, seen}
 use Rattle.mv_ir.specs.Outcome.{Returned, Stuck, Call}
 use Rattle.mv_ir.specs.Meaning.{cleared}
 use Rattle.mv_source_forms.specs.Names.{is_void}
-use Rattle.mv_lower_spec.specs.Correct.{seen, end_of, is_astray}
+use Rattle.mv_lower_spec.specs.Correct.{end_of, is_astray}
 use Rattle.mv_lower_spec.specs.Law.{strict_context}
 use Rattle.mv_lower_correct.specs.Laws.{HasGlobals}
 use Rattle.mv_lower_correct.proofs.Knot.{BodyDoes, function_is_right}

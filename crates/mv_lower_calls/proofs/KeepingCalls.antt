@@ -11,10 +11,10 @@ use Rattle.mv_meaning.specs.declared.state.Flow.{Flow}
 use Rattle.mv_meaning.specs.Meaning.{flow_of_all, frame_of, deeper, back_in, call_of}
 use Rattle.mv_meaning.specs.Growth.{world_left}
 use Rattle.mv_ir.specs.World as code_world
-use Rattle.mv_ir.specs.KnownFunctions.{seen_from}
+use Rattle.mv_ir.specs.KnownFunctions.{seen_from, seen}
 use Rattle.mv_ir.specs.Outcome.{Stuck, Call}
 use Rattle.mv_source_forms.specs.Names.{is_void}
-use Rattle.mv_lower_spec.specs.Correct.{seen, astray, end_of, is_astray}
+use Rattle.mv_lower_spec.specs.Correct.{astray, end_of, is_astray}
 use Rattle.mv_lower_spec.specs.Law.{strict_context}
 use Rattle.mv_lower_calls.specs.SourceCalls.{meaningless, as_call, any_frame, call_by_source}
 use Rattle.mv_lower_calls.specs.Bindings.{EndsIn}

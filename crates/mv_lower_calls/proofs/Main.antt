@@ -6,7 +6,7 @@ use Rattle.mv_meaning.specs.Meaning.{mean}
 use Rattle.mv_meaning_numbering.specs.Laws.{AnyNumberingServes, StraysDoNotShow}
 use Rattle.mv_ir.specs.Meaning.{body_from}
 use Rattle.mv_ir.specs.Programs.{setting_of, execution_of, run_of_main}
-use Rattle.mv_lower_spec.specs.Correct.{seen}
+use Rattle.mv_ir.specs.KnownFunctions.{seen}
 use Rattle.mv_lower_spec.specs.Functions.{lower_function, lower_program}
 use Rattle.mv_lower_correct.specs.Laws.{IsExecution}
 use Rattle.mv_lower_correct.proofs.Programs as programs

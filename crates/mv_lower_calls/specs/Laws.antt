@@ -8,11 +8,10 @@ use Rattle.mv_ast.specs.Starts.{first_world_under}
 use Rattle.mv_meaning.specs.Meaning.{mean}
 use Rattle.mv_meaning_numbering.specs.Numberings.{IsNumbering}
 use Rattle.mv_ir.specs.World.{World}
-use Rattle.mv_ir.specs.KnownFunctions.{seen_from}
+use Rattle.mv_ir.specs.KnownFunctions.{seen_from, seen}
 use Rattle.mv_ir.specs.Outcome.{Returned}
 use Rattle.mv_ir.specs.Meaning.{Contents, body_from}
 use Rattle.mv_ir.specs.Programs.{setting_of, execution_of, run_of_main}
-use Rattle.mv_lower_spec.specs.Correct.{seen}
 use Rattle.mv_lower_spec.specs.Functions.{lower_function, lower_program}
 use Rattle.mv_source_forms.specs.WellFormed.{IsWellFormed}
 use Rattle.mv_lower_correct.specs.Laws.{HasGlobals, IsExecution, callee_frame}

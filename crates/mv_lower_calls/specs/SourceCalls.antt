@@ -5,12 +5,13 @@ use Rattle.mv_ast.specs.declared.program.Function.{Function}
 use Rattle.mv_ast.specs.Worlds.{World, Outcome, Came, Stopped}
 use Rattle.mv_meaning.specs.declared.state.Frame.{Frame}
 use Rattle.mv_meaning.specs.Meaning.{call_of}
-use Rattle.mv_ir.specs.KnownFunctions.{seen_from}
+use Rattle.mv_ir.specs.KnownFunctions.{seen_from, seen}
 use Rattle.mv_ir.specs.Outcome.{Returned, Stuck, Call, Calls, Bound}
 use Rattle.mv_source_forms.specs.Names.{is_void}
-use Rattle.mv_lower_spec.specs.Correct.{seen, end_of, is_astray, result_of}
+use Rattle.mv_lower_spec.specs.Correct.{end_of, is_astray}
 use Rattle.mv_lower_spec.specs.Law.{strict_context}
 use Rattle.mv_lower_spec.specs.Statements.{levels}
+use Rattle.mv_lower_spec.specs.Lowered.{unless_void}
 
 -- a call without a meaning
 abbrev pub meaningless : Call
@@ -19,7 +20,7 @@ meaningless = record { cost = 0; end = Stuck }
 -- What a call in the source comes to, as code sees it: at a cost of 20 and 100 for one of work, and without a meaning where a call through a pointer
 -- reaches no function that fits.
 abbrev pub as_call : Bool → Outcome Frame ℕ → Call
-as_call void (Came v frame w work) = record { cost = 20 + 100 * work; end = Returned (result_of void v) (seen w) }
+as_call void (Came v frame w work) = record { cost = 20 + 100 * work; end = Returned (unless_void void v) (seen w) }
 as_call void (Stopped why w work) = record { cost = 20 + 100 * work; end = cond (is_astray why) Stuck (end_of why (seen w)) }
 
 -- the frame of a caller: a call gives it back, and nothing depends on it

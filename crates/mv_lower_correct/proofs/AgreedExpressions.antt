@@ -1,7 +1,6 @@
 -- Expressions that name declared locals alone come to the same in two contexts and two frames that hold the same in those.
-use Rattle.std.proofs.Common.{◌≡◌, ℕ, ◌<◌, Bool, true, false, List, [], ◌∷◌, map, if◌then◌else◌, refl, ap}
+use Rattle.std.proofs.Common.{◌≡◌, ℕ, ◌<◌, Bool, true, false, List, [], ◌∷◌, map, refl, ap}
 use Rattle.std.specs.Prelude.{slice_index}
-use Rattle.mv_num.specs.Words as word
 use Rattle.mv_ir.proofs.Induction.{Each}
 use Rattle.mv_ast.specs.declared.program.CType.{CType}
 use Rattle.mv_ast.specs.declared.program.Program.{Program}
@@ -26,6 +25,7 @@ use Rattle.mv_lower_correct.proofs.Agreement.{Agree, Post, Alike, alike_give, al
 use Rattle.mv_lower_correct.proofs.Leaves as leaves
 use Rattle.mv_lower_correct.proofs.Leaves.{Found, InScope}
 use Rattle.mv_num.proofs.Booleans.{and_cases}
+use Rattle.mv_meaning_numbering.proofs.Expressions.{next_of}
 
 module _ (p : Program) (lost fine : Stop → Type 0) (traps : (n : ℕ) → n < 256 → fine (Trapped n)) (scope : Scope) (context : Bool → Context) (steady : leaves.SteadyCalls p lost fine traps scope context) where
   abbrev Keeps : {A : Type 0} → (Bool → Evaluation A) → Type 0
@@ -89,9 +89,6 @@ module _ (p : Program) (lost fine : Stop → Type 0) (traps : (n : ℕ) → n < 
   abbrev changed : ℕ → CType → CType → Lvalue → ℕ → ℕ → Evaluation ℕ
   changed op kind t s v old = bind (value_or_trap (binary_value op kind old v)) (λ new. store_lvalue s (converted t new))
 
-  abbrev stepped : Bool → CType → ℕ → ℕ
-  stepped up t old = converted t (if up then word.add old 1 else word.sub old 1)
-
   layer : (x : Form-F Form Target Expr) → FormChildren P Q S x → (t : CType) → (agreed.form_layer x).1 ≡ true → Keeps (λ z. (agreed.form_layer x).0 z t)
   layer (form.Number n) h t b = gives n
   layer (form.Read target) h t b = at_found (place target) (λ s z. read_lvalue p s) (h (one_holds (target_names_declared scope target) b)) (leaves.keeps_read p lost fine traps scope)
@@ -126,9 +123,9 @@ module _ (p : Program) (lost fine : Stop → Type 0) (traps : (n : ℕ) → n < 
       (λ old. both (λ z. value_or_trap (binary_value op kind old v)) (λ new z. store_lvalue s (converted t new)) (leaves.keeps_trap p lost fine traps scope (binary_value op kind old v))
       (λ new. leaves.keeps_store p lost fine traps scope s (converted t new) k))))
   layer (form.After up target) h t b =
-      at_found (place target) (λ s z. bind (read_lvalue p s) (λ old. bind (store_lvalue s (stepped up t old)) (λ new. give old))) (h (one_holds (target_names_declared scope target) b))
-      (λ s k. both (λ z. read_lvalue p s) (λ old z. bind (store_lvalue s (stepped up t old)) (λ new. give old)) (leaves.keeps_read p lost fine traps scope s k)
-      (λ old. both (λ z. store_lvalue s (stepped up t old)) (λ new z. give old) (leaves.keeps_store p lost fine traps scope s (stepped up t old) k) (λ new. gives old)))
+      at_found (place target) (λ s z. bind (read_lvalue p s) (λ old. bind (store_lvalue s (next_of up t old)) (λ new. give old))) (h (one_holds (target_names_declared scope target) b))
+      (λ s k. both (λ z. read_lvalue p s) (λ old z. bind (store_lvalue s (next_of up t old)) (λ new. give old)) (leaves.keeps_read p lost fine traps scope s k)
+      (λ old. both (λ z. store_lvalue s (next_of up t old)) (λ new z. give old) (leaves.keeps_store p lost fine traps scope s (next_of up t old) k) (λ new. gives old)))
   layer (form.Direct g args) h t b = both (vals args) (λ vs z. call_at (context z) g vs) (values_keep args h b) (λ vs. leaves.keeps_call p lost fine traps scope context steady.calls g vs)
   layer (form.Through args callee) h t b =
       let bs = last_apart (map (names_declared scope) args) (names_declared scope callee) b in

@@ -23,7 +23,7 @@ use Rattle.mv_meaning.specs.Meaning.{Evaluation, Context, ArmDenotation, store_l
 use Rattle.mv_meaning.proofs.Equations.{flow_of-Block, flow_of-Clear, flow_of-Express, flow_of-If, flow_of-While, flow_of-Do, flow_of-For, flow_of-Switch, flow_of-Break, flow_of-Continue, flow_of-Return, arm_of_lem}
 use Rattle.mv_meaning.proofs.SwitchArms.{leads_to}
 use Rattle.mv_source_forms.specs.Lists.{all_of}
-use Rattle.mv_lower_spec.proofs.Switches.{in_order_both}
+use Rattle.mv_meaning.proofs.Sequences.{in_order_both}
 use Rattle.mv_source_forms.specs.Jumps.{Jumping, all_jump, jumps_layer, arm_jumps_layer, stmt_jumps, arm_jumps}
 use Rattle.mv_source_forms.specs.Scopes.{Scope, Scoped, with_local, with_declared, scope_behind, names_declared, option_declared, all_scoped, scoped_layer, arm_scoped_layer, stmt_scoped, arm_scoped}
 use Rattle.mv_source_forms.proofs.StatementFolds.{stmt_fold, stmt_folds, along_stmts}

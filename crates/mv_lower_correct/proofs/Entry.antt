@@ -8,7 +8,7 @@ use Rattle.mv_ast.specs.declared.program.Program.{Program}
 use Rattle.mv_ast.specs.declared.program.Function.{Function}
 use Rattle.mv_ast.specs.declared.program.Local.{Local}
 use Rattle.mv_ast.specs.declared.world.Binding.{Binding}
-use Rattle.mv_ast.specs.Counts.{words_of_size}
+use Rattle.mv_ast.specs.Counts.{words_of_size, elements_of}
 use Rattle.mv_ast.specs.Plans.{attributed_before, switch_global, value_among, binding_value, bound_value}
 use Rattle.mv_ast.specs.Worlds.{World}
 use Rattle.mv_meaning.specs.declared.state.Frame.{Frame}
@@ -20,9 +20,10 @@ use Rattle.mv_ir.specs.Meaning.{Contents, first_items, first_arrays, entry_state
 use Rattle.mv_ir.specs.Levels.{Code, read_under, switches_read, one_if, frame_of_call}
 use Rattle.mv_ir.specs.Programs.{setting_of, place_if, next_place, code_from, code_of}
 use Rattle.mv_ir.proofs.Joining.{items_count}
-use Rattle.mv_lower_spec.specs.Correct.{Ground, resting, ShowsAround, Shows, seen}
+use Rattle.mv_ir.specs.KnownFunctions.{seen}
+use Rattle.mv_lower_spec.specs.Correct.{Ground, resting, ShowsAround, Shows}
 use Rattle.mv_source_forms.specs.Names.{global_words, size_in}
-use Rattle.mv_lower_spec.specs.Functions.{elements_of, array_sizes, lower_function, lower_program}
+use Rattle.mv_lower_spec.specs.Functions.{array_sizes, lower_function, lower_program}
 use Rattle.mv_lower_spec.proofs.Forms.{word_is}
 use Rattle.mv_source_forms.specs.WellFormed.{parameters, IsWellFormedFunction}
 use Rattle.mv_lower_correct.proofs.Agreement.{Agree}

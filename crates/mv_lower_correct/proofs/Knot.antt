@@ -15,17 +15,18 @@ use Rattle.mv_meaning.specs.Meaning.{flow_of_all, frame_of, deeper, back_in, cal
 use Rattle.mv_ir.specs.declared.stm.Stm.{Stm}
 use Rattle.mv_ir.specs.declared.stm.Stm.TheOpen as stm
 use Rattle.mv_ir.specs.World as code_world
-use Rattle.mv_ir.specs.Outcome.{State, Returned, Ends, Run, Bound, Calls, Call, spend, then_do}
-use Rattle.mv_ir.specs.Meaning.{Contents, entry_state, body_end, body_from, cleared}
+use Rattle.mv_ir.specs.Outcome.{State, Returned, Ends, Bound, Calls, Call, spend, then_do}
+use Rattle.mv_ir.specs.Meaning.{Contents, entry_state, body_from, cleared, call_from}
 use Rattle.mv_ir.specs.Levels.{Code, one_if, called, levels}
 use Rattle.mv_ir.specs.Programs.{setting_of, place_if, code_of}
 use Rattle.mv_ir.proofs.Keeping.{one_meaning}
-use Rattle.mv_lower_spec.specs.Lowered.{number}
+use Rattle.mv_ir.specs.KnownFunctions.{seen}
+use Rattle.mv_lower_spec.specs.Lowered.{number, unless_void}
 use Rattle.mv_source_forms.specs.Names.{is_void, takes}
 use Rattle.mv_lower_spec.specs.Statements as statements
 use Rattle.mv_lower_spec.specs.Statements.{FlowShown, return_with, out_of}
 use Rattle.mv_lower_spec.specs.Functions.{lower_body, lower_function, lower_program, outermost, ending}
-use Rattle.mv_lower_spec.specs.Correct.{Ground, resting, val, Shows, CallShown, CallsAgree, seen, ran, end_of, is_astray, astray, result_of, IsStrict}
+use Rattle.mv_lower_spec.specs.Correct.{Ground, resting, val, Shows, CallShown, CallsAgree, ran, astray, IsStrict, CallHalted}
 use Rattle.mv_lower_spec.specs.Law.{fits_call, strict_context}
 use Rattle.mv_lower_spec.proofs.Running as run
 use Rattle.mv_lower_spec.proofs.Running.{nodes_number}
@@ -43,28 +44,20 @@ use Rattle.mv_lower_correct.proofs.KnownAgree.{OwnIsLive, same_reads, known_agre
 use Rattle.mv_lower_correct.proofs.Entry.{entry_frame, ground_of, frame_for, code_for, code_is, shows_entry, agrees}
 use Rattle.mv_num.proofs.Booleans.{and_cases, from_falsity}
 
-abbrev pub call_from : Run → Call
-call_from r = record { cost = r.cost; end = body_end r.outcome }
-
 -- ---- what a body comes to
 
 -- the call of a function that is void or not, against its statements in the source, from a world with these bindings and so many live frames
 pub record BodyReturned (p : Program) (void : Bool) (live : ℕ) (before : World) (x : Call) (flow : Flow) (left : World) (work : ℕ) : Type 0 where
   pub cost : ℕ
-  pub ends : x ≡ record { cost = cost; end = Returned (result_of void (returned_value flow)) (seen left) }
+  pub ends : x ≡ record { cost = cost; end = Returned (unless_void void (returned_value flow)) (seen left) }
   pub nothing : void ≡ true → returned_value flow ≡ 0
   pub pinned : 0 < live → left.bindings ≡ before.bindings
   pub globals : HasGlobals p left
   pub paid : cost ≤ 20 + 100 * work
 
-pub record BodyHalted (x : Call) (why : Stop) (left : World) (work : ℕ) : Type 0 where
-  pub cost : ℕ
-  pub ends : is_astray why ≡ false → x ≡ record { cost = cost; end = end_of why (seen left) }
-  pub paid : cost ≤ 20 + 100 * work
-
 abbrev pub BodyDoes : Program → Bool → ℕ → World → Call → Outcome Frame Flow → Type 0
 BodyDoes p void live before x (Came flow f left work) = BodyReturned p void live before x flow left work
-BodyDoes p void live before x (Stopped why left work) = BodyHalted x why left work
+BodyDoes p void live before x (Stopped why left work) = CallHalted x why left work
 
 -- any way to stop
 abbrev pub Any : Stop → Type 0
@@ -82,7 +75,7 @@ same_body p void live before x scope inner b c (Came flow f w n) (Stopped why w'
 same_body p void live before x scope inner b c (Stopped why w n) (Came flow' f' w' n') h k = absurd h
 same_body p void live before x scope inner b c (Stopped why w n) (Stopped why' w' n') (inl h) k = absurd h
 same_body p void live before x scope inner b c (Stopped why w n) (Stopped why' w' n') (inr h) k =
-    subst (λ (y : Stop). BodyHalted x y w' n') h.why (subst (λ (y : World). BodyHalted x why y n') h.world (subst (λ y. BodyHalted x why w y) h.work k))
+    subst (λ (y : Stop). CallHalted x y w' n') h.why (subst (λ (y : World). CallHalted x why y n') h.world (subst (λ y. CallHalted x why w y) h.work k))
 
 -- no jump leads out
 abbrev Stays : Outcome Frame Flow → Type 0

@@ -16,8 +16,8 @@ use Rattle.mv_meaning.specs.declared.state.Frame.{Frame}
 use Rattle.mv_meaning.specs.Meaning.{byte_of, put_byte, answered}
 use Rattle.mv_ir.specs.World as code_world
 use Rattle.mv_ir.specs.Programs.{setting_of}
-use Rattle.mv_ir.specs.KnownFunctions.{next_byte, written, patch_cost, at_cost, poll_answer, seen_from}
-use Rattle.mv_lower_spec.specs.Correct.{seen, Unmoved, KnownShown, KnownAgrees}
+use Rattle.mv_ir.specs.KnownFunctions.{next_byte, written, patch_cost, at_cost, poll_answer, seen_from, seen}
+use Rattle.mv_lower_spec.specs.Correct.{Unmoved, KnownShown, KnownAgrees}
 use Rattle.mv_lower_spec.proofs.Forms.{with_word_lengths}
 
 -- a frame of an attributed function is among the live ones

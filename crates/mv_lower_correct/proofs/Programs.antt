@@ -1,5 +1,5 @@
 -- Whole programs: the lowered one does what the source means.
-use Rattle.std.proofs.Common.{inl, inr, ◌≡◌, ℕ, zero, suc, ◌-◌, ◌<◌, ◌≤◌, Bool, true, false, cond, List, [], ◌∷◌, map, length, replicate, Option, Some, None, refl, sym, ◌∙◌, subst, ap, arith}
+use Rattle.std.proofs.Common.{inl, inr, ◌≡◌, ℕ, zero, suc, ◌-◌, ◌<◌, ◌≤◌, Bool, false, cond, List, [], ◌∷◌, map, length, replicate, Option, Some, None, refl, sym, ◌∙◌, subst, ap, arith}
 use Rattle.std.specs.Prelude.{All, IsTrue, slice_get, slice_index_or, ◌&&◌, take}
 use Rattle.std.proofs.lemmas.Bool.{ne_eqb, eq-eqb}
 use Rattle.std.proofs.lemmas.List.{length-append, length-map, length-take, length-replicate}
@@ -26,16 +26,19 @@ use Rattle.mv_meaning.specs.Meaning.{Context, flow_of_all, frame_of, context_at,
 use Rattle.mv_source_forms.specs.Typing.{IsInteger}
 use Rattle.mv_meaning_numbering.specs.Numberings.{IsNumbering, Admits, meaning_in}
 use Rattle.mv_meaning_numbering.specs.Laws.{AnyNumberingServes, StraysDoNotShow}
+use Rattle.mv_meaning_numbering.proofs.Lawful.{all_reached}
 use Rattle.mv_ir.specs.World as code_world
 use Rattle.mv_ir.specs.Outcome.{State, Returned, Call, Calls, Bound}
 use Rattle.mv_ir.specs.Meaning.{Contents, cleared, entry_state, body_from}
 use Rattle.mv_ir.specs.Levels.{Code}
 use Rattle.mv_ir.specs.Programs.{setting_of, code_of, call_of_main, execution_of, ir_meaning}
+use Rattle.mv_ir.specs.KnownFunctions.{seen}
 use Rattle.mv_source_forms.specs.Names.{is_void, takes, words_of_global}
-use Rattle.mv_lower_spec.specs.Correct.{resting, Shows, seen, is_astray, astray, result_of}
+use Rattle.mv_lower_spec.specs.Correct.{resting, Shows, is_astray, astray}
 use Rattle.mv_lower_spec.specs.Law.{fits_call, strict_context}
 use Rattle.mv_lower_spec.specs.Statements as statements
 use Rattle.mv_lower_spec.specs.Functions.{lower_function, lower_program}
+use Rattle.mv_lower_spec.specs.Lowered.{unless_void}
 use Rattle.mv_source_forms.specs.WellFormed.{parameters, IsWellFormed, IsWellFormedFunction, IsWellFormedGlobal}
 use Rattle.mv_lower_correct.specs.Laws.{HasGlobals, IsExecution}
 use Rattle.mv_source_forms.specs.Scopes.{Scope}
@@ -107,7 +110,7 @@ stops_there stops.Unfinished w work o scope inner b c h e = refl
 executed_is : (p : Program) (first : code_world.World) (void : Bool) (before : World) (x : Call) (o q : Outcome Frame Flow) (scope inner : Scope) (b c : Bool) → void ≡ false → AlikeOutcome Nothing NotAstray Flow (Leads scope inner b c) q q → meaning_of o ≡ meaning_of q →
     BodyDoes p void 0 before x o → IsExecution (meaning_of o) (execution_of first x.cost x.end)
 executed_is p first void before x (Came flow f w work) q scope inner b c nv k e h =
-    subst (λ (y : Call). IsExecution (meaning_of (Came flow f w work)) (execution_of first y.cost y.end)) (sym (h.ends ∙ ap (λ z. record { cost = h.cost; end = Returned (result_of z (returned_value flow)) (seen w) }) nv))
+    subst (λ (y : Call). IsExecution (meaning_of (Came flow f w work)) (execution_of first y.cost y.end)) (sym (h.ends ∙ ap (λ z. record { cost = h.cost; end = Returned (unless_void z (returned_value flow)) (seen w) }) nv))
     (record { output = refl; taken = refl; ending = refl; bindings = refl; log = refl; paid = h.paid })
 executed_is p first void before x (Stopped (stops.Trapped n) w work) q scope inner b c nv k e h =
     subst (λ (y : Call). IsExecution (meaning_of (Stopped (stops.Trapped n) w work)) (execution_of first y.cost y.end)) (sym (h.ends (stops_there (stops.Trapped n) w work q scope inner b c k e)))
@@ -124,7 +127,7 @@ pub record EndAlike (x z : Call) : Type 0 where
 ends_alike : (p : Program) (void : Bool) (before : World) (x z : Call) (o q : Outcome Frame Flow) (scope inner : Scope) (b c : Bool) → void ≡ false → AlikeOutcome Nothing NotAstray Flow (Leads scope inner b c) q q → meaning_of o ≡ meaning_of q →
     BodyDoes p void 0 before x o → BodyDoes p void 0 before z o → EndAlike x z
 ends_alike p void before x z (Came flow f w work) q scope inner b c nv k e h g =
-    let ends = λ (y : Call) (d : BodyDoes p void 0 before y (Came flow f w work)). ap (λ (u : Call). u.end) d.ends ∙ ap (λ v. Returned (result_of v (returned_value flow)) (seen w)) nv in
+    let ends = λ (y : Call) (d : BodyDoes p void 0 before y (Came flow f w work)). ap (λ (u : Call). u.end) d.ends ∙ ap (λ v. Returned (unless_void v (returned_value flow)) (seen w)) nv in
     record { same = ends x h ∙ sym (ends z g); valued = λ u none. some_value (returned_value flow) (seen w) u (sym (ends x h) ∙ none) }
   where
     some_value : (v : ℕ) (w u : code_world.World) → Returned (Some v) w ≡ Returned None u → ⊥
@@ -203,9 +206,6 @@ module _ (p : Program) (numbers : List ℕ) (formed : IsWellFormed p) (numbering
 
   plain_mean : meaning_of (came (context_at p numbers bound)) ≡ mean p input actions bound
   plain_mean = sym (in_context (context_at p numbers bound)) ∙ any p numbers formed.typed numbering input actions bound fit
-
-  abbrev all_reached : CType → ℕ → ℕ → Bool
-  all_reached t f n = true
 
   zero_keeps : (scope : Scope) → leaves.Keeps p Nothing NotAstray trap_not_astray scope {A = ℕ} (λ z. give 0)
   zero_keeps scope = leaves.keeps_give p Nothing NotAstray trap_not_astray scope {A = ℕ} 0

@@ -17,10 +17,12 @@ use Rattle.mv_ir.specs.Outcome.{Returned, Call}
 use Rattle.mv_ir.specs.Meaning.{Contents, body_from}
 use Rattle.mv_ir.specs.Levels.{frame_of_call, levels}
 use Rattle.mv_ir.specs.Programs.{Ending, Exited, Trapped, Unfinished, Execution, setting_of, place_if, code_of, ir_meaning}
+use Rattle.mv_ir.specs.KnownFunctions.{seen}
 use Rattle.mv_source_forms.specs.Names.{is_void, global_words}
-use Rattle.mv_lower_spec.specs.Correct.{seen, end_of, is_astray, result_of}
+use Rattle.mv_lower_spec.specs.Correct.{end_of, is_astray}
 use Rattle.mv_lower_spec.specs.Law.{strict_context}
 use Rattle.mv_lower_spec.specs.Functions.{lower_function, lower_program}
+use Rattle.mv_lower_spec.specs.Lowered.{unless_void}
 use Rattle.mv_source_forms.specs.WellFormed.{IsWellFormed}
 
 -- ---- functions
@@ -32,7 +34,7 @@ HasGlobals p w = (x : ℕ) → length (slice_index_or w.globals x []) ≡ global
 -- A call in the code is one in the source: it returns the same value, or none where the function is void, or stops in the same way, with the same world,
 -- at a cost of at most 20 and 100 for one of work.
 abbrev pub IsCall : Bool → Call → Outcome Frame ℕ → Type 0
-IsCall void c (Came v frame w work) = (c.end ≡ Returned (result_of void v) (seen w)) × (c.cost ≤ 20 + 100 * work)
+IsCall void c (Came v frame w work) = (c.end ≡ Returned (unless_void void v) (seen w)) × (c.cost ≤ 20 + 100 * work)
 IsCall void c (Stopped why w work) = (c.end ≡ end_of why (seen w)) × (c.cost ≤ 20 + 100 * work)
 
 -- whether an evaluation comes to a call through a pointer that reaches no function that fits

@@ -11,32 +11,24 @@ use Rattle.mv_ast.specs.declared.program.Target.{Target, Target-F}
 use Rattle.mv_ast.specs.Operators.{is_unsigned}
 use Rattle.mv_ir.specs.declared.tree.Tree.{Tree}
 use Rattle.mv_ir.specs.declared.stm.Array.{Array}
-use Rattle.mv_ir.specs.declared.stm.Stm.{Stm}
 use Rattle.mv_ir.proofs.Induction.{Each, each_append}
-use Rattle.mv_lower_spec.specs.Lowered.{Lowered, Lowering, is_low, is_empty, kept_if, number, temp, global, unary, binary, set, set_global, truth, truth_in, first, second, lower_local, lower_global, lower_one, lower_two, lower_division, lower_both, lower_either, lower_choice, lower_set_local, lower_set_global, lower_all, lower_call, lower_through, lower_known, place_of_result, result_tree, last_of, but_last, index_in, lower_element, lower_read_element, lower_set_element}
+use Rattle.mv_lower_spec.specs.Lowered.{Lowered, Lowering, is_low, is_empty, kept_if, number, temp, global, unary, binary, set, set_global, truth, truth_in, first, second, lower_local, lower_global, lower_one, lower_two, lower_division, lower_both, lower_either, lower_choice, lower_set_local, lower_set_global, lower_all, lower_call, lower_through, lower_known, result_tree, last_of, but_last, index_in, lower_element, lower_read_element, lower_set_element, unless_void}
 use Rattle.mv_lower_spec.specs.Lower.{Place, InLocal, InGlobal, Element, quotient_number, remainder_number, unary_tree, converted_tree, less_tree, bit_tree, lower_operator, lower_product, lower_binary, lower_changed, lower_change, lower_after, next_tree, lower_read, lower_set, form_lowering, place_of, part_of, lower_expr}
 use Rattle.mv_source_forms.specs.Names.{is_void}
 use Rattle.mv_source_forms.proofs.ExpressionFolds.{along_exprs}
 use Rattle.mv_source_forms.proofs.ExpressionInduction.{FormChildren, TargetChildren}
 use Rattle.mv_lower_shape.proofs.Folds.{lowered_exprs, lowers}
-use Rattle.mv_lower_names.proofs.Naming.{TreeNames, CodeNames, both, then, number_names, temp_names, global_names, function_names, unary_names, binary_names, narrowed_names, set_names, set_global_names, divide_names, check_names, read_names, write_names, choose_names, known_names, direct_names, through_names}
+use Rattle.mv_lower_names.proofs.Naming.{both, then, number_names, temp_names, global_names, function_names, unary_names, binary_names, narrowed_names, set_names, set_global_names, divide_names, check_names, read_names, write_names, choose_names, known_names, direct_names, through_names, naming}
 use Rattle.mv_lower_names.proofs.Premises.{OwnNames, KnownOf}
 
 module _ (F : ℕ → Type 0) (K : Known → Type 0) (C : ℕ → Type 0) (zero_is : C 0) (one_is : C 1) (greatest_is : C 4294967295) where
-  abbrev T : Tree → Type 0
-  T = TreeNames F K C
-
-  abbrev X : List Stm → Type 0
-  X = CodeNames F K C
+  open naming F K C use {T, X, join}
 
   abbrev pub Fine : Lowered → Type 0
   Fine l = X l.code × T l.tree
 
   abbrev pub FineLowering : Lowering → Type 0
   FineLowering l = (n : ℕ) → Fine (l n)
-
-  abbrev join : (xs ys : List Stm) → X xs → X ys → X (xs ++ ys)
-  join = both F K C
 
   -- ---- the source's operators
 
@@ -202,7 +194,7 @@ module _ (F : ℕ → Type 0) (K : Known → Type 0) (C : ℕ → Type 0) (zero_
   call_fine void f ls o h n =
       let all = lower_all ls n in
       let k = all_fine ls h n in
-      (then F K C all.code _ k.0 (direct_names F K C (place_of_result void n) f all.trees o k.1), result_fine void n)
+      (then F K C all.code _ k.0 (direct_names F K C (unless_void void n) f all.trees o k.1), result_fine void n)
 
   last_fine : (ts : List Tree) → Each T ts → T (last_of ts)
   last_fine [] h = number_names F K C 0 zero_is
@@ -218,7 +210,7 @@ module _ (F : ℕ → Type 0) (K : Known → Type 0) (C : ℕ → Type 0) (zero_
   through_fine void ls f h k n =
       let all = lower_all (ls ++ f ∷ []) n in
       let l = all_fine (ls ++ f ∷ []) (each_append FineLowering ls (f ∷ []) h (k, tt)) n in
-      (then F K C all.code _ l.0 (through_names F K C (place_of_result void n) (last_of all.trees) (but_last all.trees) (last_fine all.trees l.1) (others_fine all.trees l.1)), result_fine void n)
+      (then F K C all.code _ l.0 (through_names F K C (unless_void void n) (last_of all.trees) (but_last all.trees) (last_fine all.trees l.1) (others_fine all.trees l.1)), result_fine void n)
 
   known_fine : (k : Known) (ls : List Lowering) → K k → Each FineLowering ls → FineLowering (lower_known k ls)
   known_fine k ls o h n =

@@ -166,3 +166,12 @@ module _ (F : ℕ → Type 0) (K : Known → Type 0) (C : ℕ → Type 0) where
   pub through_names : (r : Option ℕ) (t : Tree) (args : List Tree) → TreeNames t → Each TreeNames args → StmNames (call r (callee.Through t) args)
   through_names r t args h l =
       stm_of (stm.Call r (callee.Through t) args) (each_append F (tree_functions t) (functions_of_all args) h.functions (all_functions args l)) tt (all_constants (t ∷ args) (h, l))
+
+-- these by short names
+pub record Naming : Type 1 where
+  pub T : Tree → Type 0
+  pub X : List Stm → Type 0
+  pub join : (xs ys : List Stm) → X xs → X ys → X (xs ++ ys)
+
+abbrev pub naming : (ℕ → Type 0) → (Known → Type 0) → (ℕ → Type 0) → Naming
+naming F K C = record { T = TreeNames F K C; X = CodeNames F K C; join = both F K C }

@@ -17,30 +17,23 @@ use Rattle.mv_ir.specs.declared.stm.Stm.{Stm}
 use Rattle.mv_ir.proofs.Induction.{Each}
 use Rattle.mv_lower_spec.specs.Lowered.{Lowering, number, temp, binary, set}
 use Rattle.mv_lower_spec.specs.Lower.{lower_expr}
-use Rattle.mv_lower_spec.specs.Statements.{Jumps, Placed, LoweredArm, break, enclosed, in_body, in_arm, store_word, clear_words, store_zeros, store_values, lower_clear, test_labels, test_arms, arm_place, all_tests, arm_code, arms_code, lower_switch, in_sequence, lower_if, test_and_body, lower_while, lower_do, lower_for}
+use Rattle.mv_lower_spec.specs.Statements.{Jumps, Placed, LoweredArm, break, enclosed, in_body, in_arm, store_word, clear_words, store_zeros, store_values, lower_clear, test_labels, test_arms, arm_place, all_tests, arm_code, arms_code, lower_switch, lower_if, test_and_body, lower_while, lower_do, lower_for}
 use Rattle.mv_lower_spec.specs.LowerStatements.{lower_optional, lower_stmt, lower_arm}
 use Rattle.mv_source_forms.proofs.StatementFolds.{along_stmts}
 use Rattle.mv_source_forms.proofs.StatementInduction.{StmtChildren}
-use Rattle.mv_lower_shape.proofs.Folds.{lowered_stmts}
-use Rattle.mv_lower_names.proofs.Naming.{TreeNames, StmNames, CodeNames, both, then, number_names, temp_names, binary_names, set_names, write_names, zero_names, choose_names, return_names, break_names, repeat_names, enclosed_names}
+use Rattle.mv_lower_shape.proofs.Folds.{lowered_stmts, sequences}
+use Rattle.mv_lower_names.proofs.Naming.{StmNames, then, number_names, temp_names, binary_names, set_names, write_names, zero_names, choose_names, return_names, break_names, repeat_names, enclosed_names, naming}
 use Rattle.mv_lower_names.proofs.Premises.{KnownOf, Optional, StmtKnown, StmtsKnown}
 use Rattle.mv_lower_names.proofs.Expressions.{FineLowering, expr_fine}
 
 module _ (F : ℕ → Type 0) (K : Known → Type 0) (C : ℕ → Type 0) (zero_is : C 0) (one_is : C 1) (greatest_is : C 4294967295) where
-  abbrev T : Tree → Type 0
-  T = TreeNames F K C
-
-  abbrev X : List Stm → Type 0
-  X = CodeNames F K C
+  open naming F K C use {T, X, join}
 
   abbrev FL : Lowering → Type 0
   FL = FineLowering F K C zero_is one_is greatest_is
 
   abbrev FinePlaced : Placed → Type 0
   FinePlaced a = (j : Jumps) → X (a j).code
-
-  abbrev join : (xs ys : List Stm) → X xs → X ys → X (xs ++ ys)
-  join = both F K C
 
   -- all numbers below one may stand in the code
   abbrev Below : ℕ → Type 0
@@ -157,8 +150,7 @@ module _ (F : ℕ → Type 0) (K : Known → Type 0) (C : ℕ → Type 0) (zero_
     -- ---- the fold
 
     module _ (sizes : ℕ → Option ℕ) (void : Bool) (PF : Form → Type 0) (PT : Target → Type 0) (PE : Expr → Type 0) (PS : Stmt → Type 0) (PA : Arm → Type 0) (source : KnownOf F K C PF PT PE) (known : StmtsKnown F K C sizes PE PS PA) where
-      abbrev lowered : List Stmt → Placed
-      lowered body = in_sequence locals (map (lower_stmt locals sizes void) body)
+      open sequences locals sizes void use {lowered, arms_lowered}
 
       value_fine : (e : Expr) → PE e → FL (lower_expr e)
       value_fine = expr_fine F K C zero_is one_is greatest_is PF PT PE source
@@ -177,7 +169,7 @@ module _ (F : ℕ → Type 0) (K : Known → Type 0) (C : ℕ → Type 0) (zero_
       all_values_fine [] k = tt
       all_values_fine (e ∷ es) k = (value_fine e k.0, all_values_fine es k.1)
 
-      all_arms_fine : (arms : List Arm) → Each A arms → Each PA arms → Each FineArm (map (lower_arm locals sizes void) arms)
+      all_arms_fine : (arms : List Arm) → Each A arms → Each PA arms → Each FineArm (arms_lowered arms)
       all_arms_fine [] h k = tt
       all_arms_fine (a ∷ arms) h k = (h.0 k.0, all_arms_fine arms h.1 k.1)
 
@@ -196,7 +188,7 @@ module _ (F : ℕ → Type 0) (K : Known → Type 0) (C : ℕ → Type 0) (zero_
       layer (stmt.For first test step body) h k j =
           for_fine (lowered first) (lower_optional 1 test) (lower_optional 0 step) (lowered body) (sequence_fine first h.0 k.0.0) (optional_fine 1 test one_is k.1) (optional_fine 0 step zero_is k.2) (sequence_fine body h.1 k.0.1) j
       layer (stmt.Switch e arms) h k j =
-          switch_fine (lower_expr e) (map (lower_arm locals sizes void) arms) (value_fine e k.0) (λ i lt. k.1 i (omega (arith, lt, length-map arms (lower_arm locals sizes void)))) (all_arms_fine arms h k.2) j
+          switch_fine (lower_expr e) (arms_lowered arms) (value_fine e k.0) (λ i lt. k.1 i (omega (arith, lt, length-map arms (lower_arm locals sizes void)))) (all_arms_fine arms h k.2) j
       layer stmt.Break h k j = (break_names F K C j.leave, tt)
       layer stmt.Continue h k j = (break_names F K C j.again, tt)
       layer (stmt.Return None) h k j = (break_names F K C j.around, tt)

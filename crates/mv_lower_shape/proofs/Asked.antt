@@ -70,6 +70,14 @@ module _ (globals : Globals) (locals : ℕ) (sizes : ℕ → Option ℕ) (declar
   abbrev pub is_within : Expr → Bool
   is_within = fold-Expr Bool Access Bool form_names_only target_access inner_names_only
 
+-- by short names, where some locals are declared
+pub record Asking : Type 0 where
+  pub within : Expr → Bool
+  pub place : Target → Access
+
+abbrev pub asking : Globals → ℕ → (ℕ → Option ℕ) → (ℕ → Bool) → Asking
+asking globals locals sizes declared = record { within = is_within globals locals sizes declared; place = target_is_within globals locals sizes declared }
+
 -- ---- statements
 
 -- Whether a statement is within these limits, where these locals are declared, and which are declared behind it.

@@ -7,16 +7,17 @@ use Rattle.mv_ir.specs.declared.tree.Tree.TheOpen as tree
 use Rattle.mv_ir.specs.declared.stm.Stm.TheOpen as stm
 use Rattle.mv_ir.specs.declared.body.Body.{Body}
 use Rattle.mv_ir.specs.Measures.{trees, scalars_read, arrays_read, statements, tree_nodes, deepest}
-use Rattle.mv_ir.specs.Live.{any_reads, with_after, nowhere, live_at_start, all_marks, any, plain, HasTemps}
+use Rattle.mv_ir.specs.Live.{any_reads, with_after, nowhere, live_at_start, all_marks, plain, HasTemps}
 use Rattle.mv_ir.specs.WellFormed.{all_true, is_there, has_room, named, IsWellFormed}
 use Rattle.mv_ir.proofs.Induction.{Each}
 use Rattle.mv_ir.proofs.Rolls.{depth_roll, flow_roll, reads_temp_roll}
 use Rattle.mv_ast.specs.declared.program.Program.{Program}
 use Rattle.mv_ast.specs.declared.program.Function.{Function}
-use Rattle.mv_ast.specs.Counts.{nodes, depth}
+use Rattle.mv_ast.specs.Counts.{nodes, depth, elements_of}
+use Rattle.mv_ast.specs.Names.{any_of}
 use Rattle.mv_lower_spec.specs.Lowered.{number}
 use Rattle.mv_source_forms.specs.Names.{is_scalar, is_void, size_in}
-use Rattle.mv_lower_spec.specs.Functions.{elements_of, array_sizes, lower_body, outermost, ending, lower_function}
+use Rattle.mv_lower_spec.specs.Functions.{array_sizes, lower_body, outermost, ending, lower_function}
 use Rattle.mv_lower_spec.proofs.Depths.{ShallowCode, both_parts}
 use Rattle.mv_lower_shape.proofs.Asked.{Globals, IsAsked}
 use Rattle.mv_lower_shape.specs.Allowances.{allowance}
@@ -74,7 +75,7 @@ module _ (p : Program) (globals : Globals) (g : Function) (asked : IsAsked p glo
   quiet : IsQuiet nowhere
   quiet = record { next = refl; leaves = λ n. refl; restarts = λ n. refl }
 
-  unused : (u : ℕ) → used u ≡ false → (live_at_start u b.code ≡ false) × (any (marks_at u b.code nowhere) ≡ false)
+  unused : (u : ℕ) → used u ≡ false → (live_at_start u b.code ≡ false) × (any_of (marks_at u b.code nowhere) ≡ false)
   unused u e =
       let f = function_paid globals g none 0 (Unused u) (λ declared. unused_rules u (allowed globals locals sizes (room_of g) none 0 declared) e) (unused_blocks u) asked.within in
       (f.made.dead refl nowhere quiet, f.made.bare refl nowhere quiet)
@@ -83,10 +84,10 @@ module _ (p : Program) (globals : Globals) (g : Function) (asked : IsAsked p glo
   params_used : (u : ℕ) → u < g.params → used u ≡ true
   params_used u lt = limits.local_used locals sizes (room_of g) u (lt-ltb u locals (omega (arith, lt, asked.params_are_locals))) (asked.params_are_scalars u lt)
 
-  unmarked : (u : ℕ) → used u ≡ false → any (all_marks b u) ≡ false
+  unmarked : (u : ℕ) → used u ≡ false → any_of (all_marks b u) ≡ false
   unmarked u e =
       let h = unused u e in
-      or_from (live_at_start u b.code || ltb u g.params) (any (marks_at u b.code nowhere)) (or_from (live_at_start u b.code) (ltb u g.params) h.0 (no_param (ltb u g.params) refl)) h.1
+      or_from (live_at_start u b.code || ltb u g.params) (any_of (marks_at u b.code nowhere)) (or_from (live_at_start u b.code) (ltb u g.params) h.0 (no_param (ltb u g.params) refl)) h.1
     where
       no_param : (z : Bool) → ltb u g.params ≡ z → ltb u g.params ≡ false
       no_param true q = from_falsity (sym e ∙ params_used u (ltb-true u g.params q))

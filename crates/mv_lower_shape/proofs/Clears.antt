@@ -1,5 +1,5 @@
 -- Lowered declarations of locals are made of code that obeys the rules.
-use Rattle.std.proofs.Common.{◌≡◌, ℕ, zero, suc, ◌+◌, ◌-◌, ◌*◌, ◌<◌, ◌≤◌, Bool, true, false, cond, List, [], ◌∷◌, ◌++◌, map, length, Option, Some, None, refl, ap, arith}
+use Rattle.std.proofs.Common.{◌≡◌, ℕ, zero, suc, ◌+◌, ◌-◌, ◌*◌, ◌≤◌, Bool, true, false, cond, List, [], ◌∷◌, ◌++◌, map, length, Option, Some, None, refl, ap, arith}
 use Rattle.std.specs.Prelude.{◌||◌, nat_lt, nat_le, sum}
 use Rattle.std.proofs.lemmas.Bool.{leb-false, or_parts}
 use Rattle.std.proofs.lemmas.List.{length-map}
@@ -8,63 +8,41 @@ use Rattle.mv_ir.specs.declared.stm.Array.TheVariants as array
 use Rattle.mv_ir.specs.declared.stm.Stm.{Stm}
 use Rattle.mv_ast.specs.declared.program.Expr.{Expr}
 use Rattle.mv_ast.specs.Counts.{expr_nodes, words_of_size}
-use Rattle.mv_lower_spec.specs.Lowered.{Lowering, number}
+use Rattle.mv_lower_spec.specs.Lowered.{number}
 use Rattle.mv_lower_spec.specs.Lower.{lower_expr}
 use Rattle.mv_source_forms.specs.Names.{is_scalar}
 use Rattle.mv_lower_spec.specs.Statements.{Jumps, store_word, clear_words, store_zeros, store_values, values_top, lower_clear}
 use Rattle.mv_lower_shape.proofs.Asked.{Globals, is_within, all_exprs_within}
-use Rattle.mv_lower_shape.specs.Calls.{expr_weight}
-use Rattle.mv_lower_shape.proofs.Rules.{Allowed, Rules}
-use Rattle.mv_lower_shape.proofs.Plain.{plain_set, plain_write, plain_zero, covers_number, covers_none, covers_before}
-use Rattle.mv_lower_shape.proofs.Given as given
-use Rattle.mv_lower_shape.proofs.Paid as paying
-use Rattle.mv_lower_shape.proofs.Expressions.{allowed, scratch_used, local_used, expr_paid}
+use Rattle.mv_lower_shape.proofs.Rules.{Rules}
+use Rattle.mv_lower_shape.proofs.Plain.{plain_set, plain_write, plain_zero, covers_number, covers_none, covers_before, dropped}
+use Rattle.mv_lower_shape.proofs.Paid.{paid, stmt_paid, paying}
+use Rattle.mv_lower_shape.proofs.Expressions.{allowed, local_used, expr_paid}
 use Rattle.mv_num.proofs.Booleans.{and_cases}
 use Rattle.mv_num.proofs.Lists.{sum_cons}
 
 module _ (globals : Globals) (locals : ℕ) (sizes : ℕ → Option ℕ) (room : ℕ) (direct : ℕ → ℕ) (through : ℕ) (declared : ℕ → Bool)
     (B : ℕ → ℕ → ℕ → ℕ → List Tree → List Stm → List Tree → Type 0) (r : Rules (allowed globals locals sizes room direct through declared) B) where
-  abbrev a : Allowed
-  a = allowed globals locals sizes room direct through declared
-
-  abbrev scratch : (t : ℕ) → locals ≤ t → t < room → a.temps t ≡ true
-  scratch = scratch_used locals sizes room
-
-  abbrev weight : Expr → ℕ
-  weight = expr_weight direct through
-
-  abbrev ValuePaid : ℕ → ℕ → Lowering → Type 0
-  ValuePaid = paying.ValuePaid locals B
-
-  abbrev CodePaid : ℕ → ℕ → List Stm → Type 0
-  CodePaid = paying.CodePaid locals B
-
-  abbrev StmtPaid : ℕ → ℕ → List Stm → Type 0
-  StmtPaid = paying.StmtPaid locals B
+  open paying locals direct through B use {weight, ValuePaid, CodePaid, StmtPaid}
 
   pub value : (e : Expr) → is_within globals locals sizes declared e ≡ true → (lower_expr e locals).top ≤ room → ValuePaid (expr_nodes e) (weight e) (lower_expr e)
   value e b top =
       let p = expr_paid globals locals sizes room direct through declared B r e b in
       record { units = p.units; words = p.words; nodes = p.nodes; made = p.gives locals (omega arith) top; few_units = p.few_units; few_nodes = p.few_nodes; few_words = p.few_words }
 
-  -- trees that aren't used any more
-  pub dropped : {s w t k : ℕ} {xs : List Stm} {ts us : List Tree} → B s w t k ts xs us → B s w t k ts xs []
-  dropped {us = us} h = r.weaken (omega arith) (omega arith) (omega arith) refl (given.retreed a B r locals room scratch (covers_none us) h)
-
   module _ (l : ℕ) (is_local : nat_lt l locals ≡ true) (size : Option ℕ) (is_size : sizes l ≡ size) where
     word_paid : (i : ℕ) (v : Tree) → B 1 8 1 0 (v ∷ []) (store_word size l i v ∷ []) []
     word_paid i v = by size is_size
       where
         by : (z : Option ℕ) → sizes l ≡ z → B 1 8 1 0 (v ∷ []) (store_word z l i v ∷ []) []
-        by None e = r.weaken (omega arith) (omega arith) (omega arith) refl (dropped (r.does (plain_set a l v (local_used locals sizes room l is_local (ap is_scalar e)))))
-        by (Some n) e = r.chain (r.retree (covers_before [] (number i ∷ []) (v ∷ []) 1 (covers_number i))) (r.does (plain_write a (array.Local l) (number i) v is_local))
+        by None e = r.weaken (omega arith) (omega arith) (omega arith) refl (dropped r (r.does (plain_set _ l v (local_used locals sizes room l is_local (ap is_scalar e)))))
+        by (Some n) e = r.chain (r.retree (covers_before [] (number i ∷ []) (v ∷ []) 1 (covers_number i))) (r.does (plain_write _ (array.Local l) (number i) v is_local))
 
     clear_paid : B 1 7 2 0 [] (clear_words size l ∷ []) []
     clear_paid = by size is_size
       where
         by : (z : Option ℕ) → sizes l ≡ z → B 1 7 2 0 [] (clear_words z l ∷ []) []
-        by None e = r.weaken (omega arith) (omega arith) (omega arith) refl (dropped (r.chain (r.retree (covers_number 0)) (r.does (plain_set a l (number 0) (local_used locals sizes room l is_local (ap is_scalar e))))))
-        by (Some n) e = r.weaken (omega arith) (omega arith) (omega arith) refl (r.does (plain_zero a l is_local))
+        by None e = r.weaken (omega arith) (omega arith) (omega arith) refl (dropped r (r.chain (r.retree (covers_number 0)) (r.does (plain_set _ l (number 0) (local_used locals sizes room l is_local (ap is_scalar e))))))
+        by (Some n) e = r.weaken (omega arith) (omega arith) (omega arith) refl (r.does (plain_zero _ l is_local))
 
     zeros_paid : (i n : ℕ) → B n (8 * n) (2 * n) 0 [] (store_zeros size l i n) []
     zeros_paid i zero = r.retree (covers_none [])
@@ -73,7 +51,7 @@ module _ (globals : Globals) (locals : ℕ) (sizes : ℕ → Option ℕ) (room :
 
     stores_paid : (i : ℕ) (es : List Expr) → all_exprs_within globals locals sizes es declared ≡ true → values_top locals (map lower_expr es) ≤ room →
         CodePaid (sum (map expr_nodes es)) (sum (map weight es)) (store_values locals size l i (map lower_expr es))
-    stores_paid i [] b top = paying.paid locals B 0 0 0 (r.retree (covers_none [])) (omega arith) (omega arith) (omega arith)
+    stores_paid i [] b top = paid 0 0 0 (r.retree (covers_none [])) (omega arith) (omega arith) (omega arith)
     stores_paid i (e ∷ es) b top =
         let bs = and_cases (is_within globals locals sizes declared e) (all_exprs_within globals locals sizes es declared) b in
         let p = value e bs.0 (omega (arith, top)) in
@@ -101,12 +79,12 @@ module _ (globals : Globals) (locals : ℕ) (sizes : ℕ → Option ℕ) (room :
             (store_values locals size l 0 (map lower_expr es) ++ store_zeros size l (length (map lower_expr es)) (words_of_size size - length (map lower_expr es))))
         by true e =
             let p = stores_paid 0 es b top in
-            paying.stmt_paid locals B (1 + p.units) (7 + p.words) (2 + p.nodes) (r.weaken (omega arith) (omega arith) (omega arith) (omega arith) (r.chain clear_paid p.made)) (omega (arith, p.few_units)) (omega (arith, p.few_nodes)) (omega (arith, p.few_words))
+            stmt_paid (1 + p.units) (7 + p.words) (2 + p.nodes) (r.weaken (omega arith) (omega arith) (omega arith) (omega arith) (r.chain clear_paid p.made)) (omega (arith, p.few_units)) (omega (arith, p.few_nodes)) (omega (arith, p.few_words))
         by false e =
             let p = stores_paid 0 es b top in
             let words = words_of_size size in
             let long = length-map es lower_expr in
             let d = words - length (map lower_expr es) in
             let few = leb-false (8 * words) (92 * d) (or_parts itself (nat_le (8 * words) (92 * d)) e).1 in
-            paying.stmt_paid locals B (p.units + d) (p.words + 8 * d) (p.nodes + 2 * d) (r.weaken (omega arith) (omega arith) (omega arith) (omega arith) (r.chain p.made (zeros_paid (length (map lower_expr es)) d)))
+            stmt_paid (p.units + d) (p.words + 8 * d) (p.nodes + 2 * d) (r.weaken (omega arith) (omega arith) (omega arith) (omega arith) (r.chain p.made (zeros_paid (length (map lower_expr es)) d)))
             (omega (arith, p.few_units, few, long)) (omega (arith, p.few_nodes, few, long)) (omega (arith, p.few_words, few, long))

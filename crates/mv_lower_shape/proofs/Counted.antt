@@ -7,6 +7,7 @@ use Rattle.mv_ir.specs.declared.stm.Stm.TheOpen.{Stm-F}
 use Rattle.mv_ir.specs.declared.stm.Stm.TheOpen as stm
 use Rattle.mv_ir.specs.declared.stm.Stm.TheViews.{roll-Stm}
 use Rattle.mv_ir.specs.declared.stm.Stm.TheFolds.{map-Stm, fold-roll-Stm}
+use Rattle.mv_ir.specs.Levels.{one_if}
 use Rattle.mv_ir.specs.Trees.{nodes_of_all}
 use Rattle.mv_ir.specs.Measures.{total, layer_trees, stm_trees, trees, stm_size, statements, stm_calls, calls}
 use Rattle.mv_ir.proofs.Keeping.{map_append}
@@ -14,7 +15,7 @@ use Rattle.mv_ir.proofs.Rolls.{nodes_roll, trees_roll, size_roll, calls_roll}
 use Rattle.mv_ir.proofs.Joining.{total_append, nodes_append, trees_append}
 use Rattle.mv_lower_shape.specs.Allowances.{layer_allowance, stm_allowance, allowance}
 use Rattle.mv_lower_shape.specs.Calls.{layer_weight, stm_weight, code_weight}
-use Rattle.mv_lower_shape.proofs.Rules.{Allowed, Rules, BlockRules, IsPlain, result, one_for}
+use Rattle.mv_lower_shape.proofs.Rules.{Allowed, Rules, BlockRules, IsPlain, result}
 
 -- the trees of one statement
 pub trees_one : (x : Stm-F Stm) → trees (roll-Stm x ∷ []) ≡ layer_trees (map-Stm Stm (List Tree) stm_trees x)
@@ -37,7 +38,7 @@ module _ (direct : ℕ → ℕ) (through : ℕ) where
     pub nodes : nodes_of_all (trees xs) + nodes_of_all us ≤ t + nodes_of_all ts
     pub weight : code_weight direct through xs ≡ k
 
-  counted_result : (w : Option ℕ) → nodes_of_all (result w) ≡ one_for w
+  counted_result : (w : Option ℕ) → nodes_of_all (result w) ≡ one_if w
   counted_result None = refl
   counted_result (Some t) = let e = nodes_roll (tree.Temp t) in omega (arith, e)
 

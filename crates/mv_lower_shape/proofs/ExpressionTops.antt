@@ -19,7 +19,7 @@ use Rattle.mv_lower_spec.specs.Lower.{Part, Place, InLocal, InGlobal, Element, q
 use Rattle.mv_source_forms.proofs.ExpressionFolds.{ExprFolds, expr_fold, expr_folds, along_exprs}
 use Rattle.mv_source_forms.proofs.ExpressionInduction.{FormChildren, TargetChildren}
 use Rattle.mv_lower_shape.proofs.Folds.{limited_exprs, lowers}
-use Rattle.mv_lower_shape.proofs.Asked.{Globals, Access, target_is_within, is_within}
+use Rattle.mv_lower_shape.proofs.Asked.{Globals, Access, asking}
 use Rattle.mv_source_forms.specs.Lists.{all_of}
 use Rattle.mv_num.proofs.Booleans.{and_cases}
 
@@ -122,8 +122,7 @@ greatest_append [] ns = omega arith
 greatest_append (m ∷ ms) ns = let e = greatest_append ms ns in omega (arith, e)
 
 module _ (globals : Globals) (locals : ℕ) (sizes : ℕ → Option ℕ) (declared : ℕ → Bool) where
-  abbrev within : Expr → Bool
-  within = is_within globals locals sizes declared
+  open asking globals locals sizes declared use {within, place}
 
   abbrev measured : ExprFolds (((CType → Lowering) × Bool) × ℕ) ((Place × Access) × ℕ) ((Part × Bool) × ℕ)
   measured = expr_folds (limited_exprs globals locals sizes declared) (expr_fold form_greatest target_greatest one_more_than)
@@ -201,18 +200,18 @@ module _ (globals : Globals) (locals : ℕ) (sizes : ℕ → Option ℕ) (declar
       omega (arith, k, l, m)
   layer (form.Convert e) h b c n = let k = h.top b n in let w = one_within (converted_tree c) (lower_expr e) n in omega (arith, k, w)
   layer (form.Set target e) h b c n =
-      let access = target_is_within globals locals sizes declared target in
+      let access = place target in
       let bs = and_cases access.stored (within e) b in
       let k = set_top (place_of target) (target_depth target) (expr_depth e) (lower_expr e) (h.0.1 bs.0) (h.1.top bs.1) n in
       omega (arith, k)
   layer (form.Change op kind target e) h b c n =
-      let access = target_is_within globals locals sizes declared target in
+      let access = place target in
       let bs = and_cases access.read (access.stored && within e) b in
       let cs = and_cases access.stored (within e) bs.1 in
       let k = change_top op kind c (place_of target) (target_depth target) (expr_depth e) (lower_expr e) (h.0.0 bs.0) (h.1.top cs.1) n in
       omega (arith, k)
   layer (form.After up target) h b c n =
-      let access = target_is_within globals locals sizes declared target in
+      let access = place target in
       let bs = and_cases access.read access.stored b in
       let k = after_top up c (place_of target) (target_depth target) (h.0 bs.0) n in
       omega (arith, k)

@@ -24,8 +24,9 @@ use Rattle.mv_source_forms.specs.Names.{is_scalar, is_void}
 use Rattle.mv_source_forms.proofs.ExpressionFolds.{ExprFolds, expr_fold, expr_folds, along_exprs}
 use Rattle.mv_source_forms.proofs.ExpressionInduction.{FormChildren, TargetChildren}
 use Rattle.mv_lower_shape.proofs.Folds.{limited_exprs, lowers}
-use Rattle.mv_lower_shape.proofs.Asked.{Globals, Access, local_access, target_is_within, is_within}
-use Rattle.mv_lower_shape.specs.Calls.{form_weights, expr_weight}
+use Rattle.mv_lower_shape.proofs.Asked.{Globals, Access, local_access, asking}
+use Rattle.mv_lower_shape.specs.Calls.{form_weights}
+use Rattle.mv_lower_shape.proofs.Paid.{paying}
 use Rattle.mv_lower_shape.proofs.Rules.{Allowed, Rules, AllMay}
 use Rattle.mv_lower_shape.proofs.Plain.{covers_none}
 use Rattle.mv_lower_shape.proofs.Given as given
@@ -73,6 +74,9 @@ module _ (globals : Globals) (locals : ℕ) (sizes : ℕ → Option ℕ) (room :
 
   abbrev scratch : (t : ℕ) → locals ≤ t → t < room → a.temps t ≡ true
   scratch = scratch_used locals sizes room
+
+  open asking globals locals sizes declared use {within, place}
+  open paying locals direct through B use {weight}
 
   abbrev Gives : ℕ → ℕ → ℕ → ℕ → Lowering → Type 0
   Gives = given.Gives a B rules locals room scratch
@@ -268,12 +272,6 @@ module _ (globals : Globals) (locals : ℕ) (sizes : ℕ → Option ℕ) (room :
 
   -- ---- the fold
 
-  abbrev within : Expr → Bool
-  within = is_within globals locals sizes declared
-
-  abbrev weight : Expr → ℕ
-  weight = expr_weight direct through
-
   -- what each is lowered to, whether it is within the limits, and how many nodes and calls it has
   abbrev counted : ExprFolds (((CType → Lowering) × Bool) × (ℕ × ℕ)) ((Place × Access) × (ℕ × ℕ)) ((Part × Bool) × (ℕ × ℕ))
   counted = expr_folds (limited_exprs globals locals sizes declared) (expr_folds (expr_fold form_sum target_sum one_more_than) (expr_fold (form_weights direct through) target_sum inner_calls))
@@ -403,7 +401,7 @@ module _ (globals : Globals) (locals : ℕ) (sizes : ℕ → Option ℕ) (room :
 
   layer : (x : Form-F Form Target Expr) → FormChildren P Q S x → FormPays (counted.form_layer x)
   layer (form.Number n) h b c = paid_as _ (omega arith) (omega arith) (leaf_paid (lower_number n) (given.gives_number a B rules locals room scratch n))
-  layer (form.Read target) h b c = paid_as _ (omega arith) (omega arith) (read_paid (place_of target) (target_is_within globals locals sizes declared target) _ _ h b)
+  layer (form.Read target) h b c = paid_as _ (omega arith) (omega arith) (read_paid (place_of target) (place target) _ _ h b)
   layer (form.Function f) h b c = paid_as _ (omega arith) (omega arith) (leaf_paid (lower_function f) (given.gives_function a B rules locals room scratch f))
   layer (form.Unary op e) h b c = paid_as _ (omega arith) (omega arith) (one_paid (unary_tree op) (lower_expr e) (on_unary op) (h b))
   layer (form.Binary op x y) h b c =
@@ -421,16 +419,16 @@ module _ (globals : Globals) (locals : ℕ) (sizes : ℕ → Option ℕ) (room :
       paid_as _ (omega arith) (omega arith) (choice_paid (lower_expr z) (lower_expr x) (lower_expr y) (h.0 bs.0) (h.1 cs.0) (h.2 cs.1))
   layer (form.Convert e) h b c = paid_as _ (omega arith) (omega arith) (one_paid (converted_tree c) (lower_expr e) (on_converted c) (h b))
   layer (form.Set target e) h b c =
-      let access = target_is_within globals locals sizes declared target in
+      let access = place target in
       let bs = and_cases access.stored (within e) b in
       paid_as _ (omega arith) (omega arith) (set_paid (place_of target) access _ _ _ _ (lower_expr e) h.0 bs.0 (h.1 bs.1))
   layer (form.Change op kind target e) h b c =
-      let access = target_is_within globals locals sizes declared target in
+      let access = place target in
       let bs = and_cases access.read (access.stored && within e) b in
       let cs = and_cases access.stored (within e) bs.1 in
       paid_as _ (omega arith) (omega arith) (change_paid op kind c (place_of target) access _ _ _ _ (lower_expr e) h.0 bs.0 cs.0 (h.1 cs.1))
   layer (form.After up target) h b c =
-      let access = target_is_within globals locals sizes declared target in
+      let access = place target in
       let bs = and_cases access.read access.stored b in
       paid_as _ (omega arith) (omega arith) (after_paid up c (place_of target) access _ _ h bs.0 bs.1)
   layer (form.Direct f args) h b c =

@@ -10,6 +10,7 @@ use Rattle.mv_source_forms.specs.Names.{is_void, size_in}
 use Rattle.mv_lower_spec.specs.Functions.{lower_body, outermost, ending, lower_function_code}
 use Rattle.mv_lower_shape.proofs.Asked.{Globals, all_within, scopes_of}
 use Rattle.mv_lower_shape.specs.Calls.{function_weight}
+use Rattle.mv_lower_shape.specs.Reads.{none}
 use Rattle.mv_lower_shape.proofs.Rules.{Rules, BlockRules}
 use Rattle.mv_lower_shape.proofs.Plain.{covers_number}
 use Rattle.mv_lower_shape.proofs.Expressions.{allowed}
@@ -32,9 +33,6 @@ module _ (globals : Globals) (g : Function) (direct : ℕ → ℕ) (through : �
     pub few_units : units ≤ 6 * body_nodes g + 1
     pub few_nodes : nodes ≤ 9 * body_nodes g + 1
     pub few_words : words + 2 * nodes ≤ 40 * body_nodes g + 7
-
-  abbrev none : ℕ → Bool
-  none l = false
 
   ended : {s w t k : ℕ} {xs : List Stm} (void : Bool) → B s w t k [] xs [] → B (s + 1) (w + 1) (t + 1) k [] (xs ++ ending void) []
   ended {s} {w} {t} {k} {xs} true h = subst (λ c. B (s + 1) (w + 1) (t + 1) k [] c []) (sym (append-nil xs)) ((rules none).weaken (omega arith) (omega arith) (omega arith) refl h)

@@ -1,5 +1,5 @@
 -- How lowered expressions are made of code that obeys the rules.
-use Rattle.std.proofs.Common.{◌≡◌, ℕ, suc, ◌+◌, ◌<◌, ◌≤◌, Bool, true, false, cond, ◌&&◌, List, [], ◌∷◌, ◌++◌, length, Option, Some, None, refl, sym, ◌∙◌, ap, subst, arith, append_assoc, append-nil}
+use Rattle.std.proofs.Common.{◌≡◌, ℕ, ◌+◌, ◌<◌, ◌≤◌, Bool, true, false, cond, ◌&&◌, List, [], ◌∷◌, ◌++◌, length, Option, Some, None, refl, sym, ◌∙◌, ap, subst, arith, append_assoc, append-nil}
 use Rattle.std.specs.Prelude.{nat_lt, nat_eq}
 use Rattle.std.proofs.lemmas.List.{length-append}
 use Rattle.mv_ast.specs.declared.program.Known.{Known}
@@ -12,10 +12,12 @@ use Rattle.mv_ir.specs.declared.stm.Stm.TheOpen as stm
 use Rattle.mv_ir.specs.declared.stm.Stm.TheViews.{roll-Stm}
 use Rattle.mv_ir.specs.declared.stm.Callee.{Callee}
 use Rattle.mv_ir.specs.declared.stm.Callee.TheVariants as callee
+use Rattle.mv_ir.specs.Levels.{one_if}
 use Rattle.mv_ir.specs.Measures.{array_read}
 use Rattle.mv_ir.specs.WellFormed.{known_arguments}
 use Rattle.mv_lower_spec.specs.Lowered.{Lowered, Lowering, Arguments, number, temp, unary, global, set, set_global, divide, choose, read, write, truth, truth_in, is_empty, is_low, kept_if, first, second, lower_number, lower_local, lower_global, lower_function, lower_one, lower_two, lower_division, lower_both, lower_either, lower_choice, lower_set_local, lower_set_global, lower_all, lower_call_to, lower_call, but_last, last_of, lower_through, lower_known, index_in, lower_element, lower_read_element, lower_set_element}
-use Rattle.mv_lower_shape.proofs.Rules.{Allowed, Rules, Covers, IsPlain, IsAllowed, AllMay, result, one_for}
+use Rattle.mv_lower_spec.proofs.Arguments.{trees_length}
+use Rattle.mv_lower_shape.proofs.Rules.{Allowed, Rules, Covers, IsPlain, IsAllowed, AllMay, result}
 use Rattle.mv_lower_shape.proofs.Plain.{plain_set, plain_set_global, plain_divide, plain_check, plain_read, plain_write, plain_call, plain_through, plain_known, covers_unary, covers_number, covers_function, covers_self, covers_then, covers_before, covers_swap, covers_twice}
 use Rattle.mv_num.proofs.Booleans.{from_falsity}
 
@@ -36,10 +38,6 @@ covers_truth x = covers_then (x ∷ []) (unary 2 x ∷ []) (truth x ∷ []) 1 1 
 pub kept_top : (keep : Bool) (n : ℕ) (l : Lowered) → l.top ≤ (kept_if keep n l).top
 kept_top true n l = omega arith
 kept_top false n l = omega arith
-
-pub trees_length : (ls : List Lowering) (n : ℕ) → length (lower_all ls n).trees ≡ length ls
-trees_length [] n = refl
-trees_length (l ∷ ls) n = ap suc (trees_length ls (n + 1))
 
 last_apart : (ts : List Tree) (m : ℕ) → length ts ≡ m + 1 → but_last ts ++ last_of ts ∷ [] ≡ ts
 last_apart [] m e = absurd (omega (arith, e))
@@ -72,7 +70,7 @@ module _ (a : Allowed) (B : ℕ → ℕ → ℕ → ℕ → List Tree → List S
 
   -- a plain statement behind code
   pub done : {s w t k c u v : ℕ} {xs : List Stm} {ts : List Tree} {x : Stm-F Stm} {reads : List Tree} {writes : Option ℕ} (rest : List Tree) → IsPlain a x reads writes c u v → B s w t k ts xs (reads ++ rest) →
-      B (s + u) (w + v) (t + one_for writes) (k + c) ts (xs ++ roll-Stm x ∷ []) (result writes ++ rest)
+      B (s + u) (w + v) (t + one_if writes) (k + c) ts (xs ++ roll-Stm x ∷ []) (result writes ++ rest)
   done rest p h = rules.chain h (rules.beside rest (rules.does p))
 
   -- a statement that sets a free temporary

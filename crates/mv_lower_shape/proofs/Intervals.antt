@@ -4,27 +4,29 @@ use Rattle.std.specs.Prelude.{◌||◌, ◌&&◌, not, nat_lt, sum}
 use Rattle.std.proofs.lemmas.Bool.{or_parts, and_right, lt-ltb, cases_lt}
 use Rattle.mv_ir.specs.declared.body.Body.{Body}
 use Rattle.mv_ir.specs.Measures.{total}
-use Rattle.mv_ir.specs.Live.{any, filled, mark_at, all_marks, interval, count_at, below, marks_length, most_intervals}
+use Rattle.mv_ir.specs.Live.{filled, mark_at, all_marks, interval, count_at, below, marks_length, most_intervals}
 use Rattle.mv_ir.proofs.Keeping.{map_append}
 use Rattle.mv_ir.proofs.Joining.{greatest_within}
 use Rattle.mv_ast.specs.declared.program.Local.{Local}
-use Rattle.mv_ast.specs.Counts.{words_of_size}
+use Rattle.mv_ast.specs.Counts.{words_of_size, elements_of}
+use Rattle.mv_ast.specs.Names.{any_of}
 use Rattle.mv_source_forms.specs.Names.{is_scalar, size_in}
-use Rattle.mv_lower_spec.specs.Functions.{elements_of, array_sizes}
+use Rattle.mv_lower_spec.specs.Functions.{array_sizes}
 use Rattle.mv_lower_shape.proofs.Expressions.{is_used}
 use Rattle.mv_num.proofs.Lists.{sum_cons}
+use Rattle.mv_num.proofs.Booleans.{one_or_none}
 
 -- ---- marks
 
-filled_none : (begun : Bool) (xs : List Bool) (i : ℕ) → any xs ≡ false → mark_at (filled begun xs) i ≡ false
+filled_none : (begun : Bool) (xs : List Bool) (i : ℕ) → any_of xs ≡ false → mark_at (filled begun xs) i ≡ false
 filled_none begun [] i e = refl
-filled_none begun (x ∷ xs) zero e = and_right (begun || x) (x || any xs) e
-filled_none begun (x ∷ xs) (suc i) e = filled_none (begun || x) xs i (or_parts x (any xs) e).1
+filled_none begun (x ∷ xs) zero e = and_right (begun || x) (x || any_of xs) e
+filled_none begun (x ∷ xs) (suc i) e = filled_none (begun || x) xs i (or_parts x (any_of xs) e).1
 
-pub marked_none : (xs : List Bool) (i : ℕ) → any xs ≡ false → mark_at xs i ≡ false
+pub marked_none : (xs : List Bool) (i : ℕ) → any_of xs ≡ false → mark_at xs i ≡ false
 marked_none [] i e = refl
-marked_none (x ∷ xs) zero e = (or_parts x (any xs) e).0
-marked_none (x ∷ xs) (suc i) e = marked_none xs i (or_parts x (any xs) e).1
+marked_none (x ∷ xs) zero e = (or_parts x (any_of xs) e).0
+marked_none (x ∷ xs) (suc i) e = marked_none xs i (or_parts x (any_of xs) e).1
 
 -- ---- sums over numbers
 
@@ -94,10 +96,6 @@ module _ (ls : List Local) (room : ℕ) where
   abbrev used_word : ℕ → ℕ
   used_word t = cond (is_used (length ls) (size_in ls) room t) 1 0
 
-  bit_within : (z : Bool) → cond z 1 0 ≤ 1
-  bit_within true = omega arith
-  bit_within false = omega arith
-
   -- a local's temporary is used where the local is a scalar
   used_local : (t : ℕ) → t < length ls → used_word t ≤ scalar_word (size_in ls t)
   used_local t lt = by (nat_lt t (length ls)) (lt-ltb t (length ls) lt) (is_scalar (size_in ls t))
@@ -108,7 +106,7 @@ module _ (ls : List Local) (room : ℕ) where
       by false e s = absurd cc
 
   -- temporaries that aren't used are marked nowhere: what is counted is at most the scalars, and the temporaries behind the locals
-  pub few_intervals : (b : Body) → b.temps ≡ room → length ls ≤ room → ((t : ℕ) → is_used (length ls) (size_in ls) room t ≡ false → any (all_marks b t) ≡ false) →
+  pub few_intervals : (b : Body) → b.temps ≡ room → length ls ≤ room → ((t : ℕ) → is_used (length ls) (size_in ls) room t ≡ false → any_of (all_marks b t) ≡ false) →
       most_intervals b + sum (array_sizes ls) + length ls ≤ sum (map (λ l. words_of_size l.size) ls) + room
   few_intervals b temps le unused =
       let each = greatest_within (marks_length (all_marks b 0)) (λ i. count_at i (map (interval b) (below b.temps))) (sum_below room used_word)
@@ -118,11 +116,11 @@ module _ (ls : List Local) (room : ℕ) where
       omega (arith, each, behind, locals, words_of_locals ls)
     where
       at_most_one : (t : ℕ) → used_word t ≤ 1
-      at_most_one t = bit_within (is_used (length ls) (size_in ls) room t)
+      at_most_one t = one_or_none (is_used (length ls) (size_in ls) room t)
 
       marked : (i t : ℕ) → cond (mark_at (interval b t) i) 1 0 ≤ used_word t
       marked i t = by (is_used (length ls) (size_in ls) room t) refl
         where
           by : (z : Bool) → is_used (length ls) (size_in ls) room t ≡ z → cond (mark_at (interval b t) i) 1 0 ≤ cond z 1 0
-          by true e = bit_within (mark_at (interval b t) i)
+          by true e = one_or_none (mark_at (interval b t) i)
           by false e = let k : cond (mark_at (interval b t) i) 1 0 ≡ 0 = ap {B = ℕ} (λ z. cond z 1 0) (filled_none false (all_marks b t) i (unused t e)) in omega (arith, k)

@@ -55,9 +55,6 @@ module _ (may_read may_find : ℕ → Bool) (may_name : Array → Bool) where
     pub named : MayName (named xs)
     pub arguments : all_true (map stm_arguments xs) ≡ true
 
-  both : {A : Type 0} (P : A → Type 0) (xs ys : List A) → Each P xs → Each P ys → Each P (xs ++ ys)
-  both P xs ys = each_append P xs ys
-
   temp_reads : (t : ℕ) → MayRead (all_read (temp t ∷ []))
   temp_reads t = subst (λ l. MayRead (l ++ [])) (sym (reads_roll (tree.Temp t))) tt
 
@@ -66,7 +63,7 @@ module _ (may_read may_find : ℕ → Bool) (may_name : Array → Bool) where
   result_reads (Some t) = temp_reads t
 
   read_all_append : (xs ys : List Tree) → MayRead (all_read xs) → MayRead (all_read ys) → MayRead (all_read (xs ++ ys))
-  read_all_append xs ys h k = subst MayRead (sym (read_append xs ys)) (both (λ g. may_read g ≡ true) (all_read xs) (all_read ys) h k)
+  read_all_append xs ys h k = subst MayRead (sym (read_append xs ys)) (each_append (λ g. may_read g ≡ true) (all_read xs) (all_read ys) h k)
 
   first_reads : (xs ys : List Tree) → MayRead (all_read (xs ++ ys)) → MayRead (all_read xs)
   first_reads xs ys h = each_first (λ g. may_read g ≡ true) (all_read xs) (all_read ys) (subst MayRead (read_append xs ys) h)
@@ -78,8 +75,8 @@ module _ (may_read may_find : ℕ → Bool) (may_name : Array → Bool) where
   chained {xs = xs} {ys = ys} h h' = record {
     scalars = λ e. subst (λ z. MayRead (all_read z)) (sym (trees_append xs ys)) (read_all_append (trees xs) (trees ys) (h.scalars e) (h'.scalars (h.left e)));
     left = λ e. h'.left (h.left e);
-    arrays = subst MayFind (sym (ap joined (map_append stm_arrays xs ys) ∙ joined_append (map stm_arrays xs) (map stm_arrays ys))) (both (λ g. may_find g ≡ true) (arrays_read xs) (arrays_read ys) h.arrays h'.arrays);
-    named = subst MayName (sym (ap joined (map_append stm_named xs ys) ∙ joined_append (map stm_named xs) (map stm_named ys))) (both (λ r. may_name r ≡ true) (named xs) (named ys) h.named h'.named);
+    arrays = subst MayFind (sym (ap joined (map_append stm_arrays xs ys) ∙ joined_append (map stm_arrays xs) (map stm_arrays ys))) (each_append (λ g. may_find g ≡ true) (arrays_read xs) (arrays_read ys) h.arrays h'.arrays);
+    named = subst MayName (sym (ap joined (map_append stm_named xs ys) ∙ joined_append (map stm_named xs) (map stm_named ys))) (each_append (λ r. may_name r ≡ true) (named xs) (named ys) h.named h'.named);
     arguments = ap all_true (map_append stm_arguments xs ys) ∙ true_append (map stm_arguments xs) (map stm_arguments ys) h.arguments h'.arguments;
   }
 
@@ -87,8 +84,8 @@ module _ (may_read may_find : ℕ → Bool) (may_name : Array → Bool) where
   chosen {ys = ys} {zs = zs} x h h' = record {
     scalars = λ e. subst (λ z. MayRead (all_read z)) (sym (trees_one (stm.If x ys zs))) (read_all_append (x ∷ []) (trees ys ++ trees zs) e (read_all_append (trees ys) (trees zs) (h.scalars tt) (h'.scalars tt)));
     left = λ e. h.left tt;
-    arrays = subst MayFind (sym (arrays_one (stm.If x ys zs))) (both (λ g. may_find g ≡ true) (arrays_read ys) (arrays_read zs) h.arrays h'.arrays);
-    named = subst MayName (sym (named_one (stm.If x ys zs))) (both (λ r. may_name r ≡ true) (named ys) (named zs) h.named h'.named);
+    arrays = subst MayFind (sym (arrays_one (stm.If x ys zs))) (each_append (λ g. may_find g ≡ true) (arrays_read ys) (arrays_read zs) h.arrays h'.arrays);
+    named = subst MayName (sym (named_one (stm.If x ys zs))) (each_append (λ r. may_name r ≡ true) (named ys) (named zs) h.named h'.named);
     arguments = arguments_one (stm.If x ys zs) ∙ and_from (all_true (map stm_arguments ys)) (all_true (map stm_arguments zs)) h.arguments h'.arguments;
   }
 

@@ -57,7 +57,7 @@ module _ (p : Program) (f : ℕ) (g : Function) (h : IsFunctionOf p f g) where
   abbrev formed : IsWellFormedFunction p f g
   formed = h.formed.functions f g h.there
 
-  holds_own : Holds own count (is_own_switch p (slice_get p.functions f)) (λ s a. any_of (map (stmt_reads s a) g.body))
+  holds_own : Holds p f own (λ s a. any_of (map (stmt_reads s a) g.body))
   holds_own = record {
     scalars = λ k lt e. and_from (nat_lt k count) (reads_scalar g k) (lt-ltb k count lt) e;
     arrays = λ k lt n e. and_from (not (is_own_switch p (slice_get p.functions f) k)) (reads_array g k) n e;
@@ -74,8 +74,8 @@ module _ (p : Program) (f : ℕ) (g : Function) (h : IsFunctionOf p f g) where
         body_within p f g own (length g.locals) (size_in g.locals) (is_void g.result) h.formed.limits (λ k lt. lt-ltb k count lt) g.body (parameters g)
         (record {
           typed = each_typed p g g.body (at_index (IsTypedFunction p) p.functions f g h.formed.typed.functions h.there).body;
-          formed = formed.named;
-          scoped = formed.declared;
+          named = formed.named;
+          declared = formed.declared;
           known = formed.known;
           held = holds_own;
         });

@@ -1,6 +1,6 @@
 -- The plain statements of lowered code, and what trees may stand for others.
 use mathlib.Core.Bool.{or-false}
-use Rattle.std.proofs.Common.{◌≡◌, ℕ, suc, ◌+◌, ◌≤◌, Bool, true, false, ◌||◌, List, [], ◌∷◌, ◌++◌, length, Option, Some, None, refl, sym, ◌∙◌, ap, subst, arith, append_assoc}
+use Rattle.std.proofs.Common.{◌≡◌, ℕ, suc, ◌+◌, ◌≤◌, Bool, true, false, ◌||◌, List, [], ◌∷◌, ◌++◌, length, Option, Some, None, refl, sym, ◌∙◌, ap, subst, arith, append_assoc, append-nil}
 use Rattle.std.specs.Prelude.{nat_lt, nat_eq}
 use Rattle.std.proofs.lemmas.Bool.{or_right, or_left}
 use Rattle.mv_num.specs.declared.kind.Kind.{Kind}
@@ -10,6 +10,7 @@ use Rattle.mv_ir.specs.declared.tree.Tree.TheOpen as tree
 use Rattle.mv_ir.specs.declared.stm.Array.{Array}
 use Rattle.mv_ir.specs.declared.stm.Array.TheVariants as array
 use Rattle.mv_ir.specs.declared.stm.Callee.TheVariants as callee
+use Rattle.mv_ir.specs.declared.stm.Stm.{Stm}
 use Rattle.mv_ir.specs.declared.stm.Stm.TheOpen as stm
 use Rattle.mv_ir.specs.Trees.{nodes}
 use Rattle.mv_ir.specs.Measures.{tree_reads, array_read}
@@ -20,7 +21,7 @@ use Rattle.mv_ir.proofs.Rolls.{nodes_roll, reads_roll, reads_temp_roll}
 use Rattle.mv_ir.proofs.Joining.{any_reads_append, nodes_append}
 use Rattle.mv_lower_spec.specs.Lowered.{number, temp, function, unary, binary}
 use Rattle.mv_lower_spec.specs.Lower.{narrowed}
-use Rattle.mv_lower_shape.proofs.Rules.{Allowed, IsPlain, IsAllowed, Covers, AllMay, all_read}
+use Rattle.mv_lower_shape.proofs.Rules.{Allowed, IsPlain, IsAllowed, Covers, AllMay, all_read, Rules}
 use Rattle.mv_num.proofs.Booleans.{from_falsity}
 use Rattle.mv_ir.proofs.Common.{each_first, each_right}
 
@@ -152,3 +153,8 @@ covers_twice t = record {
   scalars = λ may h. each_append (λ g. may g ≡ true) (tree_reads (temp t)) (tree_reads (temp t) ++ []) (each_first (λ g. may g ≡ true) (tree_reads (temp t)) [] h) h;
   nodes = omega (arith, nodes_roll (tree.Temp t));
 }
+
+-- trees that aren't used any more
+pub dropped : {a : Allowed} {B : ℕ → ℕ → ℕ → ℕ → List Tree → List Stm → List Tree → Type 0} (r : Rules a B) {s w t k : ℕ} {xs : List Stm} {ts us : List Tree} → B s w t k ts xs us → B s w t k ts xs []
+dropped {B = B} r {s} {w} {t} {k} {xs} {ts} {us} h =
+    subst (λ x. B s w t k ts x []) (append-nil xs) (r.weaken (omega arith) (omega arith) (omega arith) (omega arith) (r.chain h (r.retree (covers_none us))))

@@ -7,6 +7,7 @@ use Rattle.mv_ir.specs.declared.stm.Stm.{Stm}
 use Rattle.mv_ir.specs.declared.stm.Stm.TheOpen.{Stm-F}
 use Rattle.mv_ir.specs.declared.stm.Stm.TheViews.{roll-Stm}
 use Rattle.mv_ir.specs.declared.stm.Stm.TheFolds.{map-Stm}
+use Rattle.mv_ir.specs.Levels.{one_if}
 use Rattle.mv_ir.specs.Trees.{nodes_of_all}
 use Rattle.mv_ir.specs.Measures.{joined, layer_trees, stm_trees, tree_reads, layer_arrays, stm_arrays, layer_size, stm_size, layer_calls, stm_calls}
 use Rattle.mv_ir.specs.Live.{Flow, layer_flow, flow, any_reads, plain, goes_next}
@@ -49,10 +50,6 @@ abbrev pub IsAllowed : Allowed → Option ℕ → Type 0
 IsAllowed a None = Unit {0}
 IsAllowed a (Some t) = a.temps t ≡ true
 
-abbrev pub one_for : Option ℕ → ℕ
-one_for None = 0
-one_for (Some t) = 1
-
 -- a statement without others in it that goes on, with what it reads, what it writes, the weight of its call, what it
 -- counts as, where a call is as much as four other statements, and the words that it is allowed
 pub record IsPlain (a : Allowed) (x : Stm-F Stm) (reads : List Tree) (writes : Option ℕ) (weight measure words : ℕ) : Type 0 where
@@ -73,7 +70,7 @@ pub record Rules (a : Allowed) (B : ℕ → ℕ → ℕ → ℕ → List Tree �
   pub local : (l : ℕ) → a.declared l ≡ true → a.temps l ≡ true → B 0 0 1 0 [] [] (temp l ∷ [])
   pub scalar : (g : ℕ) → a.scalars g ≡ true → B 0 0 1 0 [] [] (global g ∷ [])
   pub retree : {m : ℕ} {ts us : List Tree} → Covers ts us m → B 0 0 m 0 ts [] us
-  pub does : {c v w : ℕ} {x : Stm-F Stm} {reads : List Tree} {writes : Option ℕ} → IsPlain a x reads writes c v w → B v w (one_for writes) c reads (roll-Stm x ∷ []) (result writes)
+  pub does : {c v w : ℕ} {x : Stm-F Stm} {reads : List Tree} {writes : Option ℕ} → IsPlain a x reads writes c v w → B v w (one_if writes) c reads (roll-Stm x ∷ []) (result writes)
   pub drops : {c v w : ℕ} {x : Stm-F Stm} {reads : List Tree} {writes : Option ℕ} → IsPlain a x reads writes c v w → B v w 0 c reads (roll-Stm x ∷ []) []
   pub choose : {s w t k s' w' t' k' : ℕ} {ys zs : List Stm} {us : List Tree} (x : Tree) → B s w t k [] ys us → B s' w' t' k' [] zs us → B (s + s' + 1) (w + w' + 3) (t + t') (k + k') (x ∷ []) (choose x ys zs ∷ []) us
   pub chain : {s w t k s' w' t' k' : ℕ} {xs ys : List Stm} {ts us vs : List Tree} → B s w t k ts xs us → B s' w' t' k' us ys vs → B (s + s') (w + w') (t + t') (k + k') ts (xs ++ ys) vs

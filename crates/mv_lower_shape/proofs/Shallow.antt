@@ -20,12 +20,12 @@ use Rattle.mv_ast.specs.Counts.{words_of_size}
 use Rattle.mv_ast.specs.Names.{any_of, names_local}
 use Rattle.mv_lower_spec.specs.Lowered.{Lowering, number, temp, binary, set, choose}
 use Rattle.mv_lower_spec.specs.Lower.{lower_expr}
-use Rattle.mv_lower_spec.specs.Statements.{Jumps, Placed, LoweredArm, in_body, in_arm, in_sequence, store_word, clear_words, store_zeros, store_values, lower_clear, test_labels, test_arms, arm_place, all_tests, arm_code, arms_code, break, enclosed, repeat, return_with, test_and_body}
+use Rattle.mv_lower_spec.specs.Statements.{Jumps, LoweredArm, in_body, in_arm, store_word, clear_words, store_zeros, store_values, lower_clear, test_labels, test_arms, arm_place, all_tests, arm_code, arms_code, break, enclosed, repeat, return_with, test_and_body}
 use Rattle.mv_lower_spec.specs.LowerStatements.{lower_optional, lower_stmt, lower_arm}
 use Rattle.mv_lower_spec.proofs.Depths.{Shallow, ShallowCode, ShallowLowered, both_parts, shallow_set, shallow_choose}
 use Rattle.mv_lower_spec.proofs.ExpressionDepths.{expr_shallow}
 use Rattle.mv_lower_shape.proofs.Counted.{trees_one}
-use Rattle.mv_lower_shape.proofs.Folds.{lowered_stmts}
+use Rattle.mv_lower_shape.proofs.Folds.{lowered_stmts, sequences}
 use Rattle.mv_source_forms.proofs.StatementFolds.{along_stmts}
 use Rattle.mv_source_forms.proofs.StatementInduction.{StmtChildren}
 
@@ -128,14 +128,13 @@ module _ (locals : ℕ) where
     abbrev A : Arm → Type 0
     A a = (j : Jumps) → ShallowCode ((lower_arm locals sizes void a).body j).code
 
-    abbrev lowered : List Stmt → Placed
-    lowered body = in_sequence locals (map (lower_stmt locals sizes void) body)
+    open sequences locals sizes void use {lowered, arms_lowered}
 
     all_shallow : (body : List Stmt) → Each S body → (j : Jumps) → ShallowCode (lowered body j).code
     all_shallow [] h j = tt
     all_shallow (s ∷ body) h j = both_parts (lower_stmt locals sizes void s j).code (lowered body j).code (h.0 j) (all_shallow body h.1 j)
 
-    each_arm : (arms : List Arm) → Each A arms → Each (λ (a : LoweredArm). (k : Jumps) → ShallowCode (a.body k).code) (map (lower_arm locals sizes void) arms)
+    each_arm : (arms : List Arm) → Each A arms → Each (λ (a : LoweredArm). (k : Jumps) → ShallowCode (a.body k).code) (arms_lowered arms)
     each_arm [] h = tt
     each_arm (a ∷ arms) h = (h.0, each_arm arms h.1)
 
@@ -172,7 +171,7 @@ module _ (locals : ℕ) where
     layer (stmt.Switch e arms) h j =
         let x = expr_shallow e locals in
         let t = (lower_expr e locals).tree in
-        let ls = map (lower_arm locals sizes void) arms in
+        let ls = arms_lowered arms in
         let whole = enclosed (all_tests locals ls) ∷ arms_code locals 0 ls j in
         both_parts (lower_expr e locals).code (set locals t ∷ enclosed whole ∷ []) x.code
         (both_parts (set locals t ∷ []) (enclosed whole ∷ []) (shallow_set locals t x.tree)

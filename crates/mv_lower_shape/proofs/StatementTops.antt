@@ -1,50 +1,37 @@
 -- Statements take at most eight free temporaries for each level of depth of their expressions.
-use Rattle.std.proofs.Common.{◌≡◌, ℕ, ◌+◌, ◌*◌, ◌≤◌, Bool, true, cond, List, [], ◌∷◌, map, max, Option, Some, None, ◌∙◌, ap, arith}
+use Rattle.std.proofs.Common.{◌≡◌, ℕ, ◌+◌, ◌*◌, ◌≤◌, Bool, true, cond, List, [], ◌∷◌, map, Option, Some, None, ◌∙◌, ap, arith}
 use Rattle.std.specs.Prelude.{◌&&◌, nat_lt, option_to_list}
 use Rattle.mv_ir.proofs.Induction.{Each}
 use Rattle.mv_ir.proofs.Keeping.{map_append}
 use Rattle.mv_ast.specs.declared.program.Expr.{Expr}
 use Rattle.mv_ast.specs.declared.program.Stmt.{Stmt, Stmt-F}
 use Rattle.mv_ast.specs.declared.program.Stmt.TheOpen as stmt
-use Rattle.mv_ast.specs.declared.program.Arm.{Arm, Arm-F, fold-Arm}
-use Rattle.mv_ast.specs.Counts.{greatest, expr_depth, stmt_depth}
-use Rattle.mv_ast.specs.Layers.{stmt_parts, stmt_expressions}
+use Rattle.mv_ast.specs.declared.program.Arm.{Arm, fold-Arm}
+use Rattle.mv_ast.specs.Counts.{greatest, expr_depth, stmt_depth, depth_layer, arm_depth_layer}
 use Rattle.mv_ast.specs.Names.{any_of, names_local}
 use Rattle.mv_lower_spec.specs.Lower.{lower_expr}
-use Rattle.mv_lower_spec.specs.Statements.{Jumps, Placed, LoweredArm, in_body, in_arm, in_sequence, values_top, arms_top}
-use Rattle.mv_lower_spec.specs.LowerStatements.{lower_optional, lower_stmt, lower_arm}
+use Rattle.mv_lower_spec.specs.Statements.{Jumps, Placed, LoweredArm, in_body, in_arm, values_top, arms_top}
+use Rattle.mv_lower_spec.specs.LowerStatements.{lower_optional}
 use Rattle.mv_source_forms.specs.Scopes.{with_local}
-use Rattle.mv_lower_shape.proofs.Asked.{Globals, Scope, ArmScope, all_within, all_behind, arms_within, is_within, all_exprs_within, optional_within, stmt_scope, arm_scope}
+use Rattle.mv_lower_shape.proofs.Asked.{Globals, Scope, ArmScope, all_within, all_behind, arms_within, all_exprs_within, optional_within, stmt_scope, arm_scope}
 use Rattle.mv_lower_shape.proofs.ExpressionTops.{expr_top, greatest_append}
-use Rattle.mv_lower_shape.proofs.Folds.{limited_stmts}
+use Rattle.mv_lower_shape.proofs.Folds.{limited_stmts, sequences, limits_of}
 use Rattle.mv_source_forms.proofs.StatementFolds.{StmtFolds, stmt_fold, stmt_folds, along_stmts}
 use Rattle.mv_source_forms.proofs.StatementInduction.{StmtChildren}
 use Rattle.mv_num.proofs.Booleans.{and_cases}
-
-abbrev depth_layer : Stmt-F ℕ ℕ → ℕ
-depth_layer s = max (greatest (map expr_depth (stmt_expressions s))) (greatest (stmt_parts s))
-
-abbrev arm_depth_layer : Arm-F ℕ ℕ → ℕ
-arm_depth_layer a = greatest a.body
 
 abbrev arm_depth : Arm → ℕ
 arm_depth = fold-Arm ℕ ℕ depth_layer arm_depth_layer
 
 module _ (globals : Globals) (locals : ℕ) (sizes : ℕ → Option ℕ) (void : Bool) where
-  abbrev within : Expr → (ℕ → Bool) → Bool
-  within e declared = is_within globals locals sizes declared e
+  open sequences locals sizes void use {lowered, arms_lowered}
+  open limits_of globals locals sizes use {scopes, within}
 
-  value_top : (declared : ℕ → Bool) (e : Expr) → within e declared ≡ true → (lower_expr e locals).top ≤ locals + 8 * expr_depth e
+  value_top : (declared : ℕ → Bool) (e : Expr) → within declared e ≡ true → (lower_expr e locals).top ≤ locals + 8 * expr_depth e
   value_top declared e b = (expr_top globals locals sizes declared e).top b locals
 
   deep : (e : Expr) → 1 ≤ expr_depth e
   deep e = (expr_top globals locals sizes (λ l. true) e).deep
-
-  abbrev lowered : List Stmt → Placed
-  lowered body = in_sequence locals (map (lower_stmt locals sizes void) body)
-
-  abbrev scopes : List Stmt → List Scope
-  scopes body = map (stmt_scope globals locals sizes) body
 
   abbrev Top : (Placed × Scope) × ℕ → Type 0
   Top v = (declared : ℕ → Bool) → v.0.1.within declared ≡ true → (j : Jumps) → (v.0.0 j).top ≤ locals + 8 * v.1
@@ -73,13 +60,13 @@ module _ (globals : Globals) (locals : ℕ) (sizes : ℕ → Option ℕ) (void :
   all_values_top : (declared : ℕ → Bool) (es : List Expr) → all_exprs_within globals locals sizes es declared ≡ true → values_top locals (map lower_expr es) ≤ locals + 8 * greatest (map expr_depth es)
   all_values_top declared [] b = omega arith
   all_values_top declared (e ∷ es) b =
-      let bs = and_cases (within e declared) (all_exprs_within globals locals sizes es declared) b in
+      let bs = and_cases (within declared e) (all_exprs_within globals locals sizes es declared) b in
       let k = value_top declared e bs.0 in
       let l = all_values_top declared es bs.1 in
       omega (arith, k, l)
 
   all_arms_top : (arms : List Arm) → Each A arms → (declared : ℕ → Bool) → arms_within (map (arm_scope globals locals sizes) arms) declared ≡ true → (j : Jumps) →
-      arms_top locals (map (lower_arm locals sizes void) arms) j ≤ locals + 8 * greatest (map arm_depth arms)
+      arms_top locals (arms_lowered arms) j ≤ locals + 8 * greatest (map arm_depth arms)
   all_arms_top [] h declared b j = omega arith
   all_arms_top (arm ∷ arms) h declared b j =
       let bs = and_cases (arm_scope globals locals sizes arm declared) (arms_within (map (arm_scope globals locals sizes) arms) declared) b in
@@ -99,19 +86,19 @@ module _ (globals : Globals) (locals : ℕ) (sizes : ℕ → Option ℕ) (void :
       omega (arith, k)
   layer (stmt.Express e) h declared b j = let k = value_top declared e b in omega (arith, k)
   layer (stmt.If e yes_part no_part) h declared b j =
-      let bs = and_cases (within e declared) (all_within (scopes yes_part) declared && all_within (scopes no_part) declared) b in
+      let bs = and_cases (within declared e) (all_within (scopes yes_part) declared && all_within (scopes no_part) declared) b in
       let cs = and_cases (all_within (scopes yes_part) declared) (all_within (scopes no_part) declared) bs.1 in
       let k = value_top declared e bs.0 in
       let l = all_top yes_part h.0 declared cs.0 j in
       let m = all_top no_part h.1 declared cs.1 j in
       omega (arith, k, l, m, greatest_append (map stmt_depth yes_part) (map stmt_depth no_part))
   layer (stmt.While e body) h declared b j =
-      let bs = and_cases (within e declared) (all_within (scopes body) declared) b in
+      let bs = and_cases (within declared e) (all_within (scopes body) declared) b in
       let k = value_top declared e bs.0 in
       let l = all_top body h declared bs.1 (in_body j) in
       omega (arith, k, l)
   layer (stmt.Do body e) h declared b j =
-      let bs = and_cases (within e declared) (all_within (scopes body) declared) b in
+      let bs = and_cases (within declared e) (all_within (scopes body) declared) b in
       let k = value_top declared e bs.0 in
       let l = all_top body h declared bs.1 (in_body j) in
       omega (arith, k, l)
@@ -131,7 +118,7 @@ module _ (globals : Globals) (locals : ℕ) (sizes : ℕ → Option ℕ) (void :
       omega (arith, k, l, m, n, d, e)
   layer (stmt.Switch e arms) h declared b j =
       let scoped = map (arm_scope globals locals sizes) arms in
-      let bs = and_cases (within e declared) (arms_within scoped declared) b in
+      let bs = and_cases (within declared e) (arms_within scoped declared) b in
       let k = value_top declared e bs.0 in
       let l = all_arms_top arms h declared bs.1 j in
       omega (arith, k, l, deep e)

@@ -13,17 +13,17 @@ use Rattle.mv_ast.specs.Counts.{expr_nodes, stmt_sum, arm_sum, arm_total, own_no
 use Rattle.mv_ast.specs.Names.{any_of, names_local}
 use Rattle.mv_lower_spec.specs.Lowered.{Lowering, number, temp, binary, set}
 use Rattle.mv_lower_spec.specs.Lower.{lower_expr}
-use Rattle.mv_lower_spec.specs.Statements.{Jumps, Placed, LoweredArm, in_body, in_arm, in_sequence, test_labels, test_arms, arm_place, all_tests, arm_code, arms_code, arms_top, lower_switch, test_and_body}
-use Rattle.mv_lower_spec.specs.LowerStatements.{lower_optional, lower_stmt, lower_arm}
+use Rattle.mv_lower_spec.specs.Statements.{Jumps, Placed, LoweredArm, in_body, in_arm, test_labels, test_arms, arm_place, all_tests, arm_code, arms_code, arms_top, lower_switch, test_and_body}
+use Rattle.mv_lower_spec.specs.LowerStatements.{lower_optional}
 use Rattle.mv_source_forms.specs.Scopes.{with_local}
 use Rattle.mv_lower_shape.proofs.Asked.{Globals, Scope, ArmScope, all_within, all_behind, arms_within, is_within, all_exprs_within, optional_within, stmt_scope, arm_scope}
-use Rattle.mv_lower_shape.specs.Calls.{expr_weight, stmt_weight, arm_weight}
+use Rattle.mv_lower_shape.specs.Calls.{stmt_weight, arm_weight}
 use Rattle.mv_lower_shape.proofs.Rules.{Allowed, Rules, BlockRules}
-use Rattle.mv_lower_shape.proofs.Plain.{plain_set, covers_number, covers_none, covers_before, covers_binary, covers_swap}
-use Rattle.mv_lower_shape.proofs.Paid as paying
+use Rattle.mv_lower_shape.proofs.Plain.{plain_set, covers_number, covers_none, covers_before, covers_binary, covers_swap, dropped}
+use Rattle.mv_lower_shape.proofs.Paid.{paid, stmt_paid, paying}
 use Rattle.mv_lower_shape.proofs.Clears as clears
 use Rattle.mv_lower_shape.proofs.Expressions.{allowed, scratch_used}
-use Rattle.mv_lower_shape.proofs.Folds.{limited_stmts}
+use Rattle.mv_lower_shape.proofs.Folds.{limited_stmts, sequences, limits_of}
 use Rattle.mv_source_forms.proofs.StatementFolds.{StmtFolds, stmt_fold, stmt_folds, along_stmts}
 use Rattle.mv_source_forms.proofs.StatementInduction.{StmtChildren}
 use Rattle.mv_num.proofs.Booleans.{and_cases}
@@ -41,26 +41,12 @@ module _ (globals : Globals) (locals : ℕ) (sizes : ℕ → Option ℕ) (void :
   abbrev r : Rules a B
   r = rules all
 
-  abbrev scratch : (t : ℕ) → locals ≤ t → t < room → a.temps t ≡ true
-  scratch = scratch_used locals sizes room
-
-  abbrev weight : Expr → ℕ
-  weight = expr_weight direct through
-
-  abbrev ValuePaid : ℕ → ℕ → Lowering → Type 0
-  ValuePaid = paying.ValuePaid locals B
-
-  abbrev CodePaid : ℕ → ℕ → List Stm → Type 0
-  CodePaid = paying.CodePaid locals B
-
-  abbrev StmtPaid : ℕ → ℕ → List Stm → Type 0
-  StmtPaid = paying.StmtPaid locals B
+  open paying locals direct through B use {weight, ValuePaid, CodePaid, StmtPaid}
+  open sequences locals sizes void use {lowered, arms_lowered}
+  open limits_of globals locals sizes use {scopes}
 
   value : (declared : ℕ → Bool) (e : Expr) → is_within globals locals sizes declared e ≡ true → (lower_expr e locals).top ≤ room → ValuePaid (expr_nodes e) (weight e) (lower_expr e)
   value declared = clears.value globals locals sizes room direct through declared B (rules declared)
-
-  dropped : {s w t k : ℕ} {xs : List Stm} {ts us : List Tree} → B s w t k ts xs us → B s w t k ts xs []
-  dropped = clears.dropped globals locals sizes room direct through all B r
 
   code_as : {n k n' k' : ℕ} {xs : List Stm} → n ≤ n' → k ≡ k' → CodePaid n k xs → CodePaid n' k' xs
   code_as le e p = record {
@@ -84,11 +70,8 @@ module _ (globals : Globals) (locals : ℕ) (sizes : ℕ → Option ℕ) (void :
     few_words = omega (arith, le, p.few_words);
   }
 
-  one_more : {n k : ℕ} {xs : List Stm} (s w t : ℕ) → B s w t k [] xs [] → s + 2 ≤ 6 * n → t + 4 ≤ 9 * n → w + 2 * t + 18 ≤ 40 * n → StmtPaid n k xs
-  one_more = paying.stmt_paid locals B
-
   nothing : CodePaid 0 0 []
-  nothing = paying.paid locals B 0 0 0 (r.retree (covers_none [])) (omega arith) (omega arith) (omega arith)
+  nothing = paid 0 0 0 (r.retree (covers_none [])) (omega arith) (omega arith) (omega arith)
 
   all_of_it : {n k : ℕ} {xs : List Stm} → StmtPaid n k xs → CodePaid n k xs
   all_of_it p = record { units = p.units; words = p.words; nodes = p.nodes; made = p.made; few_units = omega (arith, p.few_units); few_nodes = omega (arith, p.few_nodes); few_words = omega (arith, p.few_words) }
@@ -105,12 +88,6 @@ module _ (globals : Globals) (locals : ℕ) (sizes : ℕ → Option ℕ) (void :
   }
 
   -- ---- lists
-
-  abbrev lowered : List Stmt → Placed
-  lowered body = in_sequence locals (map (lower_stmt locals sizes void) body)
-
-  abbrev scopes : List Stmt → List Scope
-  scopes body = map (stmt_scope globals locals sizes) body
 
   -- what each is lowered to, whether it is within the limits, and how many nodes and calls it has
   abbrev counted : StmtFolds ((Placed × Scope) × (ℕ × ℕ)) ((LoweredArm × ArmScope) × (ℕ × ℕ))
@@ -146,10 +123,10 @@ module _ (globals : Globals) (locals : ℕ) (sizes : ℕ → Option ℕ) (void :
   -- the temporary with the value and the place
   module _ (there : locals < room) where
     kept : B 0 0 1 0 [] [] (N ∷ [])
-    kept = r.local locals refl (scratch locals (omega arith) there)
+    kept = r.local locals refl (scratch_used locals sizes room locals (omega arith) there)
 
     placed : (i : ℕ) → B 1 1 1 0 [] (set locals (number i) ∷ []) []
-    placed i = r.weaken (omega arith) (omega arith) (omega arith) (omega arith) (r.chain (r.retree (covers_number i)) (r.drops (plain_set a locals (number i) (scratch locals (omega arith) there))))
+    placed i = r.weaken (omega arith) (omega arith) (omega arith) (omega arith) (r.chain (r.retree (covers_number i)) (r.drops (plain_set a locals (number i) (scratch_used locals sizes room locals (omega arith) there))))
 
     beside_it : (i : ℕ) → B 0 0 2 0 [] [] (number i ∷ N ∷ [])
     beside_it i = r.weaken (omega arith) (omega arith) (omega arith) (omega arith) (r.chain kept (r.retree (covers_before [] (number i ∷ []) (N ∷ []) 1 (covers_number i))))
@@ -186,7 +163,7 @@ module _ (globals : Globals) (locals : ℕ) (sizes : ℕ → Option ℕ) (void :
         let k = sum_cons (stmt_weight direct through s) (map (stmt_weight direct through) body) in
         let first = h.0 declared bs.0 j (omega (arith, top)) in
         let others = all_paid body h.1 (scope.behind declared) bs.1 j (omega (arith, top)) in
-        paying.paid locals B (first.units + others.units + 2) (first.words + others.words + 4) (first.nodes + others.nodes + 4) (r.weaken (omega arith) (omega arith) (omega arith) (omega (arith, k)) (entered i (lowered (s ∷ body) j).code (r.chain first.made others.made)))
+        paid (first.units + others.units + 2) (first.words + others.words + 4) (first.nodes + others.nodes + 4) (r.weaken (omega arith) (omega arith) (omega arith) (omega (arith, k)) (entered i (lowered (s ∷ body) j).code (r.chain first.made others.made)))
         (omega (arith, first.few_units, others.few_units, n)) (omega (arith, first.few_nodes, others.few_nodes, n)) (omega (arith, first.few_words, others.few_words, n))
 
   pub record ArmPaid (v : (LoweredArm × ArmScope) × (ℕ × ℕ)) : Type 0 where
@@ -196,9 +173,6 @@ module _ (globals : Globals) (locals : ℕ) (sizes : ℕ → Option ℕ) (void :
 
   abbrev A : Arm → Type 0
   A arm = ArmPaid (counted.arm arm)
-
-  abbrev arms_lowered : List Arm → List LoweredArm
-  arms_lowered arms = map (lower_arm locals sizes void) arms
 
   abbrev arm_nodes : Arm → ℕ
   arm_nodes = arm_total expr_nodes own_nodes (λ a. length a.labels)
@@ -241,8 +215,8 @@ module _ (globals : Globals) (locals : ℕ) (sizes : ℕ → Option ℕ) (void :
       let ls = arms_lowered arms in
       let q = arms_paid there 0 arms h declared b j (omega (arith, top)) in
       let whole = blocks.block (r.chain (blocks.block (all_tests_paid there ls)) q.made) in
-      one_more (p.units + (1 + (3 * labels_of ls + 1 + 1 + q.units + 1))) (p.words + (1 + (5 * labels_of ls + 1 + q.words))) (p.nodes + (4 * labels_of ls + 1 + q.nodes))
-      (r.weaken (omega arith) (omega arith) (omega arith) (omega arith) (r.chain p.made (r.chain (r.drops (plain_set a locals (lower_expr e locals).tree (scratch locals (omega arith) there))) whole)))
+      stmt_paid (p.units + (1 + (3 * labels_of ls + 1 + 1 + q.units + 1))) (p.words + (1 + (5 * labels_of ls + 1 + q.words))) (p.nodes + (4 * labels_of ls + 1 + q.nodes))
+      (r.weaken (omega arith) (omega arith) (omega arith) (omega arith) (r.chain p.made (r.chain (r.drops (plain_set a locals (lower_expr e locals).tree (scratch_used locals sizes room locals (omega arith) there))) whole)))
       (omega (arith, p.few_units, q.few_units)) (omega (arith, p.few_nodes, q.few_nodes)) (omega (arith, p.few_words, q.few_words))
 
   -- ---- each form
@@ -269,7 +243,7 @@ module _ (globals : Globals) (locals : ℕ) (sizes : ℕ → Option ℕ) (void :
   effect_paid v None declared b top = nothing
   effect_paid v (Some e) declared b top =
       let p = value declared e b top in
-      paying.paid locals B p.units p.words p.nodes (r.weaken (omega arith) (omega arith) (omega arith) (omega arith) (dropped p.made)) (omega (arith, p.few_units)) (omega (arith, p.few_nodes)) (omega (arith, p.few_words))
+      paid p.units p.words p.nodes (r.weaken (omega arith) (omega arith) (omega arith) (omega arith) (dropped r p.made)) (omega (arith, p.few_units)) (omega (arith, p.few_nodes)) (omega (arith, p.few_words))
 
   -- the turn of a loop: a test that leaves it, and some code where it doesn't
   test_paid : {s w t k s' w' t' k' : ℕ} {body : List Stm} (l : Lowering) → B s' w' t' k' [] (l locals).code ((l locals).tree ∷ []) → B s w t k [] body [] → B (s' + (s + 1 + 1)) (w' + (w + 1 + 3)) (t' + t) (k' + k) [] (test_and_body locals l body) []
@@ -278,7 +252,7 @@ module _ (globals : Globals) (locals : ℕ) (sizes : ℕ → Option ℕ) (void :
   layer : (x : Stmt-F Stmt Arm) → StmtChildren S A x → Pays (counted.stmt_layer x)
   layer (stmt.Block body) h declared b j top =
       let p = all_paid body h declared b j top in
-      one_more p.units p.words p.nodes (r.weaken (omega arith) (omega arith) (omega arith) (omega arith) p.made) (omega (arith, p.few_units)) (omega (arith, p.few_nodes)) (omega (arith, p.few_words))
+      stmt_paid p.units p.words p.nodes (r.weaken (omega arith) (omega arith) (omega arith) (omega arith) p.made) (omega (arith, p.few_units)) (omega (arith, p.few_nodes)) (omega (arith, p.few_words))
   layer (stmt.Clear l values) h declared b j top =
       let itself = any_of (map (names_local l) values) in
       let known = cond itself (with_local l declared) declared in
@@ -286,7 +260,7 @@ module _ (globals : Globals) (locals : ℕ) (sizes : ℕ → Option ℕ) (void :
       stmt_as (omega arith) (omega arith) (clears.cleared globals locals sizes room direct through known B (rules known) l bs.0 (sizes l) refl itself values j bs.1 top)
   layer (stmt.Express e) h declared b j top =
       let p = value declared e b top in
-      one_more p.units p.words p.nodes (r.weaken (omega arith) (omega arith) (omega arith) (omega arith) (dropped p.made)) (omega (arith, p.few_units)) (omega (arith, p.few_nodes)) (omega (arith, p.few_words))
+      stmt_paid p.units p.words p.nodes (r.weaken (omega arith) (omega arith) (omega arith) (omega arith) (dropped r p.made)) (omega (arith, p.few_units)) (omega (arith, p.few_nodes)) (omega (arith, p.few_words))
   layer (stmt.If e yes_part no_part) h declared b j top =
       let bs = and_cases (is_within globals locals sizes declared e) (all_within (scopes yes_part) declared && all_within (scopes no_part) declared) b in
       let cs = and_cases (all_within (scopes yes_part) declared) (all_within (scopes no_part) declared) bs.1 in
@@ -295,21 +269,21 @@ module _ (globals : Globals) (locals : ℕ) (sizes : ℕ → Option ℕ) (void :
       let other = all_paid no_part h.1 declared cs.1 j (omega (arith, top)) in
       let n = sum_append (map stmt_nodes yes_part) (map stmt_nodes no_part) in
       let w = sum_append (map (stmt_weight direct through) yes_part) (map (stmt_weight direct through) no_part) in
-      one_more (p.units + (yes.units + other.units + 1)) (p.words + (yes.words + other.words + 3)) (p.nodes + (yes.nodes + other.nodes))
+      stmt_paid (p.units + (yes.units + other.units + 1)) (p.words + (yes.words + other.words + 3)) (p.nodes + (yes.nodes + other.nodes))
       (r.weaken (omega arith) (omega arith) (omega arith) (omega (arith, w)) (r.chain p.made (r.choose (lower_expr e locals).tree yes.made other.made)))
       (omega (arith, p.few_units, yes.few_units, other.few_units, n)) (omega (arith, p.few_nodes, yes.few_nodes, other.few_nodes, n)) (omega (arith, p.few_words, yes.few_words, other.few_words, n))
   layer (stmt.While e body) h declared b j top =
       let bs = and_cases (is_within globals locals sizes declared e) (all_within (scopes body) declared) b in
       let p = value declared e bs.0 (omega (arith, top)) in
       let q = all_paid body h declared bs.1 (in_body j) (omega (arith, top)) in
-      one_more (p.units + (q.units + 1 + 1 + 1) + 1) (p.words + (q.words + 1 + 3) + 1) (p.nodes + q.nodes)
+      stmt_paid (p.units + (q.units + 1 + 1 + 1) + 1) (p.words + (q.words + 1 + 3) + 1) (p.nodes + q.nodes)
       (r.weaken (omega arith) (omega arith) (omega arith) (omega arith) (blocks.turns (test_paid (lower_expr e) p.made (blocks.block q.made))))
       (omega (arith, p.few_units, q.few_units)) (omega (arith, p.few_nodes, q.few_nodes)) (omega (arith, p.few_words, q.few_words))
   layer (stmt.Do body e) h declared b j top =
       let bs = and_cases (is_within globals locals sizes declared e) (all_within (scopes body) declared) b in
       let p = value declared e bs.0 (omega (arith, top)) in
       let q = all_paid body h declared bs.1 (in_body j) (omega (arith, top)) in
-      one_more (q.units + 1 + (p.units + (0 + 1 + 1)) + 1) (q.words + (p.words + (0 + 1 + 3)) + 1) (q.nodes + (p.nodes + 0))
+      stmt_paid (q.units + 1 + (p.units + (0 + 1 + 1)) + 1) (q.words + (p.words + (0 + 1 + 3)) + 1) (q.nodes + (p.nodes + 0))
       (r.weaken (omega arith) (omega arith) (omega arith) (omega arith) (blocks.turns (r.chain (blocks.block q.made) (test_paid (lower_expr e) p.made (r.retree (covers_none []))))))
       (omega (arith, p.few_units, q.few_units)) (omega (arith, p.few_nodes, q.few_nodes)) (omega (arith, p.few_words, q.few_words))
   layer (stmt.For first test step body) h declared b j top =
@@ -327,7 +301,7 @@ module _ (globals : Globals) (locals : ℕ) (sizes : ℕ → Option ℕ) (void :
       let w = sum_append (map (stmt_weight direct through) first) (map (stmt_weight direct through) body) in
       let n' = ap sum (map_append expr_nodes (option_to_list test) (option_to_list step)) ∙ sum_append (map expr_nodes (option_to_list test)) (map expr_nodes (option_to_list step)) in
       let w' = ap sum (map_append weight (option_to_list test) (option_to_list step)) ∙ sum_append (map weight (option_to_list test)) (map weight (option_to_list step)) in
-      one_more (begun.units + (tested.units + (turn.units + 1 + 1 + 1) + stepped.units + 1)) (begun.words + (tested.words + (turn.words + 1 + 3) + stepped.words + 1)) (begun.nodes + (tested.nodes + turn.nodes + stepped.nodes))
+      stmt_paid (begun.units + (tested.units + (turn.units + 1 + 1 + 1) + stepped.units + 1)) (begun.words + (tested.words + (turn.words + 1 + 3) + stepped.words + 1)) (begun.nodes + (tested.nodes + turn.nodes + stepped.nodes))
       (r.weaken (omega arith) (omega arith) (omega arith) (omega (arith, w, w'))
       (r.chain begun.made (blocks.turns (r.chain (test_paid (lower_optional 1 test) tested.made (blocks.block turn.made)) stepped.made))))
       (omega (arith, begun.few_units, tested.few_units, stepped.few_units, turn.few_units, n, n'))
@@ -335,12 +309,12 @@ module _ (globals : Globals) (locals : ℕ) (sizes : ℕ → Option ℕ) (void :
   layer (stmt.Switch e arms) h declared b j top =
       let bs = and_cases (is_within globals locals sizes declared e) (arms_within (map (arm_scope globals locals sizes) arms) declared) b in
       stmt_as (omega arith) (omega arith) (switch_paid e arms h declared bs.0 bs.1 j top)
-  layer stmt.Break h declared b j top = one_more 1 1 0 (r.weaken (omega arith) (omega arith) (omega arith) (omega arith) (blocks.leaves j.leave)) (omega arith) (omega arith) (omega arith)
-  layer stmt.Continue h declared b j top = one_more 1 1 0 (r.weaken (omega arith) (omega arith) (omega arith) (omega arith) (blocks.leaves j.again)) (omega arith) (omega arith) (omega arith)
-  layer (stmt.Return None) h declared b j top = one_more 1 1 0 (r.weaken (omega arith) (omega arith) (omega arith) (omega arith) (blocks.leaves j.around)) (omega arith) (omega arith) (omega arith)
+  layer stmt.Break h declared b j top = stmt_paid 1 1 0 (r.weaken (omega arith) (omega arith) (omega arith) (omega arith) (blocks.leaves j.leave)) (omega arith) (omega arith) (omega arith)
+  layer stmt.Continue h declared b j top = stmt_paid 1 1 0 (r.weaken (omega arith) (omega arith) (omega arith) (omega arith) (blocks.leaves j.again)) (omega arith) (omega arith) (omega arith)
+  layer (stmt.Return None) h declared b j top = stmt_paid 1 1 0 (r.weaken (omega arith) (omega arith) (omega arith) (omega arith) (blocks.leaves j.around)) (omega arith) (omega arith) (omega arith)
   layer (stmt.Return (Some e)) h declared b j top =
       let p = value declared e b top in
-      one_more (p.units + 1) (p.words + 1) (p.nodes + 0) (r.weaken (omega arith) (omega arith) (omega arith) (omega arith) (r.chain p.made (blocks.returns (lower_expr e locals).tree)))
+      stmt_paid (p.units + 1) (p.words + 1) (p.nodes + 0) (r.weaken (omega arith) (omega arith) (omega arith) (omega arith) (r.chain p.made (blocks.returns (lower_expr e locals).tree)))
       (omega (arith, p.few_units)) (omega (arith, p.few_nodes)) (omega (arith, p.few_words))
 
   -- statements that are within the limits

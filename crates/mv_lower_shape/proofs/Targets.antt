@@ -20,7 +20,7 @@ use Rattle.mv_ast.specs.declared.program.Arm.{Arm}
 use Rattle.mv_ast.specs.Names.{any_of, names_local}
 use Rattle.mv_lower_spec.specs.Lowered.{Lowering, number, temp, binary, set, choose}
 use Rattle.mv_lower_spec.specs.Lower.{lower_expr}
-use Rattle.mv_lower_spec.specs.Statements.{Jumps, Placed, LoweredArm, in_body, in_arm, in_sequence, test_labels, test_arms, arm_place, all_tests, arm_code, arms_code, values_top, break, enclosed, repeat, return_with, test_and_body}
+use Rattle.mv_lower_spec.specs.Statements.{Jumps, Placed, LoweredArm, in_body, in_arm, test_labels, test_arms, arm_place, all_tests, arm_code, arms_code, values_top, break, enclosed, repeat, return_with, test_and_body}
 use Rattle.mv_lower_spec.specs.LowerStatements.{lower_optional, lower_stmt, lower_arm}
 use Rattle.mv_source_forms.specs.Jumps.{Jumping, all_jump, jumps_layer, arm_jumps_layer, stmt_jumps, arm_jumps}
 use Rattle.mv_source_forms.specs.Scopes.{with_local}
@@ -28,7 +28,7 @@ use Rattle.mv_lower_shape.proofs.Asked.{Globals, Scope, ArmScope, all_within, al
 use Rattle.mv_lower_shape.proofs.Rules.{Allowed, Rules}
 use Rattle.mv_lower_shape.proofs.Expressions.{allowed}
 use Rattle.mv_lower_shape.proofs.Clears as clears
-use Rattle.mv_lower_shape.proofs.Folds.{limited_stmts}
+use Rattle.mv_lower_shape.proofs.Folds.{limited_stmts, sequences, limits_of}
 use Rattle.mv_source_forms.proofs.StatementFolds.{StmtFolds, stmt_fold, stmt_folds, along_stmts}
 use Rattle.mv_source_forms.proofs.StatementInduction.{StmtChildren}
 use Rattle.mv_num.proofs.Booleans.{and_cases}
@@ -86,6 +86,9 @@ leads_in_arm : (u v : Bool) (j : Jumps) (r : List Bool) → Leads u v j r → Le
 leads_in_arm u v j r h = record { leave = λ e. omega arith; again = λ e. (let k = h.again e in omega (arith, k)); around = let k = h.around in omega (arith, k) }
 
 module _ (globals : Globals) (locals : ℕ) (sizes : ℕ → Option ℕ) (void : Bool) where
+  open sequences locals sizes void use {lowered, arms_lowered}
+  open limits_of globals locals sizes use {scopes}
+
   abbrev none : ℕ → ℕ
   none f = 0
 
@@ -97,12 +100,6 @@ module _ (globals : Globals) (locals : ℕ) (sizes : ℕ → Option ℕ) (void :
   optional : (v : ℕ) (declared : ℕ → Bool) (e : Option Expr) → optional_within globals locals sizes e declared ≡ true → (r : List Bool) → HasTargets r (lower_optional v e locals).code
   optional v declared None b r = refl
   optional v declared (Some e) b r = value declared e b r
-
-  abbrev lowered : List Stmt → Placed
-  lowered body = in_sequence locals (map (lower_stmt locals sizes void) body)
-
-  abbrev scopes : List Stmt → List Scope
-  scopes body = map (stmt_scope globals locals sizes) body
 
   abbrev leading : List Stmt → Jumping
   leading body = all_jump (map stmt_jumps body)
@@ -131,9 +128,6 @@ module _ (globals : Globals) (locals : ℕ) (sizes : ℕ → Option ℕ) (void :
       targets_append r (lower_stmt locals sizes void s j).code (lowered body j).code (h.0 declared bs.0 u v ls.0 j r k) (all_targets body h.1 (scope.behind declared) bs.1 u v ls.1 j r k)
 
   -- ---- `switch`
-
-  abbrev arms_lowered : List Arm → List LoweredArm
-  arms_lowered arms = map (lower_arm locals sizes void) arms
 
   placed_targets : (i : ℕ) (r : List Bool) → HasTargets r (set locals (number i) ∷ [])
   placed_targets i r = targets_one r (stm.Set locals (number i)) refl

@@ -6,13 +6,14 @@ use Rattle.mv_ir.specs.declared.stm.Stm.{Stm}
 use Rattle.mv_ir.specs.declared.stm.Stm.TheOpen.{Stm-F}
 use Rattle.mv_ir.specs.declared.stm.Stm.TheOpen as stm
 use Rattle.mv_ir.specs.declared.stm.Stm.TheViews.{roll-Stm}
-use Rattle.mv_ir.specs.Live.{reads_temp, any_reads, is, at_place, Around, with_after, around_block, around_loop, live_at_loop, plain, goes_next, flow, any}
+use Rattle.mv_ir.specs.Live.{reads_temp, any_reads, is, at_place, Around, with_after, around_block, around_loop, live_at_loop, plain, goes_next, flow}
 use Rattle.mv_ir.proofs.Rolls.{flow_roll}
 use Rattle.mv_lower_spec.specs.Lowered.{choose}
 use Rattle.mv_lower_spec.specs.Statements.{repeat, enclosed}
 use Rattle.mv_lower_shape.proofs.Rules.{Allowed, Rules, BlockRules, IsAllowed, result}
-use Rattle.mv_ir.proofs.Joining.{any_reads_append}
-use Rattle.mv_lower_shape.proofs.Flowing.{live_at, marks_at, live_append, marked_append, any_append, live_one, marked_one, temp_reads, global_reads, another, not_true}
+use Rattle.mv_ir.proofs.Joining.{any_reads_append, any_append}
+use Rattle.mv_lower_shape.proofs.Flowing.{live_at, marks_at, live_append, marked_append, live_one, marked_one, temp_reads, global_reads, another, not_true}
+use Rattle.mv_ast.specs.Names.{any_of}
 
 -- around code behind which a temporary is nowhere live
 pub record IsQuiet (r : Around) : Type 0 where
@@ -38,7 +39,7 @@ module _ (u : ℕ) where
   pub record Unused (s w t k : ℕ) (ts : List Tree) (xs : List Stm) (us : List Tree) : Type 0 where
     pub left : any_reads u ts ≡ false → any_reads u us ≡ false
     pub dead : any_reads u ts ≡ false → (r : Around) → IsQuiet r → live_at u xs r ≡ false
-    pub bare : any_reads u ts ≡ false → (r : Around) → IsQuiet r → any (marks_at u xs r) ≡ false
+    pub bare : any_reads u ts ≡ false → (r : Around) → IsQuiet r → any_of (marks_at u xs r) ≡ false
 
   reads_less : (ts us : List Tree) → (any_reads u us ≡ true → any_reads u ts ≡ true) → any_reads u ts ≡ false → any_reads u us ≡ false
   reads_less ts us h e = not_true (any_reads u us) (λ t. absurd (no_both (sym (h t) ∙ e)))
@@ -52,7 +53,7 @@ module _ (u : ℕ) where
     dead = λ e r q. let d = h'.dead (h.left e) r q in live_append u xs ys r ∙ h.dead e (with_after r (live_at u ys r)) (quiet_after r (live_at u ys r) d q);
     bare = λ e r q.
         let d = h'.dead (h.left e) r q in
-        marked_append u xs ys r ∙ or_from (any (marks_at u xs (with_after r (live_at u ys r)))) (any (marks_at u ys r)) (h.bare e (with_after r (live_at u ys r)) (quiet_after r (live_at u ys r) d q)) (h'.bare (h.left e) r q);
+        marked_append u xs ys r ∙ or_from (any_of (marks_at u xs (with_after r (live_at u ys r)))) (any_of (marks_at u ys r)) (h.bare e (with_after r (live_at u ys r)) (quiet_after r (live_at u ys r) d q)) (h'.bare (h.left e) r q);
   }
 
   chosen : {s w t k s' w' t' k' m o n l : ℕ} {ys zs : List Stm} {us : List Tree} (x : Tree) → Unused s w t k [] ys us → Unused s' w' t' k' [] zs us → Unused m o n l (x ∷ []) (choose x ys zs ∷ []) us
@@ -61,8 +62,8 @@ module _ (u : ℕ) where
     dead = λ e r q. live_one u (stm.If x ys zs) _ r (flow_roll u (stm.If x ys zs)) ∙ dead_here e r q;
     bare = λ e r q.
         marked_one u (stm.If x ys zs) _ r (flow_roll u (stm.If x ys zs)) ∙
-        or_from (reads_temp u x || (live_at u ys r || live_at u zs r)) (any (marks_at u ys r ++ marks_at u zs r)) (dead_here e r q)
-        (any_append (marks_at u ys r) (marks_at u zs r) ∙ or_from (any (marks_at u ys r)) (any (marks_at u zs r)) (h.bare refl r q) (h'.bare refl r q));
+        or_from (reads_temp u x || (live_at u ys r || live_at u zs r)) (any_of (marks_at u ys r ++ marks_at u zs r)) (dead_here e r q)
+        (any_append (marks_at u ys r) (marks_at u zs r) ∙ or_from (any_of (marks_at u ys r)) (any_of (marks_at u zs r)) (h.bare refl r q) (h'.bare refl r q));
   }
     where
       dead_here : any_reads u (x ∷ []) ≡ false → (r : Around) → IsQuiet r → (reads_temp u x || (live_at u ys r || live_at u zs r)) ≡ false
@@ -117,7 +118,7 @@ module _ (u : ℕ) where
     dead = λ e r q. live_one u (stm.Block xs) _ r (flow_roll u (stm.Block xs)) ∙ h.dead e (around_block r) (quiet_block r q);
     bare = λ e r q.
         marked_one u (stm.Block xs) _ r (flow_roll u (stm.Block xs)) ∙
-        or_from (live_at u xs (around_block r)) (any (marks_at u xs (around_block r))) (h.dead e (around_block r) (quiet_block r q)) (h.bare e (around_block r) (quiet_block r q));
+        or_from (live_at u xs (around_block r)) (any_of (marks_at u xs (around_block r))) (h.dead e (around_block r) (quiet_block r q)) (h.bare e (around_block r) (quiet_block r q));
   }
 
   in_loop : {s w t k m o n l : ℕ} {xs : List Stm} → Unused s w t k [] xs [] → Unused m o n l [] (repeat xs ∷ []) []
@@ -126,7 +127,7 @@ module _ (u : ℕ) where
     dead = λ e r q. live_one u (stm.Loop xs) _ r (flow_roll u (stm.Loop xs)) ∙ start r q;
     bare = λ e r q.
         marked_one u (stm.Loop xs) _ r (flow_roll u (stm.Loop xs)) ∙
-        or_from (live_at_loop (map (flow u) xs) r) (any (marks_at u xs (around_loop r (live_at_loop (map (flow u) xs) r)))) (start r q)
+        or_from (live_at_loop (map (flow u) xs) r) (any_of (marks_at u xs (around_loop r (live_at_loop (map (flow u) xs) r)))) (start r q)
         (h.bare refl (around_loop r (live_at_loop (map (flow u) xs) r)) (quiet_loop r (live_at_loop (map (flow u) xs) r) (start r q) q));
   }
     where

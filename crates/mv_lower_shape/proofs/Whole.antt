@@ -17,16 +17,17 @@ use Rattle.mv_ast.specs.Names.{any_of, names_local}
 use Rattle.mv_lower_spec.specs.Lowered.{Lowering, number, temp, binary, set, choose}
 use Rattle.mv_lower_spec.specs.Lower.{lower_expr}
 use Rattle.mv_source_forms.specs.Names.{is_scalar}
-use Rattle.mv_lower_spec.specs.Statements.{Jumps, Placed, LoweredArm, in_body, in_arm, in_sequence, store_zeros, store_values, values_top, lower_clear, test_labels, test_arms, arm_place, all_tests, arm_code, arms_code, arms_top, lower_switch, break, enclosed, repeat, return_with, test_and_body}
+use Rattle.mv_lower_spec.specs.Statements.{Jumps, Placed, LoweredArm, in_body, in_arm, store_zeros, store_values, values_top, lower_clear, test_labels, test_arms, arm_place, all_tests, arm_code, arms_code, arms_top, lower_switch, break, enclosed, repeat, return_with, test_and_body}
 use Rattle.mv_lower_spec.specs.LowerStatements.{lower_optional, lower_stmt, lower_arm}
 use Rattle.mv_source_forms.specs.Scopes.{with_local}
+use Rattle.mv_lower_spec.proofs.Expressions.{scalar_is_none}
 use Rattle.mv_lower_shape.proofs.Asked.{Globals, Scope, ArmScope, all_within, all_behind, arms_within, is_within, all_exprs_within, optional_within, stmt_scope, arm_scope}
 use Rattle.mv_lower_shape.proofs.Rules.{Allowed}
 use Rattle.mv_lower_shape.proofs.Expressions.{allowed}
 use Rattle.mv_lower_shape.proofs.Clears as clears
 use Rattle.mv_lower_shape.proofs.Flowing.{live_at, live_append, live_one, reads_one}
 use Rattle.mv_lower_shape.proofs.Passing as passing
-use Rattle.mv_lower_shape.proofs.Folds.{limited_stmts}
+use Rattle.mv_lower_shape.proofs.Folds.{limited_stmts, sequences, limits_of}
 use Rattle.mv_source_forms.proofs.StatementFolds.{StmtFolds, along_stmts}
 use Rattle.mv_source_forms.proofs.StatementInduction.{StmtChildren}
 use Rattle.mv_num.proofs.Booleans.{and_cases, from_falsity}
@@ -44,6 +45,9 @@ pub shut_after : (j : Jumps) (r : Around) (b : Bool) → IsShut j r → IsShut j
 shut_after j r b q = record { leave = q.leave; again = q.again; around = q.around }
 
 module _ (globals : Globals) (locals : ℕ) (sizes : ℕ → Option ℕ) (void : Bool) (room u : ℕ) (scalar : nat_lt u locals ≡ true → is_scalar (sizes u) ≡ true) where
+  open sequences locals sizes void use {lowered, arms_lowered}
+  open limits_of globals locals sizes use {scopes}
+
   abbrev none : ℕ → ℕ
   none f = 0
 
@@ -94,12 +98,6 @@ module _ (globals : Globals) (locals : ℕ) (sizes : ℕ → Option ℕ) (void :
   front_dead x ys r h k = live_append u (x ∷ []) ys r ∙ ap (λ b. live_at u (x ∷ []) (with_after r b)) h ∙ k
 
   -- ---- lists
-
-  abbrev lowered : List Stmt → Placed
-  lowered body = in_sequence locals (map (lower_stmt locals sizes void) body)
-
-  abbrev scopes : List Stmt → List Scope
-  scopes body = map (stmt_scope globals locals sizes) body
 
   -- where the temporary isn't declared before, it isn't live before; behind it is either not live or declared
   abbrev IsDead : ((ℕ → Bool) → Bool) → ((ℕ → Bool) → ℕ → Bool) → Placed → Type 0
@@ -165,10 +163,6 @@ module _ (globals : Globals) (locals : ℕ) (sizes : ℕ → Option ℕ) (void :
           subst (λ c. live_at u c r ≡ false) (sym (append_assoc (lower_expr e locals).code (set u t ∷ more) zeros))
           (then_dead (lower_expr e locals).code (set u t ∷ (more ++ zeros)) t p r (λ h. set_dead t (more ++ zeros) r h))
 
-  scalar_none : (size : Option ℕ) → is_scalar size ≡ true → size ≡ None
-  scalar_none None e = refl
-  scalar_none (Some n) e = from_falsity e
-
   clear_dead : (l : ℕ) (values : List Expr) (declared : ℕ → Bool) → nat_lt l locals ≡ true → (itself : Bool) → all_exprs_within globals locals sizes values (cond itself (with_local l declared) declared) ≡ true → declared u ≡ false →
       (j : Jumps) → values_top locals (map lower_expr values) ≤ room → (r : Around) → (with_local l declared u ≡ false → r.next ≡ false) → live_at u (lower_clear locals (sizes l) l itself (map lower_expr values) j).code r ≡ false
   clear_dead l values declared h itself b k j top r n = by (nat_eq u l) refl
@@ -176,7 +170,7 @@ module _ (globals : Globals) (locals : ℕ) (sizes : ℕ → Option ℕ) (void :
       by : (z : Bool) → nat_eq u l ≡ z → live_at u (lower_clear locals (sizes l) l itself (map lower_expr values) j).code r ≡ false
       by true e =
           let same = eqb-true u l e in
-          let size = scalar_none (sizes u) (scalar (subst (λ m. nat_lt m locals ≡ true) (sym same) h)) in
+          let size = scalar_is_none (sizes u) (scalar (subst (λ m. nat_lt m locals ≡ true) (sym same) h)) in
           subst (λ m. live_at u (lower_clear locals (sizes m) m itself (map lower_expr values) j).code r ≡ false) same
           (subst (λ z. live_at u (lower_clear locals z u itself (map lower_expr values) j).code r ≡ false) (sym size)
           (own_cleared itself (cond itself (with_local l declared) declared) values j b (λ f. ap (λ z. cond z (with_local l declared) declared u) f ∙ k) top r))
@@ -200,9 +194,6 @@ module _ (globals : Globals) (locals : ℕ) (sizes : ℕ → Option ℕ) (void :
 
   abbrev A : Arm → Type 0
   A arm = ArmDead (limited.arm arm)
-
-  abbrev arms_lowered : List Arm → List LoweredArm
-  arms_lowered arms = map (lower_arm locals sizes void) arms
 
   -- of a temporary that isn't the one with the value and the place
   module _ (apart : eqb locals u ≡ false) where

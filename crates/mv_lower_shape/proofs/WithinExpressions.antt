@@ -14,8 +14,7 @@ use Rattle.mv_ast.specs.declared.program.Signature.{Signature}
 use Rattle.mv_ast.specs.declared.program.Expr.{Expr, Expr-F, roll-Expr, out-roll-Expr}
 use Rattle.mv_ast.specs.declared.program.Form.{Form, Form-F, roll-Form, out-Form, out-roll-Form}
 use Rattle.mv_ast.specs.declared.program.Form.TheOpen as form
-use Rattle.mv_ast.specs.declared.program.Target.{Target, Target-F, fold-Target, roll-Target, out-Target, out-roll-Target}
-use Rattle.mv_ast.specs.Names.{any_of}
+use Rattle.mv_ast.specs.declared.program.Target.{Target, Target-F, roll-Target, out-Target, out-roll-Target}
 use Rattle.mv_ir.specs.WellFormed.{known_arguments}
 use Rattle.mv_ir.proofs.Induction.{Each}
 use Rattle.mv_source_forms.specs.Typing.{HasType, LvalueHasType, global_types, parameter_types, types_of}
@@ -25,12 +24,12 @@ use Rattle.mv_source_forms.specs.Names.{is_scalar, is_own_switch, names_form, na
 use Rattle.mv_source_forms.proofs.ExpressionFolds.{ExprFolds, expr_fold, expr_folds, expr_family, along_exprs}
 use Rattle.mv_source_forms.proofs.ExpressionInduction.{FormChildren, TargetChildren}
 use Rattle.mv_source_forms.specs.Scopes.{form_in, target_in, layer_in, names_declared, target_names_declared}
-use Rattle.mv_source_forms.specs.Uses.{known_parameters, known_is_there, form_calls_known, target_in_parts, calls_known}
+use Rattle.mv_source_forms.specs.Uses.{known_parameters, known_is_there, form_calls_known, target_in_parts, calls_known, target_calls_known}
 use Rattle.mv_source_forms.proofs.Tests.{one_holds, two_hold, last_apart}
 use Rattle.mv_source_forms.specs.WellFormed.{IsWithinLimits}
-use Rattle.mv_lower_shape.specs.Reads.{LvalueReads, reads_layer, lvalue_reads, inner_reads, target_reads, expr_reads}
-use Rattle.mv_lower_shape.proofs.Asked.{Globals, Access, local_access, target_access, form_names_only, inner_names_only, target_is_within, is_within}
-use Rattle.mv_lower_shape.proofs.Holding as holding
+use Rattle.mv_lower_shape.specs.Reads.{LvalueReads, reads_layer, lvalue_reads, inner_reads, target_reads}
+use Rattle.mv_lower_shape.proofs.Asked.{Globals, Access, local_access, target_access, form_names_only, inner_names_only, asking}
+use Rattle.mv_lower_shape.proofs.Holding.{Reading, reads_of as R, reads_of_all, holds_left, holds_right, held_in}
 use Rattle.mv_num.proofs.Booleans.{and_cases}
 
 -- what holds of all items of a list holds of one
@@ -56,28 +55,11 @@ few f xs le = lt-ltb (length (map f xs)) 9 (omega (arith, le, length-map xs f))
 -- an expression of a function stands where some locals are declared; a name that is free is also declared further in
 module _ (p : Program) (own : ℕ) (fn : Function) (globals : Globals) (locals : ℕ) (sizes : ℕ → Option ℕ) (limits : IsWithinLimits p) (there : (k : ℕ) → k < length p.globals → globals.there k ≡ true)
     (free outer inner : ℕ → Bool) (narrow : (l : ℕ) → free l ≡ true → outer l ≡ true → inner l ≡ true) where
-  abbrev count : ℕ
-  count = length p.globals
-
-  abbrev is_own : ℕ → Bool
-  is_own = is_own_switch p (slice_get p.functions own)
-
-  abbrev Holds : holding.Reading → Type 0
-  Holds = holding.Holds globals count is_own
-
-  abbrev target_known : Target → Bool
-  target_known = fold-Target Bool Bool Bool (form_calls_known p) target_in_parts layer_in
-
-  -- what is known of an expression, a form or an lvalue, or of one layer
-  pub record Good (T : Type 0) (is_named is_declared is_known : Bool) (reads : holding.Reading) : Type 0 where
-    pub typed : T
-    pub named : is_named ≡ true
-    pub declared : is_declared ≡ true
-    pub known : is_known ≡ true
-    pub held : Holds reads
+  open held_in p own globals use {Holds, Good}
+  open asking globals locals sizes inner use {within as I, place}
 
   -- an lvalue may be stored to, and read where the sets hold it
-  pub record Reached (a : Access) (itself : holding.Reading) : Type 0 where
+  pub record Reached (a : Access) (itself : Reading) : Type 0 where
     pub read : Holds itself → a.read ≡ true
     pub stored : a.stored ≡ true
 
@@ -85,19 +67,19 @@ module _ (p : Program) (own : ℕ) (fn : Function) (globals : Globals) (locals :
   LvalueReading = (s a : ℕ → Bool) → LvalueReads
 
   -- of each, whether it is within the limits, well named, declared and calls what is known, and what it reads
-  abbrev judged : ExprFolds (Bool × (((CType → Bool) × Bool) × (Bool × holding.Reading))) (Access × ((Bool × Bool) × (Bool × LvalueReading))) (Bool × ((Bool × Bool) × (Bool × holding.Reading)))
+  abbrev judged : ExprFolds (Bool × (((CType → Bool) × Bool) × (Bool × Reading))) (Access × ((Bool × Bool) × (Bool × LvalueReading))) (Bool × ((Bool × Bool) × (Bool × Reading)))
   judged =
       expr_folds (expr_fold (form_names_only globals locals sizes inner) (target_access globals locals sizes inner) (inner_names_only globals locals sizes inner))
       (expr_folds (expr_folds (expr_fold (names_form p own locals sizes free) (names_target p own locals sizes free) (names_layer p own locals sizes free)) (expr_fold form_in (target_in outer) layer_in))
       (expr_folds (expr_fold (form_calls_known p) target_in_parts layer_in) (expr_family (λ (s : ℕ → Bool). expr_family (λ (a : ℕ → Bool). expr_fold (reads_layer s a) (lvalue_reads s a) (inner_reads s a))))))
 
-  abbrev FormWithin : Form → Bool × (((CType → Bool) × Bool) × (Bool × holding.Reading)) → Type 0
+  abbrev FormWithin : Form → Bool × (((CType → Bool) × Bool) × (Bool × Reading)) → Type 0
   FormWithin f v = (t : CType) → Good (HasType p fn t (out-Form f) × TypedForm p fn f) (v.1.0.0 t) v.1.0.1 v.1.1.0 v.1.1.1 → v.0 ≡ true
 
   abbrev TargetWithin : Target → Access × ((Bool × Bool) × (Bool × LvalueReading)) → Type 0
   TargetWithin x v = (t : CType) → Good (LvalueHasType p fn t (out-Target x) × TypedTarget p fn x) v.1.0.0 v.1.0.1 v.1.1.0 (λ s a. (v.1.1.1 s a).index) → Reached v.0 (λ s a. (v.1.1.1 s a).itself)
 
-  abbrev ExprWithin : Expr → Bool × ((Bool × Bool) × (Bool × holding.Reading)) → Type 0
+  abbrev ExprWithin : Expr → Bool × ((Bool × Bool) × (Bool × Reading)) → Type 0
   ExprWithin e v = Good (TypedExpr p fn e) v.1.0.0 v.1.0.1 v.1.1.0 v.1.1.1 → v.0 ≡ true
 
   abbrev P : Form → Type 0
@@ -112,21 +94,18 @@ module _ (p : Program) (own : ℕ) (fn : Function) (globals : Globals) (locals :
   -- ---- arguments
 
   abbrev all_within : List Expr → Bool
-  all_within es = all_of (map (is_within globals locals sizes inner) es)
-
-  abbrev any_reads : List Expr → holding.Reading
-  any_reads es s a = any_of (map (expr_reads s a) es)
+  all_within es = all_of (map (I) es)
 
   all_good : (es : List Expr) → Each S es → AllTyped p fn es → all_of (map (is_well_named p own locals sizes free) es) ≡ true → all_of (map (names_declared outer) es) ≡ true → all_of (map (calls_known p) es) ≡ true →
-      Holds (any_reads es) → all_within es ≡ true
+      Holds (reads_of_all es) → all_within es ≡ true
   all_good [] h t n d k r = refl
   all_good (e ∷ es) h t n d k r =
       let ns = and_cases (is_well_named p own locals sizes free e) (all_of (map (is_well_named p own locals sizes free) es)) n in
       let ds = and_cases (names_declared outer e) (all_of (map (names_declared outer) es)) d in
       let ks = and_cases (calls_known p e) (all_of (map (calls_known p) es)) k in
-      and_from (is_within globals locals sizes inner e) (all_within es)
-      (h.0 (record { typed = t.0; named = ns.0; declared = ds.0; known = ks.0; held = holding.holds_left globals count is_own (λ s a. expr_reads s a e) (any_reads es) r }))
-      (all_good es h.1 t.1 ns.1 ds.1 ks.1 (holding.holds_right globals count is_own (λ s a. expr_reads s a e) (any_reads es) r))
+      and_from (I e) (all_within es)
+      (h.0 (record { typed = t.0; named = ns.0; declared = ds.0; known = ks.0; held = holds_left (R e) (reads_of_all es) r }))
+      (all_good es h.1 t.1 ns.1 ds.1 ks.1 (holds_right (R e) (reads_of_all es) r))
 
   parameters_few : (f : ℕ) (g : Function) (args : List Expr) → slice_get p.functions f ≡ Some g → types_of args ≡ parameter_types g → length args ≤ 8
   parameters_few f g args e q =
@@ -142,9 +121,6 @@ module _ (p : Program) (own : ℕ) (fn : Function) (globals : Globals) (locals :
 
   -- ---- each form
 
-  abbrev I : Expr → Bool
-  I = is_within globals locals sizes inner
-
   abbrev N : Expr → Bool
   N = is_well_named p own locals sizes free
 
@@ -154,37 +130,25 @@ module _ (p : Program) (own : ℕ) (fn : Function) (globals : Globals) (locals :
   abbrev K : Expr → Bool
   K = calls_known p
 
-  abbrev R : Expr → holding.Reading
-  R e s a = expr_reads s a e
-
-  abbrev place : Target → Access
-  place = target_is_within globals locals sizes inner
-
-  abbrev itself : Target → holding.Reading
+  abbrev itself : Target → Reading
   itself x s a = (target_reads s a x).itself
 
-  abbrev index : Target → holding.Reading
+  abbrev index : Target → Reading
   index x s a = (target_reads s a x).index
-
-  abbrev left : (x y : holding.Reading) → Holds (λ s a. x s a || y s a) → Holds x
-  left = holding.holds_left globals count is_own
-
-  abbrev right : (x y : holding.Reading) → Holds (λ s a. x s a || y s a) → Holds y
-  right = holding.holds_right globals count is_own
 
   pair : (a b : Expr) → S a → S b → TypedExpr p fn a → TypedExpr p fn b → (N a && N b) ≡ true → (D a && (D b && true)) ≡ true → (K a && (K b && true)) ≡ true → Holds (λ s x. R a s x || R b s x) → (I a && I b) ≡ true
   pair a b ha hb ta tb n d k r =
       let ns = and_cases (N a) (N b) n in
       let ds = two_hold (D a) (D b) d in
       let ks = two_hold (K a) (K b) k in
-      and_from (I a) (I b) (ha (record { typed = ta; named = ns.0; declared = ds.0; known = ks.0; held = left (R a) (R b) r }))
-      (hb (record { typed = tb; named = ns.1; declared = ds.1; known = ks.1; held = right (R a) (R b) r }))
+      and_from (I a) (I b) (ha (record { typed = ta; named = ns.0; declared = ds.0; known = ks.0; held = holds_left (R a) (R b) r }))
+      (hb (record { typed = tb; named = ns.1; declared = ds.1; known = ks.1; held = holds_right (R a) (R b) r }))
 
   layer : (x : Form-F Form Target Expr) → FormChildren P Q S x → (t : CType) → (let w = judged.form_layer x in Good (HasType p fn t x × FormParts p fn x) (w.1.0.0 t) w.1.0.1 w.1.1.0 w.1.1.1 → w.0 ≡ true)
   layer (form.Number n) h t g = refl
   layer (form.Read x) h t g =
-      let reached = h t (record { typed = (g.typed.0, g.typed.1); named = g.named; declared = one_holds (target_names_declared outer x) g.declared; known = one_holds (target_known x) g.known; held = right (itself x) (index x) g.held }) in
-      reached.read (left (itself x) (index x) g.held)
+      let reached = h t (record { typed = (g.typed.0, g.typed.1); named = g.named; declared = one_holds (target_names_declared outer x) g.declared; known = one_holds (target_calls_known p x) g.known; held = holds_right (itself x) (index x) g.held }) in
+      reached.read (holds_left (itself x) (index x) g.held)
   layer (form.Function f) h t g = refl
   layer (form.Unary op a) h t g = h (record { typed = g.typed.1; named = g.named; declared = one_holds (D a) g.declared; known = one_holds (K a) g.known; held = g.held })
   layer (form.Binary op a b) h t g = pair a b h.0 h.1 g.typed.1.0 g.typed.1.1 g.named g.declared g.known g.held
@@ -194,28 +158,28 @@ module _ (p : Program) (own : ℕ) (fn : Function) (globals : Globals) (locals :
       let ns = and_cases (N c) (N a && N b) g.named in
       let ds = and_cases (D c) (D a && (D b && true)) g.declared in
       let ks = and_cases (K c) (K a && (K b && true)) g.known in
-      let others : holding.Reading = λ s x. R a s x || R b s x in
-      and_from (I c) (I a && I b) (h.0 (record { typed = g.typed.1.0; named = ns.0; declared = ds.0; known = ks.0; held = left (R c) others g.held }))
-      (pair a b h.1 h.2 g.typed.1.1 g.typed.1.2 ns.1 ds.1 ks.1 (right (R c) others g.held))
+      let others : Reading = λ s x. R a s x || R b s x in
+      and_from (I c) (I a && I b) (h.0 (record { typed = g.typed.1.0; named = ns.0; declared = ds.0; known = ks.0; held = holds_left (R c) others g.held }))
+      (pair a b h.1 h.2 g.typed.1.1 g.typed.1.2 ns.1 ds.1 ks.1 (holds_right (R c) others g.held))
   layer (form.Convert a) h t g = h (record { typed = g.typed.1; named = g.named; declared = one_holds (D a) g.declared; known = one_holds (K a) g.known; held = g.held })
   layer (form.Set x a) h t g =
       let ns = and_cases (target_is_well_named p own locals sizes free x) (N a) g.named in
       let ds = two_hold (target_names_declared outer x) (D a) g.declared in
-      let ks = two_hold (target_known x) (K a) g.known in
-      let reached = h.0 t (record { typed = (g.typed.0.0, g.typed.1.0); named = ns.0; declared = ds.0; known = ks.0; held = left (index x) (R a) g.held }) in
-      and_from (place x).stored (I a) reached.stored (h.1 (record { typed = g.typed.1.1; named = ns.1; declared = ds.1; known = ks.1; held = right (index x) (R a) g.held }))
+      let ks = two_hold (target_calls_known p x) (K a) g.known in
+      let reached = h.0 t (record { typed = (g.typed.0.0, g.typed.1.0); named = ns.0; declared = ds.0; known = ks.0; held = holds_left (index x) (R a) g.held }) in
+      and_from (place x).stored (I a) reached.stored (h.1 (record { typed = g.typed.1.1; named = ns.1; declared = ds.1; known = ks.1; held = holds_right (index x) (R a) g.held }))
   layer (form.Change op kind x a) h t g =
       let ns = and_cases (target_is_well_named p own locals sizes free x) (N a) g.named in
       let ds = two_hold (target_names_declared outer x) (D a) g.declared in
-      let ks = two_hold (target_known x) (K a) g.known in
-      let both : holding.Reading = λ s z. itself x s z || index x s z in
-      let ahead = left both (R a) g.held in
-      let reached = h.0 t (record { typed = (g.typed.0.2, g.typed.1.0); named = ns.0; declared = ds.0; known = ks.0; held = right (itself x) (index x) ahead }) in
-      and_from (place x).read ((place x).stored && I a) (reached.read (left (itself x) (index x) ahead))
-      (and_from (place x).stored (I a) reached.stored (h.1 (record { typed = g.typed.1.1; named = ns.1; declared = ds.1; known = ks.1; held = right both (R a) g.held })))
+      let ks = two_hold (target_calls_known p x) (K a) g.known in
+      let both : Reading = λ s z. itself x s z || index x s z in
+      let ahead = holds_left both (R a) g.held in
+      let reached = h.0 t (record { typed = (g.typed.0.2, g.typed.1.0); named = ns.0; declared = ds.0; known = ks.0; held = holds_right (itself x) (index x) ahead }) in
+      and_from (place x).read ((place x).stored && I a) (reached.read (holds_left (itself x) (index x) ahead))
+      (and_from (place x).stored (I a) reached.stored (h.1 (record { typed = g.typed.1.1; named = ns.1; declared = ds.1; known = ks.1; held = holds_right both (R a) g.held })))
   layer (form.After up x) h t g =
-      let reached = h t (record { typed = (g.typed.0.1, g.typed.1); named = g.named; declared = one_holds (target_names_declared outer x) g.declared; known = one_holds (target_known x) g.known; held = right (itself x) (index x) g.held }) in
-      and_from (place x).read (place x).stored (reached.read (left (itself x) (index x) g.held)) reached.stored
+      let reached = h t (record { typed = (g.typed.0.1, g.typed.1); named = g.named; declared = one_holds (target_names_declared outer x) g.declared; known = one_holds (target_calls_known p x) g.known; held = holds_right (itself x) (index x) g.held }) in
+      and_from (place x).read (place x).stored (reached.read (holds_left (itself x) (index x) g.held)) reached.stored
   layer (form.Direct f args) h t g =
       let ns = and_cases _ (all_of (map N args)) g.named in
       and_from (nat_lt (length (map I args)) 9) (all_within args) (few I args (parameters_few f g.typed.0.0 args g.typed.0.1 g.typed.0.3)) (all_good args h g.typed.1 ns.1 g.declared g.known g.held)
@@ -224,8 +188,8 @@ module _ (p : Program) (own : ℕ) (fn : Function) (globals : Globals) (locals :
       let ds = last_apart (map D args) (D callee) g.declared in
       let ks = last_apart (map K args) (K callee) g.known in
       and_from (nat_lt (length (map I args)) 9) (all_within args && I callee) (few I args (signature_few g.typed.0.0 g.typed.0.1 args g.typed.0.3 g.typed.0.5))
-      (and_from (all_within args) (I callee) (all_good args h.0 g.typed.1.0 ns.0 ds.0 ks.0 (left (any_reads args) (R callee) g.held))
-      (h.1 (record { typed = g.typed.1.1; named = ns.1; declared = ds.1; known = ks.1; held = right (any_reads args) (R callee) g.held })))
+      (and_from (all_within args) (I callee) (all_good args h.0 g.typed.1.0 ns.0 ds.0 ks.0 (holds_left (reads_of_all args) (R callee) g.held))
+      (h.1 (record { typed = g.typed.1.1; named = ns.1; declared = ds.1; known = ks.1; held = holds_right (reads_of_all args) (R callee) g.held })))
   layer (form.Known k args) h t g =
       let ks = and_cases (known_is_there p k) (nat_eq (length (map K args)) (known_parameters k) && all_of (map K args)) g.known in
       let js = and_cases (nat_eq (length (map K args)) (known_parameters k)) (all_of (map K args)) ks.1 in
@@ -233,7 +197,7 @@ module _ (p : Program) (own : ℕ) (fn : Function) (globals : Globals) (locals :
 
   -- ---- places
 
-  below : (g : ℕ) (t : CType) → slice_get (global_types p) g ≡ Some t → g < count
+  below : (g : ℕ) (t : CType) → slice_get (global_types p) g ≡ Some t → g < length p.globals
   below g t e = let lt = slice_get_within (global_types p) g t e in omega (arith, lt, length-map p.globals (λ (x : Global). x.ctype))
 
   target_layer : (x : Target-F Form Target Expr) → TargetChildren P Q S x → (t : CType) → LvalueHasType p fn t x → TargetParts p fn x →
@@ -248,7 +212,7 @@ module _ (p : Program) (own : ℕ) (fn : Function) (globals : Globals) (locals :
       let b = and_from (nat_lt l locals) (inner l && is_scalar (sizes l)) ns.0 (and_from (inner l) (is_scalar (sizes l)) (narrow l ms.0 d) ms.1) in
       record { read = λ held. b; stored = b }
   target_layer (form.GlobalAt g e) h t type parts n d k r =
-      let ns = and_cases (not (is_own g)) (N e) n in
+      let ns = and_cases (not (is_own_switch p (slice_get p.functions own) g)) (N e) n in
       let i = h (record { typed = parts; named = ns.1; declared = d; known = one_holds (K e) k; held = r }) in
       let b = there g (below g t type.0) in
       record {

@@ -17,7 +17,7 @@ use Rattle.mv_ir.specs.Meaning.{Contents, body_from}
 use Rattle.mv_ir.specs.Measures.{deepest}
 use Rattle.mv_ir.specs.Programs.{setting_of, place_if, code_of, ir_meaning}
 use Rattle.mv_ir.specs.WellFormed as bodies
-use Rattle.mv_lower_spec.specs.Correct.{seen}
+use Rattle.mv_ir.specs.KnownFunctions.{seen}
 use Rattle.mv_lower_spec.specs.Functions.{lower_program}
 use Rattle.mv_lower_spec.specs.Law.{strict_context}
 use Rattle.mv_source_forms.specs.Names.{is_void}

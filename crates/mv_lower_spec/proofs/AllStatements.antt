@@ -29,7 +29,7 @@ use Rattle.mv_lower_spec.specs.LowerStatements.{lower_optional, lower_stmt_layer
 use Rattle.mv_source_forms.specs.Labels.{ArmLabels, labels_layer, arm_labels_layer, stmt_labelled, arm_labels}
 use Rattle.mv_lower_spec.specs.Correct as c
 use Rattle.mv_lower_spec.specs.Correct.{Ground, Held, declaring, resting, none, CorrectFor, Correct}
-use Rattle.mv_lower_spec.proofs.Sequences.{after_then, given}
+use Rattle.mv_meaning.proofs.Sequences.{after_then, given}
 use Rattle.mv_lower_spec.proofs.Expressions.{expr_correct}
 use Rattle.mv_lower_spec.proofs.Showing as show
 use Rattle.mv_lower_spec.proofs.Forms as forms

@@ -21,12 +21,13 @@ use Rattle.mv_ir.specs.Outcome as ir
 use Rattle.mv_ir.specs.Trees.{nodes, nodes_of_all}
 use Rattle.mv_ir.specs.declared.stm.Callee.{Callee}
 use Rattle.mv_ir.specs.declared.stm.Callee.TheVariants as callees
-use Rattle.mv_lower_spec.specs.Lowered.{Lowered, Lowering, Arguments, temp, call, known, is_empty, kept_if, lower_all, place_of_result, result_tree, lower_call, but_last, last_of, lower_through, lower_known}
+use Rattle.mv_ir.specs.KnownFunctions.{seen}
+use Rattle.mv_lower_spec.specs.Lowered.{Lowered, Lowering, Arguments, temp, call, known, is_empty, kept_if, lower_all, result_tree, lower_call, but_last, last_of, lower_through, lower_known, unless_void}
 use Rattle.mv_lower_spec.specs.Correct as c
 use Rattle.mv_lower_spec.specs.Correct.{Scene, val, Shows, Reached, Shown, CorrectFor, Correct, AllReached, AllShown, AllCorrect}
 use Rattle.mv_lower_spec.proofs.Running as run
 use Rattle.mv_lower_spec.proofs.Running.{nodes_number, nodes_temp}
-use Rattle.mv_lower_spec.proofs.Sequences as sequences
+use Rattle.mv_meaning.proofs.Sequences as sequences
 use Rattle.mv_lower_spec.proofs.Showing as show
 
 no : {A : Type 0} → true ≡ false → A
@@ -49,6 +50,10 @@ nothing_there (x ∷ xs) e = absurd (subst Is e tt)
     Is : Bool → Type 0
     Is true = ⊥
     Is false = Unit {0}
+
+pub trees_length : (ls : List Lowering) (n : ℕ) → length (lower_all ls n).trees ≡ length ls
+trees_length [] n = refl
+trees_length (l ∷ ls) n = ap suc (trees_length ls (n + 1))
 
 module _ (scene : Scene) (bound : Bound) where
   -- ---- arguments
@@ -76,7 +81,7 @@ module _ (scene : Scene) (bound : Bound) where
       let x = kept_if (is_empty rest.code) n l in
       record {
         cost = r.cost + h.cost;
-        runs = λ ne. run.runs_append scene bound x.code rest.code s r.state (Ends (c.end_of why (c.seen w2))) r.cost h.cost r.runs (h.runs ne);
+        runs = λ ne. run.runs_append scene bound x.code rest.code s r.state (Ends (c.end_of why (seen w2))) r.cost h.cost r.runs (h.runs ne);
         paid = omega (arith, h.paid, r.paid);
       }
 
@@ -108,13 +113,9 @@ module _ (scene : Scene) (bound : Bound) where
           one_more n s (l n) (lower_all ls (n + 1)) v work1 f1 w1 le r (values_of es f1 w1) (others f1 w1 r.state r.shows)
       by (Stopped why w1 work1) r others = record {
         cost = r.cost;
-        runs = λ ne. run.runs_stop scene bound (kept_if keep n (l n)).code (lower_all ls (n + 1)).code s (c.end_of why (c.seen w1)) r.cost (r.runs ne);
+        runs = λ ne. run.runs_stop scene bound (kept_if keep n (l n)).code (lower_all ls (n + 1)).code s (c.end_of why (seen w1)) r.cost (r.runs ne);
         paid = r.paid;
       }
-
-  trees_length : (ls : List Lowering) (n : ℕ) → length (lower_all ls n).trees ≡ length ls
-  trees_length [] n = refl
-  trees_length (l ∷ ls) n = ap suc (trees_length ls (n + 1))
 
   -- what follows the arguments
   then_rest : (due credit n : ℕ) (s : State) (code rest : List Stm) (trees : List Tree) (t : Tree) (vs : List ℕ) (f : Frame) (w : World) (work : ℕ) (r : AllReached scene bound n s code trees vs f w work) (o : Outcome Frame ℕ) →
@@ -130,7 +131,7 @@ module _ (scene : Scene) (bound : Bound) where
   }
   then_rest due credit n s code rest trees t vs f w work r (Stopped why w2 work2) h = record {
     cost = r.cost + h.cost;
-    runs = λ ne. run.runs_append scene bound code rest s r.state (Ends (c.end_of why (c.seen w2))) r.cost h.cost r.runs (h.runs ne);
+    runs = λ ne. run.runs_append scene bound code rest s r.state (Ends (c.end_of why (seen w2))) r.cost h.cost r.runs (h.runs ne);
     paid = omega (arith, h.paid, r.paid);
   }
 
@@ -141,13 +142,13 @@ module _ (scene : Scene) (bound : Bound) where
       then_rest due credit n s code rest trees t vs f w work h (next vs f w) (k vs f w work h)
   follow_all due credit n s code rest trees t (Stopped why w work) next h k = record {
     cost = h.cost;
-    runs = λ ne. run.runs_stop scene bound code rest s (c.end_of why (c.seen w)) h.cost (h.runs ne);
+    runs = λ ne. run.runs_stop scene bound code rest s (c.end_of why (seen w)) h.cost (h.runs ne);
     paid = omega (arith, h.paid);
   }
 
   -- ---- what a call leaves
 
-  shows_after : (f f2 : Frame) (w w2 : World) (s : State) → Shows scene f w s → c.Unmoved scene.p scene.frame scene.own f f2 w w2 → Shows scene f2 w2 (with_world s (c.seen w2))
+  shows_after : (f f2 : Frame) (w w2 : World) (s : State) → Shows scene f w s → c.Unmoved scene.p scene.frame scene.own f f2 w w2 → Shows scene f2 w2 (with_world s (seen w2))
   shows_after f f2 w w2 s h u = record {
     around = record {
       world = refl;
@@ -182,22 +183,22 @@ module _ (scene : Scene) (bound : Bound) where
   -- ---- known functions
 
   known_shown : (n : ℕ) (k : Known) (trees : List Tree) (vs : List ℕ) (f : Frame) (w : World) (s : State) (o : Outcome Frame ℕ) → scene.floor ≤ n → n < scene.room → Shows scene f w s →
-      map (λ t. val scene t s) trees ≡ vs → c.KnownShown scene.p scene.frame scene.own (scene.setting.known k vs scene.frame.live (c.seen w)) f w o →
+      map (λ t. val scene t s) trees ≡ vs → c.KnownShown scene.p scene.frame scene.own (scene.setting.known k vs scene.frame.live (seen w)) f w o →
       Shown scene bound 11 (100 + 3 * nodes_of_all trees) n s (known n k trees ∷ []) (temp n) o
   known_shown n k trees vs f w s (Came v f2 w2 work) le lt h ev a =
-      let x = (scene.setting.known k vs scene.frame.live (c.seen w)).value in
+      let x = (scene.setting.known k vs scene.frame.live (seen w)).value in
       let after_call = shows_after f f2 w w2 s h a.unmoved in
       record {
-        state = with_temp (with_world s (c.seen w2)) n x;
-        cost = 30 + 3 * nodes_of_all trees + (scene.setting.known k vs scene.frame.live (c.seen w)).cost;
+        state = with_temp (with_world s (seen w2)) n x;
+        cost = 30 + 3 * nodes_of_all trees + (scene.setting.known k vs scene.frame.live (seen w)).cost;
         runs =
             run.runs_known scene bound n k trees s ∙
             ap (λ (l : List ℕ). spend (30 + 3 * nodes_of_all trees) (known_end scene.setting scene.frame (Some n) s (scene.setting.known k l scene.frame.live s.world))) ev ∙
             ap (λ (q : code_world.World). spend (30 + 3 * nodes_of_all trees) (known_end scene.setting scene.frame (Some n) s (scene.setting.known k vs scene.frame.live q))) h.world ∙
-            ap (λ (q : code_world.World). c.ran (30 + 3 * nodes_of_all trees + (scene.setting.known k vs scene.frame.live (c.seen w)).cost) (Next (with_temp (with_world s q) n x))) a.world;
-        shows = show.shows_temp scene f2 w2 (with_world s (c.seen w2)) n x le after_call;
-        value = result_in n x f2 w2 (with_world s (c.seen w2)) lt after_call ∙ a.value;
-        kept = show.kept_temp scene n (with_world s (c.seen w2)) x;
+            ap (λ (q : code_world.World). c.ran (30 + 3 * nodes_of_all trees + (scene.setting.known k vs scene.frame.live (seen w)).cost) (Next (with_temp (with_world s q) n x))) a.world;
+        shows = show.shows_temp scene f2 w2 (with_world s (seen w2)) n x le after_call;
+        value = result_in n x f2 w2 (with_world s (seen w2)) lt after_call ∙ a.value;
+        kept = show.kept_temp scene n (with_world s (seen w2)) x;
         paid = omega (arith, a.paid, nodes_temp n);
       }
   known_shown n k trees vs f w s (Stopped why w2 work) le lt h ev a = absurd a
@@ -224,7 +225,7 @@ module _ (scene : Scene) (bound : Bound) where
 
   -- the statement, where depth is left
   enters : (result : Option ℕ) (t : Callee) (g : ℕ) (trees : List Tree) (vs : List ℕ) (f : Frame) (w : World) (s : State) → Shows scene f w s → map (λ t. val scene t s) trees ≡ vs → goal scene.setting scene.frame t s ≡ At g → ltb scene.frame.depth 512 ≡ true →
-      code_meaning scene.setting scene.frame (call result t trees ∷ []) bound s ≡ spend (price t trees) (made_call result s (c.level bound g vs scene.frame.depth scene.frame.live (c.seen w)))
+      code_meaning scene.setting scene.frame (call result t trees ∷ []) bound s ≡ spend (price t trees) (made_call result s (c.level bound g vs scene.frame.depth scene.frame.live (seen w)))
   enters result t g trees vs f w s h ev eg e =
       run.runs_call scene bound result t trees s ∙
       ap (λ (x : Goal). spend (price t trees) (call_to x scene.frame.depth scene.frame.live result (map (λ t. val scene t s) trees) bound s)) eg ∙
@@ -234,45 +235,45 @@ module _ (scene : Scene) (bound : Bound) where
       ap (λ (q : code_world.World). spend (price t trees) (made_call result s (c.level bound g vs scene.frame.depth scene.frame.live q))) h.world
 
   call_shown : (void : Bool) (n g : ℕ) (t : Callee) (trees : List Tree) (vs : List ℕ) (f : Frame) (w : World) (s : State) (o : Outcome Frame ℕ) → scene.floor ≤ n → n < scene.room → Shows scene f w s →
-      map (λ t. val scene t s) trees ≡ vs → goal scene.setting scene.frame t s ≡ At g → ltb scene.frame.depth 512 ≡ true → c.CallShown scene.p scene.frame scene.own void (c.level bound g vs scene.frame.depth scene.frame.live (c.seen w)) f w o →
-      Shown scene bound 11 (37 + price t trees) n s (call (place_of_result void n) t trees ∷ []) (result_tree void n) o
+      map (λ t. val scene t s) trees ≡ vs → goal scene.setting scene.frame t s ≡ At g → ltb scene.frame.depth 512 ≡ true → c.CallShown scene.p scene.frame scene.own void (c.level bound g vs scene.frame.depth scene.frame.live (seen w)) f w o →
+      Shown scene bound 11 (37 + price t trees) n s (call (unless_void void n) t trees ∷ []) (result_tree void n) o
   call_shown true n g t trees vs f w s (Came v f2 w2 work) le lt h ev eg e a =
-      let callee = c.level bound g vs scene.frame.depth scene.frame.live (c.seen w) in
+      let callee = c.level bound g vs scene.frame.depth scene.frame.live (seen w) in
       record {
-        state = with_world s (c.seen w2);
+        state = with_world s (seen w2);
         cost = price t trees + callee.cost;
         runs =
             enters None t g trees vs f w s h ev eg e ∙
             ap (λ (x : End). c.ran (price t trees + callee.cost) (call_end None s x)) a.ends;
         shows = shows_after f f2 w w2 s h a.unmoved;
-        value = run.val_number scene 0 (with_world s (c.seen w2)) ∙ sym (a.nothing refl);
+        value = run.val_number scene 0 (with_world s (seen w2)) ∙ sym (a.nothing refl);
         kept = λ j low high. refl;
         paid = omega (arith, a.paid, nodes_number 0);
       }
   call_shown false n g t trees vs f w s (Came v f2 w2 work) le lt h ev eg e a =
-      let callee = c.level bound g vs scene.frame.depth scene.frame.live (c.seen w) in
+      let callee = c.level bound g vs scene.frame.depth scene.frame.live (seen w) in
       let after_call = shows_after f f2 w w2 s h a.unmoved in
       record {
-        state = with_temp (with_world s (c.seen w2)) n v;
+        state = with_temp (with_world s (seen w2)) n v;
         cost = price t trees + callee.cost;
         runs =
             enters (Some n) t g trees vs f w s h ev eg e ∙
             ap (λ (x : End). c.ran (price t trees + callee.cost) (call_end (Some n) s x)) a.ends;
-        shows = show.shows_temp scene f2 w2 (with_world s (c.seen w2)) n v le after_call;
-        value = result_in n v f2 w2 (with_world s (c.seen w2)) lt after_call;
-        kept = show.kept_temp scene n (with_world s (c.seen w2)) v;
+        shows = show.shows_temp scene f2 w2 (with_world s (seen w2)) n v le after_call;
+        value = result_in n v f2 w2 (with_world s (seen w2)) lt after_call;
+        kept = show.kept_temp scene n (with_world s (seen w2)) v;
         paid = omega (arith, a.paid, nodes_temp n);
       }
   call_shown void n g t trees vs f w s (Stopped why w2 work) le lt h ev eg e a = record {
     cost = price t trees + a.cost;
     runs = λ ne.
-        enters (place_of_result void n) t g trees vs f w s h ev eg e ∙
-        ap (λ (x : Call). spend (price t trees) (made_call (place_of_result void n) s x)) (a.ends ne) ∙
-        ap (λ (x : ir.Outcome). c.ran (price t trees + a.cost) x) (ends (place_of_result void n) why);
+        enters (unless_void void n) t g trees vs f w s h ev eg e ∙
+        ap (λ (x : Call). spend (price t trees) (made_call (unless_void void n) s x)) (a.ends ne) ∙
+        ap (λ (x : ir.Outcome). c.ran (price t trees + a.cost) x) (ends (unless_void void n) why);
     paid = omega (arith, a.paid);
   }
     where
-      ends : (result : Option ℕ) (x : Stop) → call_end result s (c.end_of x (c.seen w2)) ≡ Ends (c.end_of x (c.seen w2))
+      ends : (result : Option ℕ) (x : Stop) → call_end result s (c.end_of x (seen w2)) ≡ Ends (c.end_of x (seen w2))
       ends None (stops.Trapped code) = refl
       ends None stops.Unfinished = refl
       ends (Some m) (stops.Trapped code) = refl
@@ -280,15 +281,15 @@ module _ (scene : Scene) (bound : Bound) where
 
   calls_at : (context : Context) (void : Bool) (n g : ℕ) (t : Callee) (trees : List Tree) (vs : List ℕ) (f : Frame) (w : World) (s : State) (z : Bool) → scene.floor ≤ n → n < scene.room → Shows scene f w s →
       map (λ t. val scene t s) trees ≡ vs → goal scene.setting scene.frame t s ≡ At g → is_callable scene.p g (length vs) void ≡ true → ltb scene.frame.depth 512 ≡ z → c.CallsAgree scene.p scene.frame scene.own bound context →
-      Shown scene bound 11 (37 + price t trees) n s (call (place_of_result void n) t trees ∷ []) (result_tree void n) (cond z (context.call g vs) (stop (stops.Trapped 4)) f w)
+      Shown scene bound 11 (37 + price t trees) n s (call (unless_void void n) t trees ∷ []) (result_tree void n) (cond z (context.call g vs) (stop (stops.Trapped 4)) f w)
   calls_at context void n g t trees vs f w s true le lt h ev eg can e agrees =
       call_shown void n g t trees vs f w s (context.call g vs f w) le lt h ev eg e (agrees g void vs f w can h.function h.depth h.live h.globals)
   calls_at context void n g t trees vs f w s false le lt h ev eg can e agrees = record {
     cost = price t trees + 0;
     runs = λ ne.
-        run.runs_call scene bound (place_of_result void n) t trees s ∙
-        ap (λ (x : Goal). spend (price t trees) (call_to x scene.frame.depth scene.frame.live (place_of_result void n) (map (λ t. val scene t s) trees) bound s)) eg ∙
-        ap (λ z. spend (price t trees) (cond z (within bound (λ calls. made_call (place_of_result void n) s (calls g (map (λ t. val scene t s) trees) scene.frame.depth scene.frame.live s.world)) s) (now (traps 4 s)))) e ∙
+        run.runs_call scene bound (unless_void void n) t trees s ∙
+        ap (λ (x : Goal). spend (price t trees) (call_to x scene.frame.depth scene.frame.live (unless_void void n) (map (λ t. val scene t s) trees) bound s)) eg ∙
+        ap (λ z. spend (price t trees) (cond z (within bound (λ calls. made_call (unless_void void n) s (calls g (map (λ t. val scene t s) trees) scene.frame.depth scene.frame.live s.world)) s) (now (traps 4 s)))) e ∙
         ap (λ (q : code_world.World). c.ran (price t trees + 0) (Ends (c.end_of (stops.Trapped 4) q))) h.world;
     paid = omega arith;
   }
@@ -296,9 +297,9 @@ module _ (scene : Scene) (bound : Bound) where
   -- a call where the source makes it, at the depth that the source has
   called : (context : Context) (void : Bool) (n g : ℕ) (t : Callee) (trees : List Tree) (vs : List ℕ) (f : Frame) (w : World) (s : State) → scene.floor ≤ n → n < scene.room → Shows scene f w s →
       map (λ t. val scene t s) trees ≡ vs → goal scene.setting scene.frame t s ≡ At g → is_callable scene.p g (length vs) void ≡ true → c.CallsAgree scene.p scene.frame scene.own bound context →
-      Shown scene bound 11 (37 + price t trees) n s (call (place_of_result void n) t trees ∷ []) (result_tree void n) (call_at context g vs f w)
+      Shown scene bound 11 (37 + price t trees) n s (call (unless_void void n) t trees ∷ []) (result_tree void n) (call_at context g vs f w)
   called context void n g t trees vs f w s le lt h ev eg can agrees =
-      subst (λ d. Shown scene bound 11 (37 + price t trees) n s (call (place_of_result void n) t trees ∷ []) (result_tree void n) (cond (ltb d 512) (context.call g vs) (stop (stops.Trapped 4)) f w)) (sym h.depth)
+      subst (λ d. Shown scene bound 11 (37 + price t trees) n s (call (unless_void void n) t trees ∷ []) (result_tree void n) (cond (ltb d 512) (context.call g vs) (stop (stops.Trapped 4)) f w)) (sym h.depth)
       (calls_at context void n g t trees vs f w s (ltb scene.frame.depth 512) le lt h ev eg can refl agrees)
 
   values_length : (ls : List Lowering) (n : ℕ) (vs : List ℕ) (s : State) → map (λ t. val scene t s) (lower_all ls n).trees ≡ vs → length vs ≡ length ls
@@ -308,7 +309,7 @@ module _ (scene : Scene) (bound : Bound) where
       CorrectFor scene bound 100 (bind (values_of es) (call_at context g)) (lower_call void g ls)
   correct_call context void g es ls can agrees cs n f w s le fits h =
       let all = lower_all ls n in
-      let rest = call (place_of_result void n) (callees.Direct g) all.trees ∷ [] in
+      let rest = call (unless_void void n) (callees.Direct g) all.trees ∷ [] in
       follow_all 11 100 n s all.code rest all.trees (result_tree void n) (values_of es f w) (call_at context g) (all_shown es ls cs n f w s le (omega (arith, fits)) h)
       (λ vs f1 w1 work r.
       show.more_credit scene bound 11 11 (37 + price (callees.Direct g) all.trees) (100 + 3 * nodes_of_all all.trees) n n r.state rest (result_tree void n) (call_at context g vs f1 w1) (omega arith) (omega arith) (omega arith)
@@ -324,32 +325,32 @@ module _ (scene : Scene) (bound : Bound) where
   -- where code and source go through a pointer
   through_at : (context : Context) (strict : c.IsStrict scene.p scene.setting.numbers context) (t : CType) (n v : ℕ) (ct : Tree) (trees : List Tree) (vs : List ℕ) (f : Frame) (w : World) (s : State) (z : Bool) (o : Option ℕ) →
       scene.floor ≤ n → n < scene.room → Shows scene f w s → map (λ t. val scene t s) trees ≡ vs → val scene ct s ≡ v → eqb v 0 ≡ z → place scene.setting.numbers v 0 ≡ o → c.CallsAgree scene.p scene.frame scene.own bound context →
-      Shown scene bound 11 (37 + price (callees.Through ct) trees) n s (call (place_of_result (is_void t) n) (callees.Through ct) trees ∷ []) (result_tree (is_void t) n)
+      Shown scene bound 11 (37 + price (callees.Through ct) trees) n s (call (unless_void (is_void t) n) (callees.Through ct) trees ∷ []) (result_tree (is_void t) n)
       (cond z (stop (stops.Trapped 3)) (call_numbered context t o vs) f w)
   through_at context strict t n v ct trees vs f w s true o le lt h ev ec ez eo agrees = record {
     cost = price (callees.Through ct) trees + 0;
     runs = λ ne.
-        run.runs_call scene bound (place_of_result (is_void t) n) (callees.Through ct) trees s ∙
-        ap (λ (x : ℕ). spend (price (callees.Through ct) trees) (call_to (goal_of scene.setting.numbers x) scene.frame.depth scene.frame.live (place_of_result (is_void t) n) (map (λ t. val scene t s) trees) bound s)) ec ∙
-        ap (λ z. spend (price (callees.Through ct) trees) (call_to (cond z Null (goal_at (place scene.setting.numbers v 0))) scene.frame.depth scene.frame.live (place_of_result (is_void t) n) (map (λ t. val scene t s) trees) bound s)) ez ∙
+        run.runs_call scene bound (unless_void (is_void t) n) (callees.Through ct) trees s ∙
+        ap (λ (x : ℕ). spend (price (callees.Through ct) trees) (call_to (goal_of scene.setting.numbers x) scene.frame.depth scene.frame.live (unless_void (is_void t) n) (map (λ t. val scene t s) trees) bound s)) ec ∙
+        ap (λ z. spend (price (callees.Through ct) trees) (call_to (cond z Null (goal_at (place scene.setting.numbers v 0))) scene.frame.depth scene.frame.live (unless_void (is_void t) n) (map (λ t. val scene t s) trees) bound s)) ez ∙
         ap (λ (q : code_world.World). c.ran (price (callees.Through ct) trees + 0) (Ends (c.end_of (stops.Trapped 3) q))) h.world;
     paid = omega arith;
   }
   through_at context strict t n v ct trees vs f w s false None le lt h ev ec ez eo agrees =
-      subst (λ (stray : Evaluation ℕ). Shown scene bound 11 (37 + price (callees.Through ct) trees) n s (call (place_of_result (is_void t) n) (callees.Through ct) trees ∷ []) (result_tree (is_void t) n) (stray f w)) (sym strict.stray_is)
+      subst (λ (stray : Evaluation ℕ). Shown scene bound 11 (37 + price (callees.Through ct) trees) n s (call (unless_void (is_void t) n) (callees.Through ct) trees ∷ []) (result_tree (is_void t) n) (stray f w)) (sym strict.stray_is)
       (record { cost = 0; runs = λ ne. no ne; paid = omega arith })
   through_at context strict t n v ct trees vs f w s false (Some g) le lt h ev ec ez eo agrees =
-      subst (λ (lets : CType → ℕ → ℕ → Bool). Shown scene bound 11 (37 + price (callees.Through ct) trees) n s (call (place_of_result (is_void t) n) (callees.Through ct) trees ∷ []) (result_tree (is_void t) n) (cond (lets t g (length vs)) (call_at context g vs) context.stray f w)) (sym strict.lets_are)
+      subst (λ (lets : CType → ℕ → ℕ → Bool). Shown scene bound 11 (37 + price (callees.Through ct) trees) n s (call (unless_void (is_void t) n) (callees.Through ct) trees ∷ []) (result_tree (is_void t) n) (cond (lets t g (length vs)) (call_at context g vs) context.stray f w)) (sym strict.lets_are)
       (by (is_callable scene.p g (length vs) (is_void t)) refl)
     where
       goal_is : goal scene.setting scene.frame (callees.Through ct) s ≡ At g
       goal_is = ap (λ x. goal_of scene.setting.numbers x) ec ∙ ap (λ z. cond z Null (goal_at (place scene.setting.numbers v 0))) ez ∙ ap goal_at eo
 
       by : (z : Bool) → is_callable scene.p g (length vs) (is_void t) ≡ z →
-          Shown scene bound 11 (37 + price (callees.Through ct) trees) n s (call (place_of_result (is_void t) n) (callees.Through ct) trees ∷ []) (result_tree (is_void t) n) (cond z (call_at context g vs) context.stray f w)
+          Shown scene bound 11 (37 + price (callees.Through ct) trees) n s (call (unless_void (is_void t) n) (callees.Through ct) trees ∷ []) (result_tree (is_void t) n) (cond z (call_at context g vs) context.stray f w)
       by true e = called context (is_void t) n g (callees.Through ct) trees vs f w s le lt h ev goal_is e agrees
       by false e =
-          subst (λ (stray : Evaluation ℕ). Shown scene bound 11 (37 + price (callees.Through ct) trees) n s (call (place_of_result (is_void t) n) (callees.Through ct) trees ∷ []) (result_tree (is_void t) n) (stray f w)) (sym strict.stray_is)
+          subst (λ (stray : Evaluation ℕ). Shown scene bound 11 (37 + price (callees.Through ct) trees) n s (call (unless_void (is_void t) n) (callees.Through ct) trees ∷ []) (result_tree (is_void t) n) (stray f w)) (sym strict.stray_is)
           (record { cost = 0; runs = λ ne. no ne; paid = omega arith })
 
   pub all_appended : (es : List Denotation) (ls : List Lowering) (e : Denotation) (l : Lowering) → AllCorrect scene bound es ls → Correct scene bound e.value l → AllCorrect scene bound (es ++ e ∷ []) (ls ++ l ∷ [])
@@ -377,7 +378,7 @@ module _ (scene : Scene) (bound : Bound) where
       let all = lower_all (ls ++ l ∷ []) n in
       let ct = last_of all.trees in
       let args = but_last all.trees in
-      let rest = call (place_of_result (is_void t) n) (callees.Through ct) args ∷ [] in
+      let rest = call (unless_void (is_void t) n) (callees.Through ct) args ∷ [] in
       follow_all 11 100 n s all.code rest all.trees (result_tree (is_void t) n) (values_of (es ++ e ∷ []) f w) (λ vs. call_through context t (sequences.last_value vs) (sequences.other_values vs))
       (all_shown (es ++ e ∷ []) (ls ++ l ∷ []) (all_appended es ls e l cs ce) n f w s le (omega (arith, fits)) h)
       (λ vs f1 w1 work r.

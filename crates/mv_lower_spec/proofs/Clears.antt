@@ -1,7 +1,7 @@
 -- Declarations of locals, with their given values.
 use Rattle.std.proofs.Common.{◌≡◌, ℕ, zero, suc, ◌+◌, ◌-◌, ◌*◌, ◌<◌, ◌≤◌, Bool, true, false, cond, eqb, ltb, List, [], ◌∷◌, ◌++◌, map, length, replicate, Option, Some, None, refl, sym, ◌∙◌, subst, ap, arith, ◌⊎◌, inl, inr, eq-eqb, append_assoc}
 use Rattle.std.specs.Prelude.{slice_index, slice_set, slice_index_or, nat_le, ◌||◌}
-use Rattle.std.proofs.lemmas.List.{get_or-set_same, get_or-set_other, length-set}
+use Rattle.std.proofs.lemmas.List.{get_or-set_same, get_or-set_other, length-set, length-replicate}
 use Rattle.std.proofs.lemmas.Bool.{cases_eq, cases_lt, leb-true, le-leb, lt-ltb, ne_eqb}
 use Rattle.mv_ir.specs.declared.tree.Tree.{Tree}
 use Rattle.mv_ir.specs.declared.stm.Stm.{Stm}
@@ -27,7 +27,7 @@ use Rattle.mv_lower_spec.proofs.Running.{nodes_number}
 use Rattle.mv_lower_spec.proofs.Forms as forms
 use Rattle.mv_lower_spec.proofs.Forms.{word_is, with_word_is, with_word_same, with_word_other, other_word, with_word_count, with_word_lengths, stored_alike, held_is_none}
 use Rattle.mv_lower_spec.proofs.Elements as elements_proofs
-use Rattle.mv_lower_spec.proofs.Sequences.{after_zero}
+use Rattle.mv_meaning.proofs.Sequences.{after_zero}
 use Rattle.mv_lower_spec.proofs.Flows as flows
 use Rattle.mv_lower_spec.proofs.Flows.{code}
 use Rattle.mv_num.proofs.Numbers.{zeros_at}
@@ -74,10 +74,6 @@ one_word (x ∷ y ∷ xs) v e = absurd (omega (arith, e))
 cleared : (xs : List ℕ) → map {B = ℕ} (λ x. 0) xs ≡ replicate (length xs) 0
 cleared [] = refl
 cleared (x ∷ xs) = ap (λ l. 0 ∷ l) (cleared xs)
-
-zeros_long : (n : ℕ) → length {A = ℕ} (replicate n 0) ≡ n
-zeros_long zero = refl
-zeros_long (suc n) = ap suc (zeros_long n)
 
 module _ (ground : Ground) (void : Bool) where
   -- ---- into a declaration and out of it
@@ -278,7 +274,7 @@ module _ (ground : Ground) (void : Bool) where
         runs =
             one_meaning ground.setting ground.frame (stm.Zero l) b s ∙ ap (λ k. ran (8 + 8 * k) (Next (with_elements (array.Local l) s (map (λ x. 0) gs)))) long ∙
             ap (λ (xs : List ℕ). ran (8 + 8 * n) (Next (with_elements (array.Local l) s xs))) zero_is;
-        shows = array_declared l zs f1 w s1 apart (recoded l zs gs zs f1 w s lt (hidden l zs f w s lt (zeros_long n ∙ ap words_of_size (sym sz)) h));
+        shows = array_declared l zs f1 w s1 apart (recoded l zs gs zs f1 w s lt (hidden l zs f w s lt (length-replicate n 0 ∙ ap words_of_size (sym sz)) h));
         nothing = λ q. refl;
         paid = omega arith;
       }
@@ -423,7 +419,7 @@ module _ (ground : Ground) (void : Bool) where
       (stores j b l 0 ms ls f1 w r.state lt le (omega (arith, inside)) fits hs r.shows))
 
   starts : (n : ℕ) (gs : List ℕ) → length gs ≡ n → Halfway n 0 (replicate n 0) gs
-  starts n gs long = record { source_long = zeros_long n; code_long = long; before = λ k lt. absurd (omega (arith, lt)); behind = λ k le. zeros_at n k }
+  starts n gs long = record { source_long = length-replicate n 0; code_long = long; before = λ k lt. absurd (omega (arith, lt)); behind = λ k le. zeros_at n k }
 
   -- the values first
   values_first : (j : Jumps) (b : Bound) (l : ℕ) (size : Option ℕ) (ms : List (Evaluation ℕ)) (ls : List Lowering) (f : Frame) (w : World) (s : State) → ground.sizes l ≡ size → l < ground.locals → ground.locals ≤ ground.room → length ls ≤ words_of_size size → 0 < length ls → values_top ground.locals ls ≤ ground.room →
@@ -436,7 +432,7 @@ module _ (ground : Ground) (void : Bool) where
       let apart : ground.sizes l ≡ None → ⊥ = λ q. some_none (sym sz ∙ q) in
       let long : length gs ≡ n = ap length (h.elements l lt (apart, refl)) ∙ h.words l lt ∙ ap words_of_size sz in
       fills j b l n 0 (length ls) (n - length ls) ms ls (replicate n 0) gs f1 w s apart lt (omega arith) (omega (arith, inside)) fits hs (starts n gs long)
-      (hidden l (replicate n 0) f w s lt (zeros_long n ∙ ap words_of_size (sym sz)) h)
+      (hidden l (replicate n 0) f w s lt (length-replicate n 0 ∙ ap words_of_size (sym sz)) h)
     where
       some_none : Some n ≡ None → ⊥
       some_none q = subst Is q tt

@@ -11,6 +11,7 @@ use Rattle.mv_ir.specs.Outcome as ir
 use Rattle.mv_ir.specs.Trees.{nodes, flag}
 use Rattle.mv_ir.specs.Trees as ir_tree
 use Rattle.mv_ir.specs.Meaning.{with_temp}
+use Rattle.mv_ir.specs.KnownFunctions.{seen}
 use Rattle.mv_lower_spec.specs.Lowered.{Lowering, number, temp, set, choose, truth, truth_in, unary, is_low, kept_if, lower_both, lower_either, lower_choice}
 use Rattle.mv_lower_spec.specs.Correct as c
 use Rattle.mv_lower_spec.specs.Correct.{Scene, val, Shows, Kept, Runs, Shown, CorrectFor, Correct}
@@ -41,7 +42,7 @@ module _ (scene : Scene) (bound : Bound) where
   }
   within due credit n price s inner outer t (Stopped why w work) h r = record {
     cost = price + r.cost;
-    runs = λ ne. h (Ends (c.end_of why (c.seen w))) r.cost (r.runs ne);
+    runs = λ ne. h (Ends (c.end_of why (seen w))) r.cost (r.runs ne);
     paid = omega (arith, r.paid);
   }
 
@@ -59,7 +60,7 @@ module _ (scene : Scene) (bound : Bound) where
   }
   after_step due credit n price s s1 code rest t (Stopped why w work) h k r = record {
     cost = price + r.cost;
-    runs = λ ne. run.runs_append scene bound code rest s s1 (Ends (c.end_of why (c.seen w))) price r.cost h (r.runs ne);
+    runs = λ ne. run.runs_append scene bound code rest s s1 (Ends (c.end_of why (seen w))) price r.cost h (r.runs ne);
     paid = omega (arith, r.paid);
   }
 

@@ -14,7 +14,7 @@ use Rattle.mv_ir.specs.Measures.{joined, stm_trees, trees, callee_trees}
 use Rattle.mv_ir.proofs.Induction.{Each, each_append}
 use Rattle.mv_ir.proofs.Keeping.{map_append}
 use Rattle.mv_ir.proofs.Rolls.{depth_roll, trees_roll}
-use Rattle.mv_lower_spec.specs.Lowered.{Lowered, Lowering, Arguments, number, temp, unary, set, set_global, divide, choose, check, read, write, call, known, truth, truth_in, is_empty, is_low, kept_if, first, second, lower_one, lower_two, lower_division, lower_both, lower_either, lower_choice, lower_set_local, lower_set_global, lower_all, place_of_result, result_tree, lower_call, but_last, last_of, lower_through, lower_known, index_in, lower_element, lower_read_element, lower_set_element}
+use Rattle.mv_lower_spec.specs.Lowered.{Lowered, Lowering, Arguments, number, temp, unary, set, set_global, divide, choose, check, read, write, call, known, truth, truth_in, is_empty, is_low, kept_if, first, second, lower_one, lower_two, lower_division, lower_both, lower_either, lower_choice, lower_set_local, lower_set_global, lower_all, result_tree, lower_call, but_last, last_of, lower_through, lower_known, index_in, lower_element, lower_read_element, lower_set_element, unless_void}
 use Rattle.mv_ast.specs.declared.program.Known.{Known}
 use Rattle.mv_num.proofs.Booleans.{and_right}
 use Rattle.mv_ir.proofs.Lists.{joined_append}
@@ -195,7 +195,7 @@ shallow_call void f ls h n =
     let all = lower_all ls n in
     let ok = shallow_all ls h n in
     record {
-      code = both_parts all.code (call (place_of_result void n) (callee.Direct f) all.trees ∷ []) ok.code (shallow_call_to (place_of_result void n) (callee.Direct f) all.trees tt ok.trees);
+      code = both_parts all.code (call (unless_void void n) (callee.Direct f) all.trees ∷ []) ok.code (shallow_call_to (unless_void void n) (callee.Direct f) all.trees tt ok.trees);
       tree = shallow_result void n;
     }
 
@@ -214,8 +214,8 @@ shallow_through void ls l h k n =
     let all = lower_all (ls ++ l ∷ []) n in
     let ok = shallow_all (ls ++ l ∷ []) (each_append AlwaysShallow ls (l ∷ []) h (k, tt)) n in
     record {
-      code = both_parts all.code (call (place_of_result void n) (callee.Through (last_of all.trees)) (but_last all.trees) ∷ []) ok.code
-          (shallow_call_to (place_of_result void n) (callee.Through (last_of all.trees)) (but_last all.trees) (shallow_last all.trees ok.trees, tt) (shallow_others all.trees ok.trees));
+      code = both_parts all.code (call (unless_void void n) (callee.Through (last_of all.trees)) (but_last all.trees) ∷ []) ok.code
+          (shallow_call_to (unless_void void n) (callee.Through (last_of all.trees)) (but_last all.trees) (shallow_last all.trees ok.trees, tt) (shallow_others all.trees ok.trees));
       tree = shallow_result void n;
     }
 

@@ -34,7 +34,7 @@ use Rattle.mv_lower_spec.proofs.Showing as show
 use Rattle.mv_lower_spec.proofs.Operators as operators
 use Rattle.mv_lower_spec.proofs.Operators.{converted_nodes}
 use Rattle.mv_lower_spec.proofs.Control as control
-use Rattle.mv_lower_spec.proofs.Sequences as sequences
+use Rattle.mv_meaning.proofs.Sequences as sequences
 use Rattle.mv_lower_spec.proofs.Forms as forms
 use Rattle.mv_lower_spec.proofs.Forms.{word_is, with_word_same, with_word_other, other_word, with_word_count, with_word_lengths, held_is_none}
 use Rattle.mv_ast.proofs.Common.{objects_at}
@@ -281,7 +281,7 @@ module _ (scene : Scene) (bound : Bound) where
       let last = set n x.tree ∷ write a (temp (n + 1)) (temp n) ∷ [] in
       let rest = check a (temp (n + 1)) ∷ (x.code ++ last) in
       show.follow scene bound 11 (ki + (kv + 39)) (kv + 39) 0 ki n n s (i.code ++ set (n + 1) i.tree ∷ []) rest (temp n) (temp (n + 1)) (mi f w) (λ v. bind (element_of a v) (λ at. bind (mv at) (store_lvalue at))) (omega arith) (omega arith)
-      (show.put_at scene bound ki n (n + 1) s i (mi f w) (omega arith) (omega (arith, le)) (omega (arith, fits)) (ci n f w s le (omega (arith, fits)) h))
+      (show.put_away scene bound ki n (n + 1) s i (mi f w) (omega arith) (omega (arith, le)) (omega (arith, fits)) (ci n f w s le (omega (arith, fits)) h))
       (λ v f1 w1 work r.
       subst (λ (o : Outcome Frame Lvalue). Shown scene bound 11 (kv + 39 + (3 * nodes (temp (n + 1)) + 0)) n r.state rest (temp n) (and_then o (λ at. bind (mv at) (store_lvalue at)))) (sym (element_is scene a v f1 w1 r.state isa r.shows))
       (show.more_credit scene bound 11 11 (kv + 25 + (8 + 3 * nodes (temp (n + 1)))) (kv + 39 + (3 * nodes (temp (n + 1)) + 0)) n n r.state rest (temp n)
@@ -388,7 +388,7 @@ module _ (scene : Scene) (bound : Bound) where
       let i = li n in
       let rest = read n a (temp (n + 1)) ∷ write a (temp (n + 1)) (next_tree up t (temp n)) ∷ [] in
       show.follow scene bound 11 (ki + 60) 60 0 ki n n s (i.code ++ set (n + 1) i.tree ∷ []) rest (temp n) (temp (n + 1)) (mi f w) (λ v. bind (element_of a v) (Stepped up t)) (omega arith) (omega arith)
-      (show.put_at scene bound ki n (n + 1) s i (mi f w) (omega arith) (omega (arith, le)) (omega (arith, fits)) (ci n f w s le (omega (arith, fits)) h))
+      (show.put_away scene bound ki n (n + 1) s i (mi f w) (omega arith) (omega (arith, le)) (omega (arith, fits)) (ci n f w s le (omega (arith, fits)) h))
       (λ v f1 w1 work r.
       subst (λ (o : Outcome Frame Lvalue). Shown scene bound 11 (60 + (3 * nodes (temp (n + 1)) + 0)) n r.state rest (temp n) (and_then o (Stepped up t))) (sym (element_is scene a v f1 w1 r.state isa r.shows))
       (show.more_credit scene bound 11 11 (40 + (8 + 3 * nodes (temp (n + 1)))) (60 + (3 * nodes (temp (n + 1)) + 0)) n n r.state rest (temp n)

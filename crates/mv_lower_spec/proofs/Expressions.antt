@@ -35,7 +35,7 @@ use Rattle.mv_lower_spec.proofs.Running.{nodes_binary}
 use Rattle.mv_lower_spec.proofs.Forms as forms
 use Rattle.mv_lower_spec.proofs.Control as control
 use Rattle.mv_lower_spec.proofs.Showing as show
-use Rattle.mv_lower_spec.proofs.Sequences as sequences
+use Rattle.mv_meaning.proofs.Sequences as sequences
 use Rattle.mv_lower_spec.proofs.Elements as elements
 use Rattle.mv_lower_spec.proofs.Elements.{element_of}
 use Rattle.mv_lower_spec.proofs.Arguments as arguments
@@ -43,9 +43,9 @@ use Rattle.mv_lower_spec.proofs.Operators as operators
 use Rattle.mv_source_forms.proofs.ExpressionInduction.{FormChildren, TargetChildren, expr_ind}
 use Rattle.mv_num.proofs.Booleans.{and_cases, from_falsity}
 
-is_none : (o : Option ℕ) → is_scalar o ≡ true → o ≡ None
-is_none None e = refl
-is_none (Some n) e = from_falsity e
+pub scalar_is_none : (o : Option ℕ) → is_scalar o ≡ true → o ≡ None
+scalar_is_none None e = refl
+scalar_is_none (Some n) e = from_falsity e
 
 is_some : (o : Option ℕ) → not (is_scalar o) ≡ true → o ≡ None → ⊥
 is_some None e h = from_falsity e
@@ -105,17 +105,13 @@ module _ (scene : Scene) (bound : Bound)
   either_value true t u x y s h k = h
   either_value false t u x y s h k = k
 
-  either_size : (z : Bool) (t u : Tree) (m : ℕ) → nodes t ≤ m → nodes u ≤ m → nodes (cond z t u) ≤ m
-  either_size true t u m h k = h
-  either_size false t u m h k = k
-
   operator : (f : Tree → Tree → Tree) (value : ℕ → ℕ → ℕ) → ((a b : Tree) (s : State) → val scene (f a b) s ≡ value (val scene a s) (val scene b s)) → ((a b : Tree) → nodes (f a b) ≤ nodes a + nodes b + 2) →
       Two (λ x y. Some (value x y)) (lower_operator turned f la lb)
   operator f value same size =
       forms.correct_two scene bound total ka kb 2 (λ x y. cond turned (f y x) (f x y)) (λ x y. cond turned (Some (value y x)) (Some (value x y))) (λ x y. cond turned (value y x) (value x y)) ma mb la lb (omega (arith, enough))
       (λ x y. either_some turned (value y x) (value x y))
       (λ a b s. either_value turned (f b a) (f a b) (value (val scene b s) (val scene a s)) (value (val scene a s) (val scene b s)) s (same b a s) (same a b s))
-      (λ a b. either_size turned (f b a) (f a b) (nodes a + nodes b + 2) (omega (arith, size b a)) (omega (arith, size a b))) ca cb
+      (λ a b. operators.small_if turned (f b a) (f a b) (nodes a + nodes b + 2) (omega (arith, size b a)) (omega (arith, size a b))) ca cb
 
   plain : (o : ℕ) (value : ℕ → ℕ → ℕ) → ((a b : Tree) (s : State) → val scene (binary o a b) s ≡ value (val scene a s) (val scene b s)) → Two (λ x y. Some (value x y)) (lower_operator turned (binary o) la lb)
   plain o value same = operator (binary o) value same (λ a b. omega (arith, nodes_binary o a b))
@@ -356,7 +352,7 @@ module _ (ground : Ground) (held : Held) (bound : Bound)
   target_layer (form.Local l) h b =
       let bs = and_cases (nat_lt l ground.locals) (free l && is_scalar (ground.sizes l)) b in
       let cs = and_cases (free l) (is_scalar (ground.sizes l)) bs.1 in
-      (refl, ltb-true l ground.locals bs.0, (is_none (ground.sizes l) cs.1, frees l cs.0))
+      (refl, ltb-true l ground.locals bs.0, (scalar_is_none (ground.sizes l) cs.1, frees l cs.0))
   target_layer (form.GlobalAt g e) h b =
       let bs = and_cases (not (is_own_switch ground.p (slice_get ground.p.functions ground.own) g)) (is_well_named ground.p ground.own ground.locals ground.sizes free e) b in
       (value_of ground.p context e, refl, (λ bindings. no_switch ground.p ground.own g (slice_get ground.p.functions ground.own) bindings (not-true (is_own_switch ground.p (slice_get ground.p.functions ground.own) g) bs.0)), (h bs.1).0)

@@ -15,6 +15,7 @@ use Rattle.mv_ir.specs.Outcome as ir
 use Rattle.mv_ir.specs.Trees.{nodes}
 use Rattle.mv_ir.specs.Meaning.{code_meaning, meaning}
 use Rattle.mv_ir.proofs.Keeping.{run_same, one_meaning}
+use Rattle.mv_ir.specs.KnownFunctions.{seen}
 use Rattle.mv_lower_spec.specs.Lowered.{Lowering, choose}
 use Rattle.mv_lower_spec.specs.Statements.{FlowShown, FlowCorrect, Jumps, in_body, return_with, break, repeat, enclosed, lower_return, out_of, turn_out, levels}
 use Rattle.mv_lower_spec.specs.Correct as c
@@ -86,7 +87,7 @@ module _ (ground : Ground) (void : Bool) where
       (run.joined ground.setting ground.frame xs rest b s ∙ ap (λ r. then_do r (code ground rest b)) h.runs) (3 * nodes t + 11) (omega (arith, h.paid)) (k v f w work h)
   behind held out b credit before n s xs rest t (Stopped why w work) next h k = record {
     cost = h.cost;
-    runs = λ ne. run.runs_stop (declaring ground held) b xs rest s (c.end_of why (c.seen w)) h.cost (h.runs ne);
+    runs = λ ne. run.runs_stop (declaring ground held) b xs rest s (c.end_of why (seen w)) h.cost (h.runs ne);
     paid = omega (arith, h.paid);
   }
 

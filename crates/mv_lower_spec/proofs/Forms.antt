@@ -17,6 +17,7 @@ use Rattle.mv_ir.specs.Outcome.{State, Next, Ends, Bound}
 use Rattle.mv_ir.specs.Trees.{nodes, read_as, found}
 use Rattle.mv_ir.specs.Trees as ir_tree
 use Rattle.mv_ir.specs.Meaning.{with_temp, with_world, with_global, traps}
+use Rattle.mv_ir.specs.KnownFunctions.{seen}
 use Rattle.mv_lower_spec.specs.Lowered as lowered
 use Rattle.mv_lower_spec.specs.Lowered.{Lowering, number, temp, global, set, set_global, divide, is_low, kept_if, first, second, lower_number, lower_local, lower_global, lower_function, lower_one, lower_two, lower_division, lower_set_local, lower_set_global}
 use Rattle.mv_lower_spec.specs.Correct as c
@@ -117,7 +118,7 @@ module _ (scene : Scene) where
     around = record {
       world =
           ap (λ (o : code_world.World). with_global o g (slice_set (slice_index_or o.globals g []) i x)) h.world ∙
-          ap (λ k. with_global (c.seen w) g (slice_set (slice_index_or w.globals g []) i k)) e ∙
+          ap (λ k. with_global (seen w) g (slice_set (slice_index_or w.globals g []) i k)) e ∙
           ap (λ (l : List (List ℕ)). with_globals l) (sym (with_word_is w.globals g i v));
       depth = h.depth;
       live = h.live;
@@ -132,7 +133,7 @@ module _ (scene : Scene) where
   }
     where
       with_globals : List (List ℕ) → code_world.World
-      with_globals l = let o : code_world.World = c.seen w in record o { globals = l }
+      with_globals l = let o : code_world.World = seen w in record o { globals = l }
 
 module _ (scene : Scene) (bound : Bound) where
   -- ---- without parts

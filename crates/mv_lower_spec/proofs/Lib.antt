@@ -3,7 +3,6 @@ pub mod Showing
 pub mod Operators
 pub mod Forms
 pub mod Control
-pub mod Sequences
 pub mod Elements
 pub mod Arguments
 pub mod Expressions

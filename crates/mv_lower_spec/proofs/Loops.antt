@@ -13,7 +13,7 @@ use Rattle.mv_ir.proofs.Keeping.{one_meaning}
 use Rattle.mv_lower_spec.specs.Lowered.{Lowering}
 use Rattle.mv_lower_spec.specs.Statements.{FlowCorrect, Jumps, in_body, break, enclosed, test_and_body, out_of, turn_out}
 use Rattle.mv_lower_spec.specs.Correct.{Ground, resting, CorrectFor}
-use Rattle.mv_lower_spec.proofs.Sequences.{under, assoc, given}
+use Rattle.mv_meaning.proofs.Sequences.{under, assoc, given}
 use Rattle.mv_lower_spec.proofs.Flows as flows
 use Rattle.mv_lower_spec.proofs.Flows.{code}
 use Rattle.mv_lower_spec.proofs.Flows.{through}

@@ -19,7 +19,7 @@ use Rattle.mv_lower_spec.proofs.Running.{nodes_number, nodes_unary, nodes_binary
 
 -- ---- sizes
 
-small_if : (z : Bool) (x y : Tree) (m : ℕ) → nodes x ≤ m → nodes y ≤ m → nodes (cond z x y) ≤ m
+pub small_if : (z : Bool) (x y : Tree) (m : ℕ) → nodes x ≤ m → nodes y ≤ m → nodes (cond z x y) ≤ m
 small_if true x y m h k = h
 small_if false x y m h k = k
 

@@ -60,14 +60,10 @@ module _ (scene : Scene) (bound : Bound) where
       joined scene.setting scene.frame xs ys bound s ∙ ap (λ r. then_do r (code_meaning scene.setting scene.frame ys bound)) h ∙ ap (λ n. ran n (Ends e)) (omega arith)
 
   -- where the code ends, if it is empty
-  abbrev state_of : ir.Outcome → State → State
-  state_of (Next s) d = s
-  state_of _ d = d
-
   pub runs_nowhere : (xs : List Stm) (s s1 : State) (c : ℕ) → xs ≡ [] → Runs scene bound xs s (Next s1) c → s ≡ s1
   runs_nowhere xs s s1 c e h =
       let h0 : Runs scene bound [] s (Next s1) c = subst (λ l. Runs scene bound l s (Next s1) c) e h in
-      ap (λ (r : Run). state_of r.outcome s) h0
+      let same : Next s ≡ Next s1 = ap (λ (r : Run). r.outcome) h0 in cc
 
   -- ---- one statement
 

@@ -10,6 +10,7 @@ use Rattle.mv_meaning.specs.Meaning.{Evaluation}
 use Rattle.mv_ir.specs.Outcome.{State, Next, Ends, Bound}
 use Rattle.mv_ir.specs.Trees.{nodes}
 use Rattle.mv_ir.specs.Meaning.{with_temp}
+use Rattle.mv_ir.specs.KnownFunctions.{seen}
 use Rattle.mv_lower_spec.specs.Lowered.{Lowered, Lowering, temp, set, is_empty, is_low, kept_if, first, second}
 use Rattle.mv_lower_spec.specs.Correct as c
 use Rattle.mv_lower_spec.specs.Correct.{Scene, val, Shows, Kept, Reached, Shown, CorrectFor, Correct}
@@ -94,7 +95,7 @@ module _ (scene : Scene) (bound : Bound) where
   }
   then_rest due total credit d c1 n n1 s code rest t t1 v f w work r (Stopped why w2 work2) le enough h = record {
     cost = r.cost + h.cost;
-    runs = λ ne. run.runs_append scene bound code rest s r.state (Ends (c.end_of why (c.seen w2))) r.cost h.cost r.runs (h.runs ne);
+    runs = λ ne. run.runs_append scene bound code rest s r.state (Ends (c.end_of why (seen w2))) r.cost h.cost r.runs (h.runs ne);
     paid = omega (arith, enough, h.paid, r.paid);
   }
 
@@ -106,7 +107,7 @@ module _ (scene : Scene) (bound : Bound) where
       then_rest due total credit d c1 n n1 s code rest t t1 v f w work h (next v f w) le enough (k v f w work h)
   follow due total credit d c1 n n1 s code rest t t1 (Stopped why w work) next le enough h k = record {
     cost = h.cost;
-    runs = λ ne. run.runs_stop scene bound code rest s (c.end_of why (c.seen w)) h.cost (h.runs ne);
+    runs = λ ne. run.runs_stop scene bound code rest s (c.end_of why (seen w)) h.cost (h.runs ne);
     paid = omega (arith, enough, h.paid);
   }
 
@@ -126,9 +127,9 @@ module _ (scene : Scene) (bound : Bound) where
   pub without_nil : (due credit n : ℕ) (s : State) (code : List Stm) (t : Tree) (o : Outcome Frame ℕ) → Shown scene bound due credit n s (code ++ []) t o → Shown scene bound due credit n s code t o
   without_nil due credit n s code t o h = subst (λ l. Shown scene bound due credit n s l t o) (append-nil code) h
 
-  -- ---- a value in a temporary
+  -- ---- a value in a temporary: in the free one itself, or in one above it
 
-  put_away : (credit n at : ℕ) (s : State) (l : Lowered) (o : Outcome Frame ℕ) → n ≤ at → scene.floor ≤ at → at < scene.room → Shown scene bound 11 credit n s l.code l.tree o → Shown scene bound 0 credit n s (l.code ++ set at l.tree ∷ []) (temp at) o
+  pub put_away : (credit n at : ℕ) (s : State) (l : Lowered) (o : Outcome Frame ℕ) → n ≤ at → scene.floor ≤ at → at < scene.room → Shown scene bound 11 credit n s l.code l.tree o → Shown scene bound 0 credit n s (l.code ++ set at l.tree ∷ []) (temp at) o
   put_away credit n at s l (Came v f w work) up le lt r =
       let x = val scene l.tree r.state in
       record {
@@ -145,10 +146,6 @@ module _ (scene : Scene) (bound : Bound) where
     runs = λ ne. run.runs_stop scene bound l.code (set at l.tree ∷ []) s _ h.cost (h.runs ne);
     paid = h.paid;
   }
-
-  -- in the free temporary itself, or in one above it
-  pub put_at : (credit n at : ℕ) (s : State) (l : Lowered) (o : Outcome Frame ℕ) → n ≤ at → scene.floor ≤ at → at < scene.room → Shown scene bound 11 credit n s l.code l.tree o → Shown scene bound 0 credit n s (l.code ++ set at l.tree ∷ []) (temp at) o
-  put_at credit n at s l o up le lt h = put_away credit n at s l o up le lt h
 
   pub kept_shown : (credit : ℕ) (keep : Bool) (n : ℕ) (s : State) (l : Lowered) (o : Outcome Frame ℕ) → scene.floor ≤ n → (kept_if keep n l).top ≤ scene.room → Shown scene bound 11 credit n s l.code l.tree o →
       Shown scene bound 0 credit n s (kept_if keep n l).code (kept_if keep n l).tree o

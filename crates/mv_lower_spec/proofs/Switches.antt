@@ -23,26 +23,13 @@ use Rattle.mv_lower_spec.specs.Correct.{Ground, resting, none, val, Shows, Corre
 use Rattle.mv_lower_spec.proofs.Running as run
 use Rattle.mv_lower_spec.proofs.Running.{nodes_number, nodes_temp, nodes_binary}
 use Rattle.mv_lower_spec.proofs.Showing as show
-use Rattle.mv_lower_spec.proofs.Sequences.{under, assoc, given}
+use Rattle.mv_meaning.proofs.Sequences.{in_order_both, assoc}
 use Rattle.mv_lower_spec.proofs.Bare.{bare_of}
 use Rattle.mv_lower_spec.proofs.Flows as flows
 use Rattle.mv_lower_spec.proofs.Flows.{code}
 use Rattle.mv_num.proofs.Booleans.{from_falsity}
 
 -- ---- lists of statements
-
-pub in_order_both : (xs ys : List (Evaluation Flow)) (f : Frame) (w : World) → in_order (xs ++ ys) f w ≡ bind (in_order xs) (λ flow. then_on flow (in_order ys)) f w
-in_order_both [] ys f w = sym (given Goes (λ flow. then_on flow (in_order ys)) f w)
-in_order_both (x ∷ xs) ys f w =
-    under (x f w) (λ flow. then_on flow (in_order (xs ++ ys))) (λ flow. bind (then_on flow (in_order xs)) (λ fl. then_on fl (in_order ys))) (by (λ f1 w1. in_order_both xs ys f1 w1)) ∙
-    sym (assoc x (λ flow. then_on flow (in_order xs)) (λ fl. then_on fl (in_order ys)) f w)
-  where
-    by : ((f1 : Frame) (w1 : World) → in_order (xs ++ ys) f1 w1 ≡ bind (in_order xs) (λ flow. then_on flow (in_order ys)) f1 w1) →
-        (flow : Flow) (f1 : Frame) (w1 : World) → then_on flow (in_order (xs ++ ys)) f1 w1 ≡ bind (then_on flow (in_order xs)) (λ fl. then_on fl (in_order ys)) f1 w1
-    by rest Goes f1 w1 = rest f1 w1
-    by rest Breaks f1 w1 = sym (given Breaks (λ fl. then_on fl (in_order ys)) f1 w1)
-    by rest Continues f1 w1 = sym (given Continues (λ fl. then_on fl (in_order ys)) f1 w1)
-    by rest (Returns v) f1 w1 = sym (given (Returns v) (λ fl. then_on fl (in_order ys)) f1 w1)
 
 -- nothing follows
 ends_same : (o : Outcome Frame Flow) → o ≡ and_then o (λ flow. then_on flow (in_order []))
@@ -137,13 +124,8 @@ passed v (l ∷ ls) =
 
 -- ---- states
 
--- what stands behind code, where control goes on behind it
-abbrev state_of : ir.Outcome → State → State
-state_of (Next s) other = s
-state_of _ other = other
-
 same_state : (s1 s2 : State) → Next s1 ≡ Next s2 → s1 ≡ s2
-same_state s1 s2 e = ap (λ o. state_of o s1) e
+same_state s1 s2 e = cc
 
 first_place : (xs : List ℕ) (n : ℕ) → slice_index (slice_set xs n 0) n ≡ 0
 first_place [] n = refl

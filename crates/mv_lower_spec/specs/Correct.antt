@@ -1,5 +1,5 @@
 -- When lowered code does what the source means.
-use Rattle.std.specs.Prelude.{◌≡◌, Bool, true, false, cond, eqb, ℕ, ◌+◌, ◌*◌, ◌<◌, ◌≤◌, List, [], ◌∷◌, map, length, Option, Some, None, slice_get, slice_index, slice_index_or}
+use Rattle.std.specs.Prelude.{◌≡◌, Bool, true, false, eqb, ℕ, ◌+◌, ◌*◌, ◌<◌, ◌≤◌, List, [], ◌∷◌, map, length, Option, Some, None, slice_get, slice_index, slice_index_or}
 use Rattle.mv_ir.specs.declared.tree.Tree.{Tree}
 use Rattle.mv_ir.specs.declared.stm.Stm.{Stm}
 use Rattle.mv_ir.specs.World.{Setting}
@@ -8,6 +8,7 @@ use Rattle.mv_ir.specs.Outcome.{State, End, Returned, Trapped, More, Next, Ends,
 use Rattle.mv_ir.specs.Outcome as ir
 use Rattle.mv_ir.specs.Trees.{value, nodes, nodes_of_all, found}
 use Rattle.mv_ir.specs.Meaning.{code_meaning}
+use Rattle.mv_ir.specs.KnownFunctions.{seen}
 use Rattle.mv_ast.specs.declared.program.Program.{Program}
 use Rattle.mv_ast.specs.declared.world.Binding.{Binding}
 use Rattle.mv_ast.specs.declared.world.Stop.{Stop}
@@ -19,20 +20,8 @@ use Rattle.mv_ast.specs.Plans.{word_at, bound_value}
 use Rattle.mv_meaning.specs.declared.state.Frame.{Frame}
 use Rattle.mv_meaning.specs.Meaning.{Evaluation, Context, Denotation, known_value}
 use Rattle.mv_ast.specs.declared.program.Known.{Known}
-use Rattle.mv_lower_spec.specs.Lowered.{Lowering}
+use Rattle.mv_lower_spec.specs.Lowered.{Lowering, unless_void}
 use Rattle.mv_source_forms.specs.Names.{is_callable, is_void, global_words}
-
--- the source's world as the code sees it: the numbers of frames stand in the code's frame
-abbrev pub seen : World → code_world.World
-seen w = record {
-  globals = w.globals;
-  input = w.input;
-  taken = w.taken;
-  output = w.output;
-  bindings = w.bindings;
-  actions = w.actions;
-  log = w.log;
-}
 
 abbrev pub end_of : Stop → code_world.World → End
 end_of (stop.Trapped code) w = Trapped code w
@@ -51,10 +40,6 @@ pub record IsStrict (p : Program) (numbers : List ℕ) (context : Context) : Typ
   pub numbers_are : context.numbers ≡ numbers
   pub lets_are : context.lets ≡ (λ t g n. is_callable p g n (is_void t))
   pub stray_is : context.stray ≡ worlds.stop astray
-
--- a value that a call leaves in the code: none where the function is void
-abbrev pub result_of : Bool → ℕ → Option ℕ
-result_of void v = cond void None (Some v)
 
 abbrev pub ran : ℕ → ir.Outcome → Run
 ran c o = record { cost = c; outcome = o }
@@ -262,7 +247,7 @@ module _ (p : Program) (frame : code_world.Frame) (own : ℕ) where
       KnownShown (setting.known k vs frame.live (seen w)) f w (known_value p k vs f w)
 
   pub record CallReached (void : Bool) (c : Call) (v : ℕ) (f f2 : Frame) (w w2 : World) (work : ℕ) : Type 0 where
-    pub ends : c.end ≡ Returned (result_of void v) (seen w2)
+    pub ends : c.end ≡ Returned (unless_void void v) (seen w2)
     pub nothing : void ≡ true → v ≡ 0
     pub unmoved : Unmoved f f2 w w2
     pub paid : c.cost ≤ 20 + 100 * work

@@ -1,5 +1,5 @@
 -- What functions and programs are lowered to.
-use Rattle.std.specs.Prelude.{ℕ, suc, ◌+◌, ◌*◌, ◌%◌, ◌^◌, max, Bool, ◌&&◌, ◌||◌, List, [], ◌∷◌, ◌++◌, map, length, cond, Option, Some, None}
+use Rattle.std.specs.Prelude.{ℕ, suc, ◌+◌, ◌*◌, ◌%◌, ◌^◌, max, Bool, ◌&&◌, ◌||◌, List, [], ◌∷◌, ◌++◌, map, length, cond}
 use Rattle.mv_num.specs.Regions.{data_start}
 use Rattle.mv_ir.specs.declared.stm.Callee.{Callee}
 use Rattle.mv_ir.specs.declared.stm.Callee.TheVariants as callee
@@ -16,7 +16,7 @@ use Rattle.mv_ast.specs.declared.program.Program.{Program}
 use Rattle.mv_ast.specs.declared.program.Global.{Global}
 use Rattle.mv_ast.specs.declared.program.Function.{Function}
 use Rattle.mv_ast.specs.declared.program.Local.{Local}
-use Rattle.mv_ast.specs.Counts.{words_of_size}
+use Rattle.mv_ast.specs.Counts.{words_of_size, elements_of}
 use Rattle.mv_ast.specs.Plans.{is_among, switch_global}
 use Rattle.mv_source_forms.specs.Names.{size_in, is_void}
 use Rattle.mv_lower_spec.specs.Lowered.{number}
@@ -24,10 +24,6 @@ use Rattle.mv_lower_spec.specs.Statements.{Jumps, Code, in_sequence, return_with
 use Rattle.mv_lower_spec.specs.LowerStatements.{lower_stmt}
 
 -- ---- locals
-
-abbrev pub elements_of : Option ℕ → ℕ
-elements_of None = 0
-elements_of (Some n) = n
 
 -- for each local the size of the array with its number: none for a scalar
 abbrev pub array_sizes : List Local → List ℕ

@@ -8,8 +8,6 @@ use Rattle.mv_ir.specs.declared.stm.Array.TheVariants as array
 use Rattle.mv_num.specs.declared.kind.Kind.{Kind}
 use Rattle.mv_ast.specs.declared.program.CType.{CType}
 use Rattle.mv_ast.specs.declared.program.CType.TheVariants.{Void, Scalar, Pointer}
-use Rattle.mv_ast.specs.declared.program.Global.{Global}
-use Rattle.mv_ast.specs.declared.program.Function.{Function}
 use Rattle.mv_ast.specs.declared.program.Expr.{Expr, Expr-F, fold-Expr}
 use Rattle.mv_ast.specs.declared.program.Form.{Form, Form-F, fold-Form}
 use Rattle.mv_ast.specs.declared.program.Form.TheOpen as form

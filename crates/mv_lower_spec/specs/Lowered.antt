@@ -1,17 +1,14 @@
 -- What an expression is lowered to: statements, and a tree for its value at their end.
 use Rattle.std.specs.Prelude.{ℕ, ◌+◌, cond, Bool, true, false, ◌&&◌, List, [], ◌∷◌, ◌++◌, max, nat_le, Option, Some, None}
 use Rattle.mv_ir.specs.declared.tree.Tree.{Tree}
-use Rattle.mv_ir.specs.declared.tree.Tree.TheOpen as tree
-use Rattle.mv_ir.specs.declared.tree.Tree.TheViews.{roll-Tree}
 use Rattle.mv_ir.specs.declared.stm.Stm.{Stm}
-use Rattle.mv_ir.specs.declared.stm.Stm.TheOpen as stm
-use Rattle.mv_ir.specs.declared.stm.Stm.TheViews.{roll-Stm}
 use Rattle.mv_ir.specs.declared.stm.Array.{Array}
 use Rattle.mv_ir.specs.declared.stm.Callee.{Callee}
 use Rattle.mv_ir.specs.declared.stm.Callee.TheVariants as callee
 use Rattle.mv_ir.specs.Trees.{depth}
 use Rattle.mv_ast.specs.declared.program.Known.{Known}
 use Rattle.mv_ir.specs.Operators as operators
+pub use Rattle.mv_ir.specs.Rolled.{number, temp, global, function, unary, binary, set, set_global, divide, choose, call, check, read, write, known}
 
 pub record Lowered : Type 0 where
   pub code : List Stm
@@ -23,53 +20,6 @@ pub record Lowered : Type 0 where
 -- from the first free temporary on
 abbrev pub Lowering : Type 0
 Lowering = ℕ → Lowered
-
--- ---- trees and statements
-
-abbrev pub number : ℕ → Tree
-number n = roll-Tree (tree.Number n)
-
-abbrev pub temp : ℕ → Tree
-temp t = roll-Tree (tree.Temp t)
-
-abbrev pub global : ℕ → Tree
-global g = roll-Tree (tree.Global g)
-
-abbrev pub function : ℕ → Tree
-function f = roll-Tree (tree.Function f)
-
-abbrev pub unary : ℕ → Tree → Tree
-unary o a = roll-Tree (tree.Unary o a)
-
-abbrev pub binary : ℕ → Tree → Tree → Tree
-binary o a b = roll-Tree (tree.Binary o a b)
-
-abbrev pub set : ℕ → Tree → Stm
-set t v = roll-Stm (stm.Set t v)
-
-abbrev pub set_global : ℕ → Tree → Stm
-set_global g v = roll-Stm (stm.SetGlobal g v)
-
-abbrev pub divide : ℕ → ℕ → Tree → Tree → Stm
-divide t o a b = roll-Stm (stm.Divide t o a b)
-
-abbrev pub choose : Tree → List Stm → List Stm → Stm
-choose t a b = roll-Stm (stm.If t a b)
-
-abbrev pub call : Option ℕ → Callee → List Tree → Stm
-call result f args = roll-Stm (stm.Call result f args)
-
-abbrev pub check : Array → Tree → Stm
-check a i = roll-Stm (stm.Check a i)
-
-abbrev pub read : ℕ → Array → Tree → Stm
-read t a i = roll-Stm (stm.Read t a i)
-
-abbrev pub write : Array → Tree → Tree → Stm
-write a i v = roll-Stm (stm.Write a i v)
-
-abbrev pub known : ℕ → Known → List Tree → Stm
-known t k args = roll-Stm (stm.Known (Some t) k args)
 
 -- ---- values that have to last
 
@@ -195,16 +145,16 @@ lower_all (e ∷ es) n =
     let x = kept_if (is_empty rest.code) n (e n) in
     record { code = x.code ++ rest.code; trees = x.tree ∷ rest.trees; top = max x.top rest.top }
 
--- where a call leaves its value, and the tree that reads it: a void function has none
-abbrev pub place_of_result : Bool → ℕ → Option ℕ
-place_of_result void n = cond void None (Some n)
+-- what a call leaves, or where, and the tree that reads it: a void function has none
+abbrev pub unless_void : Bool → ℕ → Option ℕ
+unless_void void n = cond void None (Some n)
 
 abbrev pub result_tree : Bool → ℕ → Tree
 result_tree void n = cond void (number 0) (temp n)
 
 abbrev pub lower_call_to : Bool → Callee → Arguments → List Tree → Lowering
 lower_call_to void f all args n = record {
-  code = all.code ++ call (place_of_result void n) f args ∷ [];
+  code = all.code ++ call (unless_void void n) f args ∷ [];
   tree = result_tree void n;
   top = max (n + 1) all.top;
 }

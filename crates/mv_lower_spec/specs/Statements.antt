@@ -16,22 +16,12 @@ use Rattle.mv_meaning.specs.declared.state.Flow.{Flow}
 use Rattle.mv_meaning.specs.declared.state.Flow.TheVariants.{Goes, Breaks, Continues, Returns}
 use Rattle.mv_meaning.specs.Meaning.{Evaluation, returned_value}
 use Rattle.mv_lower_spec.specs.Lowered.{Lowering, number, temp, binary, set, write, choose}
-use Rattle.mv_lower_spec.specs.Correct.{Ground, resting, Shows, ran, end_of, seen, is_astray}
+use Rattle.mv_lower_spec.specs.Correct.{Ground, resting, Shows, ran, end_of, is_astray}
 use Rattle.mv_ir.specs.Operators as operators
+use Rattle.mv_ir.specs.KnownFunctions.{seen}
+pub use Rattle.mv_ir.specs.Rolled.{return_with, break, repeat, enclosed}
 
 -- ---- statements
-
-abbrev pub return_with : Tree → Stm
-return_with t = roll-Stm (stm.Return t)
-
-abbrev pub break : ℕ → Stm
-break n = roll-Stm (stm.Break n)
-
-abbrev pub repeat : List Stm → Stm
-repeat code = roll-Stm (stm.Loop code)
-
-abbrev pub enclosed : List Stm → Stm
-enclosed code = roll-Stm (stm.Block code)
 
 -- where control leads: the numbers of the blocks that `break` and `continue` leave, and how many blocks stand around
 pub record Jumps : Type 0 where

@@ -37,6 +37,10 @@ unequal_value : (t : CType) (a b : ℕ) → binary_value 30 t a b ≡ Some (as_w
 unfolding binary_value bit_value
 unequal_value t a b = refl
 
+-- what `++` or `--` stores
+abbrev pub next_of : Bool → CType → ℕ → ℕ
+next_of up t old = converted t (if up then add old 1 else sub old 1)
+
 module _ (x : Setting) where
   unary_alike : (op : ℕ) (t : CType) (v u : ℕ) → TakesOne op t → Same x t v u → unary_value op v ≡ unary_value op u
   unary_alike op t v u (inl h) k = ap (unary_value op) (same_integer x t v u h k)
@@ -153,9 +157,6 @@ module _ (x : Setting) (c d : Context) (same : SameContext x c d) (fn : Function
       (λ new. store_lvalue a (converted t new)) (λ new. store_lvalue b (converted t new))
       (traps_alike _ _ (ap (λ n. binary_value op kind n v) (same_integer x t old old' i o) ∙ ap (binary_value op kind old') e))
       (λ m n q. stores_alike t a b (converted t m) (converted t n) h (integer_same x t _ _ i (ap (converted t) q))))
-
-  abbrev next_of : Bool → CType → ℕ → ℕ
-  next_of up t old = converted t (if up then add old 1 else sub old 1)
 
   abbrev stepped : Bool → CType → Lvalue → ℕ → Evaluation ℕ
   stepped up t s old = bind (store_lvalue s (next_of up t old)) (λ new. give old)

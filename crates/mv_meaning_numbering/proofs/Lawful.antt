@@ -13,7 +13,7 @@ use Rattle.mv_meaning_numbering.proofs.Numbers.{numbering_distinguishes, own_dis
 use Rattle.mv_meaning_numbering.proofs.Programs.{same_meaning, own_meaning}
 
 -- every function may be reached through a pointer
-abbrev all_reached : CType → ℕ → ℕ → Bool
+abbrev pub all_reached : CType → ℕ → ℕ → Bool
 all_reached t f n = true
 
 pub no_strays : StraysDoNotShow

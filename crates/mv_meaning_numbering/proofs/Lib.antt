@@ -2,8 +2,8 @@ mod Alike
 mod Calls
 pub mod Constants
 mod Differences
-mod Expressions
-mod Lawful
+pub mod Expressions
+pub mod Lawful
 mod Leaves
 mod Numbers
 mod Outcomes

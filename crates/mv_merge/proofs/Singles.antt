@@ -20,6 +20,7 @@ use Rattle.mv_merge.specs.Guards.{kinds, domain_values, row_holds, AreValues, al
 use Rattle.mv_merge.specs.Grouping.{padded, single, Leads, HaveWords, IsGrouped}
 use Rattle.mv_num.proofs.Booleans.{and_right, and_left}
 use Rattle.mv_num.proofs.Lists.{same_lists}
+use Rattle.mv_num.proofs.Numbers.{zeros_at}
 use Rattle.std.proofs.lemmas.Bool.{and_from}
 
 -- ---- values and their order
@@ -183,11 +184,6 @@ module _ (domains : List Domain) where
     as_many (r ∷ rows) (g ∷ guards) l = ap suc (as_many rows guards l.1)
 
   -- ---- unused words
-
-  zeros_at : (n i : ℕ) → slice_index (replicate n 0) i ≡ 0
-  zeros_at zero i = refl
-  zeros_at (suc n) zero = refl
-  zeros_at (suc n) (suc i) = zeros_at n i
 
   padded_clean : (us : List ℕ) → AreValues domains us → ZerosFrom (length domains) (padded us)
   padded_clean us u i le = get_or-append_right us (replicate (6 - length us) 0) i 0 (omega (arith, le, u.each)) ∙ zeros_at (6 - length us) (i - length us)

@@ -18,13 +18,14 @@ use Rattle.mv_ir.specs.declared.stm.Stm.TheFolds.{map-Stm}
 use Rattle.mv_ir.specs.Measures.{joined}
 use Rattle.mv_ir.specs.Trees.{unary, binary, divide}
 use Rattle.mv_ir.proofs.Induction.{Each, each_append, TreeChildren, tree_ind, StmChildren, stm_ind, stms_ind}
-use Rattle.mv_fold.specs.Simple.{layer_constant, constant, number, one_or, two_or, simple_node, simple_tree, jumps, ended, simple_callee, alone, division, choice, simple_layer, simple_stm, simple_code}
+use Rattle.mv_ir.specs.Rolled.{number, temp}
+use Rattle.mv_fold.specs.Simple.{layer_constant, constant, one_or, two_or, simple_node, simple_tree, jumps, ended, simple_callee, alone, division, choice, simple_layer, simple_stm, simple_code}
 use Rattle.mv_fold.specs.Shortened.{shortened}
 use Rattle.mv_fold.specs.Needed.{needed_layer, needed_stm, needed_code}
 use Rattle.mv_fold.specs.Folded.{simple_body}
 use Rattle.mv_fold.proofs.SimpleKept.{constant_roll, simple_tree_roll, simple_stm_roll}
 use Rattle.mv_fold.proofs.NeededEquations.{needed_stm_roll}
-use Rattle.mv_fold.proofs.Shortening.{temp, shortened_is}
+use Rattle.mv_fold.proofs.Shortening.{shortened_is}
 use Rattle.mv_parts_bound.proofs.Naming.{TreeNames, StmNames, CodeNames, TreeParts, tree_in, tree_out, CalleeNames, StmParts, stm_in, stm_out}
 
 -- what operators compute of such constants is such a constant

@@ -13,7 +13,7 @@ use Rattle.mv_ir.proofs.Induction.{Each, StmChildren, stm_ind, stms_ind}
 use Rattle.mv_ir.proofs.Keeping.{map_append}
 use Rattle.mv_clone.specs.Bind.{bound_callee, bound_layer, bound_stm, bound_code}
 use Rattle.mv_clone.proofs.Bound.{bound_stm_roll}
-use Rattle.mv_fold.specs.Simple.{constant, number, simple_tree, jumps, ended, simple_callee, alone, division, choice, simple_layer, simple_stm, simple_code}
+use Rattle.mv_fold.specs.Simple.{constant, simple_tree, jumps, ended, simple_callee, alone, division, choice, simple_layer, simple_stm, simple_code}
 use Rattle.mv_fold.specs.Shortened.{shortened}
 use Rattle.mv_fold.specs.Needed.{needed_layer, needed_stm, needed_code}
 use Rattle.mv_fold.specs.Folded.{simple_body}
@@ -24,6 +24,7 @@ use Rattle.mv_regalloc.specs.Rename.{renamed_callee, renamed_layer, renamed_stm,
 use Rattle.mv_regalloc.proofs.RenamedTrees.{renamed_stm_roll}
 use Rattle.mv_lower_shape.specs.Calls.{callee_weight, layer_weight, stm_weight, code_weight}
 use Rattle.mv_ir.proofs.Joining.{total_append}
+use Rattle.mv_ir.specs.Rolled.{number}
 
 -- a statement whose parts are bound, and one whose parts are renamed
 abbrev pub bound_parts : List (ℕ × ℕ) → Stm-F Stm → Stm-F Stm

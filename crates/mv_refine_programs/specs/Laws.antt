@@ -11,8 +11,8 @@ use Rattle.mv_isa.specs.Execution.{Access, reg}
 use Rattle.mv_ir.specs.Outcome.{Call, Returned}
 use Rattle.mv_ir.specs.Programs.{execution_of, run_of_main}
 use Rattle.mv_ir.specs.World.{World}
+use Rattle.mv_ir.specs.KnownFunctions.{seen}
 use Rattle.mv_ir_worlds.specs.Fit.{is_fit}
-use Rattle.mv_lower_spec.specs.Correct.{seen}
 use Rattle.mv_lower_spec.specs.Functions.{lower_program}
 use Rattle.mv_lower_correct.specs.Laws.{IsExecution}
 use Rattle.mv_select_control.specs.Runs.{Machine}

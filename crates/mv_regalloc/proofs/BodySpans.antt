@@ -1,7 +1,7 @@
 -- The spans of a body's temporaries, from its rows.
 use Rattle.std.proofs.Common.{arith, ◌≡◌, ℕ, zero, suc, ◌<◌, ◌≤◌, Bool, true, false, cond, eqb, ltb, ◌||◌, List, ◌∷◌, length, map, refl, sym, ap, ◌∙◌, ◌⊎◌, inl, inr}
 use Rattle.std.specs.Prelude.{replicate}
-use Rattle.std.proofs.lemmas.List.{length-set}
+use Rattle.std.proofs.lemmas.List.{length-set, length-replicate}
 use Rattle.std.proofs.lemmas.Bool.{cases_eq, cases_lt, lt-ltb, le-ltb, eq-eqb, ne_eqb}
 use Rattle.mv_ir.specs.declared.body.Body.{Body}
 use Rattle.mv_ir.specs.Live.{mark_at, marks_length, live_in_order, marks_in_order, flow, nowhere, live_at_start, all_marks}
@@ -46,14 +46,6 @@ clear_at zero t = refl
 clear_at (suc n) zero = refl
 clear_at (suc n) (suc t) = clear_at n t
 
-pub long_zeros : (n : ℕ) → length {A = ℕ} (replicate n 0) ≡ n
-long_zeros zero = refl
-long_zeros (suc n) = ap suc (long_zeros n)
-
-pub long_clear : (n : ℕ) → length (replicate n false) ≡ n
-long_clear zero = refl
-long_clear (suc n) = ap suc (long_clear n)
-
 module _ (b : Body) where
   abbrev pub none : Bits
   none = replicate b.temps false
@@ -65,7 +57,7 @@ module _ (b : Body) where
   first = with_params b.params (live_before (map stm_rows b.code) (no_sets none))
 
   shows : ListShows b.temps b.code (no_sets none)
-  shows = body_shows b.temps b.code none (long_clear b.temps) (clear_at b.temps)
+  shows = body_shows b.temps b.code none (length-replicate b.temps false) (clear_at b.temps)
 
   columns : (t : ℕ) → t < b.temps → column t (first ∷ rows) ≡ all_marks b t
   columns t l =

@@ -4,7 +4,7 @@ use Rattle.std.specs.Prelude.{slice_index, slice_index_or, slice_set, EachIndex}
 use Rattle.std.proofs.lemmas.List.{append-nil, map-append, map_more, length-set, get_or-set_same, get_or-set_other}
 use Rattle.std.proofs.lemmas.Bool.{cases_eq, eqb-true}
 use Rattle.mv_ir.specs.declared.body.Body.{Body}
-use Rattle.mv_ir.specs.Live.{any, marks_length, all_marks}
+use Rattle.mv_ir.specs.Live.{marks_length, all_marks}
 use Rattle.mv_ir.proofs.Induction.{Each, each_append}
 use Rattle.mv_regalloc.specs.Scan.{Interval, Placed, placed, scan}
 use Rattle.mv_regalloc.specs.Intervals.{first_from, span, beginning, range}
@@ -13,6 +13,7 @@ use Rattle.mv_regalloc.specs.Tracked.{end_of, interval_from, AreFirsts}
 use Rattle.mv_regalloc.proofs.Sweep.{scan_append, beginning_more}
 use Rattle.mv_regalloc.proofs.Numbering.{begins_test, begins_not, span_at, before_end}
 use Rattle.mv_num.proofs.Booleans.{and_right, and_left}
+use Rattle.mv_ast.specs.Names.{any_of}
 
 -- ---- a fact on each of some temporaries
 
@@ -37,20 +38,20 @@ module _ (marks : ℕ → List Bool) (n : ℕ) (s : SpanTable) (h : AreSpansOf m
 
   begins_all : (ts : List ℕ) → Each (λ t. t < n) ts → Each Begins (temps_of (beginning marks at ts))
   begins_all [] k = tt
-  begins_all (t ∷ ts) k = by (any (marks t) && eqb (first_from 0 (marks t)) at) refl (begins_all ts k.1)
+  begins_all (t ∷ ts) k = by (any_of (marks t) && eqb (first_from 0 (marks t)) at) refl (begins_all ts k.1)
     where
-      by : (c : Bool) → (any (marks t) && eqb (first_from 0 (marks t)) at) ≡ c → Each Begins (temps_of (beginning marks at ts)) → Each Begins (temps_of (cond c (span marks t ∷ beginning marks at ts) (beginning marks at ts)))
-      by true e rest = (record { known = k.0; before = before_end marks n s h t at k.0 (and_left _ _ e) (eqb-true (first_from 0 (marks t)) at (and_right (any (marks t)) (eqb (first_from 0 (marks t)) at) e)) }, rest)
+      by : (c : Bool) → (any_of (marks t) && eqb (first_from 0 (marks t)) at) ≡ c → Each Begins (temps_of (beginning marks at ts)) → Each Begins (temps_of (cond c (span marks t ∷ beginning marks at ts) (beginning marks at ts)))
+      by true e rest = (record { known = k.0; before = before_end marks n s h t at k.0 (and_left _ _ e) (eqb-true (first_from 0 (marks t)) at (and_right (any_of (marks t)) (eqb (first_from 0 (marks t)) at) e)) }, rest)
       by false e rest = rest
 
   intervals_of : (ts : List ℕ) → Each (λ t. t < n) ts → map (interval_from s at) (temps_of (beginning marks at ts)) ≡ beginning marks at ts
   intervals_of [] k = refl
-  intervals_of (t ∷ ts) k = by (any (marks t) && eqb (first_from 0 (marks t)) at) refl (intervals_of ts k.1)
+  intervals_of (t ∷ ts) k = by (any_of (marks t) && eqb (first_from 0 (marks t)) at) refl (intervals_of ts k.1)
     where
-      by : (c : Bool) → (any (marks t) && eqb (first_from 0 (marks t)) at) ≡ c → map (interval_from s at) (temps_of (beginning marks at ts)) ≡ beginning marks at ts →
+      by : (c : Bool) → (any_of (marks t) && eqb (first_from 0 (marks t)) at) ≡ c → map (interval_from s at) (temps_of (beginning marks at ts)) ≡ beginning marks at ts →
           map (interval_from s at) (temps_of (cond c (span marks t ∷ beginning marks at ts) (beginning marks at ts))) ≡ cond c (span marks t ∷ beginning marks at ts) (beginning marks at ts)
       by true e rest =
-          ap (λ x. x ∷ map (interval_from s at) (temps_of (beginning marks at ts))) (span_at marks n s h t at k.0 (and_left _ _ e) (eqb-true (first_from 0 (marks t)) at (and_right (any (marks t)) (eqb (first_from 0 (marks t)) at) e))) ∙
+          ap (λ x. x ∷ map (interval_from s at) (temps_of (beginning marks at ts))) (span_at marks n s h t at k.0 (and_left _ _ e) (eqb-true (first_from 0 (marks t)) at (and_right (any_of (marks t)) (eqb (first_from 0 (marks t)) at) e))) ∙
           ap (λ l. span marks t ∷ l) rest
       by false e rest = rest
 

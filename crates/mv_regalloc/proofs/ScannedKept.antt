@@ -3,11 +3,11 @@ use Rattle.std.proofs.Common.{arith, ◌≡◌, ℕ, ◌-◌, ◌<◌, ◌≤◌
 use Rattle.std.specs.Prelude.{slice_index}
 use Rattle.std.proofs.lemmas.Bool.{cases_lt}
 use Rattle.mv_ir.specs.declared.body.Body.{Body}
-use Rattle.mv_ir.specs.Live.{mark_at, marks_length, all_marks, IsWhole, HasTemps}
+use Rattle.mv_ir.specs.Live.{mark_at, all_marks, IsWhole, HasTemps}
 use Rattle.mv_ir.specs.WellFormed.{all_true, all_around, is_there, has_room}
-use Rattle.mv_regalloc.specs.Scan.{Interval, used, number_of, Overlap}
+use Rattle.mv_regalloc.specs.Scan.{used, number_of, Overlap}
 use Rattle.mv_regalloc.specs.Rename.{renamed, Fits}
-use Rattle.mv_regalloc.specs.Intervals.{span, by_first, range, given, allotted, IsRenamed}
+use Rattle.mv_regalloc.specs.Intervals.{span, by_first, range, given, allotted, IsRenamed, others, positions}
 use Rattle.mv_regalloc.specs.Tracked.{IsNumbered}
 use Rattle.mv_regalloc.specs.declared.number.Numbering.{Numbering}
 use Rattle.mv_regalloc.proofs.Apart.{numbers_apart, number_found}
@@ -22,27 +22,21 @@ module _ (b : Body) (has : HasTemps b) where
   abbrev marks : ℕ → List Bool
   marks = all_marks b
 
-  abbrev long : ℕ
-  long = marks_length (marks 0)
-
-  abbrev others : List Interval
-  others = by_first marks (range b.params (b.temps - b.params)) 0 long
-
-  spans : AreSpans marks (λ u. b.params ≤ u) others
-  spans = by_first_spans marks (λ u. b.params ≤ u) (range b.params (b.temps - b.params)) 0 long (every_range marks b.params (b.temps - b.params))
+  spans : AreSpans marks (λ u. b.params ≤ u) (others b)
+  spans = by_first_spans marks (λ u. b.params ≤ u) (range b.params (b.temps - b.params)) 0 (positions b) (every_range marks b.params (b.temps - b.params))
 
   stands : (i t : ℕ) → mark_at (marks t) i ≡ true → Stands marks t (allotted b)
   stands i t h = by (cases_lt t b.params)
     where
       by : (t < b.params) ⊎ (b.params ≤ t) → Stands marks t (allotted b)
-      by (inl l) = scan_stands marks (λ u. b.params ≤ u) t (given marks b.params) others spans (given_stands marks b.params t l)
+      by (inl l) = scan_stands marks (λ u. b.params ≤ u) t (given marks b.params) (others b) spans (given_stands marks b.params t l)
       by (inr l) =
           let one = marked_any (marks t) i h in
           let low = has i t h in
           let end = first_below 0 (marks t) one in
           let e = same_long b has t in
-          scan_stands_new marks (λ u. b.params ≤ u) t (given marks b.params) others spans
-          (listed marks (range b.params (b.temps - b.params)) 0 long t (in_range marks b.params (b.temps - b.params) t l (omega (arith, low, l))) one (omega arith) (omega (arith, end, e)))
+          scan_stands_new marks (λ u. b.params ≤ u) t (given marks b.params) (others b) spans
+          (listed marks (range b.params (b.temps - b.params)) 0 (positions b) t (in_range marks b.params (b.temps - b.params) t l (omega (arith, low, l))) one (omega arith) (omega (arith, end, e)))
 
   overlap : (i t u : ℕ) → mark_at (marks t) i ≡ true → mark_at (marks u) i ≡ true → Overlap (span marks t) (span marks u)
   overlap i t u h k = record {
@@ -65,7 +59,7 @@ module _ (b : Body) (has : HasTemps b) where
           let l = number_used marks t x.placed (allotted b) x.stands in
           omega (arith, e, l);
     };
-    params = λ t h. scan_number marks b.params t (given marks b.params) others spans h ∙ given_number marks b.params t h;
+    params = λ t h. scan_number marks b.params t (given marks b.params) (others b) spans h ∙ given_number marks b.params t h;
   }
 
   -- numbers that are those of the scan for each temporary of the body

@@ -1,10 +1,10 @@
 -- A scan position by position, and temporary by temporary: what each step adds.
 use Rattle.std.proofs.Common.{arith, ◌≡◌, ℕ, zero, suc, ◌+◌, ◌<◌, ◌≤◌, Bool, true, false, cond, eqb, ltb, ◌&&◌, ◌||◌, List, [], ◌∷◌, ◌++◌, refl, sym, ap, ◌∙◌, ◌⊎◌, inl, inr, append_assoc, append-nil}
 use Rattle.std.proofs.lemmas.Bool.{cases_lt, cases_eq, lt-ltb, le-ltb, eq-eqb, ne_eqb}
-use Rattle.mv_ir.specs.Live.{any}
 use Rattle.mv_regalloc.specs.Scan.{Interval, Placed, busy, has, lowest_free, placed, scan}
 use Rattle.mv_regalloc.specs.Intervals.{first_from, last_from, span, beginning, by_first, range, given}
 use Rattle.mv_regalloc.proofs.Scanned.{free_is_free, free_is_lowest}
+use Rattle.mv_ast.specs.Names.{any_of}
 
 pub scan_append : (done : List Placed) (xs ys : List Interval) → scan done (xs ++ ys) ≡ scan (scan done xs) ys
 scan_append done [] ys = refl
@@ -21,7 +21,7 @@ module _ (marks : ℕ → List Bool) where
 
   pub beginning_append : (at : ℕ) (ts us : List ℕ) → beginning marks at (ts ++ us) ≡ beginning marks at ts ++ beginning marks at us
   beginning_append at [] us = refl
-  beginning_append at (t ∷ ts) us = by (any (marks t) && eqb (first_from 0 (marks t)) at) (beginning_append at ts us)
+  beginning_append at (t ∷ ts) us = by (any_of (marks t) && eqb (first_from 0 (marks t)) at) (beginning_append at ts us)
     where
       by : (c : Bool) → beginning marks at (ts ++ us) ≡ beginning marks at ts ++ beginning marks at us → cond c (span marks t ∷ beginning marks at (ts ++ us)) (beginning marks at (ts ++ us)) ≡ cond c (span marks t ∷ beginning marks at ts) (beginning marks at ts) ++ beginning marks at us
       by true e = ap (λ l. span marks t ∷ l) e

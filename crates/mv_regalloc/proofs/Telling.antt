@@ -2,8 +2,8 @@
 use Rattle.std.proofs.Common.{arith, ◌≡◌, ℕ, suc, ◌+◌, ◌-◌, ◌*◌, ◌/◌, ◌<◌, ◌≤◌, Bool, true, false, cond, eqb, not, ◌&&◌, ◌||◌, List, [], ◌∷◌, length, drop, map, reverse, refl, sym, ap, ◌∙◌, subst, ◌⊎◌, inl, inr}
 use Rattle.std.specs.Prelude.{slice_index, replicate}
 use Rattle.std.proofs.lemmas.Bool.{cases_eq, eq-eqb, ne_eqb}
-use Rattle.std.proofs.lemmas.List.{drop_all, drop_more, get_or-map, get_or-reverse, length-drop, length-map, length-reverse}
-use Rattle.mv_ir.specs.Live.{mark_at, any, marks_length}
+use Rattle.std.proofs.lemmas.List.{drop_all, drop_more, get_or-map, get_or-reverse, length-drop, length-map, length-reverse, length-replicate}
+use Rattle.mv_ir.specs.Live.{mark_at, marks_length}
 use Rattle.mv_regalloc.specs.declared.parts.Part.{Part}
 use Rattle.mv_regalloc.specs.declared.told.Firsts.{Firsts}
 use Rattle.mv_regalloc.specs.declared.told.Places.{Places}
@@ -13,13 +13,13 @@ use Rattle.mv_regalloc.specs.Rows.{Bits}
 use Rattle.mv_regalloc.specs.Shared.{bits_at}
 use Rattle.mv_regalloc.specs.Spanned.{AreCounts, behind_last, column, from_first}
 use Rattle.mv_regalloc.specs.Told.{AreTold, IsAllTold, IsPartTold, IsPut, IsRowTold}
-use Rattle.mv_regalloc.proofs.BodySpans.{long_zeros}
 use Rattle.mv_regalloc.proofs.PartWords.{at_each, even_place, even_word, odd_place, odd_word, word_here}
 use Rattle.mv_regalloc.proofs.Positions.{column_long, none_last}
 use Rattle.mv_regalloc.proofs.Putting.{put_as, put_none}
 use Rattle.mv_regalloc.proofs.SharedSets.{bit_in}
 use Rattle.mv_regalloc.proofs.WordBits.{none_in}
 use Rattle.mv_num.proofs.Numbers.{zeros_at}
+use Rattle.mv_ast.specs.Names.{any_of}
 
 -- ---- some temporaries
 
@@ -35,21 +35,18 @@ told_none v s = record {
 }
 
 module _ (v : ℕ) (s s' s'' : Firsts) (h : AreTold v s s') where
-  long : length s'.values ≡ length s.values
-  long = h.values.long
-
   pub told_two : AreTold v s' s'' → AreTold v s s''
   told_two k = record {
     long = k.long ∙ h.long;
     values = record {
-      long = k.values.long ∙ long;
+      long = k.values.long ∙ h.values.long;
       items = λ t l. k.values.items t (next t l) ∙ ap (cond (word_bit s''.told t && not (word_bit s'.told t)) v) (h.values.items t l) ∙ by (word_bit s.told t) (word_bit s'.told t) (word_bit s''.told t) (slice_index s.values t) (h.kept t l) (k.kept t (next t l));
     };
     kept = λ t l b. k.kept t (next t l) (h.kept t l b);
   }
     where
       next : (t : ℕ) → t < length s.values → t < length s'.values
-      next t l = omega (arith, long, l)
+      next t l = omega (arith, h.values.long, l)
 
       by : (a b c : Bool) (x : ℕ) → (a ≡ true → b ≡ true) → (b ≡ true → c ≡ true) → cond (c && not b) v (cond (b && not a) v x) ≡ cond (c && not a) v x
       by true true c x f g = refl
@@ -96,15 +93,6 @@ word_told v place w s s' room long put bits = record {
 module _ (parts : List Part) (number first step v : ℕ) (s s1 s2 s3 : Firsts) (room : length s.values ≤ length s.told * 64) (own : AreTold v s s1)
     (bits : (t : ℕ) → t < length s.told * 64 → word_bit s1.told t ≡ ((eqb (t / 64) first && in_word (part_at parts number).word t) || word_bit s.told t))
     (odd : IsPartTold parts (part_at parts number).odd (first + step) (step * 2) v s1 s2) (even : IsPartTold parts (part_at parts number).even (first + step * 2) (step * 2) v s2 s3) where
-  one : length s1.values ≡ length s.values
-  one = own.values.long
-
-  two : length s2.values ≡ length s1.values
-  two = odd.told.values.long
-
-  three : length s3.values ≡ length s2.values
-  three = even.told.values.long
-
   own_told : (t : ℕ) → t < length s.values → t / 64 ≡ first → in_word (part_at parts number).word t ≡ true → word_bit s1.told t ≡ true
   own_told t l e k = bits t (omega (arith, room, l)) ∙ ap (λ c. (c && in_word (part_at parts number).word t) || word_bit s.told t) (eq-eqb (t / 64) first e) ∙ ap (λ c. c || word_bit s.told t) k
 
@@ -124,12 +112,12 @@ module _ (parts : List Part) (number first step v : ℕ) (s s1 s2 s3 : Firsts) (
   part_told = record {
     told = told_two v s s2 s3 (told_two v s s1 s2 own odd.told) even.told;
     all = λ q t l. at_each parts number first step (λ p w. t / 64 ≡ p → in_word w t ≡ true → word_bit s3.told t ≡ true)
-        (λ e k. even.told.kept t (omega (arith, three, l)) (odd.told.kept t (omega (arith, two, three, l)) (own_told t (omega (arith, one, two, three, l)) e k)))
-        (λ q e k. even.told.kept t (omega (arith, three, l)) (odd.all q t (omega (arith, three, l)) e k))
+        (λ e k. even.told.kept t (omega (arith, even.told.values.long, l)) (odd.told.kept t (omega (arith, odd.told.values.long, even.told.values.long, l)) (own_told t (omega (arith, own.values.long, odd.told.values.long, even.told.values.long, l)) e k)))
+        (λ q e k. even.told.kept t (omega (arith, even.told.values.long, l)) (odd.all q t (omega (arith, even.told.values.long, l)) e k))
         (λ q e k. even.all q t l e k) q;
     others = λ t l h.
-        even.others t (omega (arith, one, two, l)) (λ q e. sym (ap (λ w. in_word w t) (even_word parts number q)) ∙ h (2 * q + 2) (e ∙ even_place parts number first step q)) ∙
-        odd.others t (omega (arith, one, l)) (λ q e. sym (ap (λ w. in_word w t) (odd_word parts number q)) ∙ h (2 * q + 1) (e ∙ odd_place parts number first step q)) ∙
+        even.others t (omega (arith, own.values.long, odd.told.values.long, l)) (λ q e. sym (ap (λ w. in_word w t) (even_word parts number q)) ∙ h (2 * q + 2) (e ∙ even_place parts number first step q)) ∙
+        odd.others t (omega (arith, own.values.long, l)) (λ q e. sym (ap (λ w. in_word w t) (odd_word parts number q)) ∙ h (2 * q + 1) (e ∙ odd_place parts number first step q)) ∙
         own_others t l (λ e. sym (ap (λ w. in_word w t) (word_here parts number)) ∙ h 0 (e ∙ (let z : first ≡ first + step * 0 = omega arith in z)));
   }
 
@@ -190,7 +178,7 @@ row_told parts number v s s' h = record {
 pub record EndsSoFar (rows : List Bits) (n : ℕ) (s : Firsts) : Type 0 where
   pub long : length s.values ≡ n
   pub room : n ≤ length s.told * 64
-  pub told : (t : ℕ) → t < n → word_bit s.told t ≡ any (column t rows)
+  pub told : (t : ℕ) → t < n → word_bit s.told t ≡ any_of (column t rows)
   pub values : (t : ℕ) → t < n → slice_index s.values t ≡ behind_last (column t rows)
 
 module _ (parts : List Part) (number n : ℕ) (s s' : Firsts) where
@@ -210,11 +198,11 @@ module _ (parts : List Part) (number n : ℕ) (s s' : Firsts) where
     room = (let a = k.room in let b = h.long in omega (arith, a, b));
     told = λ t l. next_told v h k.long t l ∙ ap (λ c. mark_at row t || c) (k.told t l);
     values = λ t l.
-        next_value v h k.long t l ∙ ap (λ c. cond (mark_at row t && not c) v (slice_index s.values t)) (k.told t l) ∙ ap (cond (mark_at row t && not (any (column t rows))) v) (k.values t l) ∙
-        by (mark_at row t) (column t rows) (any (column t rows)) refl (e ∙ sym (column_long t rows));
+        next_value v h k.long t l ∙ ap (λ c. cond (mark_at row t && not c) v (slice_index s.values t)) (k.told t l) ∙ ap (cond (mark_at row t && not (any_of (column t rows))) v) (k.values t l) ∙
+        by (mark_at row t) (column t rows) (any_of (column t rows)) refl (e ∙ sym (column_long t rows));
   }
     where
-      by : (r : Bool) (xs : List Bool) (a : Bool) → any xs ≡ a → v ≡ marks_length xs → cond (r && not (any xs)) v (behind_last xs) ≡ cond (any xs) (behind_last xs) (cond r (marks_length xs) 0)
+      by : (r : Bool) (xs : List Bool) (a : Bool) → any_of xs ≡ a → v ≡ marks_length xs → cond (r && not (any_of xs)) v (behind_last xs) ≡ cond (any_of xs) (behind_last xs) (cond r (marks_length xs) 0)
       by r xs true a m = ap (λ c. cond (r && not c) v (behind_last xs)) a ∙ off r ∙ ap (λ c. cond c (behind_last xs) (cond r (marks_length xs) 0)) (sym a)
         where
           off : (r : Bool) → cond (r && false) v (behind_last xs) ≡ behind_last xs
@@ -276,10 +264,10 @@ begins_all all n s h = record { long = h.long; items = λ t l. by t l (word_bit 
 
 module _ (n : ℕ) (s : Firsts) (values : s.values ≡ replicate n 0) (told : s.told ≡ replicate (n / 64 + 1) 0) where
   fresh_long : length s.values ≡ n
-  fresh_long = ap (λ l. length l) values ∙ long_zeros n
+  fresh_long = ap (λ l. length l) values ∙ length-replicate n 0
 
   fresh_room : n ≤ length s.told * 64
-  fresh_room = let a = ap (λ l. length l) told ∙ long_zeros (n / 64 + 1) in omega (arith, a)
+  fresh_room = let a = ap (λ l. length l) told ∙ length-replicate (n / 64 + 1) 0 in omega (arith, a)
 
   fresh_value : (t : ℕ) → slice_index s.values t ≡ 0
   fresh_value t = ap (λ l. slice_index l t) values ∙ zeros_at n t

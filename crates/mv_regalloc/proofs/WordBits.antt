@@ -1,5 +1,5 @@
 -- Bits in words: what an edit of a word does to them.
-use Rattle.std.proofs.Common.{arith, ◌≡◌, ℕ, zero, suc, ◌-◌, ◌*◌, ◌/◌, ◌%◌, ◌^◌, ◌<◌, ◌≤◌, min, max, Bool, true, false, cond, eqb, not, ◌&&◌, ◌||◌, List, length, get_or, refl, sym, ap, ◌∙◌, ◌⊎◌, inl, inr, w64, bit_or, bit_and}
+use Rattle.std.proofs.Common.{arith, ◌≡◌, ℕ, zero, suc, ◌-◌, ◌*◌, ◌/◌, ◌%◌, ◌^◌, ◌<◌, ◌≤◌, min, max, true, false, cond, eqb, not, ◌&&◌, ◌||◌, List, length, get_or, refl, sym, ap, ◌∙◌, ◌⊎◌, inl, inr, w64, bit_or, bit_and}
 use Rattle.std.specs.Prelude.{slice_set}
 use Rattle.std.specs.Int.{bit_at, bit_not, trailing_zeros}
 use Rattle.std.proofs.lemmas.List.{get_or-set_same, get_or-set_other}
@@ -90,14 +90,6 @@ unfolding in_word
 none_in t = ap (λ v. eqb v 1) (bit_at-zero (t % 64))
 
 -- ---- the words of so many bits
-
-all : (c : Bool) → c ≡ (c && true)
-all true = refl
-all false = refl
-
-none : (c : Bool) → false ≡ (c && false)
-none true = refl
-none false = refl
 
 pub bits_except : (a b t : ℕ) → b < 2 ^ 64 → in_word (bit_and a (bit_not w64 b)) t ≡ (in_word a t && not (in_word b t))
 unfolding in_word

@@ -2,11 +2,12 @@
 use Rattle.std.specs.Prelude.{ℕ, zero, suc, ◌+◌, ◌-◌, ◌≡◌, ◌<◌, ◌≤◌, Bool, cond, eqb, ◌&&◌, List, [], ◌∷◌, ◌++◌}
 use Rattle.mv_ir.specs.declared.body.Body.{Body}
 use Rattle.mv_ir.specs.Keeps.{KeepsBody}
-use Rattle.mv_ir.specs.Live.{any, marks_length, all_marks, most_intervals, IsWhole, HasTemps}
+use Rattle.mv_ir.specs.Live.{marks_length, all_marks, most_intervals, IsWhole, HasTemps}
 use Rattle.mv_ir.specs.WellFormed.{IsWellFormed}
 use Rattle.mv_ir.specs.Measures.{statements, calls, tree_nodes, deepest, scalars_read, arrays_read}
 use Rattle.mv_regalloc.specs.Scan.{Interval, Placed, scan}
 use Rattle.mv_regalloc.specs.Rename.{renamed}
+use Rattle.mv_ast.specs.Names.{any_of}
 
 -- the first and the last marked position, where the list begins at a position and one is marked
 abbrev pub first_from : ℕ → List Bool → ℕ
@@ -15,7 +16,7 @@ first_from at (x ∷ xs) = cond x at (first_from (suc at) xs)
 
 abbrev pub last_from : ℕ → List Bool → ℕ
 last_from at [] = at
-last_from at (x ∷ xs) = cond (any xs) (last_from (suc at) xs) at
+last_from at (x ∷ xs) = cond (any_of xs) (last_from (suc at) xs) at
 
 abbrev pub span : (ℕ → List Bool) → ℕ → Interval
 span marks t = record { temp = t; first = first_from 0 (marks t); last = last_from 0 (marks t) }
@@ -23,7 +24,7 @@ span marks t = record { temp = t; first = first_from 0 (marks t); last = last_fr
 -- the intervals of some temporaries that begin at a position
 abbrev pub beginning : (ℕ → List Bool) → ℕ → List ℕ → List Interval
 beginning marks at [] = []
-beginning marks at (t ∷ ts) = cond (any (marks t) && eqb (first_from 0 (marks t)) at) (span marks t ∷ beginning marks at ts) (beginning marks at ts)
+beginning marks at (t ∷ ts) = cond (any_of (marks t) && eqb (first_from 0 (marks t)) at) (span marks t ∷ beginning marks at ts) (beginning marks at ts)
 
 -- those that begin at one of so many positions from one on, in the order of these
 abbrev pub by_first : (ℕ → List Bool) → List ℕ → ℕ → ℕ → List Interval
@@ -40,9 +41,17 @@ abbrev pub given : (ℕ → List Bool) → ℕ → List Placed
 given marks zero = []
 given marks (suc n) = record { interval = span marks n; number = n } ∷ given marks n
 
--- the parameters, and then the others in the order of their first positions
+-- how many positions a body has
+abbrev pub positions : Body → ℕ
+positions b = marks_length (all_marks b 0)
+
+-- the intervals of the temporaries that aren't parameters, in the order of their first positions
+abbrev pub others : Body → List Interval
+others b = by_first (all_marks b) (range b.params (b.temps - b.params)) 0 (positions b)
+
+-- the parameters, and then the others
 abbrev pub allotted : Body → List Placed
-allotted b = scan (given (all_marks b) b.params) (by_first (all_marks b) (range b.params (b.temps - b.params)) 0 (marks_length (all_marks b 0)))
+allotted b = scan (given (all_marks b) b.params) (others b)
 
 -- The second body means what the first means, at no greater cost. It has as many temporaries as there are intervals
 -- over one position at most, and no more intervals over a position. It is whole as well, its temporaries are its own,

@@ -1,7 +1,8 @@
 -- The spans of temporaries as they are counted from the end of a body.
 use Rattle.std.specs.Prelude.{ℕ, suc, ◌≡◌, ◌<◌, Bool, true, cond, List, [], ◌∷◌, length, map, slice_index, slice_set, zero}
-use Rattle.mv_ir.specs.Live.{mark_at, any, marks_length}
+use Rattle.mv_ir.specs.Live.{mark_at, marks_length}
 use Rattle.mv_regalloc.specs.Rows.{Bits}
+use Rattle.mv_ast.specs.Names.{any_of}
 
 -- for each temporary how many positions there are from its first one on, or 0 where it has none, and how many there
 -- are behind its last one; of so many positions
@@ -22,7 +23,7 @@ from_first (x ∷ xs) = cond x (suc (marks_length xs)) (from_first xs)
 -- how many positions there are behind the last marked one
 abbrev pub behind_last : List Bool → ℕ
 behind_last [] = 0
-behind_last (x ∷ xs) = cond (any xs) (behind_last xs) (cond x (marks_length xs) 0)
+behind_last (x ∷ xs) = cond (any_of xs) (behind_last xs) (cond x (marks_length xs) 0)
 
 -- a count of the marks of each of the first n temporaries
 pub record AreCounts (count : List Bool → ℕ) (rows : List Bits) (n : ℕ) (xs : List ℕ) : Type 0 where

@@ -15,7 +15,7 @@ use Rattle.mv_ast.specs.declared.program.Stmt.{Stmt, Stmt-F, map-Stmt, roll-Stmt
 use Rattle.mv_ast.specs.declared.program.Stmt.TheOpen as stmt
 use Rattle.mv_ast.specs.declared.program.Arm.{Arm, Arm-F, fold-Arm, map-Arm, roll-Arm, every-Arm, every_made-Arm, fold-roll-Arm}
 use Rattle.mv_ast.specs.Counts.{words_of_size, form_sum, target_sum, one_more_than, expr_nodes, form_nodes, target_nodes, stmt_nodes_step, arm_nodes_step, stmt_nodes, arm_nodes}
-use Rattle.mv_source_forms.specs.Uses.{all_layer, all_arm_layer, all_expressions, form_calls_known, target_in_parts, calls_known}
+use Rattle.mv_source_forms.specs.Uses.{all_layer, all_arm_layer, all_expressions, form_calls_known, target_in_parts, calls_known, target_calls_known}
 use Rattle.mv_source_forms.specs.WellFormed.{program_nodes, IsWellFormedFunction, IsWellFormed}
 use Rattle.mv_source_forms.specs.Typing.{HasType, LvalueHasType, HasTypedParts, IsTypedExpr, IsTypedAt, local_types, IsTypedStmt, IsTypedFunction}
 use Rattle.mv_ast.specs.Names.{names_local, form_names, target_names, inner_names, target_names_local}
@@ -144,16 +144,13 @@ module _ (p : Program) where
   abbrev form_known : Form → Bool
   form_known = fold-Form Bool Bool Bool (form_calls_known p) target_in_parts layer_in
 
-  abbrev target_known : Target → Bool
-  target_known = fold-Target Bool Bool Bool (form_calls_known p) target_in_parts layer_in
-
   known_at : (x : Expr-F Form Target Expr) → calls_known p (roll-Expr x) ≡ form_known x.what
   known_at x = fold-roll-Expr Bool Bool Bool (form_calls_known p) target_in_parts layer_in x
 
-  form_known_at : (x : Form-F Form Target Expr) → form_known (roll-Form x) ≡ form_calls_known p (map-Form Form Target Expr Bool Bool Bool form_known target_known (calls_known p) x)
+  form_known_at : (x : Form-F Form Target Expr) → form_known (roll-Form x) ≡ form_calls_known p (map-Form Form Target Expr Bool Bool Bool form_known (target_calls_known p) (calls_known p) x)
   form_known_at x = fold-roll-Form Bool Bool Bool (form_calls_known p) target_in_parts layer_in x
 
-  target_known_at : (x : Target-F Form Target Expr) → target_known (roll-Target x) ≡ target_in_parts (map-Target Form Target Expr Bool Bool Bool form_known target_known (calls_known p) x)
+  target_known_at : (x : Target-F Form Target Expr) → target_calls_known p (roll-Target x) ≡ target_in_parts (map-Target Form Target Expr Bool Bool Bool form_known (target_calls_known p) (calls_known p) x)
   target_known_at x = fold-roll-Target Bool Bool Bool (form_calls_known p) target_in_parts layer_in x
 
 module _ (holds : Expr → Bool) where

@@ -7,7 +7,7 @@ use Rattle.mv_ast.specs.declared.program.Known.TheVariants.{Getchar, Putchar, Po
 use Rattle.mv_ast.specs.declared.program.Expr.{Expr, fold-Expr}
 use Rattle.mv_ast.specs.declared.program.Form.{Form-F}
 use Rattle.mv_ast.specs.declared.program.Form.TheOpen as form
-use Rattle.mv_ast.specs.declared.program.Target.{Target-F}
+use Rattle.mv_ast.specs.declared.program.Target.{Target-F, Target, fold-Target}
 use Rattle.mv_ast.specs.declared.program.Stmt.{Stmt, Stmt-F, fold-Stmt}
 use Rattle.mv_ast.specs.declared.program.Arm.{Arm-F}
 use Rattle.mv_ast.specs.Layers.{target_parts, stmt_parts, stmt_expressions}
@@ -56,6 +56,10 @@ target_in_parts t = all_of (target_parts t)
 -- whether the known functions that an expression calls have their arguments
 abbrev pub calls_known : Program → Expr → Bool
 calls_known p = fold-Expr Bool Bool Bool (form_calls_known p) target_in_parts layer_in
+
+-- the same of an lvalue
+abbrev pub target_calls_known : Program → Target → Bool
+target_calls_known p = fold-Target Bool Bool Bool (form_calls_known p) target_in_parts layer_in
 
 -- ---- switches
 

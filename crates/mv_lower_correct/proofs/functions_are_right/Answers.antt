@@ -6,9 +6,11 @@ use Rattle.mv_meaning.specs.declared.state.Frame.{Frame}
 use Rattle.mv_meaning.specs.declared.state.Flow.{Flow}
 use Rattle.mv_meaning.specs.Meaning.{back_in, flow_of_all, frame_of, deeper, context_at, returned_value}
 use Rattle.mv_ir.specs.Outcome.{Call, Returned}
+use Rattle.mv_ir.specs.KnownFunctions.{seen}
 use Rattle.mv_source_forms.specs.Names.{is_void}
-use Rattle.mv_lower_spec.specs.Correct.{seen, result_of, end_of}
+use Rattle.mv_lower_spec.specs.Correct.{end_of}
 use Rattle.mv_lower_spec.specs.Law.{strict_context}
+use Rattle.mv_lower_spec.specs.Lowered.{unless_void}
 use Rattle.mv_lower_correct.specs.Laws.{IsCall, goes_astray}
 use Rattle.mv_source_forms.specs.WellFormed.{parameters}
 use Rattle.mv_lower_correct.proofs.Agreement.{agree_refl, AlikeOutcome}
@@ -25,7 +27,7 @@ back : (p : Program) (void : Bool) (live : ℕ) (x : Call) (f : Frame) (w : Worl
 back p void live x f w (Came flow a left work) (Came flow' a' left' work') scope inner b c k e h =
     let cost : x.cost ≡ h.cost = ap (λ (y : Call). y.cost) h.ends in
     let same : work ≡ work' = k.work in (
-      ap (λ (y : Call). y.end) h.ends ∙ ap (λ (y : Flow). Returned (result_of void (returned_value y)) (seen left)) k.value ∙ ap (λ (y : World). Returned (result_of void (returned_value flow')) (seen y)) k.world,
+      ap (λ (y : Call). y.end) h.ends ∙ ap (λ (y : Flow). Returned (unless_void void (returned_value y)) (seen left)) k.value ∙ ap (λ (y : World). Returned (unless_void void (returned_value flow')) (seen y)) k.world,
       omega (arith, cost, same, h.paid),
     )
 back p void live x f w (Came flow a left work) (Stopped why left' work') scope inner b c k e h = absurd k

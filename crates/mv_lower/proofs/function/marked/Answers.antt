@@ -1,7 +1,7 @@
 use Rattle.std.proofs.Common.{ℕ, ◌≡◌, ◌+◌, ◌<◌, ◌≤◌, ◌∷◌, [], ◌++◌, List, true, false, ◌&&◌, cond, length, get_or, drop, sym, ap, ◌∙◌, arith, subst, append-nil}
 use Rattle.mv_ast.specs.declared.program.Function.{Function}
+use Rattle.mv_ast.specs.Flags.{is_set}
 use Rattle.mv_lower_spec.specs.Functions.{marked_from}
-use Rattle.mv_lower.specs.Programs.{is_set}
 use Rattle.mv_lower.proofs.Bodies.{kept_step, marked_next, marked_end}
 use Rattle.mv_lower.proofs.function.marked.Goals as goal
 use Rattle.mv_lower.proofs.function.marked.Goals.{then-is_marked+in_ok-push, else-is_marked}

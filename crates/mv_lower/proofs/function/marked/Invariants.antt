@@ -1,7 +1,7 @@
 use Rattle.std.proofs.Common.{◌≡◌, ◌++◌, drop}
 use Rattle.mv_lower_spec.specs.Functions.{marked_from}
-use Rattle.mv_lower.specs.Programs.{is_set}
 use Rattle.mv_lower.proofs.function.marked.Given as goal
+use Rattle.mv_ast.specs.Flags.{is_set}
 
 abbrev pub invariant-loop-function : goal.invariant-loop-function
 invariant-loop-function l =

@@ -2,7 +2,9 @@
 use Rattle.std.proofs.Common.{◌≡◌, ℕ, ◌+◌, List, [], ◌∷◌, ◌++◌, refl, sym, ◌∙◌, ap, arith}
 use Rattle.mv_ast.specs.Worlds.{World, Outcome, Came, Stopped, after, and_then, bind, give}
 use Rattle.mv_meaning.specs.declared.state.Frame.{Frame}
-use Rattle.mv_meaning.specs.Meaning.{Evaluation, Denotation, values_of}
+use Rattle.mv_meaning.specs.declared.state.Flow.{Flow}
+use Rattle.mv_meaning.specs.declared.state.Flow.TheVariants.{Goes, Breaks, Continues, Returns}
+use Rattle.mv_meaning.specs.Meaning.{Evaluation, Denotation, values_of, in_order, then_on}
 
 pub after_zero : {A : Type 0} (o : Outcome Frame A) → after 0 o ≡ o
 after_zero (Came v f w k) = ap (λ j. Came v f w j) (omega arith)
@@ -31,6 +33,20 @@ assoc m g h f w = by (m f w)
 
 pub given : {A B : Type 0} (v : A) (h : A → Evaluation B) (f : Frame) (w : World) → bind (give v) h f w ≡ h v f w
 given v h f w = after_zero (h v f w)
+
+-- statements in order
+pub in_order_both : (xs ys : List (Evaluation Flow)) (f : Frame) (w : World) → in_order (xs ++ ys) f w ≡ bind (in_order xs) (λ flow. then_on flow (in_order ys)) f w
+in_order_both [] ys f w = sym (given Goes (λ flow. then_on flow (in_order ys)) f w)
+in_order_both (x ∷ xs) ys f w =
+    under (x f w) (λ flow. then_on flow (in_order (xs ++ ys))) (λ flow. bind (then_on flow (in_order xs)) (λ fl. then_on fl (in_order ys))) (by (λ f1 w1. in_order_both xs ys f1 w1)) ∙
+    sym (assoc x (λ flow. then_on flow (in_order xs)) (λ fl. then_on fl (in_order ys)) f w)
+  where
+    by : ((f1 : Frame) (w1 : World) → in_order (xs ++ ys) f1 w1 ≡ bind (in_order xs) (λ flow. then_on flow (in_order ys)) f1 w1) →
+        (flow : Flow) (f1 : Frame) (w1 : World) → then_on flow (in_order (xs ++ ys)) f1 w1 ≡ bind (then_on flow (in_order xs)) (λ fl. then_on fl (in_order ys)) f1 w1
+    by rest Goes f1 w1 = rest f1 w1
+    by rest Breaks f1 w1 = sym (given Breaks (λ fl. then_on fl (in_order ys)) f1 w1)
+    by rest Continues f1 w1 = sym (given Continues (λ fl. then_on fl (in_order ys)) f1 w1)
+    by rest (Returns v) f1 w1 = sym (given (Returns v) (λ fl. then_on fl (in_order ys)) f1 w1)
 
 -- the new value of a compound assignment, and then its store
 pub changed_and_stored : (ma old : Evaluation ℕ) (new : ℕ → ℕ → Evaluation ℕ) (into : ℕ → ℕ) (store : ℕ → Evaluation ℕ) (f : Frame) (w : World) →
