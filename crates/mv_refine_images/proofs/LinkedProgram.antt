@@ -17,7 +17,7 @@ use Rattle.mv_refine_images.specs.Layouts.{address_of, numbers_of, layout_of}
 use Rattle.mv_refine_images.specs.Closed.{closed}
 use Rattle.mv_refine_images.proofs.Facts.{Laws}
 
-pub record LinkedProgram : Type 1 where
+pub record LinkedProgram : Type 0 where
   pub parts : Parts
   pub sizing : List ℕ
   pub y : Layout
