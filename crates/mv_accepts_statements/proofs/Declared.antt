@@ -39,8 +39,7 @@ use Rattle.mv_accepts_statements.proofs.Values.{values_new}
 use Rattle.mv_num.proofs.Lists.{last_there}
 
 module _ (x : Passage) where
-  abbrev f : Function
-  f = x.function
+  open x use {function as f}
 
   -- ---- a local under a name
 

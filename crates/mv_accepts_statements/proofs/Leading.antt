@@ -1,7 +1,6 @@
 -- What leads from one scope of a function to a later one.
 use Rattle.std.proofs.Common.{◌≡◌, ℕ, ◌⊎◌, inl, inr, sym, ◌∙◌, ap, subst, List, Some}
 use Rattle.mv_ast.specs.declared.program.CType.TheVariants.{Pointer}
-use Rattle.mv_ast.specs.declared.program.Program.{Program}
 use Rattle.mv_ast.specs.declared.program.Function.{Function}
 use Rattle.mv_ast.specs.declared.program.Signature.{Signature}
 use Rattle.mv_check_scope.specs.declared.meaning.Meaning.{Meaning}
@@ -19,11 +18,7 @@ use Rattle.mv_accepts_statements.proofs.Property.{Passage, Holds}
 use Rattle.mv_accepts_statements.proofs.Growing.{Enumerates, grows_same, grows_joined, grows_block, names_back}
 
 module _ (x : Passage) where
-  abbrev p : Program
-  p = x.program
-
-  abbrev f : Function
-  f = x.function
+  open x use {program as p, function as f}
 
   abbrev pub Holding : Scope → Type 0
   Holding = Holds x.program x.function x.of_name

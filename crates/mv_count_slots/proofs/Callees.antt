@@ -11,14 +11,15 @@ use Rattle.mv_select_trees.specs.Rooms.{place_in}
 use Rattle.mv_select_control.specs.Layouts.{size_in}
 use Rattle.mv_select_calls.specs.CallCode.{is_marked}
 use Rattle.mv_select_functions.specs.Functions.{shape_of}
-use Rattle.mv_lower_spec.specs.Functions.{functions_called}
+use Rattle.mv_lower_spec.specs.Functions.{functions_called, lower_function}
 use Rattle.mv_lower_shape.specs.Calls.{code_weight, function_weight}
 use Rattle.mv_lower_shape.specs.Law.{LoweredCallAsOften}
 use Rattle.mv_regalloc.specs.Intervals.{IsRenamed}
 use Rattle.mv_parts_bound.specs.Slots.{slot_weight, weight_where, SlotsWeighAsCalls}
+use Rattle.mv_parts_bound.proofs.FewSlots.{marked_attributed}
 use Rattle.mv_select.specs.Selected.{selected_lines}
 use Rattle.mv_count_slots.specs.Calls.{once_for, CalleesHaveSlots}
-use Rattle.mv_count_slots.proofs.Calls.{each_among, lowered, marked_attributed, other, no_other, same_renamed}
+use Rattle.mv_count_slots.proofs.Calls.{each_among, other, no_other, same_renamed}
 use Rattle.mv_count_slots.proofs.Weights.{AddUp, weights_add}
 
 module _ (p : Program) (g : Function) (weight : ℕ → ℕ) where
@@ -26,7 +27,7 @@ module _ (p : Program) (g : Function) (weight : ℕ → ℕ) where
   has_entry f = is_attributed (slice_get p.functions f)
 
   abbrev marked : ℕ → Bool
-  marked = is_marked (lowered p g).marked
+  marked = is_marked (lower_function p g).marked
 
   adds : (f : ℕ) → AddUp (weight_where has_entry weight) (weight_where marked weight) (other p g weight) f
   adds f = by (marked f) (has_entry f) (marked_attributed p g f)
@@ -37,18 +38,18 @@ module _ (p : Program) (g : Function) (weight : ℕ → ℕ) where
       by false a h = omega arith
 
   -- the calls of marked functions are those of attributed ones
-  same_weight : code_weight (weight_where has_entry weight) 0 (lowered p g).code ≡ code_weight (weight_where marked weight) 0 (lowered p g).code
+  same_weight : code_weight (weight_where has_entry weight) 0 (lower_function p g).code ≡ code_weight (weight_where marked weight) 0 (lower_function p g).code
   same_weight =
-      let all = weights_add (weight_where has_entry weight) (weight_where marked weight) (other p g weight) (lowered p g).code
-      (each_among (AddUp (weight_where has_entry weight) (weight_where marked weight) (other p g weight)) (functions_called (lowered p g).code) (λ f c. adds f)) in
+      let all = weights_add (weight_where has_entry weight) (weight_where marked weight) (other p g weight) (lower_function p g).code
+      (each_among (AddUp (weight_where has_entry weight) (weight_where marked weight) (other p g weight)) (functions_called (lower_function p g).code) (λ f c. adds f)) in
       omega (arith, all, no_other p g weight)
 
-  slots_weigh_calls : SlotsWeighAsCalls → (b : Body) → IsRenamed (lowered p g) b → (attributed : Bool)
-      → slot_weight weight (selected_lines attributed b) ≡ code_weight (weight_where has_entry weight) 0 (lowered p g).code
+  slots_weigh_calls : SlotsWeighAsCalls → (b : Body) → IsRenamed (lower_function p g) b → (attributed : Bool)
+      → slot_weight weight (selected_lines attributed b) ≡ code_weight (weight_where has_entry weight) 0 (lower_function p g).code
   slots_weigh_calls weigh b r attributed =
       weigh (place_in b.rooms) (size_in b.rooms) (is_marked b.marked) (shape_of attributed b) b.code weight
       ∙ ap (λ fs. code_weight (weight_where (is_marked fs) weight) 0 b.code) (ap (λ (x : Body). x.marked) r.changes)
-      ∙ same_renamed (lowered p g) b r (weight_where marked weight) ∙ sym same_weight
+      ∙ same_renamed (lower_function p g) b r (weight_where marked weight) ∙ sym same_weight
 
 -- the weight of one attributed function
 once_is : (p : Program) (k f : ℕ) → is_attributed (slice_get p.functions k) ≡ true → weight_where (λ j. is_attributed (slice_get p.functions j)) (once_for k) f ≡ once_for k f

@@ -20,7 +20,7 @@ use Rattle.mv_lower_shape.specs.Calls.{code_weight, attributed_once}
 use Rattle.mv_lower_shape.specs.Law.{LoweredCallAsOften}
 use Rattle.mv_regalloc.specs.Intervals.{IsRenamed}
 use Rattle.mv_parts_bound.specs.Slots.{slots, one_each, SlotsAreCalls}
-use Rattle.mv_parts_bound.proofs.FewSlots.{Among, marked_among}
+use Rattle.mv_parts_bound.proofs.FewSlots.{Among, marked_attributed}
 use Rattle.mv_parts_bound.proofs.Meant.{made}
 use Rattle.mv_parts_bound.proofs.Variants.{made_calls, worked_calls}
 use Rattle.mv_select.specs.Selected.{selected_lines}
@@ -68,53 +68,45 @@ each_among P (f ∷ fs) h =
 -- ---- no call of a function that is attributed and isn't marked
 
 module _ (p : Program) (g : Function) where
-  abbrev pub lowered : Body
-  lowered = lower_function p g
-
   abbrev is_called : ℕ → Bool
-  is_called f = is_among f (functions_called lowered.code)
-
-  pub marked_attributed : (f : ℕ) → is_marked lowered.marked f ≡ true → is_attributed (slice_get p.functions f) ≡ true
-  marked_attributed f e =
-      let (i, at, is) = marked_among is_called f 0 p.functions e in
-      let same : i ≡ f = omega (arith, at) in subst (λ k. is_attributed (slice_get p.functions k) ≡ true) same is
+  is_called f = is_among f (functions_called (lower_function p g).code)
 
   -- the weight of each attributed function that isn't marked
   abbrev pub other : (weight : ℕ → ℕ) → ℕ → ℕ
-  other weight f = cond (is_marked lowered.marked f) 0 (cond (is_attributed (slice_get p.functions f)) (weight f) 0)
+  other weight f = cond (is_marked (lower_function p g).marked f) 0 (cond (is_attributed (slice_get p.functions f)) (weight f) 0)
 
   none_other : (weight : ℕ → ℕ) (f : ℕ) → is_called f ≡ true → other weight f ≡ 0
-  none_other weight f c = by (is_marked lowered.marked f) (is_attributed (slice_get p.functions f)) (λ a. among_marked is_called f 0 p.functions c (f, omega arith, a))
+  none_other weight f c = by (is_marked (lower_function p g).marked f) (is_attributed (slice_get p.functions f)) (λ a. among_marked is_called f 0 p.functions c (f, omega arith, a))
     where
       by : (m a : Bool) → (a ≡ true → m ≡ true) → cond m 0 (cond a (weight f) 0) ≡ 0
       by true a h = refl
       by false true h = absurd (let bad : false ≡ true = h refl in cc)
       by false false h = refl
 
-  pub no_other : (weight : ℕ → ℕ) → code_weight (other weight) 0 lowered.code ≡ 0
+  pub no_other : (weight : ℕ → ℕ) → code_weight (other weight) 0 (lower_function p g).code ≡ 0
   no_other weight =
-      let twice = weights_add (other weight) (other weight) (other weight) lowered.code
-      (each_among (AddUp (other weight) (other weight) (other weight)) (functions_called lowered.code) (λ f c. let none = none_other weight f c in omega (arith, none))) in
+      let twice = weights_add (other weight) (other weight) (other weight) (lower_function p g).code
+      (each_among (AddUp (other weight) (other weight) (other weight)) (functions_called (lower_function p g).code) (λ f c. let none = none_other weight f c in omega (arith, none))) in
       omega (arith, twice)
 
   -- ---- calls
 
   abbrev once : ℕ → ℕ
-  once = one_each (is_marked lowered.marked)
+  once = one_each (is_marked (lower_function p g).marked)
 
   -- one for each other attributed function
   abbrev one_other : ℕ → ℕ
   one_other = other (λ f. 1)
 
   all_counted : (f : ℕ) → AddUp (attributed_once p) once one_other f
-  all_counted f = by (is_marked lowered.marked f) (λ e. ap (λ b. cond b 1 0) (marked_attributed f e))
+  all_counted f = by (is_marked (lower_function p g).marked f) (λ e. ap (λ b. cond b 1 0) (marked_attributed p g f e))
     where
       by : (b : Bool) → (b ≡ true → attributed_once p f ≡ 1) → attributed_once p f ≡ cond b 1 0 + cond b 0 (attributed_once p f)
       by true h = let one = h refl in omega (arith, one)
       by false h = omega arith
 
   -- so in a body that calls no function more often, the calls of attributed functions are those of marked ones
-  same_calls : (b : Body) → code_weight one_other 0 b.code ≤ code_weight one_other 0 lowered.code → marked_calls lowered.marked b.code ≡ attributed_calls p b.code
+  same_calls : (b : Body) → code_weight one_other 0 b.code ≤ code_weight one_other 0 (lower_function p g).code → marked_calls (lower_function p g).marked b.code ≡ attributed_calls p b.code
   same_calls b fewer =
       let all = weights_add (attributed_once p) once one_other b.code (each_among (AddUp (attributed_once p) once one_other) (functions_called b.code) (λ f c. all_counted f)) in
       let none = no_other (λ f. 1) in

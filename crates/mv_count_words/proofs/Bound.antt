@@ -13,15 +13,14 @@ use Rattle.mv_descriptors.specs.declared.rows.GuardRow.{GuardRow}
 use Rattle.mv_descriptors.specs.declared.rows.VariantRow.{VariantRow}
 use Rattle.mv_descriptors.specs.Guards.{fitting, holds}
 use Rattle.mv_isa.specs.declared.instr.Cause.TheVariants as cause
-use Rattle.mv_isa.specs.Execution.{reg}
 use Rattle.mv_fetch.specs.Held.{Held}
 use Rattle.mv_image.specs.Patched.{variants_before, guards_before, kinds_of, fitting_in, fitting_variant, variant_under}
 use Rattle.mv_image.specs.Spelling.{Fields}
 use Rattle.mv_image.proofs.RowsFit.{functions_fit}
 use Rattle.mv_patch.specs.Orders.{bound_values, bound_now, next_binding, words_now, word_in, ordered_rows, is_ordered, is_known_order, bindings_after, plan_of}
 use Rattle.mv_patch.proofs.Rebinding.{ordered_count}
-use Rattle.mv_machine.specs.Runs.{State, Fault, Request, Exits, Reads, Writes, Traps, Plans, Polls, Unknown, argument, answered, stopped, live_frames, refused, ordered, planned, act, acted, polled, with_value, environment_call, runs_from, first}
-use Rattle.mv_refine_machine.proofs.Keeping.{runs_keep}
+use Rattle.mv_machine.specs.Runs.{State, Fault, answered, stopped, live_frames, refused, ordered, planned, act, acted, polled, with_value, runs_from, first}
+use Rattle.mv_refine_machine.proofs.Keeping.{runs_keep, plans_keep}
 use Rattle.mv_count_words.specs.Bound.{RunsAreBound}
 use Rattle.mv_machine.proofs.Leaving.{either}
 
@@ -178,22 +177,11 @@ module _ (image : Fields) where
     unfolding polled answered
     polled_has s h = either Has (nat_eq (live_frames s) 0) (acted s s.actions) (refused s 0) (acted_has s s.actions h) h
 
-    call_has : (request : Request) (s : State) → Has s → Has (environment_call request s)
-    unfolding answered
-    call_has Exits s h = h
-    call_has Reads s h = h
-    call_has Writes s h = h
-    call_has Traps s h = h
-    call_has Plans s h = planned_has s (argument s) (reg s.regs 11) h
-    call_has Polls s h = polled_has s h
-    call_has Unknown s h = h
-
-    runs_have : (s : State) (picks : List ℕ) (n : ℕ) → Has s → Has (runs_from s picks n)
-    runs_have = runs_keep Has (record { goes = λ regs pc room s h. h; calls = call_has; faults = λ why s h. h })
-
-    first_has : (input : List (Option ℕ)) (actions : List Action) → Has (first image input actions)
+    run_has : (input : List (Option ℕ)) (actions : List Action) (picks : List ℕ) (n : ℕ) → Has (runs_from (first image input actions) picks n)
     unfolding first
-    first_has input actions = (refl, record { count = length-replicate (length image.functions) free; each = first_from 0 (length image.functions) })
+    run_has input actions picks n =
+        runs_keep Has (plans_keep Has (record { others = λ regs pc room input output stop s h. h; plans = planned_has; polls = polled_has })) (first image input actions) picks n
+        (refl, record { count = length-replicate (length image.functions) free; each = first_from 0 (length image.functions) })
 
 few_rows : (image : Fields) (rows : List FunctionRow) → ((i : ℕ) (row : FunctionRow) → slice_get rows i ≡ Some row → row.count ≤ 6) → HaveFew image rows
 few_rows image [] h = tt
@@ -202,7 +190,7 @@ few_rows image (row ∷ rows) h = (h 0 row refl, few_rows image rows (λ i x e. 
 pub runs_are_bound : RunsAreBound
 runs_are_bound image r input actions picks n =
     let few = few_rows image image.functions (λ i row e. few_switches i row e) in
-    let has = runs_have image few (first image input actions) picks n (first_has image few input actions) in record {
+    let has = run_has image few input actions picks n in record {
       count = has.1.count;
       fit = λ f b e. (let same : 0 + f ≡ f = omega arith in subst (λ m. IsOne image m b) same (from_at image 0 (runs_from (first image input actions) picks n).bindings f b has.1.each e));
     }

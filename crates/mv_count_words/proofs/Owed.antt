@@ -17,7 +17,7 @@ use Rattle.mv_linker.specs.declared.parts.Parts.{Parts}
 use Rattle.mv_linker.specs.declared.parts.PartFunction.{PartFunction}
 use Rattle.mv_linker.specs.Outcome.{IsLinked}
 use Rattle.mv_linker.specs.Tables.{function_row, place_among}
-use Rattle.mv_linker.specs.Tables as linker
+use Rattle.mv_linker.proofs.LinkedText.{linked_text}
 use Rattle.mv_linker.proofs.Sited.{among}
 use Rattle.mv_link_text.specs.Laws.{CodesAscend, PatchedCodeStands}
 use Rattle.mv_link_text.proofs.Codes.{one_number}
@@ -73,15 +73,11 @@ bool_cases P false h k = k refl
 module _ (have_slots : CalleesHaveSlots) (shows : TextShowsBindings) (unchanged : FreeTextIsUnchanged) (sites : SlotsAreSites) (ascend : CodesAscend) (patched : PatchedCodeStands)
     (p : Program) (formed : IsWellFormed p) (bodies : List Body) (tables : List (List Variant)) (parts : Parts) (are : ArePartsOf p bodies tables parts)
     (image : Fields) (linked : IsLinked parts image) (rules : Rules image) (bs : List Binding) (bound : AreBound image bs) where
-  abbrev numbers : List ℕ
-  numbers = linker.attributed_numbers parts.attributed
-
-  numbers_are : numbers ≡ attributed_numbers p
-  numbers_are = are.codes.variants.numbers
+  open linked_text parts linked.sizing linked.text use {numbers}
 
   count : length (attributed_numbers p) ≡ length image.functions
   count =
-      sym (ap (λ (ns : List ℕ). length ns) numbers_are) ∙ length-map parts.attributed (λ (a : PartFunction). a.function)
+      sym (ap (λ (ns : List ℕ). length ns) are.codes.variants.numbers) ∙ length-map parts.attributed (λ (a : PartFunction). a.function)
       ∙ sym (ap (λ (i : Fields). length i.functions) linked.image_is ∙ length-map parts.attributed (function_row (label_place parts linked.sizing)))
 
   -- ---- at least
@@ -90,7 +86,7 @@ module _ (have_slots : CalleesHaveSlots) (shows : TextShowsBindings) (unchanged 
   sites_least : (j f : ℕ) → slice_get (attributed_numbers p) j ≡ Some f → direct_calls_of f p ≤ sites_of j image.sites
   sites_least j f at =
       let h = numbered.attributed_at p j f at in
-      let here = subst (λ (ns : List ℕ). slice_get ns j ≡ Some f) (sym numbers_are) at in
+      let here = subst (λ (ns : List ℕ). slice_get ns j ≡ Some f) (sym are.codes.variants.numbers) at in
       let place = one_number parts are.fit (place_among numbers f) j f (among numbers f j here).there here in
       let calls = slots_are_calls have_slots p formed bodies are.codes.generics parts.functions are.codes.code f (ap is_attributed h.there ∙ h.attributed) in
       let least = sites parts image linked f in

@@ -16,7 +16,8 @@ use Rattle.mv_ir.specs.declared.stm.Stm.{Stm}
 use Rattle.mv_ir.specs.declared.stm.Stm as at
 use Rattle.mv_ir.specs.declared.stm.Stm.TheOpen as stm
 use Rattle.mv_ir.specs.declared.stm.Stm.TheVariants.{rolls-Set, rolls-SetGlobal, rolls-Divide, rolls-Check, rolls-Read, rolls-Write, rolls-Zero, rolls-If, rolls-Loop, rolls-Block, rolls-Break, rolls-Back, rolls-Call, rolls-Known, rolls-Return}
-use Rattle.mv_ir.specs.Trees.{flag, unary, binary, divide}
+use Rattle.mv_ast.specs.Operators.{as_word}
+use Rattle.mv_ir.specs.Trees.{unary, binary, divide}
 use Rattle.mv_fold.specs.Simple.{constant, one_or, two_or, simple_tree, simple_callee, simple_stm, simple_code, jumps, ended, division, choice}
 use Rattle.mv_fold.proofs.SimpleKept.{not_zero, constant_roll, jumps_roll, simple_tree_roll, simple_stm_roll}
 use Rattle.mv_fold.proofs.Ends.{add_one}
@@ -246,15 +247,15 @@ jump_at code i d lt h e =
 
 pub unary_zero : (o a : ℕ) → o ≡ 2 → a ≡ 0 → unary o a ≡ 1
 unfolding unary
-unary_zero o a h e = ap (λ x. unary x a) h ∙ ap (λ x. flag (eqb x 0)) e
+unary_zero o a h e = ap (λ x. unary x a) h ∙ ap (λ x. as_word (eqb x 0)) e
 
-unary_two : (o a : ℕ) → o ≡ 2 → unary o a ≡ flag (eqb a 0)
+unary_two : (o a : ℕ) → o ≡ 2 → unary o a ≡ as_word (eqb a 0)
 unfolding unary
 unary_two o a h = ap (λ x. unary x a) h
 
 pub unary_other : (o a : ℕ) → o ≡ 2 → (a ≡ 0 → ⊥) → unary o a ≡ 0
 unary_other o zero h e = absurd (e refl)
-unary_other o (suc a) h e = unary_two o (suc a) h ∙ ap flag (not_zero a)
+unary_other o (suc a) h e = unary_two o (suc a) h ∙ ap as_word (not_zero a)
 
 pub ruleset unaries = (unary_zero, unary_other)
 

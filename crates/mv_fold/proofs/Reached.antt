@@ -5,9 +5,10 @@ use Rattle.std.proofs.lemmas.List.{get_or_past, take_more, take_all, length_push
 use Rattle.std.proofs.lemmas.List.Elements.{All-more, All-map, All-weaker, All-filter, Contains-push_cases, Contains-append_left, Contains-push, Contains-get_or}
 use Rattle.std.proofs.lemmas.List.Sums.{sum_by-le, sum_by-set}
 use Rattle.std.specs.Ordering.{ord_max}
+use Rattle.mv_ast.specs.Operators.{as_word}
 use Rattle.mv_fold.specs.declared.uses.Use.{Use}
 use Rattle.mv_fold.specs.Needed.{counts, used_in, IsNeeded}
-use Rattle.mv_fold.specs.Reaching.{row, Fits, read_by, one_if, IsReached, IsVisited}
+use Rattle.mv_fold.specs.Reaching.{row, Fits, read_by, IsReached, IsVisited}
 use Rattle.mv_num.proofs.Booleans.{or_cases, and_cases, same_bools}
 use Rattle.std.proofs.lemmas.Map.Views.{exact_unsigned_eq}
 use Rattle.mv_ast.specs.Flags.{is_set}
@@ -116,13 +117,13 @@ flagged_below flags t h = by (cases_lt t (length flags))
     by (inl lt) = lt
     by (inr past) = let e : false ≡ true = sym (get_or_past flags t false past) ∙ h in absurd (cc)
 
-one_at_most : (b : Bool) → one_if b ≤ 1
+one_at_most : (b : Bool) → as_word b ≤ 1
 one_at_most true = omega arith
 one_at_most false = omega arith
 
 -- as many as are flagged are at most all
-flags_at_most : (flags : List Bool) → sum_by one_if flags ≤ length flags
-flags_at_most flags = omega (arith, sum_by-le one_if 1 flags (λ k d lt. one_at_most (get_or flags k d)))
+flags_at_most : (flags : List Bool) → sum_by as_word flags ≤ length flags
+flags_at_most flags = omega (arith, sum_by-le as_word 1 flags (λ k d lt. one_at_most (get_or flags k d)))
 
 -- what is read stands in the table
 pub read_fits : (n k : ℕ) (uses : List Use) → All (Fits n) uses → All (λ t. t < n) (read_by k uses)
@@ -168,7 +169,7 @@ module _ (read : List ℕ) (i d : ℕ) (lt : i < length read) (first : List Bool
     reached = record {
       listed = λ t f. listed t (cases_eq t x) f;
       flagged = λ t c. flagged t (Contains-push_cases order x t c);
-      counted = omega (arith, sum_by-set one_if flags x true false within, ap one_if e, h.reached.counted, length_push order x);
+      counted = omega (arith, sum_by-set as_word flags x true false within, ap as_word e, h.reached.counted, length_push order x);
     };
     long = length-set flags x true ∙ h.long;
     behind = (h.behind.0 ++ x ∷ [], ap (λ l. l ++ x ∷ []) h.behind.1 ∙ append_assoc before h.behind.0 (x ∷ []));

@@ -1,6 +1,7 @@
 -- The search for the needed temporaries: from what the body reads, along what each temporary found is computed from.
-use Rattle.std.specs.Prelude.{ℕ, ◌+◌, ◌≡◌, ◌<◌, ◌≤◌, ◌⊎◌, Bool, true, cond, eqb, List, ◌++◌, map, length, Option, Some, None, Contains, filter, sum_by, slice_index_or, Vec}
+use Rattle.std.specs.Prelude.{ℕ, ◌+◌, ◌≡◌, ◌<◌, ◌≤◌, ◌⊎◌, Bool, true, eqb, List, ◌++◌, map, length, Option, Some, None, Contains, filter, sum_by, slice_index_or, Vec}
 use Rattle.std.specs.Global.{Global}
+use Rattle.mv_ast.specs.Operators.{as_word}
 use Rattle.mv_fold.specs.declared.uses.Use.{Use}
 use Rattle.mv_ast.specs.Flags.{is_set}
 
@@ -21,14 +22,11 @@ pub record AreRows (count : ℕ) (uses : List Use) (rows : List (Vec ℕ Global)
   pub long : length rows ≡ count + 1
   pub each : (k : ℕ) (d : Vec ℕ Global) → k < length rows → (slice_index_or rows k d).items ≡ read_by k uses
 
-abbrev pub one_if : Bool → ℕ
-one_if b = cond b 1 0
-
 -- a list of what is flagged, each once
 pub record IsReached (flags : List Bool) (order : List ℕ) : Type 0 where
   pub listed : (t : ℕ) → is_set flags t ≡ true → Contains order t
   pub flagged : (t : ℕ) → Contains order t → is_set flags t ≡ true
-  pub counted : sum_by one_if flags ≡ length order
+  pub counted : sum_by as_word flags ≡ length order
 
 -- what is read was flagged, and nothing else
 pub record IsVisited (read : List ℕ) (flags : List Bool) (order : List ℕ) (flags' : List Bool) (order' : List ℕ) : Type 0 where

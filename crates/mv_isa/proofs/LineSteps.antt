@@ -71,7 +71,7 @@ put_sum regs rd v w l = by_zero (eqb rd 0)
 -- Instructions.
 
 module _ {M : Type 0} (access : Access M) (m : M) where
-  jumps_to : (regs : List ℕ) (to : ℕ) → to % 4 ≡ 0 → jumps regs m to ≡ Goes regs to m
+  pub jumps_to : (regs : List ℕ) (to : ℕ) → to % 4 ≡ 0 → jumps regs m to ≡ Goes regs to m
   unfolding jumps
   jumps_to regs to e = rw e refl
 

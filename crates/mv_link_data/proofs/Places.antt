@@ -11,7 +11,7 @@ use Rattle.mv_ast.specs.Starts.{first_words, first_words_under, renumbered_at}
 use Rattle.mv_link_data.specs.FirstData.{datum_of, global_data}
 
 -- how many words a global has
-abbrev size_of : Global → ℕ
+abbrev pub size_of : Global → ℕ
 size_of g = words_of_size g.size
 
 -- it is given no more values

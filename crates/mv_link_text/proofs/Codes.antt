@@ -1,5 +1,5 @@
 -- The codes of linked parts, each behind the label of its entry.
-use Rattle.std.proofs.Common.{◌≡◌, ℕ, zero, suc, ◌+◌, ◌<◌, ◌≤◌, inl, inr, List, [], ◌∷◌, false, Some, length, map, get_or, slice_get, slice_index, sym, ap, ◌∙◌, subst, arith}
+use Rattle.std.proofs.Common.{◌≡◌, ℕ, zero, suc, ◌+◌, ◌<◌, ◌≤◌, inl, inr, List, ◌∷◌, false, Some, length, map, get_or, slice_get, slice_index, sym, ap, ◌∙◌, subst, arith}
 use Rattle.std.proofs.lemmas.Bool.{cases_lt}
 use Rattle.std.proofs.lemmas.List.{length-map, get_or-map}
 use Rattle.std.proofs.lemmas.Option.{slice_get_within, slice_get-get_or, get_or_from_slice_get}
@@ -7,19 +7,19 @@ use Rattle.mv_isa.specs.declared.instr.Instr.{Instr}
 use Rattle.mv_isa.specs.declared.labelled.Labelled.{Labelled}
 use Rattle.mv_isa.specs.declared.labelled.Line.{Line}
 use Rattle.mv_isa.specs.declared.labelled.Line.TheVariants.{Word, Label}
-use Rattle.mv_isa.specs.Code.{IsSizing, line_at, least_words, text_start}
-use Rattle.mv_isa.specs.Standing.{LineStands, word_at}
+use Rattle.mv_isa.specs.Code.{IsSizing, line_at, text_start}
 use Rattle.mv_asm.specs.Outcome.{AreWordsUnder}
 use Rattle.mv_linker.specs.declared.parts.Parts.{Parts}
 use Rattle.mv_linker.specs.declared.parts.PartFunction.{PartFunction}
 use Rattle.mv_linker.specs.Linked.{codes, relabelled, linked_lines, first_label, AreParts}
 use Rattle.mv_linker.specs.Tables.{attributed_numbers, is_slot, BeginsWithWords, FitsPartFunction, FitTables}
 use Rattle.mv_linker.specs.Laws.{StandFrom, FunctionStands}
-use Rattle.mv_linker.proofs.Entered.{index_behind, relabelled_slot, relabelled_words, has_line}
+use Rattle.mv_linker.proofs.Entered as entered
+use Rattle.mv_linker.proofs.Entered.{index_behind, has_line}
 use Rattle.mv_linker.proofs.Places.{function_law}
-use Rattle.mv_linker.proofs.Tabled.{function_code}
-use Rattle.mv_link_text.proofs.LinkedText.{linked_text}
-use Rattle.mv_link_text.proofs.Lines.{IsOf, begins as line_begins, at_later}
+use Rattle.mv_linker.proofs.Tabled.{function_code, no_code, no_function}
+use Rattle.mv_linker.proofs.LinkedText.{linked_text}
+use Rattle.mv_linker.proofs.Lines.{IsOf, begins as line_begins, at_later}
 
 -- ---- numbers of attributed functions
 
@@ -40,12 +40,6 @@ behind_first lines k line part stand = let within = stand.within in record {
   within = omega (arith, within);
   each = λ j lt. let next : k + 1 + j ≡ k + suc j = omega arith in ap (line_at lines) next ∙ stand.each (suc j) (omega (arith, lt));
 }
-
-abbrev pub no_code : Labelled
-no_code = record { items = []; labels = 0 }
-
-abbrev pub no_function : PartFunction
-no_function = record { name = []; function = 0; switches = []; variants = [] }
 
 -- parts are assembled to words under a sizing
 pub record IsAssembled (parts : Parts) (sizing words : List ℕ) : Type 0 where
@@ -113,27 +107,18 @@ module _ (parts : Parts) (tables : FitTables parts) where
 -- ---- where codes stand
 
 module _ (parts : Parts) (sizing words : List ℕ) (s : IsAssembled parts sizing words) where
-  open linked_text parts sizing words use {lines, at, entry, index}
-
-  abbrev all : List Labelled
-  all = codes parts
+  open linked_text parts sizing words use {lines, at, all, entry, index}
 
   module _ (f : ℕ) (code : Labelled) (found : slice_get all f ≡ Some code) where
     pub stands : FunctionStands lines all f code
     stands = function_law parts s.are f code found
 
-    label_here : line_at lines (index f) ≡ Label f
-    label_here = let same : index f + 0 ≡ index f = omega arith in ap (line_at lines) (sym same) ∙ stands.part.each 0 (omega arith)
-
-    label_within : index f < length lines
-    label_within = let within = stands.part.within in omega (arith, within)
-
     pub entry_is : entry f ≡ at (index f)
-    entry_is = s.under.stands.labels (index f) f label_within label_here stands.entry
+    entry_is = entered.entry_is parts s.are sizing words s.fits s.under f code found
 
     -- behind its label the code goes on where the label is
     pub behind_label : at (index f + 1) ≡ entry f
-    behind_label = subst (λ (x : Line). LineStands (word_at text_start words) entry entry (at (index f)) (at (index f + 1)) x) label_here (s.under.stands.each (index f) label_within) ∙ sym entry_is
+    behind_label = entered.at_same parts s.are sizing words s.fits s.under f code found ∙ sym entry_is
 
     -- the lines behind its label
     pub lines_stand : StandFrom lines (index f + 1) (map (relabelled (first_label all f) code.labels) code.items)
@@ -163,41 +148,23 @@ module _ (parts : Parts) (sizing words : List ℕ) (s : IsAssembled parts sizing
 
   -- the first line of a code that begins with words
   module _ (f : ℕ) (b : IsBegun parts f) where
-    some_line : 0 < length b.code.items
-    some_line = has_line b.code.items b.begins.some
-
-    abbrev renamed : Line → Line
-    renamed = relabelled (first_label all f) b.code.labels
-
-    first_is : line_at lines (index f + 1) ≡ renamed (line_at b.code.items 0)
-    first_is =
-        let count = length-map b.code.items renamed in
-        (stands f b.code b.found).part.each 1 (omega (arith, count, some_line)) ∙ get_or-map renamed b.code.items 0 (Label 0) (Label 0) some_line
-
     pub first_within : index f + 1 < length lines
-    first_within =
-        let within = (stands f b.code b.found).part.within in
-        let count = length-map b.code.items renamed in omega (arith, within, count, some_line)
-
-    first_some : 1 ≤ least_words (line_at lines (index f + 1))
-    first_some =
-        let same = ap least_words first_is ∙ relabelled_words (first_label all f) b.code.labels (line_at b.code.items 0) in
-        omega (arith, same, b.begins.some)
+    first_within = entered.first_within parts s.are sizing words s.fits s.under f b.code b.found b.begins
 
     pub first_no_slot : is_slot (line_at lines (index f + 1)) ≡ false
-    first_no_slot = ap is_slot first_is ∙ relabelled_slot (first_label all f) b.code.labels (line_at b.code.items 0) ∙ b.begins.no_slot
+    first_no_slot = entered.first_no_slot parts s.are sizing words s.fits s.under f b.code b.found b.begins
 
     -- the entry is an address of it
     pub entry_of : IsOf text_start lines sizing (index f + 1) (entry f)
     entry_of =
         subst (IsOf text_start lines sizing (index f + 1)) (behind_label f b.code b.found)
-        (line_begins text_start lines sizing s.fits (index f + 1) first_within first_some)
+        (line_begins text_start lines sizing s.fits (index f + 1) first_within (entered.first_some parts s.are sizing words s.fits s.under f b.code b.found b.begins))
 
     -- and stands in the lines of no other code
     pub first_in : (g : ℕ) (code : Labelled) → slice_get all g ≡ Some code → index g ≤ index f + 1 → index f + 1 < index g + 1 + length code.items → f ≡ g
     first_in g code found from below =
         elim (cases_lt f g) [
-          | inl lt ↦ absurd (let behind = index_behind all f g b.code b.found lt (let w = slice_get_within all g code found in omega (arith, w)) in omega (arith, behind, some_line, from))
+          | inl lt ↦ absurd (let behind = index_behind all f g b.code b.found lt (let w = slice_get_within all g code found in omega (arith, w)) in omega (arith, behind, has_line b.code.items b.begins.some, from))
           | inr ge ↦ elim (cases_lt g f) [
             | inl lt ↦ absurd (let behind = index_behind all g f code found lt (let w = slice_get_within all f b.code b.found in omega (arith, w)) in omega (arith, behind, below))
             | inr ge' ↦ omega (arith, ge, ge')

@@ -11,8 +11,8 @@ use Rattle.mv_linker.specs.declared.parts.Parts.{Parts}
 use Rattle.mv_linker.specs.Linked.{codes, part_index}
 use Rattle.mv_linker.specs.Tables.{is_slot}
 use Rattle.mv_link_text.proofs.Found.{none_of}
-use Rattle.mv_link_text.proofs.LinkedText.{linked_text}
-use Rattle.mv_link_text.proofs.Lines.{one_line}
+use Rattle.mv_linker.proofs.LinkedText.{linked_text}
+use Rattle.mv_linker.proofs.Lines.{one_line}
 use Rattle.mv_link_text.proofs.Codes.{IsAssembled}
 use Rattle.mv_link_text.proofs.Rows.{entry_told, site_told, before_told, site_found, called_among, IsRowOfSlot}
 

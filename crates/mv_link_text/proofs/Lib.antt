@@ -1,6 +1,4 @@
 pub mod Found
-pub mod Lines
-pub mod LinkedText
 pub mod Codes
 pub mod Rows
 pub mod Kept

@@ -14,9 +14,10 @@ use Rattle.mv_linker.specs.declared.parts.Parts.{Parts}
 use Rattle.mv_linker.specs.Tables.{function_row, sites_from, place_among, is_slot, CallsAmong}
 use Rattle.mv_linker.proofs.Sited.{row_at, lines_call, among, site_is}
 use Rattle.mv_link_text.proofs.Found.{found_told}
-use Rattle.mv_link_text.proofs.LinkedText.{linked_text}
-use Rattle.mv_link_text.proofs.Lines.{one_line, begins, slot_size}
-use Rattle.mv_link_text.proofs.Codes.{IsAssembled, IsBegun, no_function, own, number_is, number_within, own_is, attributed_begun, one_number, entry_of, first_in}
+use Rattle.mv_linker.proofs.LinkedText.{linked_text}
+use Rattle.mv_linker.proofs.Tabled.{no_function}
+use Rattle.mv_linker.proofs.Lines.{one_line, begins, slot_size}
+use Rattle.mv_link_text.proofs.Codes.{IsAssembled, IsBegun, own, number_is, number_within, own_is, attributed_begun, one_number, entry_of, first_in}
 use Rattle.mv_num.proofs.Lists.{position_at}
 use Rattle.mv_linker.proofs.Entered.{has_line}
 

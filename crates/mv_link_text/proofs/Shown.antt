@@ -9,17 +9,17 @@ use Rattle.mv_isa.specs.declared.labelled.Line.TheVariants.{Word, Slot}
 use Rattle.mv_isa.specs.Encoding.{encode}
 use Rattle.mv_isa.specs.Code.{IsPlace, line_at, label_index, text_start}
 use Rattle.mv_isa.specs.Standing.{SlotStands, LineStands, word_at}
-use Rattle.mv_image.specs.Patched.{ShowsAt, entry_at, site_at}
+use Rattle.mv_image.specs.Patched.{entry_at, site_at, site_before}
 use Rattle.mv_refine_machine.specs.MachineRuns.{image_word, called_at}
 use Rattle.mv_linker.specs.declared.parts.Parts.{Parts}
 use Rattle.mv_linker.specs.Linked.{codes}
 use Rattle.mv_linker.specs.Tables.{place_among, is_slot}
 use Rattle.mv_linker.proofs.Sited.{row_at}
-use Rattle.mv_link_text.specs.Text.{HasEntry, HasSlot}
+use Rattle.mv_link_text.specs.Text.{ShowsAlone, HasEntry, HasSlot}
 use Rattle.mv_link_text.proofs.Facts.{Laws}
 use Rattle.mv_link_text.proofs.Found.{none_of}
-use Rattle.mv_link_text.proofs.LinkedText.{linked_text}
-use Rattle.mv_link_text.proofs.Lines.{one_line, slot_size}
+use Rattle.mv_linker.proofs.LinkedText.{linked_text}
+use Rattle.mv_linker.proofs.Lines.{one_line, slot_size}
 use Rattle.mv_link_text.proofs.Codes.{IsAssembled, attributed_begun, one_number, behind_label, first_line, first_below, first_no_slot}
 use Rattle.mv_link_text.proofs.Rows.{IsRowOfSlot, entry_told, entry_found, one_function, site_told, before_told, site_found, called_among, slot_of, second_of}
 use Rattle.mv_link_text.proofs.Kept.{NotFirst, no_entry, no_site, no_site_before}
@@ -41,6 +41,13 @@ module _ (laws : Laws) (parts : Parts) (sizing words : List ℕ) (s : IsAssemble
   there_is : (o : Option SiteRow) (row : SiteRow) → o ≡ None → o ≡ Some row → ⊥
   there_is o row none some = let bad : None ≡ Some row = sym none ∙ some in cc
 
+  -- a line shows the one function that all rows are of which say something of its words
+  shows_alone : (k n : ℕ) → ((a m : ℕ) → Of k a → entry_at image a ≡ Some m → m ≡ n) → ((a : ℕ) (row : SiteRow) → Of k a → site_at image a ≡ Some row → row.function ≡ n) →
+      ((a : ℕ) (row : SiteRow) → Of k a → site_before image a ≡ Some row → row.function ≡ n) → ShowsAlone parts image sizing n k
+  shows_alone k n entries sites before a m low high even (inl e) = entries a m (record { from = low; below = high }) e
+  shows_alone k n entries sites before a m low high even (inr (inl h)) = sym h.2 ∙ sites a h.0 (record { from = low; below = high }) h.1
+  shows_alone k n entries sites before a m low high even (inr (inr h)) = sym h.2 ∙ before a h.0 (record { from = low; below = high }) h.1
+
   -- ---- entries
 
   module _ (n f : ℕ) (is : slice_get numbers n ≡ Some f) (code : Labelled) (found : slice_get (codes parts) f ≡ Some code) (instr : Instr) (rest : List Line) (items : code.items ≡ Word instr ∷ rest) where
@@ -56,17 +63,6 @@ module _ (laws : Laws) (parts : Parts) (sizing words : List ℕ) (s : IsAssemble
     place : IsPlace (entry f)
     place = s.under.places (label_index lines f)
 
-    entry_alone : (a m : ℕ) → at k ≤ a → a < at (k + 1) → a % 4 ≡ 0 → ShowsAt image m a → m ≡ n
-    entry_alone a m low high even (inl e) =
-        let t = entry_told parts sizing words s a m e in
-        let of : Of k a = record { from = low; below = high } in
-        let same = one_line text_start lines sizing (index t.function + 1) k a t.of of in
-        let equal : t.function ≡ f = one_function parts sizing words s m t.function n f t.attributed is same in
-        one_number parts s.tables m n f (t.attributed ∙ ap Some equal) is
-    entry_alone a m low high even (inr (inl h)) = absurd (there_is (site_at image a) h.0 (no_site parts sizing words s k a (record { from = low; below = high }) (ap is_slot line)) h.1)
-    entry_alone a m low high even (inr (inr h)) =
-        absurd (let bad : None ≡ Some h.0 = sym (no_site_before parts sizing words s k a (record { from = low; below = high }) (ap is_slot line)) ∙ h.1 in cc)
-
     word : word_at text_start words (at k) ≡ Some (encode instr)
     word = (subst (λ (l : Line). LineStands (word_at text_start words) entry entry (at k) (at (k + 1)) l) line (s.under.stands.each k below)).0.word
 
@@ -78,7 +74,14 @@ module _ (laws : Laws) (parts : Parts) (sizing words : List ℕ) (s : IsAssemble
           within = below;
           line = line;
           at_line = here;
-          alone = entry_alone;
+          alone = shows_alone k n
+              (λ a m of e.
+              let t = entry_told parts sizing words s a m e in
+              let same = one_line text_start lines sizing (index t.function + 1) k a t.of of in
+              let equal : t.function ≡ f = one_function parts sizing words s m t.function n f t.attributed is same in
+              one_number parts s.tables m n f (t.attributed ∙ ap Some equal) is)
+              (λ a row of e. absurd (there_is (site_at image a) row (no_site parts sizing words s k a of (ap is_slot line)) e))
+              (λ a row of e. absurd (there_is (site_before image a) row (no_site_before parts sizing words s k a of (ap is_slot line)) e));
           is_entry = entry_found parts sizing words s n f is;
           word = encode instr;
           in_text = in_text (entry f) (encode instr) place (subst (λ a. word_at text_start words a ≡ Some (encode instr)) here word);
@@ -108,15 +111,6 @@ module _ (laws : Laws) (parts : Parts) (sizing words : List ℕ) (s : IsAssemble
         let equal : slot.function ≡ f = cc in
         ap (λ (r : SiteRow). r.function) slot.is ∙ ap (place_among numbers) equal ∙ one_number parts s.tables (place_among numbers f) n f (called_among parts sizing words s k f below line) is
 
-    slot_alone : (a m : ℕ) → at k ≤ a → a < at (k + 1) → a % 4 ≡ 0 → ShowsAt image m a → m ≡ n
-    slot_alone a m low high even (inl e) = absurd (no_other a m (record { from = low; below = high }) e)
-    slot_alone a m low high even (inr (inl h)) =
-        let t = site_told parts sizing words s a h.0 h.1 in
-        sym h.2 ∙ number_is h.0 t.slot (one_line text_start lines sizing t.slot.index k a t.of (record { from = low; below = high }))
-    slot_alone a m low high even (inr (inr h)) =
-        let t = before_told parts sizing words s a h.0 h.1 in
-        sym h.2 ∙ number_is h.0 t.slot (one_line text_start lines sizing t.slot.index k a t.of (record { from = low; below = high }))
-
     slot_stands : SlotStands (word_at text_start words) (at k) (at (k + 1)) (entry f)
     slot_stands = subst (λ (l : Line). LineStands (word_at text_start words) entry entry (at k) (at (k + 1)) l) line (s.under.stands.each k below)
 
@@ -136,7 +130,10 @@ module _ (laws : Laws) (parts : Parts) (sizing words : List ℕ) (s : IsAssemble
       line = line;
       at_line = refl;
       behind = slot_size text_start lines sizing s.fits k below f line;
-      alone = slot_alone;
+      alone = shows_alone k n
+          (λ a m of e. absurd (no_other a m of e))
+          (λ a row of e. let t = site_told parts sizing words s a row e in number_is row t.slot (one_line text_start lines sizing t.slot.index k a t.of of))
+          (λ a row of e. let t = before_told parts sizing words s a row e in number_is row t.slot (one_line text_start lines sizing t.slot.index k a t.of of));
       site = record {
         site = row_at at numbers k f;
         is_site = site_found parts sizing words s k f below line;

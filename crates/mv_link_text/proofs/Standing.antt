@@ -20,8 +20,8 @@ use Rattle.mv_linker.specs.Laws.{StandFrom}
 use Rattle.mv_linker.proofs.Entered.{index_behind}
 use Rattle.mv_link_text.specs.Text.{StubsArePlaced, IsPlacedCode}
 use Rattle.mv_link_text.proofs.Facts.{Laws}
-use Rattle.mv_link_text.proofs.LinkedText.{linked_text}
-use Rattle.mv_link_text.proofs.Lines.{word_size}
+use Rattle.mv_linker.proofs.LinkedText.{linked_text}
+use Rattle.mv_linker.proofs.Lines.{word_size}
 use Rattle.mv_link_text.proofs.Codes.{IsAssembled, attributed_begun, behind_first, stands, behind_label, lines_stand, first_line, first_below, ends_before, first_in}
 use Rattle.mv_link_text.proofs.Kept.{NotFirst, kept_as}
 use Rattle.mv_link_text.proofs.Renamed.{own_place, lines_placed}

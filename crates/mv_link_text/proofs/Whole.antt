@@ -12,11 +12,11 @@ use Rattle.mv_linker.specs.Linked.{AreParts, codes, linked_lines, function_varia
 use Rattle.mv_linker.specs.Tables.{FitTables, attributed_numbers}
 use Rattle.mv_linker.specs.Outcome.{IsLinked}
 use Rattle.mv_linker.proofs.Entered.{entry_before}
-use Rattle.mv_linker.proofs.Tabled.{function_code}
+use Rattle.mv_linker.proofs.Tabled.{function_code, no_code}
 use Rattle.mv_link_text.specs.Text.{StubsArePlaced, IsPlacedCode, HasEntry, HasSlot, label_place}
 use Rattle.mv_link_text.specs.Laws.{WordsAreThere, StubsStandInText, CodesAscend, PlainCodeStands, PatchedCodeStands, SlotsAreSites}
 use Rattle.mv_link_text.proofs.Facts.{Laws}
-use Rattle.mv_link_text.proofs.Codes.{IsAssembled, no_code, attributed_within}
+use Rattle.mv_link_text.proofs.Codes.{IsAssembled, attributed_within}
 use Rattle.mv_link_text.proofs.Standing.{has_words, stubs_are_placed, plain_placed, later_placed}
 use Rattle.mv_link_text.proofs.Shown.{entry_shows, called_told, called_shows}
 

@@ -1,9 +1,10 @@
 -- How often a label stands in the parts of functions.
-use Rattle.std.proofs.Common.{◌≡◌, ℕ, zero, suc, ◌+◌, ◌<◌, ◌≤◌, ◌⊎◌, Bool, true, false, cond, eqb, nat_lt, List, [], ◌∷◌, Some, length, take, slice_get, map, count_by, All, refl, ap, sym, subst, ◌∙◌, ⊎_elim, arith, eq-eqb}
+use Rattle.std.proofs.Common.{◌≡◌, ℕ, zero, suc, ◌+◌, ◌<◌, ◌≤◌, ◌⊎◌, true, false, cond, eqb, nat_lt, List, [], ◌∷◌, Some, length, take, slice_get, map, count_by, All, refl, ap, sym, subst, ◌∙◌, ⊎_elim, arith, eq-eqb}
 use Rattle.std.proofs.lemmas.List.Elements.{All-head, All-tail}
 use Rattle.std.proofs.lemmas.List.Sums.{sum_by-cons}
 use Rattle.std.proofs.lemmas.Bool.{cases_eq, ne_eqb}
 use Rattle.std.proofs.lemmas.Bool.Decides.{nat_tests}
+use Rattle.mv_ast.specs.Operators.{as_word}
 use Rattle.mv_isa.specs.declared.labelled.Labelled.{Labelled}
 use Rattle.mv_isa.specs.declared.labelled.Line.{Line}
 use Rattle.mv_isa.specs.declared.labelled.Line.TheVariants.{Word, Label, Jump, Branch, Entry, Slot}
@@ -11,18 +12,14 @@ use Rattle.mv_isa.specs.Code.{is_label}
 use Rattle.mv_linker.specs.Linked.{own, relabelled, function_part, function_parts, label_count, NamesAreThere, IsFunction}
 use Rattle.mv_isa.proofs.Common.{count_append}
 
--- how often a test is true
-abbrev pub times : Bool → ℕ
-times b = cond b 1 0
-
-pub count_cons : (m : ℕ) (x : Line) (xs : List Line) → count_by (is_label m) (x ∷ xs) ≡ times (is_label m x) + count_by (is_label m) xs
+pub count_cons : (m : ℕ) (x : Line) (xs : List Line) → count_by (is_label m) (x ∷ xs) ≡ as_word (is_label m x) + count_by (is_label m) xs
 count_cons m x xs = sum_by-cons (λ y. cond (is_label m y) 1 0) x xs
 
-pub marked : (m l : ℕ) → l ≡ m → times (eqb l m) ≡ 1
-marked m l e = ap times (eq-eqb l m e)
+pub marked : (m l : ℕ) → l ≡ m → as_word (eqb l m) ≡ 1
+marked m l e = ap as_word (eq-eqb l m e)
 
-pub unmarked : (m l : ℕ) → (l ≡ m → ⊥) → times (eqb l m) ≡ 0
-unmarked m l ne = ap times (ne_eqb l m ne)
+pub unmarked : (m l : ℕ) → (l ≡ m → ⊥) → as_word (eqb l m) ≡ 0
+unmarked m l ne = ap as_word (ne_eqb l m ne)
 
 -- ---- own labels
 
@@ -37,25 +34,25 @@ own_stays first count l above =
     ap (λ b. cond b (first + l) l) test
 
 -- an own label stands after the renaming where it stood before
-mark_own : (first l m : ℕ) → times (eqb (first + l) (first + m)) ≡ times (eqb l m)
+mark_own : (first l m : ℕ) → as_word (eqb (first + l) (first + m)) ≡ as_word (eqb l m)
 mark_own first l m =
     ⊎_elim (λ e. marked (first + m) (first + l) (omega (arith, e)) ∙ sym (marked m l e))
     (λ ne. unmarked (first + m) (first + l) (λ e. ne (omega (arith, e))) ∙ sym (unmarked m l ne))
     (cases_eq l m)
 
 module _ (functions first : ℕ) (code : Labelled) where
-  line_own : (m : ℕ) (x : Line) → NamesAreThere functions code x → times (is_label (first + m) (relabelled first code.labels x)) ≡ times (is_label m x)
+  line_own : (m : ℕ) (x : Line) → NamesAreThere functions code x → as_word (is_label (first + m) (relabelled first code.labels x)) ≡ as_word (is_label m x)
   line_own m (Word instr) h = refl
-  line_own m (Label l) h = ap (λ o. times (eqb o (first + m))) (own_is first code.labels l h) ∙ mark_own first l m
+  line_own m (Label l) h = ap (λ o. as_word (eqb o (first + m))) (own_is first code.labels l h) ∙ mark_own first l m
   line_own m (Jump rd l) h = refl
   line_own m (Branch funct3 rs1 rs2 l) h = refl
   line_own m (Entry rd f) h = refl
   line_own m (Slot f) h = refl
 
-  line_other : (m : ℕ) (x : Line) → NamesAreThere functions code x → (first ≤ m → first + code.labels ≤ m) → times (is_label m (relabelled first code.labels x)) ≡ 0
+  line_other : (m : ℕ) (x : Line) → NamesAreThere functions code x → (first ≤ m → first + code.labels ≤ m) → as_word (is_label m (relabelled first code.labels x)) ≡ 0
   line_other m (Word instr) h apart = refl
   line_other m (Label l) h apart =
-      ap (λ o. times (eqb o m)) (own_is first code.labels l h)
+      ap (λ o. as_word (eqb o m)) (own_is first code.labels l h)
       ∙ unmarked m (first + l) (λ e. let above = apart (omega (arith, e)) in omega (arith, above, e, h))
   line_other m (Jump rd l) h apart = refl
   line_other m (Branch funct3 rs1 rs2 l) h apart = refl

@@ -1,5 +1,5 @@
 -- Where the codes of parts begin: at different words of text, none of which is a slot's.
-use Rattle.std.proofs.Common.{◌≡◌, ℕ, suc, ◌+◌, ◌*◌, ◌<◌, ◌≤◌, ◌⊎◌, inl, inr, true, false, List, [], ◌∷◌, Some, length, take, map, get_or, slice_get, refl, ap, sym, subst, ◌∙◌, arith}
+use Rattle.std.proofs.Common.{◌≡◌, ℕ, suc, ◌+◌, ◌<◌, ◌≤◌, ◌⊎◌, inl, inr, true, false, List, [], ◌∷◌, Some, length, take, get_or, slice_get, refl, ap, sym, subst, ◌∙◌, arith}
 use Rattle.std.proofs.lemmas.List.{length-map, take-take, get_or-take, length-take-le, get_or-map}
 use Rattle.std.proofs.lemmas.List.Sums.{sum_by_more_le, sum_by-take-le}
 use Rattle.std.proofs.lemmas.Option.{get_or_from_slice_get, slice_get_within}
@@ -7,7 +7,7 @@ use Rattle.std.proofs.lemmas.Bool.{cases_lt, cases_eq}
 use Rattle.mv_isa.specs.declared.labelled.Labelled.{Labelled}
 use Rattle.mv_isa.specs.declared.labelled.Line.{Line}
 use Rattle.mv_isa.specs.declared.labelled.Line.TheVariants.{Word, Label, Jump, Branch, Entry, Slot}
-use Rattle.mv_isa.specs.Code.{IsSizing, line_at, least_words, offset, address, label_address, text_start}
+use Rattle.mv_isa.specs.Code.{IsSizing, line_at, least_words, address, text_start}
 use Rattle.mv_isa.specs.Standing.{LineStands, word_at}
 use Rattle.mv_asm.specs.Outcome.{AreWordsUnder}
 use Rattle.mv_image.specs.Spelling.{Fields}
@@ -17,6 +17,7 @@ use Rattle.mv_linker.specs.Linked.{codes, relabelled, linked_lines, first_label,
 use Rattle.mv_linker.specs.Tables.{is_slot, BeginsWithWords}
 use Rattle.mv_linker.specs.Laws.{FunctionStands}
 use Rattle.mv_linker.proofs.Places.{function_law}
+use Rattle.mv_linker.proofs.LinkedText.{linked_text}
 use Rattle.mv_linker.proofs.Slots.{offset_next, behind_slot, before_slot}
 
 -- ---- renaming keeps what a line is
@@ -57,17 +58,7 @@ index_behind xs f g code found lt le =
 
 module _ (parts : Parts) (are : AreParts parts) (sizing words : List ℕ) (fits : IsSizing (linked_lines parts) sizing)
     (under : AreWordsUnder text_start (linked_lines parts) sizing words) where
-  abbrev lines : List Line
-  lines = linked_lines parts
-
-  abbrev at : ℕ → ℕ
-  at = address text_start sizing
-
-  abbrev entry : ℕ → ℕ
-  entry = label_address text_start lines sizing
-
-  abbrev all : List Labelled
-  all = codes parts
+  open linked_text parts sizing words use {lines, at, all, entry, index}
 
   -- a line with words stands in text
   pub in_text : (image : Fields) → image.text ≡ words → (k : ℕ) → k < length lines → 1 ≤ least_words (line_at lines k) → IsInText image (at k)
@@ -97,72 +88,66 @@ module _ (parts : Parts) (are : AreParts parts) (sizing words : List ℕ) (fits 
     abbrev stands : FunctionStands lines all f code
     stands = function_law parts are f code found
 
-    abbrev index : ℕ
-    index = part_index all f
+    label_here : line_at lines (index f) ≡ Label f
+    label_here = let same : index f + 0 ≡ index f = omega arith in ap (line_at lines) (sym same) ∙ stands.part.each 0 (omega arith)
 
-    label_here : line_at lines index ≡ Label f
-    label_here = let same : index + 0 ≡ index = omega arith in ap (line_at lines) (sym same) ∙ stands.part.each 0 (omega arith)
-
-    label_within : index < length lines
+    label_within : index f < length lines
     label_within = let within = stands.part.within in omega (arith, within)
 
-    entry_is : entry f ≡ at index
-    entry_is = under.stands.labels index f label_within label_here stands.entry
+    pub entry_is : entry f ≡ at (index f)
+    entry_is = under.stands.labels (index f) f label_within label_here stands.entry
 
     -- behind the label of its entry the code goes on where the label is
-    at_same : at (index + 1) ≡ at index
+    pub at_same : at (index f + 1) ≡ at (index f)
     at_same =
-        subst (λ (x : Line). LineStands (word_at text_start words) entry entry (at index) (at (index + 1)) x) label_here (under.stands.each index label_within)
+        subst (λ (x : Line). LineStands (word_at text_start words) entry entry (at (index f)) (at (index f + 1)) x) label_here (under.stands.each (index f) label_within)
 
   module _ (f : ℕ) (code : Labelled) (found : slice_get all f ≡ Some code) (begins : BeginsWithWords code) where
-    abbrev k : ℕ
-    k = part_index all f
-
     abbrev renamed : Line → Line
     renamed = relabelled (first_label all f) code.labels
 
     some_line : 0 < length code.items
     some_line = has_line code.items begins.some
 
-    first_is : line_at lines (k + 1) ≡ renamed (line_at code.items 0)
+    first_is : line_at lines (index f + 1) ≡ renamed (line_at code.items 0)
     first_is =
         let count = length-map code.items renamed in
         (stands f code found).part.each 1 (omega (arith, count, some_line)) ∙ get_or-map renamed code.items 0 (Label 0) (Label 0) some_line
 
-    first_within : k + 1 < length lines
+    pub first_within : index f + 1 < length lines
     first_within =
         let within = (stands f code found).part.within in
         let count = length-map code.items renamed in omega (arith, within, count, some_line)
 
-    first_some : 1 ≤ least_words (line_at lines (k + 1))
+    pub first_some : 1 ≤ least_words (line_at lines (index f + 1))
     first_some =
         let same = ap least_words first_is ∙ relabelled_words (first_label all f) code.labels (line_at code.items 0) in
         omega (arith, same, begins.some)
 
-    first_no_slot : is_slot (line_at lines (k + 1)) ≡ false
+    pub first_no_slot : is_slot (line_at lines (index f + 1)) ≡ false
     first_no_slot = ap is_slot first_is ∙ relabelled_slot (first_label all f) code.labels (line_at code.items 0) ∙ begins.no_slot
 
     pub entry_in_text : (image : Fields) → image.text ≡ words → IsInText image (entry f)
     entry_in_text image text_is =
-        subst (IsInText image) (at_same f code found ∙ sym (entry_is f code found)) (in_text image text_is (k + 1) first_within first_some)
+        subst (IsInText image) (at_same f code found ∙ sym (entry_is f code found)) (in_text image text_is (index f + 1) first_within first_some)
 
     -- a later code begins at a later address
     pub entry_before : (g : ℕ) (other : Labelled) → slice_get all g ≡ Some other → f < g → entry f < entry g
     entry_before g other there lt =
         let within = slice_get_within all g other there in
         let later = index_behind all f g code found lt (omega (arith, within)) in
-        let less = before_slot text_start lines sizing k (k + 1) (part_index all g) fits (omega arith) (omega (arith, later, some_line)) first_within first_some in
+        let less = before_slot text_start lines sizing (index f) (index f + 1) (index g) fits (omega arith) (omega (arith, later, some_line)) first_within first_some in
         omega (arith, less, entry_is f code found, entry_is g other there)
 
     -- a slot stands behind it, or ends at it or before
     pub entry_outside : (m h : ℕ) → m < length lines → line_at lines m ≡ Slot h → (entry f < at m) ⊎ (at m + 8 ≤ entry f)
     entry_outside m h below slot =
         let here = entry_is f code found in
-        elim (cases_lt m k) [
-          | inl before ↦ let less = behind_slot text_start lines sizing m h k fits below slot before in inr (omega (arith, less, here))
-          | inr not_before ↦ elim (cases_lt (k + 1) m) [
-            | inl behind ↦ let less = before_slot text_start lines sizing k (k + 1) m fits (omega arith) behind first_within first_some in inl (omega (arith, less, here))
-            | inr not_behind ↦ elim (cases_eq m k) [
+        elim (cases_lt m (index f)) [
+          | inl before ↦ let less = behind_slot text_start lines sizing m h (index f) fits below slot before in inr (omega (arith, less, here))
+          | inr not_before ↦ elim (cases_lt (index f + 1) m) [
+            | inl behind ↦ let less = before_slot text_start lines sizing (index f) (index f + 1) m fits (omega arith) behind first_within first_some in inl (omega (arith, less, here))
+            | inr not_behind ↦ elim (cases_eq m (index f)) [
               | inl same ↦ absurd (neither m (inl same) slot)
               | inr other ↦ absurd (neither m (inr (omega (arith, not_before, not_behind, other))) slot)
             ]
@@ -175,6 +160,6 @@ module _ (parts : Parts) (are : AreParts parts) (sizing words : List ℕ) (fits 
         not_first : (x : Line) → is_slot x ≡ false → x ≡ Slot h → ⊥
         not_first x is other = let e : false ≡ true = sym is ∙ ap is_slot other in cc
 
-        neither : (n : ℕ) → (n ≡ k) ⊎ (n ≡ k + 1) → line_at lines n ≡ Slot h → ⊥
+        neither : (n : ℕ) → (n ≡ index f) ⊎ (n ≡ index f + 1) → line_at lines n ≡ Slot h → ⊥
         neither n (inl same) is = not_label (line_at lines n) (ap (line_at lines) same ∙ label_here f code found) is
         neither n (inr next) is = not_first (line_at lines n) (ap (λ j. is_slot (line_at lines j)) next ∙ first_no_slot) is

@@ -2,6 +2,7 @@
 use Rattle.std.proofs.Common.{◌≡◌, ℕ, zero, suc, ◌+◌, ◌-◌, ◌<◌, ◌≤◌, ◌⊎◌, ◌++◌, List, [], ◌∷◌, Some, length, take, slice_get, map, count_by, All, eqb, pos, refl, sym, subst, ⊎_elim, arith, rules}
 use Rattle.std.proofs.lemmas.List.{length-append}
 use Rattle.std.proofs.lemmas.List.Elements.{All-nil, All-cons, All-append, All-map, All-head, All-tail, All-from_recursion}
+use Rattle.mv_ast.specs.Operators.{as_word}
 use Rattle.mv_isa.specs.declared.instr.Instr.TheVariants.{Addi, Ecall}
 use Rattle.mv_isa.specs.declared.labelled.Labelled.{Labelled}
 use Rattle.mv_isa.specs.declared.labelled.Line.{Line}
@@ -9,19 +10,19 @@ use Rattle.mv_isa.specs.declared.labelled.Line.TheVariants.{Word, Label, Jump, B
 use Rattle.mv_isa.specs.Code.{is_label, StandsOnce, TargetStands, LineFits, CodeFits}
 use Rattle.mv_linker.specs.declared.parts.Parts.{Parts}
 use Rattle.mv_linker.specs.Linked.{function_variants, variant_codes, codes, trap_label, commit_label, own, relabelled, start_lines, trap_lines, commit_instrs, commit_lines, stub_lines, function_part, function_parts, linked_lines, label_count, first_label, IsStubLabel, IsOwnLabel, IsTarget, NamesAreThere, IsFunction, AreParts}
-use Rattle.mv_linker.proofs.Counting.{times, count_cons, unmarked, own_is, own_stays, label_count_more, labels_within, parts_other, parts_entry, parts_own}
+use Rattle.mv_linker.proofs.Counting.{count_cons, unmarked, own_is, own_stays, label_count_more, labels_within, parts_other, parts_entry, parts_own}
 use Rattle.mv_isa.proofs.Common.{count_append}
 
 -- ---- labels of the stubs
 
-trap_count : (m c : ℕ) → count_by (is_label m) (trap_lines c) ≡ times (eqb (trap_label c) m)
+trap_count : (m c : ℕ) → count_by (is_label m) (trap_lines c) ≡ as_word (eqb (trap_label c) m)
 trap_count m c = omega (arith, count_cons m (Label (trap_label c)) (Word (Addi 10 0 (pos c)) ∷ Word (Addi 17 0 (pos 3)) ∷ Word Ecall ∷ []))
 
-commit_count : (m : ℕ) → count_by (is_label m) commit_lines ≡ times (eqb commit_label m)
+commit_count : (m : ℕ) → count_by (is_label m) commit_lines ≡ as_word (eqb commit_label m)
 commit_count m = omega (arith, count_cons m (Label commit_label) (map Word commit_instrs))
 
 stub_count : (main m : ℕ) → count_by (is_label m) (stub_lines main)
-    ≡ times (eqb (trap_label 1) m) + (times (eqb (trap_label 2) m) + (times (eqb (trap_label 3) m) + (times (eqb (trap_label 4) m) + times (eqb commit_label m))))
+    ≡ as_word (eqb (trap_label 1) m) + (as_word (eqb (trap_label 2) m) + (as_word (eqb (trap_label 3) m) + (as_word (eqb (trap_label 4) m) + as_word (eqb commit_label m))))
 stub_count main m =
     let start : count_by (is_label m) (start_lines main) ≡ 0 = refl in
     omega (

@@ -3,7 +3,10 @@ pub mod Fits
 pub mod Places
 pub mod Joining
 pub mod Images
+pub mod Jumps
 pub mod Slots
+pub mod Lines
+pub mod LinkedText
 pub mod Entered
 pub mod Rowed
 pub mod Sited

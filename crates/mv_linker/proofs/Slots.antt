@@ -1,15 +1,13 @@
 -- A slot that stands in text is a site of the function whose entry it calls.
-use Rattle.std.proofs.Common.{◌≡◌, ℕ, zero, suc, ◌+◌, ◌-◌, ◌*◌, ◌/◌, ◌%◌, ◌^◌, ◌<◌, ◌≤◌, List, [], ◌∷◌, length, slice_index, Some, pos, ◌+ℤ◌, unsigned_abs, false, ltb, refl, sym, ap, subst, ◌∙◌, arith, inl, inr}
+use Rattle.std.proofs.Common.{◌≡◌, ℕ, zero, suc, ◌+◌, ◌-◌, ◌/◌, ◌<◌, ◌≤◌, List, [], ◌∷◌, length, slice_index, Some, false, ltb, refl, sym, ap, subst, ◌∙◌, arith, inl, inr}
 use Rattle.std.specs.Prelude.{slice_index_or}
 use Rattle.std.proofs.lemmas.Bool.{le-ltb, cases_lt}
 use Rattle.std.proofs.lemmas.Option.{get_or_from_slice_get}
-use Rattle.std.proofs.lemmas.Int.{ints, int_rem_euclid_is}
-use Rattle.mv_isa.specs.declared.instr.Instr.TheVariants.{Jal}
 use Rattle.mv_isa.specs.declared.labelled.Line.{Line}
 use Rattle.mv_isa.specs.declared.labelled.Line.TheVariants.{Slot}
-use Rattle.mv_isa.specs.Formats.{low_in, i_word, j_word}
+use Rattle.mv_isa.specs.Formats.{low_in, i_word}
 use Rattle.mv_isa.specs.Encoding.{encode}
-use Rattle.mv_isa.specs.Code.{IsPlace, IsSizing, distance, nop, text_start, line_at, least_words, greatest_words, offset, address}
+use Rattle.mv_isa.specs.Code.{IsPlace, IsSizing, nop, text_start, line_at, least_words, greatest_words, offset, address}
 use Rattle.mv_isa.specs.Standing.{SlotStands, word_at}
 use Rattle.mv_asm.proofs.Offsets.{offset-nil}
 use Rattle.mv_descriptors.specs.declared.rows.FunctionRow.{FunctionRow}
@@ -18,20 +16,7 @@ use Rattle.mv_image.specs.Spelling.{Fields}
 use Rattle.mv_image.specs.WellFormed.{IsInText, FitsSite}
 use Rattle.mv_image.specs.Jumps as image
 use Rattle.mv_isa.proofs.Common.{offset-cons}
-use Rattle.mv_image.proofs.Common.{jal_is}
-
-low_distance : (from to : ℕ) → IsPlace from → IsPlace to → low_in (2 ^ 21) (distance from to) ≡ image.distance from to
-unfolding low_in
-low_distance from to p q =
-    let ends = p.1 in
-    let e : distance from to +ℤ pos (1 * 2 ^ 21) ≡ pos (to + 2 ^ 21 - from) = omega (arith, ints, ends) in
-    ap unsigned_abs (int_rem_euclid_is (distance from to) (pos (2 ^ 21)) (2 ^ 21) 1 (to + 2 ^ 21 - from) (omega arith) refl e)
-
-jump_is : (rd from to : ℕ) → IsPlace from → IsPlace to → image.jump rd from to ≡ encode (Jal rd (distance from to))
-unfolding image.jump encode j_word
-jump_is rd from to p q =
-    let same = low_distance from to p q in
-    sym (ap (λ x. 0x6f + rd * 2 ^ 7 + x / 2 ^ 12 % 2 ^ 8 * 2 ^ 12 + x / 2 ^ 11 % 2 * 2 ^ 20 + x / 2 % 2 ^ 10 * 2 ^ 21 + x / 2 ^ 20 * 2 ^ 31) same ∙ jal_is rd (image.distance from to) (omega arith))
+use Rattle.mv_linker.proofs.Jumps.{jump_is}
 
 nop_is : encode nop ≡ image.nop
 unfolding encode i_word low_in

@@ -1,5 +1,5 @@
 -- The tables of linked parts fit the format of images.
-use Rattle.std.proofs.Common.{◌≡◌, ℕ, suc, ◌+◌, ◌*◌, ◌<◌, ◌≤◌, ◌⊎◌, ◌++◌, List, [], ◌∷◌, Some, length, map, get_or, slice_get, slice_index, All, refl, ap, sym, subst, ◌∙◌, arith}
+use Rattle.std.proofs.Common.{◌≡◌, ℕ, suc, ◌+◌, ◌<◌, ◌≤◌, ◌⊎◌, ◌++◌, List, [], ◌∷◌, Some, length, map, get_or, slice_get, slice_index, All, refl, ap, sym, subst, ◌∙◌, arith}
 use Rattle.std.proofs.lemmas.List.{length-map, map-append, get_or-map}
 use Rattle.std.proofs.lemmas.List.Elements.{All-nil, All-cons, All-append, All-head, All-tail, All-map, All-weaker, All-from_get_or}
 use Rattle.std.proofs.lemmas.List.Sums.{get_or-le-sum_by}
@@ -12,10 +12,9 @@ use Rattle.mv_descriptors.specs.Widths.{SwitchClean, FunctionClean, VariantClean
 use Rattle.mv_isa.specs.declared.labelled.Labelled.{Labelled}
 use Rattle.mv_isa.specs.declared.labelled.Line.{Line}
 use Rattle.mv_isa.specs.declared.labelled.Line.TheVariants.{Slot}
-use Rattle.mv_isa.specs.Code.{IsSizing, line_at, least_words, label_index, address, label_address, text_start}
+use Rattle.mv_isa.specs.Code.{IsSizing, line_at, least_words, label_index, address, text_start}
 use Rattle.mv_isa.specs.Standing.{SlotStands, LineStands, word_at}
 use Rattle.mv_asm.specs.Outcome.{AreWordsUnder}
-use Rattle.mv_image.specs.Spelling.{Fields}
 use Rattle.mv_image.specs.WellFormed.{IsInText, FitsSwitch, FitsFunction, FitsVariant, FitsSite, FitsGuard}
 use Rattle.mv_image.specs.Format.{IsWithin, IsIdentifier, AreNamed, FitsFormat}
 use Rattle.mv_image.specs.Groups.{AreGrouped, GroupsFit, GroupsBelong, GroupsAreRows}
@@ -24,9 +23,10 @@ use Rattle.mv_linker.specs.declared.parts.PartSwitch.{PartSwitch}
 use Rattle.mv_linker.specs.declared.parts.PartFunction.{PartFunction}
 use Rattle.mv_linker.specs.declared.parts.PartVariant.{PartVariant}
 use Rattle.mv_linker.specs.Linked.{codes, function_variants, variant_codes, linked_lines, AreParts}
-use Rattle.mv_linker.specs.Tables.{switch_row, function_row, variant_row, variant_rows, sites_from, place_among, attributed_numbers, BeginsWithWords, IsRange, CallsAmong, FitsPartFunction, FitsPartVariant, kinds_of, FitTables}
-use Rattle.mv_linker.specs.Outcome.{datum_word, image_with, HasFewSites, WithinLimit}
+use Rattle.mv_linker.specs.Tables.{switch_row, function_row, variant_row, variant_rows, sites_from, place_among, BeginsWithWords, IsRange, CallsAmong, FitsPartFunction, FitsPartVariant, kinds_of, FitTables}
+use Rattle.mv_linker.specs.Outcome.{datum_word, HasFewSites, WithinLimit}
 use Rattle.mv_linker.proofs.Entered.{in_text, next_in_text, entry_in_text, entry_before, entry_outside}
+use Rattle.mv_linker.proofs.LinkedText.{linked_text}
 use Rattle.mv_linker.proofs.Slots.{slot_is_site, behind_slot}
 use Rattle.mv_linker.proofs.Rowed.{padded_zeros, switch_fits, function_fits, variant_clean, variant_fits, IsRowed, all_rowed, guard_fits, variant_guards, groups_of, function_counts, group_counts, group_guards, variant_row_count, are_few}
 use Rattle.mv_linker.proofs.Sited.{row_at, slots_of_codes, lines_call, IsAmong, among, site_is, sites_are, site_length}
@@ -45,27 +45,17 @@ each_begins parts (a ∷ rest) all =
     (All-weaker (FitsPartVariant (kinds_of parts.switches a.switches)) (λ (v : PartVariant). BeginsWithWords v.code) (λ v fits. fits.begins) a.variants h.variants)
     (each_begins parts rest (All-tail (FitsPartFunction parts) a rest all))
 
+abbrev pub no_code : Labelled
+no_code = record { items = []; labels = 0 }
+
+abbrev pub no_function : PartFunction
+no_function = record { name = []; function = 0; switches = []; variants = [] }
+
 module _ (parts : Parts) (are : AreParts parts) (tables : FitTables parts) (sizing words : List ℕ) (fits : IsSizing (linked_lines parts) sizing)
     (under : AreWordsUnder text_start (linked_lines parts) sizing words) where
-  abbrev lines : List Line
-  lines = linked_lines parts
-
-  abbrev at : ℕ → ℕ
-  at = address text_start sizing
-
-  abbrev entry : ℕ → ℕ
-  entry = label_address text_start lines sizing
-
-  abbrev image : Fields
-  image = image_with entry at words parts
-
-  abbrev numbers : List ℕ
-  numbers = attributed_numbers parts.attributed
+  open linked_text parts sizing words use {lines, at, entry, image, numbers}
 
   -- ---- attributed functions
-
-  abbrev no_function : PartFunction
-  no_function = record { name = []; function = 0; switches = []; variants = [] }
 
   abbrev own : ℕ → PartFunction
   own n = get_or parts.attributed n no_function
@@ -78,9 +68,6 @@ module _ (parts : Parts) (are : AreParts parts) (tables : FitTables parts) (sizi
 
   row_is : (n : ℕ) (d : FunctionRow) → n < length parts.attributed → get_or image.functions n d ≡ function_row entry (own n)
   row_is n d below = get_or-map (function_row entry) parts.attributed n no_function d below
-
-  abbrev no_code : Labelled
-  no_code = record { items = []; labels = 0 }
 
   abbrev generic : PartFunction → Labelled
   generic a = get_or parts.functions a.function no_code

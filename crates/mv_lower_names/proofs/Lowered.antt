@@ -29,7 +29,8 @@ use Rattle.mv_lower_shape.proofs.WithinExpressions.{at_index}
 use Rattle.mv_select_bodies.specs.SelectedBodies.{HasWords, IsOrder, constants, knowns}
 use Rattle.mv_lower_calls.specs.Bindings.{NeverRebinds, keeps_bindings, form_never_rebinds, never_rebinds}
 use Rattle.mv_lower_names.specs.Sources.{NumbersAreWords, is_word, fits_order, form_has_words, has_words, layer_has_words, arm_has_words}
-use Rattle.mv_lower_names.proofs.Naming.{CodeNames, both, number_names, return_names, code_functions, code_knowns, code_constants}
+use Rattle.mv_select_bodies.proofs.Naming.{CodeNames, code_functions, code_knowns, code_constants}
+use Rattle.mv_lower_names.proofs.Naming.{both, number_names, return_names}
 use Rattle.mv_lower_names.proofs.Premises.{AnyNumber, any_number, KnownOf, StmtsKnown}
 use Rattle.mv_lower_names.proofs.Statements.{body_names}
 use Rattle.mv_lower_names.proofs.FromTypes as types

@@ -8,7 +8,8 @@ use Rattle.mv_meaning.specs.declared.state.Frame.{Frame}
 use Rattle.mv_meaning.specs.Meaning.{Evaluation, unless_zero, truth_of}
 use Rattle.mv_ir.specs.Outcome.{State, Next, Ends, Bound}
 use Rattle.mv_ir.specs.Outcome as ir
-use Rattle.mv_ir.specs.Trees.{nodes, flag}
+use Rattle.mv_ast.specs.Operators.{as_word}
+use Rattle.mv_ir.specs.Trees.{nodes}
 use Rattle.mv_ir.specs.Trees as ir_tree
 use Rattle.mv_ir.specs.Meaning.{with_temp}
 use Rattle.mv_ir.specs.KnownFunctions.{seen}
@@ -23,7 +24,7 @@ pub truth_is : (v : ℕ) → ir_tree.unary 2 (ir_tree.unary 2 v) ≡ truth_of v
 unfolding ir_tree.unary
 truth_is v = by (eqb v 0)
   where
-    by : (z : Bool) → flag (eqb (flag z) 0) ≡ cond z 0 1
+    by : (z : Bool) → as_word (eqb (as_word z) 0) ≡ cond z 0 1
     by true = refl
     by false = refl
 

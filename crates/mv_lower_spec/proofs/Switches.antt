@@ -13,7 +13,8 @@ use Rattle.mv_meaning.specs.declared.state.Flow.TheVariants.{Goes, Breaks, Conti
 use Rattle.mv_meaning.specs.Meaning.{Evaluation, ArmDenotation, Tried, in_order, then_on, after_switch, tried_labels, labels_of, bodies_of, bodies_from, switch_flow}
 use Rattle.mv_ir.specs.Outcome.{State, Returned, Next, Leaves, Restarts, Ends, Run, Bound, spend, then_do, goes_on, block_end}
 use Rattle.mv_ir.specs.Outcome as ir
-use Rattle.mv_ir.specs.Trees.{nodes, flag}
+use Rattle.mv_ast.specs.Operators.{as_word}
+use Rattle.mv_ir.specs.Trees.{nodes}
 use Rattle.mv_ir.specs.Trees as ir_tree
 use Rattle.mv_ir.specs.Meaning.{with_temp}
 use Rattle.mv_ir.proofs.Keeping.{run_same, one_meaning}
@@ -135,12 +136,12 @@ first_place (x ∷ xs) (suc n) = first_place xs n
 module _ (ground : Ground) (void : Bool) where
   -- ---- the tests
 
-  test_value : (b : Bound) (n l v : ℕ) (s : State) → slice_index s.temps n ≡ v → val (resting ground) (binary 11 (temp n) (number l)) s ≡ flag (eqb v l)
+  test_value : (b : Bound) (n l v : ℕ) (s : State) → slice_index s.temps n ≡ v → val (resting ground) (binary 11 (temp n) (number l)) s ≡ as_word (eqb v l)
   unfolding ir_tree.binary
   test_value b n l v s e =
       run.val_binary (resting ground) 11 (temp n) (number l) s ∙
-      ap (λ x. flag (eqb x (val (resting ground) (number l) s))) (run.val_temp (resting ground) n s ∙ e) ∙
-      ap (λ x. flag (eqb v x)) (run.val_number (resting ground) l s)
+      ap (λ x. as_word (eqb x (val (resting ground) (number l) s))) (run.val_temp (resting ground) n s ∙ e) ∙
+      ap (λ x. as_word (eqb v x)) (run.val_number (resting ground) l s)
 
   test_nodes : (n l : ℕ) → nodes (binary 11 (temp n) (number l)) ≡ 3
   test_nodes n l = omega (arith, nodes_binary 11 (temp n) (number l), nodes_temp n, nodes_number l)
@@ -163,9 +164,9 @@ module _ (ground : Ground) (void : Bool) where
       run.if_runs (resting ground) b (binary 11 (temp n) (number l)) (set n (number i) ∷ break 0 ∷ []) [] s ∙
       ap (λ k. spend (8 + 3 * k) (cond (eqb (val (resting ground) (binary 11 (temp n) (number l)) s) 0) (code ground [] b s) (code ground (set n (number i) ∷ break 0 ∷ []) b s))) (test_nodes n l) ∙
       ap (λ x. spend 17 (cond (eqb x 0) (ran 0 (Next s)) (code ground (set n (number i) ∷ break 0 ∷ []) b s))) (test_value b n l v s e) ∙
-      ap (λ r. spend 17 (cond (eqb (flag (eqb v l)) 0) (ran 0 (Next s)) r)) (begins_at b n i s) ∙ by (eqb v l)
+      ap (λ r. spend 17 (cond (eqb (as_word (eqb v l)) 0) (ran 0 (Next s)) r)) (begins_at b n i s) ∙ by (eqb v l)
     where
-      by : (z : Bool) → spend 17 (cond (eqb (flag z) 0) (ran 0 (Next s)) (ran 19 (Leaves 0 (with_temp s n i)))) ≡ cond z (ran 36 (Leaves 0 (with_temp s n i))) (ran 17 (Next s))
+      by : (z : Bool) → spend 17 (cond (eqb (as_word z) 0) (ran 0 (Next s)) (ran 19 (Leaves 0 (with_temp s n i)))) ≡ cond z (ran 36 (Leaves 0 (with_temp s n i))) (ran 17 (Next s))
       by true = refl
       by false = refl
 
@@ -284,13 +285,13 @@ module _ (ground : Ground) (void : Bool) where
         count : nodes (binary 10 (number i) (temp ground.locals)) ≡ 3
         count = omega (arith, nodes_binary 10 (number i) (temp ground.locals), nodes_temp ground.locals, nodes_number i)
 
-        holds : val (resting ground) (binary 10 (number i) (temp ground.locals)) s ≡ flag (ltb i (slice_index s.temps ground.locals))
+        holds : val (resting ground) (binary 10 (number i) (temp ground.locals)) s ≡ as_word (ltb i (slice_index s.temps ground.locals))
         holds =
             run.val_binary (resting ground) 10 (number i) (temp ground.locals) s ∙
-            ap (λ k. flag (ltb k (val (resting ground) (temp ground.locals) s))) (run.val_number (resting ground) i s) ∙
-            ap (λ k. flag (ltb i k)) (run.val_temp (resting ground) ground.locals s)
+            ap (λ k. as_word (ltb k (val (resting ground) (temp ground.locals) s))) (run.val_number (resting ground) i s) ∙
+            ap (λ k. as_word (ltb i k)) (run.val_temp (resting ground) ground.locals s)
 
-        by : (z : Bool) (r : Run) → spend 17 (cond (eqb (flag z) 0) r (ran 0 (Next s))) ≡ spend 17 (cond z (ran 0 (Next s)) r)
+        by : (z : Bool) (r : Run) → spend 17 (cond (eqb (as_word z) 0) r (ran 0 (Next s))) ≡ spend 17 (cond z (ran 0 (Next s)) r)
         by true r = refl
         by false r = refl
 

@@ -1,7 +1,6 @@
 -- A function whose lowering is renamed and selected has code.
 use Rattle.std.proofs.Common.{◌≡◌, ℕ, ◌<◌, ◌≤◌, min, Bool, slice_get, ap, ◌∙◌, subst, arith}
 use Rattle.mv_ast.specs.declared.program.Program.{Program}
-use Rattle.mv_ast.specs.declared.program.Function.{Function}
 use Rattle.mv_ast.specs.Counts.{is_attributed}
 use Rattle.mv_isa.specs.declared.labelled.Labelled.{Labelled}
 use Rattle.mv_ir.specs.declared.body.Body.{Body}
@@ -22,14 +21,10 @@ use Rattle.mv_parts.specs.Codes.{IsGeneric, HasCode, PassesFrame, frame_size, gr
 
 module _ (shallow : LoweredAreShallow) (formed : LoweredAreWellFormed) (p : Program) (well : IsWellFormed p) (f : ℕ) (body : Body) (generic : IsGeneric p f body)
     (words : HasWords body.code) where
-  abbrev g : Function
-  g = generic.function
-
-  abbrev lowered : Body
-  lowered = lower_function p g
+  open generic use {function as g}
 
   frame_is : frame_bytes body.temps body.arrays ≡ frame_size p g
-  frame_is = ap (λ t. frame_bytes t body.arrays) generic.renamed.temps ∙ ap (λ (b : Body). frame_bytes (most_intervals lowered) b.arrays) generic.renamed.changes
+  frame_is = ap (λ t. frame_bytes t body.arrays) generic.renamed.temps ∙ ap (λ (b : Body). frame_bytes (most_intervals (lower_function p g)) b.arrays) generic.renamed.changes
 
   formed_body : ir.IsWellFormed body
   formed_body = generic.renamed.well_formed (formed p f g (record { formed = well; there = generic.there }))

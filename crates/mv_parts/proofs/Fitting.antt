@@ -4,7 +4,6 @@ use Rattle.std.specs.List.{zip}
 use Rattle.std.proofs.lemmas.Option.{slice_get_within}
 use Rattle.mv_ast.specs.declared.program.Program.{Program}
 use Rattle.mv_ast.specs.declared.program.Function.{Function}
-use Rattle.mv_ir.specs.declared.body.Body.{Body}
 use Rattle.mv_ir.specs.Live.{most_intervals}
 use Rattle.mv_ir.specs.Measures.{total}
 use Rattle.mv_lower_spec.specs.Functions.{lower_function}
@@ -24,17 +23,14 @@ use Rattle.mv_parts.proofs.Lists.{all_by_index, map_at}
 
 module _ (made : MadeAreVariants) (came : BodiesAreMade) (shallow : LoweredAreShallow) (well : LoweredAreWellFormed) (p : Program) (formed : IsWellFormed p)
     (frames : FramesFit p (length p.functions)) (f : ℕ) (g : Function) (there : slice_get p.functions f ≡ Some g) (variants : List Variant) (are : AreVariants p g variants) where
-  abbrev lowered : Body
-  lowered = lower_function p g
-
   fits : (i : ℕ) (v : Variant) → slice_get variants i ≡ Some v → FitsVariant v
   fits i v is =
       let kept : slice_get are.merged.bodies i ≡ Some v.body = ap (λ xs. slice_get xs i) (sym are.grouped.bodies) ∙ map_at (λ (x : Variant). x.body) variants i v is in
-      let from = came (domains_in p (switch_kind p) g) are.rows are.merged are.is_merged lowered are.made i v.body kept in
-      let variant : IsVariantOf (zip lowered.switches from.0.assignment.values) lowered v.body = made (zip lowered.switches from.0.assignment.values) lowered v.body from.2 in
+      let from = came (domains_in p (switch_kind p) g) are.rows are.merged are.is_merged (lower_function p g) are.made i v.body kept in
+      let variant : IsVariantOf (zip (lower_function p g).switches from.0.assignment.values) (lower_function p g) v.body = made (zip (lower_function p g).switches from.0.assignment.values) (lower_function p g) v.body from.2 in
       let few = shallow p g in
-      let less = frame_less v.body.temps (most_intervals lowered) (total lowered.arrays) variant.temps in
-      let same : frame_bytes v.body.temps v.body.arrays ≡ frame_bytes v.body.temps lowered.arrays = ap (frame_bytes v.body.temps) variant.sizes in
+      let less = frame_less v.body.temps (most_intervals (lower_function p g)) (total (lower_function p g).arrays) variant.temps in
+      let same : frame_bytes v.body.temps v.body.arrays ≡ frame_bytes v.body.temps (lower_function p g).arrays = ap (frame_bytes v.body.temps) variant.sizes in
       let own = frames f g (slice_get_within p.functions f g there) there in
       record {
         formed = variant.well_formed (well p f g (record { formed = formed; there = there }));

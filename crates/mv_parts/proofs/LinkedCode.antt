@@ -24,7 +24,7 @@ use Rattle.mv_select_bodies.specs.Lines.{NamesThese, IsGoal, LinesAreNamed}
 use Rattle.mv_parts_bound.specs.Meant.{IsMadeUnder, MadeAreVariants}
 use Rattle.mv_parts_bound.specs.Names.{ReadAsWords}
 use Rattle.mv_parts_bound.specs.Variants.{MadeNameNoMore}
-use Rattle.mv_parts_bound.proofs.FewSlots.{marked_among}
+use Rattle.mv_parts_bound.proofs.FewSlots.{marked_attributed}
 use Rattle.mv_select.specs.Laws.{SelectedIsEncoded, SelectedLabelsAreOwn, SelectedBegins}
 use Rattle.mv_select.specs.Selected.{selected_lines, selected_labels}
 use Rattle.mv_linker.specs.Linked.{IsFunction, IsTarget, NamesAreThere}
@@ -52,32 +52,23 @@ pub record NamesProgram (p : Program) (b : Body) : Type 0 where
   pub marked : (k : ℕ) → is_marked b.marked k ≡ true → is_attributed (slice_get p.functions k) ≡ true
 
 module _ (laws : Laws) (p : Program) (f : ℕ) (g : Function) (of_program : IsFunctionOf p f g) where
-  abbrev lowered : Body
-  lowered = lower_function p g
+  marks : (b : Body) → b.marked ≡ (lower_function p g).marked → (k : ℕ) → is_marked b.marked k ≡ true → is_attributed (slice_get p.functions k) ≡ true
+  marks b same k e = marked_attributed p g k (subst (λ (ms : List ℕ). is_marked ms k ≡ true) same e)
 
-  -- what is marked in a lowered body is attributed
-  lowered_marks : (k : ℕ) → is_marked lowered.marked k ≡ true → is_attributed (slice_get p.functions k) ≡ true
-  lowered_marks k e =
-      let (i, at, is) = marked_among _ k 0 p.functions e in
-      let same : i ≡ k = omega (arith, at) in subst (λ n. is_attributed (slice_get p.functions n) ≡ true) same is
-
-  marks : (b : Body) → b.marked ≡ lowered.marked → (k : ℕ) → is_marked b.marked k ≡ true → is_attributed (slice_get p.functions k) ≡ true
-  marks b same k e = lowered_marks k (subst (λ (ms : List ℕ). is_marked ms k ≡ true) same e)
-
-  pub renamed_names : (b : Body) → IsRenamed lowered b → NamesProgram p b
+  pub renamed_names : (b : Body) → IsRenamed (lower_function p g) b → NamesProgram p b
   renamed_names b renamed =
-      let same : NamesTheSame lowered b = subst (NamesTheSame lowered) (sym renamed.changes) (laws.keeps renamed.numbers b.temps lowered) in record {
+      let same : NamesTheSame (lower_function p g) b = subst (NamesTheSame (lower_function p g)) (sym renamed.changes) (laws.keeps renamed.numbers b.temps (lower_function p g)) in record {
         functions = subst (All (λ k. k < length p.functions)) (sym same.functions) (laws.there p f g of_program);
         marked = marks b same.marked;
       }
 
-  pub made_names : (ps : List (ℕ × ℕ)) → ReadAsWords ps → (b : Body) → IsMadeUnder ps lowered b → NamesProgram p b
+  pub made_names : (ps : List (ℕ × ℕ)) → ReadAsWords ps → (b : Body) → IsMadeUnder ps (lower_function p g) b → NamesProgram p b
   made_names ps words b made =
-      let less = laws.name_no_more ps lowered b words made in record {
+      let less = laws.name_no_more ps (lower_function p g) b words made in record {
         functions =
-            All-weaker (Contains (functions b.code)) (λ k. k < length p.functions) (λ k is. All-contains (λ n. n < length p.functions) (functions lowered.code) k (laws.there p f g of_program) (less.functions k is))
+            All-weaker (Contains (functions b.code)) (λ k. k < length p.functions) (λ k is. All-contains (λ n. n < length p.functions) (functions (lower_function p g).code) k (laws.there p f g of_program) (less.functions k is))
             (functions b.code) (All-contains_itself (functions b.code));
-        marked = marks b (laws.made ps lowered b made).marked;
+        marked = marks b (laws.made ps (lower_function p g) b made).marked;
       }
 
 -- ---- what lines name

@@ -1,9 +1,10 @@
 -- Elements of lists, and lists joined.
-use Rattle.std.proofs.Common.{◌≡◌, ℕ, suc, List, [], ◌∷◌, ◌++◌, Some, map, slice_get, All, refl, sym, ap, ◌∙◌, subst}
+use Rattle.std.proofs.Common.{◌≡◌, ℕ, zero, suc, ◌+◌, List, [], ◌∷◌, ◌++◌, Some, length, map, take, sum_by, slice_get, All, refl, sym, ap, ◌∙◌, subst, arith}
 use Rattle.std.specs.List.{flat_map}
 use Rattle.std.proofs.lemmas.List.{map-append}
 use Rattle.std.proofs.lemmas.List.Elements.{All-nil, All-append, All-map, All-get_or}
-use Rattle.std.proofs.lemmas.Option.{slice_get_within, get_or_from_slice_get, slice_get-get_or}
+use Rattle.std.proofs.lemmas.List.Sums.{sum_by-cons}
+use Rattle.std.proofs.lemmas.Option.{slice_get_within, get_or_from_slice_get, slice_get-get_or, same_Some}
 use Rattle.mv_isa.specs.declared.labelled.Labelled.{Labelled}
 use Rattle.mv_ir.specs.Combinations.{In}
 use Rattle.mv_ir.specs.Measures.{joined}
@@ -11,6 +12,7 @@ use Rattle.mv_linker.specs.declared.parts.PartFunction.{PartFunction}
 use Rattle.mv_linker.specs.declared.parts.PartVariant.{PartVariant}
 use Rattle.mv_linker.specs.Linked.{function_variants, variant_codes}
 use Rattle.mv_parts.proofs.Lists.{all_by_index, map_at}
+use Rattle.mv_num.proofs.Lists.{slice_get_left, get_right}
 
 -- what stands in a list
 pub one_in : {X : Type 0} (P : X → Type 0) (xs : List X) → All P xs → (x : X) → In x xs → P x
@@ -37,3 +39,22 @@ all_variants P (a ∷ attributed) h =
 pub flat_is_joined : {X Y : Type 0} (f : X → List Y) (xs : List X) → flat_map f xs ≡ joined (map f xs)
 flat_is_joined f [] = refl
 flat_is_joined f (x ∷ xs) = ap (λ l. f x ++ l) (flat_is_joined f xs)
+
+-- ---- variants among those of all functions
+
+abbrev pub variant_count : PartFunction → ℕ
+variant_count a = length a.variants
+
+pub variant_at : (attributed : List PartFunction) (n j : ℕ) (a : PartFunction) (v : PartVariant) → slice_get attributed n ≡ Some a → slice_get a.variants j ≡ Some v →
+    slice_get (function_variants attributed) (sum_by variant_count (take n attributed) + j) ≡ Some v
+variant_at [] n j a v e at = absurd (cc e)
+variant_at (b ∷ attributed) zero j a v e at =
+    let same = same_Some b a e in
+    let place : sum_by variant_count (take zero (b ∷ attributed)) + j ≡ j = omega arith in
+    ap (slice_get (function_variants (b ∷ attributed))) place
+    ∙ slice_get_left b.variants (function_variants attributed) j v (subst (λ (z : PartFunction). slice_get z.variants j ≡ Some v) (sym same) at)
+variant_at (b ∷ attributed) (suc n) j a v e at =
+    let more = sum_by-cons variant_count b (take n attributed) in
+    let place : sum_by variant_count (take (suc n) (b ∷ attributed)) + j ≡ length b.variants + (sum_by variant_count (take n attributed) + j) = omega (arith, more) in
+    ap (slice_get (function_variants (b ∷ attributed))) place ∙ get_right b.variants (function_variants attributed) (sum_by variant_count (take n attributed) + j)
+    ∙ variant_at attributed n j a v e at

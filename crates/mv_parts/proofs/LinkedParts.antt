@@ -65,8 +65,12 @@ module _ (p : Program) (bodies : List Body) (tables : List (List Variant)) (func
       let has = are.code.each f b code of is in
       record { function = has.function; there = has.there; body = b; renamed = are.generics.each f has.function b has.there of; is_code = has.is_code }
 
-  part_count : length attributed ≡ length (attributed_numbers p)
+  pub part_count : length attributed ≡ length (attributed_numbers p)
   part_count = sym (length-map attributed (λ (a : PartFunction). a.function)) ∙ ap length are.variants.numbers
+
+  -- the part of a function by its number among the attributed ones
+  pub part_there : (n f : ℕ) → slice_get (attributed_numbers p) n ≡ Some f → (a : PartFunction) × (slice_get attributed n ≡ Some a)
+  part_there n f number = let within = slice_get_within (attributed_numbers p) n f number in there_at attributed n (omega (arith, part_count, within))
 
   pub as_many_parts : length attributed ≡ length (attributed_functions p)
   as_many_parts = part_count ∙ as_many 0 p.functions

@@ -47,13 +47,13 @@ use Rattle.mv_parts.proofs.LinkedVariants.{made_variant, some_variant, group_of,
 
 -- ---- the functions that are first values
 
-pub first_value : (p : Program) (t : CType) (v : ℕ) → IsFirstValue p t v → IsFirstValueAmong (length p.functions) t v
+first_value : (p : Program) (t : CType) (v : ℕ) → IsFirstValue p t v → IsFirstValueAmong (length p.functions) t v
 first_value p Void v h = tt
 first_value p (Scalar kind) v h = tt
 first_value p (Pointer s) v h =
     ⊎_elim (λ none. omega (arith, none)) (λ some. let within = slice_get_within p.functions some.0 some.2.function some.2.defined in omega (arith, some.1, within)) h
 
-first_values : (p : Program) → All (λ (g : Global). All (IsFirstValue p g.ctype) g.first) p.globals → HasFirstValues p
+pub first_values : (p : Program) → All (λ (g : Global). All (IsFirstValue p g.ctype) g.first) p.globals → HasFirstValues p
 first_values p = All-weaker (λ (g : Global). All (IsFirstValue p g.ctype) g.first) (λ (g : Global). All (IsFirstValueAmong (length p.functions) g.ctype) g.first)
     (λ g. All-weaker (IsFirstValue p g.ctype) (IsFirstValueAmong (length p.functions) g.ctype) (first_value p g.ctype) g.first) p.globals
 
@@ -102,8 +102,7 @@ table_function p facts n g is = one_of_all (IsTableFunction p) (attributed_funct
 module _ (p : Program) (facts : HasTableFacts p) (fit : GroupsFit) (grouped : GroupedIsLed) (parts : Parts) (count : length parts.functions ≡ length p.functions)
     (switches : parts.switches ≡ part_switches p) (own : (f : ℕ) (code : Labelled) → slice_get parts.functions f ≡ Some code → FitsCode p code) (n : ℕ) (a : PartFunction)
     (h : IsAttributedPart p n a) (codes_fit : (j : ℕ) (part : PartVariant) → slice_get a.variants j ≡ Some part → FitsCode p part.code) where
-  abbrev g : Function
-  g = h.function
+  open h use {function as g}
 
   table : IsTableFunction p g
   table = table_function p facts n g h.nth

@@ -9,6 +9,7 @@ use Rattle.mv_ast.specs.declared.program.Switch.{Switch}
 use Rattle.mv_ast.specs.Counts.{words_of_size}
 use Rattle.mv_ast.specs.Plans.{global_or_none}
 use Rattle.mv_linker.specs.declared.parts.PartSwitch.{PartSwitch}
+use Rattle.mv_link_data.proofs.Places.{size_of}
 use Rattle.mv_variants.specs.Domains.{kind_or_int, switch_kind}
 use Rattle.mv_parts.specs.Switches.{name_or_none, words_of, word_of, part_switch, HasSwitches}
 use Rattle.mv_parts.proofs.Lists.{one_of_all}
@@ -34,9 +35,6 @@ switches_step p n s old new part below here is part_is e =
     e ∙ ap (λ l. l ++ part ∷ []) is ∙ ap (λ x. before ++ x ∷ []) (part_is ∙ ap (part_switch p) here) ∙ sym (map_more (part_switch p) p.switches n s below)
 
 -- ---- words
-
-abbrev size_of : Global → ℕ
-size_of g = words_of_size g.size
 
 -- the words of the first globals, and of the next, are among those of all
 pub next_fits : (gs : List Global) (k : ℕ) (g : Global) → k < length gs → g ≡ get_or gs k g → words_of (take k gs) + words_of_size g.size ≤ words_of gs

@@ -42,28 +42,25 @@ is_written laws y attributed body code is rooms = record {
 
 module _ (laws : Laws) (p : Program) (bodies : List Body) (tables : List (List Variant)) (parts : Parts) (y : Layout) (numbers : List ℕ)
     (out : AreLaidOut p bodies tables parts y numbers) (f : ℕ) (g : Function) (there : slice_get p.functions f ≡ Some g) where
-  abbrev lowered : Body
-  lowered = lower_function p g
-
   -- ---- what it is lowered to
 
   pub of_program : IsFunctionOf p f g
   of_program = record { formed = out.formed; there = there }
 
-  pub rooms : AreRooms y lowered.rooms
+  pub rooms : AreRooms y (lower_function p g).rooms
   rooms = rooms_are laws.rooms_stand p y out.layout out.globals out.data_fits (names_global (lower_function_code g).code)
 
   abbrev MayAsk : Known → Type 0
   MayAsk k = y.may_ask k ≡ true
 
-  pub may_ask : All MayAsk (knowns lowered.code)
-  may_ask = All-weaker (λ k. known_is_there p k ≡ true) MayAsk (λ k h. out.layout.asked k ∙ h) (knowns lowered.code) (laws.orders_there p f g of_program)
+  pub may_ask : All MayAsk (knowns (lower_function p g).code)
+  may_ask = All-weaker (λ k. known_is_there p k ≡ true) MayAsk (λ k h. out.layout.asked k ∙ h) (knowns (lower_function p g).code) (laws.orders_there p f g of_program)
 
   abbrev IsThere : ℕ → Type 0
   IsThere k = k < length numbers
 
-  pub functions_there : All IsThere (functions lowered.code)
-  functions_there = subst (λ n. All (λ k. k < n) (functions lowered.code)) (sym out.numbered) (laws.functions_there p f g of_program)
+  pub functions_there : All IsThere (functions (lower_function p g).code)
+  functions_there = subst (λ n. All (λ k. k < n) (functions (lower_function p g).code)) (sym out.numbered) (laws.functions_there p f g of_program)
 
   -- ---- its own body
 
@@ -75,23 +72,23 @@ module _ (laws : Laws) (p : Program) (bodies : List Body) (tables : List (List V
   abbrev body : Body
   body = own.0
 
-  renamed : IsRenamed lowered body
+  renamed : IsRenamed (lower_function p g) body
   renamed = out.parts_are.codes.generics.each f g body there own.1
 
-  names : NamesTheSame lowered body
-  names = subst (NamesTheSame lowered) (sym renamed.changes) (laws.same_names renamed.numbers body.temps lowered)
+  names : NamesTheSame (lower_function p g) body
+  names = subst (NamesTheSame (lower_function p g)) (sym renamed.changes) (laws.same_names renamed.numbers body.temps (lower_function p g))
 
   own_words : HasWords body.code
   own_words = one_of_all (λ (b : Body). HasWords b.code) bodies out.words f body own.1
 
-  pub words : HasWords lowered.code
+  pub words : HasWords (lower_function p g).code
   words = record { constants = subst AreWords names.constants own_words.constants; orders = subst (All IsOrder) names.knowns own_words.orders }
 
   own_rooms : AreRooms y body.rooms
   own_rooms = subst (AreRooms y) (sym names.rooms) rooms
 
-  own_reads : (x : ℕ) → is_among x (globals_read body.code) ≡ true → is_among x (globals_read lowered.code) ≡ true
-  own_reads x e = let same : globals_read body.code ≡ globals_read lowered.code = ap₂ ◌++◌ renamed.scalars renamed.arrays in subst (λ (xs : List ℕ). is_among x xs ≡ true) same e
+  own_reads : (x : ℕ) → is_among x (globals_read body.code) ≡ true → is_among x (globals_read (lower_function p g).code) ≡ true
+  own_reads x e = let same : globals_read body.code ≡ globals_read (lower_function p g).code = ap₂ ◌++◌ renamed.scalars renamed.arrays in subst (λ (xs : List ℕ). is_among x xs ≡ true) same e
 
   unbound : (xs : List ℕ) → All (λ x. found [] x ≡ None) xs
   unbound xs = All-from_get_or (λ x. found [] x ≡ None) xs 0 (λ i lt. refl)

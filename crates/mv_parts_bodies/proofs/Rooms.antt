@@ -11,10 +11,8 @@ use Rattle.mv_lower_spec.specs.Functions.{address_behind, rooms_from}
 use Rattle.mv_select_calls.specs.Convention.{Layout}
 use Rattle.mv_select_bodies.specs.SelectedBodies.{AreRooms, IsRoom, RoomsStand}
 use Rattle.mv_link_data.specs.FirstData.{data_words}
+use Rattle.mv_link_data.proofs.Places.{size_of}
 use Rattle.mv_parts_bodies.specs.ProgramBodies.{IsLayoutOf}
-
-abbrev words_of : Global → ℕ
-words_of x = words_of_size x.size
 
 abbrev HaveWords : List Global → Type 0
 HaveWords xs = All (λ (x : Global). 1 ≤ words_of_size x.size) xs
@@ -27,37 +25,37 @@ module _ (y : Layout) where
 
   -- globals that are counted from one on stand one behind the other, the first behind so many words
   abbrev Stand : (from before : ℕ) → List Global → Type 0
-  Stand from before xs = (i : ℕ) (x : Global) → slice_get xs i ≡ Some x → StandsAt (from + i) (before + sum (take i (map words_of xs))) (words_of x)
+  Stand from before xs = (i : ℕ) (x : Global) → slice_get xs i ≡ Some x → StandsAt (from + i) (before + sum (take i (map size_of xs))) (size_of x)
 
-  next : (from before : ℕ) (x : Global) (xs : List Global) → Stand from before (x ∷ xs) → Stand (suc from) (before + words_of x) xs
+  next : (from before : ℕ) (x : Global) (xs : List Global) → Stand from before (x ∷ xs) → Stand (suc from) (before + size_of x) xs
   next from before x xs stand i z e =
-      let more = sum_by-cons (λ (n : ℕ). n) (words_of x) (take i (map words_of xs)) in
+      let more = sum_by-cons (λ (n : ℕ). n) (size_of x) (take i (map size_of xs)) in
       let number : from + suc i ≡ suc from + i = omega arith in
-      let words : before + sum (take (suc i) (map words_of (x ∷ xs))) ≡ before + words_of x + sum (take i (map words_of xs)) = omega (arith, more) in
-      subst (λ n. StandsAt n (before + words_of x + sum (take i (map words_of xs))) (words_of z)) number
-      (subst (λ n. StandsAt (from + suc i) n (words_of z)) words (stand (suc i) z e))
+      let words : before + sum (take (suc i) (map size_of (x ∷ xs))) ≡ before + size_of x + sum (take i (map size_of xs)) = omega (arith, more) in
+      subst (λ n. StandsAt n (before + size_of x + sum (take i (map size_of xs))) (size_of z)) number
+      (subst (λ n. StandsAt (from + suc i) n (size_of z)) words (stand (suc i) z e))
 
-  each_room : (is_named : ℕ → Bool) (from before : ℕ) (xs : List Global) → before + sum (map words_of xs) ≤ 262144 → HaveWords xs → Stand from before xs → All (IsRoom y) (rooms_from is_named from before xs)
+  each_room : (is_named : ℕ → Bool) (from before : ℕ) (xs : List Global) → before + sum (map size_of xs) ≤ 262144 → HaveWords xs → Stand from before xs → All (IsRoom y) (rooms_from is_named from before xs)
   each_room is_named from before [] few some stand = All-nil (IsRoom y)
   each_room is_named from before (x ∷ xs) few some stand =
       by
-      (each_room is_named (suc from) (before + words_of x) xs (omega (arith, few, total)) (All-tail (λ (z : Global). 1 ≤ words_of_size z.size) x xs some) (next from before x xs stand))
+      (each_room is_named (suc from) (before + size_of x) xs (omega (arith, few, total)) (All-tail (λ (z : Global). 1 ≤ words_of_size z.size) x xs some) (next from before x xs stand))
       (is_named from)
     where
       rest : List Room
-      rest = rooms_from is_named (suc from) (before + words_of x) xs
+      rest = rooms_from is_named (suc from) (before + size_of x) xs
 
       first : Room
-      first = record { global = from; at = address_behind before; size = words_of x }
+      first = record { global = from; at = address_behind before; size = size_of x }
 
-      total : sum (map words_of (x ∷ xs)) ≡ words_of x + sum (map words_of xs)
-      total = sum_by-cons (λ (n : ℕ). n) (words_of x) (map words_of xs)
+      total : sum (map size_of (x ∷ xs)) ≡ size_of x + sum (map size_of xs)
+      total = sum_by-cons (λ (n : ℕ). n) (size_of x) (map size_of xs)
 
-      here : StandsAt from before (words_of x)
+      here : StandsAt from before (size_of x)
       here =
           let number : from + 0 ≡ from = omega arith in
           let none : before + 0 ≡ before = omega arith in
-          subst (λ n. StandsAt n before (words_of x)) number (subst (λ n. StandsAt (from + 0) n (words_of x)) none (stand 0 x refl))
+          subst (λ n. StandsAt n before (size_of x)) number (subst (λ n. StandsAt (from + 0) n (size_of x)) none (stand 0 x refl))
 
       address : (n : ℕ) → n ≤ 262144 → address_behind n ≡ 0x0010_0000 + 4 * n
       address n le = omega (arith, le)
@@ -65,7 +63,7 @@ module _ (y : Layout) where
       is_room : IsRoom y first
       is_room =
           let one = All-head (λ (z : Global). 1 ≤ words_of_size z.size) x xs some in
-          let sized : 0 < words_of x = omega (arith, one) in
+          let sized : 0 < size_of x = omega (arith, one) in
           (address before (omega (arith, few, total)) ∙ sym here.place, sym here.words, sized)
 
       by : All (IsRoom y) rest → (b : Bool) → All (IsRoom y) (cond b (first ∷ rest) rest)
@@ -76,9 +74,9 @@ module _ (stand : RoomsStand) (p : Program) (y : Layout) (layout : IsLayoutOf p 
   stands : Stand y 0 0 p.globals
   stands i x e =
       let number : i ≡ 0 + i = omega arith in
-      let before : sum (take i (map words_of p.globals)) ≡ 0 + sum (take i (map words_of p.globals)) = omega arith in
-      subst (λ n. StandsAt y n (0 + sum (take i (map words_of p.globals))) (words_of x)) number
-      (subst (λ n. StandsAt y i n (words_of x)) before (record { place = layout.places i; words = layout.sizes i ∙ ap words_of_global e }))
+      let before : sum (take i (map size_of p.globals)) ≡ 0 + sum (take i (map size_of p.globals)) = omega arith in
+      subst (λ n. StandsAt y n (0 + sum (take i (map size_of p.globals))) (size_of x)) number
+      (subst (λ n. StandsAt y i n (size_of x)) before (record { place = layout.places i; words = layout.sizes i ∙ ap words_of_global e }))
 
   pub rooms_are : AreRooms y (rooms_from is_named 0 0 p.globals)
   rooms_are = stand y (rooms_from is_named 0 0 p.globals) (each_room y is_named 0 0 p.globals (omega (arith, few)) some stands)

@@ -28,9 +28,9 @@ use Rattle.mv_variants.specs.declared.variant.Variant.{Variant}
 use Rattle.mv_variants.specs.Domains.{switch_kind}
 use Rattle.mv_variants.specs.Variants.{AreVariants}
 use Rattle.mv_ir_worlds.proofs.Functions.{combination_length}
-use Rattle.mv_parts.specs.Numbers.{attributed_numbers}
 use Rattle.mv_parts.specs.Parts.{IsPartFunction, IsPartVariant}
 use Rattle.mv_parts.proofs.LinkedLists.{in_map}
+use Rattle.mv_parts.proofs.LinkedParts.{part_there}
 use Rattle.mv_parts.proofs.LinkedVariants.{made_variant}
 use Rattle.mv_parts.proofs.Lists.{map_at}
 use Rattle.mv_parts_bodies.specs.ProgramBodies.{AreLaidOut, IsLinkedVariant, IsVariantAt, IsVariantCode}
@@ -48,16 +48,10 @@ record IsMade (p : Program) (g : Function) (result : Body) : Type 0 where
 
 module _ (laws : VariantLaws) (p : Program) (bodies : List Body) (tables : List (List Variant)) (parts : Parts) (y : Layout) (numbers : List ℕ)
     (out : AreLaidOut p bodies tables parts y numbers) (n f j : ℕ) (g : Function) (v : Variant) (at : IsVariantAt p tables n f j g v) where
-  abbrev lowered : Body
-  lowered = lower_function p g
-
   -- ---- what is linked of it
 
-  function : (a : PartFunction) × (slice_get parts.attributed n ≡ Some a)
-  function =
-      let numbers_are = out.parts_are.codes.variants.numbers in
-      let count : length parts.attributed ≡ length (attributed_numbers p) = sym (length-map parts.attributed (λ (a : PartFunction). a.function)) ∙ ap length numbers_are in
-      let within = slice_get_within (attributed_numbers p) n f at.number in there_at parts.attributed n (omega (arith, count, within))
+  abbrev function : (a : PartFunction) × (slice_get parts.attributed n ≡ Some a)
+  function = part_there p bodies tables parts.functions parts.attributed out.parts_are.codes n f at.number
 
   is_function : IsPartFunction g f at.variants function.0
   is_function = out.parts_are.codes.variants.each n f g at.variants function.0 at.number at.there at.table function.1
@@ -82,7 +76,7 @@ module _ (laws : VariantLaws) (p : Program) (bodies : List Body) (tables : List 
   made =
       let kept : slice_get are.merged.bodies j ≡ Some v.body =
       subst (λ (bs : List Body). slice_get bs j ≡ Some v.body) are.grouped.bodies (map_at (λ (x : Variant). x.body) at.variants j v at.at) in
-      let r = laws.bodies_made (domains_in p (switch_kind p) g) are.rows are.merged are.is_merged lowered are.made j v.body kept in
+      let r = laws.bodies_made (domains_in p (switch_kind p) g) are.rows are.merged are.is_merged (lower_function p g) are.made j v.body kept in
       let values = r.0.assignment.values in
       let combination = are.all.only values (in_map (λ (x : Bound). x.assignment.values) are.rows r.0 r.1) in record {
         values = values;
@@ -90,17 +84,17 @@ module _ (laws : VariantLaws) (p : Program) (bodies : List Body) (tables : List 
         made = r.2;
       }
 
-  names : NamesNoMore lowered.code v.body.code
-  names = let m = made_variant p g at.variants are laws.bodies_made j v at.at in laws.name_no_more m.values lowered v.body m.words m.made
+  names : NamesNoMore (lower_function p g).code v.body.code
+  names = let m = made_variant p g at.variants are laws.bodies_made j v at.at in laws.name_no_more m.values (lower_function p g) v.body m.words m.made
 
   has_words : HasWords v.body.code
   has_words = names.words (words laws.lowered p bodies tables parts y numbers out f g at.there)
 
-  no_switches : read.ReadsNoSwitch lowered.switches v.body
+  no_switches : read.ReadsNoSwitch (lower_function p g).switches v.body
   no_switches = laws.no_switch p g (laws.reads p f g (of_program laws.lowered p bodies tables parts y numbers out f g at.there)) made.values made.many v.body made.made
 
   abbrev IsNoSwitch : ℕ → Type 0
-  IsNoSwitch k = is_among k lowered.switches ≡ false
+  IsNoSwitch k = is_among k (lower_function p g).switches ≡ false
 
   reads_none : (x : ℕ) → is_among x (globals_read v.body.code) ≡ true → IsNoSwitch x
   reads_none x e =
@@ -108,20 +102,20 @@ module _ (laws : VariantLaws) (p : Program) (bodies : List Body) (tables : List 
 
   -- ---- under values of its switches
 
-  module _ (values : List ℕ) (variant : IsVariantOf (zip lowered.switches values) lowered v.body) where
+  module _ (values : List ℕ) (variant : IsVariantOf (zip (lower_function p g).switches values) (lower_function p g) v.body) where
     own_rooms : AreRooms y v.body.rooms
     own_rooms = subst (AreRooms y) (sym variant.rooms) (rooms laws.lowered p bodies tables parts y numbers out f g at.there)
 
-    in_program : IsInProgram y (setting_of numbers p) true (zip lowered.switches values) v.body
+    in_program : IsInProgram y (setting_of numbers p) true (zip (lower_function p g).switches values) v.body
     in_program = record {
       within = is_within true v.body part.0.code is_part.code;
       rooms = own_rooms;
       constants = has_words.constants;
-      knowns = contains_all (λ k. y.may_ask k ≡ true) (knowns lowered.code) (knowns v.body.code) names.knowns (may_ask laws.lowered p bodies tables parts y numbers out f g at.there);
-      functions = contains_all (λ k. k < length numbers) (functions lowered.code) (functions v.body.code) names.functions
+      knowns = contains_all (λ k. y.may_ask k ≡ true) (knowns (lower_function p g).code) (knowns v.body.code) names.knowns (may_ask laws.lowered p bodies tables parts y numbers out f g at.there);
+      functions = contains_all (λ k. k < length numbers) (functions (lower_function p g).code) (functions v.body.code) names.functions
           (functions_there laws.lowered p bodies tables parts y numbers out f g at.there);
       free = variant.free;
-      arrays = All-weaker IsNoSwitch (λ k. found (zip lowered.switches values) k ≡ None) (λ k e. not_found lowered.switches values k e) (arrays_read v.body.code) no_switches.arrays;
+      arrays = All-weaker IsNoSwitch (λ k. found (zip (lower_function p g).switches values) k ≡ None) (λ k e. not_found (lower_function p g).switches values k e) (arrays_read v.body.code) no_switches.arrays;
     }
 
     variant_code : IsVariantCode p y numbers g values v.body part.0
@@ -129,7 +123,7 @@ module _ (laws : VariantLaws) (p : Program) (bodies : List Body) (tables : List 
       keeps = variant.keeps;
       params = variant.params;
       in_program = in_program;
-      reads = reads_no_more (zip lowered.switches made.values) lowered v.body made.made;
+      reads = reads_no_more (zip (lower_function p g).switches made.values) (lower_function p g) v.body made.made;
       no_switch = reads_none;
       written = is_written laws.lowered y true v.body part.0.code is_part.code own_rooms;
       inline = is_part.inline ∙ ap encoded (laws.same_inline y v.body is_part.code.suitable.formed own_rooms);

@@ -11,7 +11,7 @@ use Rattle.mv_ast.specs.Plans.{is_among}
 use Rattle.mv_isa.specs.declared.labelled.Labelled.{Labelled}
 use Rattle.mv_ir.specs.declared.stm.Stm.{Stm}
 use Rattle.mv_ir.specs.declared.body.Body.{Body}
-use Rattle.mv_ir.specs.Keeps.{KeepsBody}
+use Rattle.mv_ir.specs.Keeps.{KeepsBody, KeepsUnder}
 use Rattle.mv_ir.specs.Programs.{setting_of}
 use Rattle.mv_lower_spec.specs.Functions.{lower_function}
 use Rattle.mv_source_forms.specs.Names.{global_words}
@@ -30,7 +30,6 @@ use Rattle.mv_linker.specs.declared.parts.PartVariant.{PartVariant}
 use Rattle.mv_linker.specs.Linked.{codes}
 use Rattle.mv_linker.specs.Outcome.{data_limit}
 use Rattle.mv_link_data.specs.FirstData.{data_words, global_sizes}
-use Rattle.mv_parts_bound.specs.Meant.{KeepsUnder}
 use Rattle.mv_variants.specs.declared.variant.Variant.{Variant}
 use Rattle.mv_parts.specs.Numbers.{attributed_numbers}
 use Rattle.mv_parts.specs.Parts.{ArePartsOf}

@@ -15,7 +15,7 @@ use Rattle.mv_ir.specs.Trees.{found}
 use Rattle.mv_ir.proofs.Induction.{Each, TreeChildren, tree_ind, StmChildren, stm_ind, stms_ind}
 use Rattle.mv_clone.specs.Bind.{known_or_read, bound_node, bound_tree, bound_callee, bound_layer, bound_stm, bound_code}
 use Rattle.mv_clone.proofs.Bound.{bound_tree_roll, bound_stm_roll}
-use Rattle.mv_parts_bound.proofs.Naming.{TreeNames, StmNames, CodeNames, TreeParts, tree_in, tree_out, CalleeNames, StmParts, stm_in, stm_out}
+use Rattle.mv_select_bodies.proofs.Naming.{TreeNames, StmNames, CodeNames, TreeParts, tree_in, tree_out, CalleeNames, StmParts, stm_in, stm_out}
 
 module _ (F : ℕ → Type 0) (K : Known → Type 0) (C : ℕ → Type 0) (ps : List (ℕ × ℕ)) (values : (g v : ℕ) → found ps g ≡ Some v → C v) where
   -- ---- trees

@@ -26,7 +26,7 @@ use Rattle.mv_fold.specs.Folded.{simple_body}
 use Rattle.mv_fold.proofs.SimpleKept.{constant_roll, simple_tree_roll, simple_stm_roll}
 use Rattle.mv_fold.proofs.NeededEquations.{needed_stm_roll}
 use Rattle.mv_fold.proofs.Shortening.{shortened_is}
-use Rattle.mv_parts_bound.proofs.Naming.{TreeNames, StmNames, CodeNames, TreeParts, tree_in, tree_out, CalleeNames, StmParts, stm_in, stm_out}
+use Rattle.mv_select_bodies.proofs.Naming.{TreeNames, StmNames, CodeNames, TreeParts, tree_in, tree_out, CalleeNames, StmParts, stm_in, stm_out}
 
 -- what operators compute of such constants is such a constant
 pub record IsClosed (C : ℕ → Type 0) : Type 0 where
@@ -54,15 +54,12 @@ module _ (F : ℕ → Type 0) (K : Known → Type 0) (C : ℕ → Type 0) (close
   abbrev TreeKept : Tree → Type 0
   TreeKept t = TreeNames F K C t → TreeNames F K C (simple_tree t)
 
-  number_names : (n : ℕ) → C n → TreeNames F K C (number n)
-  number_names n h = tree_in F K C (tree.Number n) h
-
   one_names : (o : Option ℕ) (f : ℕ → ℕ) (t : Tree) → ((n : ℕ) → o ≡ Some n → C (f n)) → TreeNames F K C t → TreeNames F K C (one_or o f t)
   one_names None f t h n = n
-  one_names (Some m) f t h n = number_names (f m) (h m refl)
+  one_names (Some m) f t h n = tree_in F K C (tree.Number (f m)) (h m refl)
 
   two_names : (o p : Option ℕ) (f : ℕ → ℕ → ℕ) (t : Tree) → ((n m : ℕ) → o ≡ Some n → p ≡ Some m → C (f n m)) → TreeNames F K C t → TreeNames F K C (two_or o p f t)
-  two_names (Some n) (Some m) f t h k = number_names (f n m) (h n m refl refl)
+  two_names (Some n) (Some m) f t h k = tree_in F K C (tree.Number (f n m)) (h n m refl refl)
   two_names (Some n) None f t h k = k
   two_names None (Some m) f t h k = k
   two_names None None f t h k = k
@@ -116,7 +113,7 @@ module _ (F : ℕ → Type 0) (K : Known → Type 0) (C : ℕ → Type 0) (close
   one x p = (stm_in F K C x p, tt)
 
   division_names : (o p : Option ℕ) (t k : ℕ) (a b : Tree) → ((n : ℕ) → o ≡ Some n → C n) → ((n : ℕ) → p ≡ Some n → C n) → TreeNames F K C a → TreeNames F K C b → CodeNames F K C (division o p t k a b)
-  division_names (Some n) (Some (suc d)) t k a b h g x y = one (stm.Set t (number (divide k n (suc d)))) (number_names (divide k n (suc d)) (closed.divided k n d (h n refl) (g (suc d) refl)))
+  division_names (Some n) (Some (suc d)) t k a b h g x y = one (stm.Set t (number (divide k n (suc d)))) (tree_in F K C (tree.Number (divide k n (suc d))) (closed.divided k n d (h n refl) (g (suc d) refl)))
   division_names (Some n) (Some zero) t k a b h g x y = one (stm.Divide t k a b) (x, y)
   division_names (Some n) None t k a b h g x y = one (stm.Divide t k a b) (x, y)
   division_names None (Some d) t k a b h g x y = one (stm.Divide t k a b) (x, y)

@@ -2,7 +2,6 @@ pub mod Fitting
 pub mod Tables
 pub mod Meant
 pub mod Words
-pub mod Naming
 pub mod BoundNames
 pub mod FoldedNames
 pub mod RenamedNames

@@ -3,12 +3,13 @@ use Rattle.std.proofs.Common.{arith, ◌≡◌, ℕ, true, not, List, Option, No
 use Rattle.std.specs.List.{filter, zip}
 use Rattle.std.proofs.lemmas.List.Elements.{All-contains, All-contains_itself, filter_passes, All-weaker}
 use Rattle.mv_ir.specs.declared.body.Body.{Body}
+use Rattle.mv_ir.specs.Keeps.{KeepsUnder}
 use Rattle.mv_ir.specs.Trees.{found}
 use Rattle.mv_ir.specs.Measures.{scalars_read}
 use Rattle.mv_clone.specs.Bind.{is_free}
 use Rattle.mv_lower_spec.specs.Functions.{lower_function}
 use Rattle.mv_fold.specs.Form.{IsFoldedForm}
-use Rattle.mv_parts_bound.specs.Meant.{KeepsUnder, IsMadeUnder, IsVariantOf, MadeAreVariants, LoweredAreVariants}
+use Rattle.mv_parts_bound.specs.Meant.{IsMadeUnder, IsVariantOf, MadeAreVariants, LoweredAreVariants}
 use Rattle.mv_parts_bound.proofs.RenamedForm.{renaming_keeps_form}
 
 is_none : (o : Option ℕ) → not (is_some o) ≡ true → o ≡ None

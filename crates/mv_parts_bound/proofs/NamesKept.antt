@@ -12,7 +12,7 @@ use Rattle.mv_fold.specs.Needed.{needed_code}
 use Rattle.mv_fold.specs.Folded.{simple_body}
 use Rattle.mv_parts_bound.specs.Names.{NamesNoMore, BindingNamesNoMore, FoldingNamesNoMore}
 use Rattle.mv_parts_bound.proofs.Words.{unary_word, binary_word, narrow_word, divide_word}
-use Rattle.mv_parts_bound.proofs.Naming.{CodeNames, code_functions, code_knowns, code_constants, code_of}
+use Rattle.mv_select_bodies.proofs.Naming.{CodeNames, code_functions, code_knowns, code_constants, code_of}
 use Rattle.mv_parts_bound.proofs.BoundNames.{bound_names}
 use Rattle.mv_parts_bound.proofs.FoldedNames.{IsClosed, folded_names}
 use Rattle.mv_parts_bound.proofs.RenamedNames.{renamed_names}

@@ -1,5 +1,5 @@
 -- Renaming temporaries keeps the folded form.
-use Rattle.std.proofs.Common.{arith, ◌≡◌, ℕ, ◌+◌, ◌≤◌, Bool, true, false, cond, ◌||◌, List, [], ◌∷◌, ◌++◌, map, refl, sym, ◌∙◌, ap, subst}
+use Rattle.std.proofs.Common.{arith, ◌≡◌, ℕ, ◌+◌, ◌≤◌, Bool, true, false, cond, ◌||◌, List, [], ◌∷◌, map, refl, sym, ◌∙◌, ap, subst}
 use Rattle.std.proofs.lemmas.Bool.{eq-eqb, eqb-true}
 use Rattle.mv_ir.specs.declared.tree.Tree.{Tree, out-Tree}
 use Rattle.mv_ir.specs.declared.tree.Tree.TheOpen.{Tree-F}
@@ -12,16 +12,16 @@ use Rattle.mv_ir.specs.declared.stm.Stm.TheOpen.{Stm-F}
 use Rattle.mv_ir.specs.declared.stm.Stm.TheOpen as stm
 use Rattle.mv_ir.specs.declared.stm.Stm.TheViews.{roll-Stm}
 use Rattle.mv_ir.specs.declared.stm.Stm.TheFolds.{map-Stm}
-use Rattle.mv_ir.specs.Measures.{total, layer_trees, stm_trees, trees}
+use Rattle.mv_ir.specs.Measures.{total, trees}
 use Rattle.mv_ir.specs.Live.{reads_temp, any_reads}
 use Rattle.mv_ir.proofs.Induction.{Each, TreeChildren, tree_ind, StmChildren, stm_ind, stms_ind}
-use Rattle.mv_ir.proofs.Keeping.{map_append}
-use Rattle.mv_ir.proofs.Rolls.{trees_roll, reads_temp_roll}
+use Rattle.mv_ir.proofs.Rolls.{reads_temp_roll}
 use Rattle.mv_fold.specs.Simple.{constant}
 use Rattle.mv_fold.specs.Form.{layer_foldable, foldable, all_foldable, is_division, is_constant, layer_decided, decided, behind, layer_unreached, unreached, layer_unread, unread}
 use Rattle.mv_fold.proofs.SimpleKept.{constant_roll}
 use Rattle.mv_fold.proofs.FormKept.{decided_roll, unreached_roll, foldable_roll}
 use Rattle.mv_regalloc.specs.Rename.{renamed_node, renamed_tree, renamed_stm, renamed_code}
+use Rattle.mv_regalloc.proofs.Counts.{trees_renamed}
 use Rattle.mv_regalloc.proofs.RenamedTrees.{renamed_tree_roll, renamed_stm_roll}
 use Rattle.mv_parts_bound.specs.Meant.{RenamingKeepsForm}
 use Rattle.mv_parts_bound.proofs.Weights.{renamed_parts}
@@ -98,30 +98,6 @@ module _ (c : ℕ → ℕ) where
     read_all : (ts : List Tree) → any_reads t ts ≡ true → any_reads (c t) (map (renamed_tree c) ts) ≡ true
     read_all [] h = h
     read_all (x ∷ xs) h = or_both (reads_temp t x) (any_reads t xs) _ _ (tree_ind IsRead read_layer x) (read_all xs) h
-
-  -- ---- the trees of code
-
-  abbrev HasTrees : Stm → Type 0
-  HasTrees s = stm_trees (renamed_stm c s) ≡ map (renamed_tree c) (stm_trees s)
-
-  all_trees : (code : List Stm) → Each HasTrees code → trees (renamed_code c code) ≡ map (renamed_tree c) (trees code)
-  all_trees [] h = refl
-  all_trees (s ∷ code) h =
-      ap (λ l. l ++ trees (renamed_code c code)) h.0 ∙ ap (λ l. map (renamed_tree c) (stm_trees s) ++ l) (all_trees code h.1) ∙ sym (map_append (renamed_tree c) (stm_trees s) (trees code))
-
-  trees_layer : (x : Stm-F Stm) → StmChildren HasTrees x → layer_trees (map-Stm Stm (List Tree) stm_trees (renamed_parts c x)) ≡ map (renamed_tree c) (layer_trees (map-Stm Stm (List Tree) stm_trees x))
-  trees_layer (stm.If t a b) h =
-      ap (λ l. renamed_tree c t ∷ (l ++ trees (renamed_code c b))) (all_trees a h.0) ∙ ap (λ l. renamed_tree c t ∷ (map (renamed_tree c) (trees a) ++ l)) (all_trees b h.1) ∙
-      ap (λ l. renamed_tree c t ∷ l) (sym (map_append (renamed_tree c) (trees a) (trees b)))
-  trees_layer (stm.Loop b) h = all_trees b h
-  trees_layer (stm.Block b) h = all_trees b h
-  trees_layer (stm.Call r (callee.Direct f) args) h = refl
-  trees_layer (stm.Call r (callee.Through t) args) h = refl
-  trees_layer _ h = refl
-
-  trees_renamed : (code : List Stm) → trees (renamed_code c code) ≡ map (renamed_tree c) (trees code)
-  trees_renamed code =
-      all_trees code (stms_ind HasTrees (stm_ind HasTrees (λ x h. ap stm_trees (renamed_stm_roll c x) ∙ trees_roll (renamed_parts c x) ∙ trees_layer x h ∙ ap (map (renamed_tree c)) (sym (trees_roll x)))) code)
 
   -- ---- statements
 

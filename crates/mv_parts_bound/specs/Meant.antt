@@ -5,11 +5,8 @@ use Rattle.mv_ast.specs.declared.program.Program.{Program}
 use Rattle.mv_ast.specs.declared.program.Function.{Function}
 use Rattle.mv_ir.specs.declared.stm.Stm.{Stm}
 use Rattle.mv_ir.specs.declared.body.Body.{Body}
-use Rattle.mv_ir.specs.World.{World, Setting}
 use Rattle.mv_ir.specs.Trees.{found}
-use Rattle.mv_ir.specs.Outcome.{Bound}
-use Rattle.mv_ir.specs.Meaning.{Contents, body_from}
-use Rattle.mv_ir.specs.Keeps.{KeepsCall}
+use Rattle.mv_ir.specs.Keeps.{KeepsUnder}
 use Rattle.mv_ir.specs.Measures.{scalars_read, statements, tree_nodes, calls, deepest}
 use Rattle.mv_ir.specs.Live.{IsWhole, HasTemps, most_intervals}
 use Rattle.mv_ir.specs.WellFormed.{IsWellFormed}
@@ -19,12 +16,6 @@ use Rattle.mv_fold.specs.Folded.{IsFolded}
 use Rattle.mv_regalloc.specs.Rename.{renamed_code}
 use Rattle.mv_regalloc.specs.Intervals.{IsRenamed}
 use Rattle.mv_lower_spec.specs.Functions.{lower_function}
-
--- in every frame in which the switches are read as these values, the second body means what the first means, at no greater cost
-abbrev pub KeepsUnder : List (ℕ × ℕ) → Body → Body → Type 0
-KeepsUnder ps b b' =
-    (setting : Setting) (depth live : ℕ) (contents : Contents) (args : List ℕ) (bound : Bound) (w : World) →
-    KeepsCall (body_from setting (record { depth = depth; live = live; bound = ps }) contents b args bound w) (body_from setting (record { depth = depth; live = live; bound = ps }) contents b' args bound w)
 
 -- a body bound to the values of its switches, then folded, then with its temporaries renamed
 pub record IsMadeUnder (ps : List (ℕ × ℕ)) (body result : Body) : Type 0 where

@@ -37,6 +37,7 @@ use Rattle.mv_linker.specs.Linked.{linked_lines}
 use Rattle.mv_linker.specs.Outcome.{IsLinked}
 use Rattle.mv_linker.specs.Tables.{data_start, switch_row, function_row, FitsPartSwitch}
 use Rattle.mv_linker.specs.Tables as linker
+use Rattle.mv_linker.proofs.LinkedText.{linked_text}
 use Rattle.mv_linker.proofs.Sited.{site_length, slots_of_codes}
 use Rattle.mv_link_data.specs.FirstData.{global_sizes}
 use Rattle.mv_variants.specs.declared.variant.Variant.{Variant}
@@ -46,6 +47,7 @@ use Rattle.mv_parts.specs.Numbers.{attributed_numbers}
 use Rattle.mv_parts.specs.Parts.{ArePartsOf}
 use Rattle.mv_parts.specs.Switches.{part_switch, part_switches}
 use Rattle.mv_parts.proofs.LinkedNumbers.{as_many, number_of}
+use Rattle.mv_parts.proofs.LinkedParts.{as_many_parts, part_there}
 use Rattle.mv_parts.proofs.Lists.{map_at, one_of_all}
 use Rattle.mv_parts.proofs.Numbers as numbers
 use Rattle.mv_refine_commits.specs.Tabled.{IsTabled}
@@ -53,7 +55,7 @@ use Rattle.mv_parts_tables.specs.Leads.{LeadsToVariants}
 use Rattle.mv_parts_tables.specs.Rows.{IsNth}
 use Rattle.mv_parts_tables.specs.Laws.{AttributedAreTabled, HaveTables, RowsLeadToVariants}
 use Rattle.mv_parts_tables.proofs.Lists.{same_for_all}
-use Rattle.mv_parts_tables.proofs.Tabled.{entry, own_row, part_count, part_there, switch_rows, switches_there}
+use Rattle.mv_parts_tables.proofs.Tabled.{own_row, switch_rows, switches_there}
 use Rattle.mv_num.proofs.Lists.{there_at as some_at}
 
 -- ---- attributed functions and their tables
@@ -100,6 +102,8 @@ of_integer (Pointer signature) w v e = absurd (let bad : ⊥ = cc in bad)
 
 module _ (leads : RowsLeadToVariants) (counted : PartsAreCounted) (p : Program) (formed : IsWellFormed p) (bodies : List Body) (tables : List (List Variant)) (parts : Parts)
     (are : ArePartsOf p bodies tables parts) (image : Fields) (linked : IsLinked parts image) where
+  open linked_text parts linked.sizing linked.text use {entry}
+
   record IsOne (n : ℕ) (g : Function) : Type 0 where
     f : ℕ
     variants : List Variant
@@ -120,8 +124,8 @@ module _ (leads : RowsLeadToVariants) (counted : PartsAreCounted) (p : Program) 
 
   functions_count : length image.functions ≡ length (attributed_functions p)
   functions_count =
-      ap (λ (i : Fields). length i.functions) linked.image_is ∙ length-map parts.attributed (function_row (entry p bodies tables parts are image linked)) ∙
-      part_count p bodies tables parts are ∙ as_many 0 p.functions
+      ap (λ (i : Fields). length i.functions) linked.image_is ∙ length-map parts.attributed (function_row entry) ∙
+      as_many_parts p bodies tables parts.functions parts.attributed are.codes
 
   abbrev rows : image.switches ≡ map switch_row (part_switches p)
   rows = switch_rows p bodies tables parts are image linked
@@ -169,7 +173,7 @@ module _ (leads : RowsLeadToVariants) (counted : PartsAreCounted) (p : Program) 
 
   there_at : (n : ℕ) (g : Function) → IsOne n g → All (λ s. s < length p.switches) g.switches
   there_at n g one =
-      let a = part_there p bodies tables parts are n one.f one.nth.number in switches_there p bodies tables parts are n one.f g one.variants one.nth a.0 a.1
+      let a = part_there p bodies tables parts.functions parts.attributed are.codes n one.f one.nth.number in switches_there p bodies tables parts are n one.f g one.variants one.nth a.0 a.1
 
   tabled : (y : Layout) → ((x : ℕ) → y.place x ≡ data_start + 4 * sum (take x (global_sizes p))) → ((x : ℕ) → y.size x ≡ global_words p x) → IsTabled p y image
   tabled y place size = record {
@@ -187,7 +191,7 @@ module _ (leads : RowsLeadToVariants) (counted : PartsAreCounted) (p : Program) 
   unfolding patchable
   few_places =
       let functions : length image.functions ≡ length parts.attributed =
-      ap (λ (i : Fields). length i.functions) linked.image_is ∙ length-map parts.attributed (function_row (entry p bodies tables parts are image linked)) in
+      ap (λ (i : Fields). length i.functions) linked.image_is ∙ length-map parts.attributed (function_row entry) in
       let sites : length image.sites ≡ linker.site_count parts =
       ap (λ (i : Fields). length i.sites) linked.image_is ∙ site_length (address text_start linked.sizing) (linker.attributed_numbers parts.attributed) (linked_lines parts) 0 ∙ slots_of_codes parts in
       let places = (counted p formed bodies tables parts are.codes).places in omega (arith, functions, sites, places)

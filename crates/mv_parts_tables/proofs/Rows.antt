@@ -1,5 +1,5 @@
 -- The rows of the variants that values lead to.
-use Rattle.std.proofs.Common.{◌≡◌, ℕ, zero, suc, ◌+◌, ◌≤◌, List, [], ◌∷◌, ◌++◌, Option, Some, None, is_some, unwrap_or, length, map, take, cond, slice_get, slice_index, refl, sym, ap, ◌∙◌, subst, arith}
+use Rattle.std.proofs.Common.{◌≡◌, ℕ, zero, suc, ◌+◌, ◌≤◌, List, [], ◌∷◌, Option, Some, None, is_some, unwrap_or, length, map, take, cond, slice_get, slice_index, refl, sym, ap, ◌∙◌, subst, arith}
 use Rattle.std.specs.Prelude.{sum_by}
 use Rattle.std.proofs.lemmas.List.Sums.{sum_by-cons}
 use Rattle.std.proofs.lemmas.Option.{slice_get_within, same_Some}
@@ -9,7 +9,6 @@ use Rattle.mv_ast.specs.declared.program.Function.{Function}
 use Rattle.mv_descriptors.specs.declared.rows.FunctionRow.{FunctionRow}
 use Rattle.mv_descriptors.specs.declared.rows.VariantRow.{VariantRow}
 use Rattle.mv_isa.specs.declared.instr.Instr.{Instr}
-use Rattle.mv_isa.specs.Code.{label_address, text_start}
 use Rattle.mv_isa.specs.Encoding.{Fits}
 use Rattle.mv_image.specs.Spelling.{Fields}
 use Rattle.mv_image.specs.Patched.{variants_before}
@@ -20,48 +19,37 @@ use Rattle.mv_select_inline.specs.Laws.{InlineFits, InlineIsTheSame}
 use Rattle.mv_linker.specs.declared.parts.Parts.{Parts}
 use Rattle.mv_linker.specs.declared.parts.PartFunction.{PartFunction}
 use Rattle.mv_linker.specs.declared.parts.PartVariant.{PartVariant}
-use Rattle.mv_linker.specs.Linked.{function_variants, linked_lines}
+use Rattle.mv_linker.specs.Linked.{function_variants}
 use Rattle.mv_linker.specs.Tables.{function_row, variant_row, variant_rows}
 use Rattle.mv_linker.specs.Outcome.{IsLinked}
+use Rattle.mv_linker.proofs.LinkedText.{linked_text}
 use Rattle.mv_variants.specs.declared.variant.Variant.{Variant}
 use Rattle.mv_parts.specs.Parts.{ArePartsOf, ArePartVariants, IsPartVariant}
+use Rattle.mv_parts.proofs.LinkedLists.{variant_count, variant_at}
+use Rattle.mv_parts.proofs.LinkedParts.{part_there}
 use Rattle.mv_parts.proofs.Lists.{one_of_all}
 use Rattle.mv_parts_tables.specs.Leads.{IsLedTo}
 use Rattle.mv_parts_tables.specs.Rows.{IsNth, RowShows, HasRowOf}
-use Rattle.mv_parts_tables.proofs.Tabled.{part_at, part_there}
+use Rattle.mv_parts_tables.proofs.Tabled.{part_at}
 use Rattle.mv_parts_bound.proofs.Led.{under_is}
-use Rattle.mv_num.proofs.Lists.{slice_get_left, slice_get_right, there_at}
+use Rattle.mv_num.proofs.Lists.{there_at}
 
 abbrev counted : FunctionRow → ℕ
 counted row = row.variants
 
-abbrev many : PartFunction → ℕ
-many a = length a.variants
+-- the rows of the first functions count their variants
+same_count : (entry : ℕ → ℕ) (attributed : List PartFunction) (n : ℕ) → sum_by counted (take n (map (function_row entry) attributed)) ≡ sum_by variant_count (take n attributed)
+same_count entry [] n = ap (sum_by counted) (take-nil n) ∙ sym (ap (sum_by variant_count) (take-nil n))
+same_count entry (a ∷ rest) zero = refl
+same_count entry (a ∷ rest) (suc n) =
+    let rows = sum_by-cons counted (function_row entry a) (take n (map (function_row entry) rest)) in
+    let own = sum_by-cons variant_count a (take n rest) in omega (arith, rows, own, same_count entry rest n)
 
 -- a function's variant stands behind those of the functions before it, which their rows count
 found_at : (entry : ℕ → ℕ) (attributed : List PartFunction) (n j : ℕ) (a : PartFunction) (v : PartVariant) → slice_get attributed n ≡ Some a → slice_get a.variants j ≡ Some v →
     slice_get (function_variants attributed) (sum_by counted (take n (map (function_row entry) attributed)) + j) ≡ Some v
-found_at entry [] n j a v at there = absurd (let bad : ⊥ = cc in bad)
-found_at entry (b ∷ rest) zero j a v at there =
-    let same = same_Some b a at in
-    let none : j ≡ 0 + j = omega arith in
-    subst (λ k. slice_get (b.variants ++ function_variants rest) k ≡ Some v) none
-    (slice_get_left b.variants (function_variants rest) j v (subst (λ (x : PartFunction). slice_get x.variants j ≡ Some v) (sym same) there))
-found_at entry (b ∷ rest) (suc n) j a v at there =
-    let rows = take n (map (function_row entry) rest) in
-    let before = sum_by counted rows in
-    let count = sum_by-cons counted (function_row entry b) rows in
-    let index : length b.variants + (before + j) ≡ sum_by counted (function_row entry b ∷ rows) + j = omega (arith, count) in
-    subst (λ k. slice_get (b.variants ++ function_variants rest) k ≡ Some v) index
-    (slice_get_right b.variants (function_variants rest) (before + j) v (found_at entry rest n j a v at there))
-
--- the rows of the first functions count their variants
-same_count : (entry : ℕ → ℕ) (attributed : List PartFunction) (n : ℕ) → sum_by counted (take n (map (function_row entry) attributed)) ≡ sum_by many (take n attributed)
-same_count entry [] n = ap (sum_by counted) (take-nil n) ∙ sym (ap (sum_by many) (take-nil n))
-same_count entry (a ∷ rest) zero = refl
-same_count entry (a ∷ rest) (suc n) =
-    let rows = sum_by-cons counted (function_row entry a) (take n (map (function_row entry) rest)) in
-    let own = sum_by-cons many a (take n rest) in omega (arith, rows, own, same_count entry rest n)
+found_at entry attributed n j a v at there =
+    subst (λ k. slice_get (function_variants attributed) (k + j) ≡ Some v) (sym (same_count entry attributed n)) (variant_at attributed n j a v at there)
 
 -- the row of a variant, by its place among the rows
 row_at : (entry : ℕ → ℕ) (number : ℕ) (vs : List PartVariant) (j : ℕ) (v : PartVariant) → slice_get vs j ≡ Some v →
@@ -98,8 +86,7 @@ variant_linked variants vs are j v at =
 module _ (fit : InlineFits) (same : InlineIsTheSame) (p : Program) (formed : IsWellFormed p) (bodies : List Body) (tables : List (List Variant)) (parts : Parts)
     (are : ArePartsOf p bodies tables parts) (image : Fields) (linked : IsLinked parts image) (n f : ℕ) (g : Function) (variants : List Variant) (nth : IsNth p tables n f g variants)
     (vs : List ℕ) (led : IsLedTo p g image variants n vs) where
-  abbrev entry : ℕ → ℕ
-  entry = label_address text_start (linked_lines parts) linked.sizing
+  open linked_text parts linked.sizing linked.text use {entry}
 
   abbrev number : ℕ
   number = variants_before image n + led.place
@@ -117,7 +104,7 @@ module _ (fit : InlineFits) (same : InlineIsTheSame) (p : Program) (formed : IsW
 
   is_there : IsThere
   is_there =
-      let a = part_there p bodies tables parts are n f nth.number in
+      let a = part_there p bodies tables parts.functions parts.attributed are.codes n f nth.number in
       let v = variant_linked variants a.0.variants (part_at p bodies tables parts are n f g variants nth a.0 a.1).variants_are led.place led.variant led.there in
       record {
         part = v.0;

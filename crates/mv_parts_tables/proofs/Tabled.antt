@@ -1,8 +1,7 @@
 -- The tables of a program's image have the guard rows of its variants, and the rows of its switches.
-use Rattle.std.proofs.Common.{◌≡◌, ℕ, suc, ◌-◌, ◌<◌, ◌++◌, List, [], ◌∷◌, Some, length, map, replicate, slice_get, All, refl, sym, ap, ◌∙◌, subst, arith}
+use Rattle.std.proofs.Common.{◌≡◌, ℕ, suc, ◌-◌, ◌<◌, ◌++◌, List, [], ◌∷◌, Some, length, map, replicate, slice_get, All, refl, sym, ap, ◌∙◌, subst}
 use Rattle.std.proofs.lemmas.List.{length-map, map-append}
 use Rattle.std.proofs.lemmas.List.Elements.{All-head, All-tail}
-use Rattle.std.proofs.lemmas.Option.{slice_get_within}
 use Rattle.std.proofs.Math.Seq.{take-append_seam}
 use Rattle.mv_ast.specs.declared.program.Program.{Program}
 use Rattle.mv_ast.specs.declared.program.Function.{Function}
@@ -17,20 +16,22 @@ use Rattle.mv_image.specs.Spelling.{Fields}
 use Rattle.mv_parts_bound.specs.Rows.{AreCounted}
 use Rattle.mv_parts_bound.specs.Switches.{HasSwitches, HaveKinds}
 use Rattle.mv_parts_bound.specs.Tables.{HaveVariants, HasTables}
-use Rattle.mv_isa.specs.Code.{address, label_address, text_start}
 use Rattle.mv_linker.specs.declared.parts.Parts.{Parts}
 use Rattle.mv_linker.specs.declared.parts.PartFunction.{PartFunction}
 use Rattle.mv_linker.specs.declared.parts.PartVariant.{PartVariant}
-use Rattle.mv_linker.specs.Linked.{function_variants, linked_lines}
+use Rattle.mv_linker.specs.Linked.{function_variants}
 use Rattle.mv_linker.specs.Tables.{switch_row, function_row, variant_rows, FitsPartFunction}
 use Rattle.mv_linker.specs.Tables as linker
 use Rattle.mv_linker.specs.Outcome.{image_with, IsLinked}
+use Rattle.mv_linker.proofs.LinkedText.{linked_text}
+use Rattle.mv_linker.proofs.Rowed.{variant_guards, groups_of}
 use Rattle.mv_variants.specs.declared.variant.Variant.{Variant}
 use Rattle.mv_variants.specs.Domains.{kind_or_int, switch_kind}
 use Rattle.mv_variants.specs.Variants.{guards_of}
 use Rattle.mv_parts.specs.Numbers.{attributed_numbers}
 use Rattle.mv_parts.specs.Parts.{ArePartsOf, ArePartVariants, IsPartFunction}
 use Rattle.mv_parts.specs.Switches.{part_switch, part_switches}
+use Rattle.mv_parts.proofs.LinkedParts.{part_count, part_there}
 use Rattle.mv_parts.proofs.Lists.{map_at, one_of_all}
 use Rattle.mv_parts.proofs.Numbers.{attributed_at}
 use Rattle.mv_parts_tables.specs.Rows.{IsNth}
@@ -39,13 +40,7 @@ use Rattle.mv_num.proofs.Lists.{there_at}
 
 -- ---- the guard rows of variants that are linked
 
-abbrev variant_guards : List PartVariant → List (List GuardRow)
-variant_guards vs = map (λ (v : PartVariant). v.guards) vs
-
-abbrev linked_groups : List PartFunction → List (List (List GuardRow))
-linked_groups attributed = map (λ (a : PartFunction). variant_guards a.variants) attributed
-
-groups_joined : (attributed : List PartFunction) → joined (linked_groups attributed) ≡ variant_guards (function_variants attributed)
+groups_joined : (attributed : List PartFunction) → joined (groups_of attributed) ≡ variant_guards (function_variants attributed)
 groups_joined [] = refl
 groups_joined (a ∷ rest) =
     ap (λ more. variant_guards a.variants ++ more) (groups_joined rest) ∙ sym (map-append (λ (v : PartVariant). v.guards) a.variants (function_variants rest))
@@ -54,7 +49,7 @@ guards_joined : (vs : List PartVariant) → linker.guards_of vs ≡ joined (vari
 guards_joined [] = refl
 guards_joined (v ∷ vs) = ap (λ more. v.guards ++ more) (guards_joined vs)
 
-have_variants : (entry : ℕ → ℕ) (attributed : List PartFunction) → HaveVariants (linked_groups attributed) (map (function_row entry) attributed)
+have_variants : (entry : ℕ → ℕ) (attributed : List PartFunction) → HaveVariants (groups_of attributed) (map (function_row entry) attributed)
 have_variants entry [] = tt
 have_variants entry (a ∷ rest) = (sym (length-map a.variants (λ (v : PartVariant). v.guards)), have_variants entry rest)
 
@@ -62,7 +57,7 @@ counted : (entry : ℕ → ℕ) (n : ℕ) (vs : List PartVariant) → AreCounted
 counted entry n [] = tt
 counted entry n (v ∷ vs) = (refl, counted entry (suc n) vs)
 
-tables_with : (entry at : ℕ → ℕ) (text : List ℕ) (parts : Parts) → HasTables (image_with entry at text parts) (linked_groups parts.attributed)
+tables_with : (entry at : ℕ → ℕ) (text : List ℕ) (parts : Parts) → HasTables (image_with entry at text parts) (groups_of parts.attributed)
 tables_with entry at text parts = record {
   functions = have_variants entry parts.attributed;
   variants = subst (λ (gs : List (List GuardRow)). AreCounted gs (variant_rows entry (length parts.functions) (function_variants parts.attributed)))
@@ -92,12 +87,6 @@ kinds_there p image rows (s ∷ switches) below = (one, kinds_there p image rows
 -- ---- of a program
 
 module _ (p : Program) (bodies : List Body) (tables : List (List Variant)) (parts : Parts) (are : ArePartsOf p bodies tables parts) where
-  pub part_count : length parts.attributed ≡ length (attributed_numbers p)
-  part_count = sym (length-map parts.attributed (λ (a : PartFunction). a.function)) ∙ ap length are.codes.variants.numbers
-
-  pub part_there : (n f : ℕ) → slice_get (attributed_numbers p) n ≡ Some f → (a : PartFunction) × (slice_get parts.attributed n ≡ Some a)
-  part_there n f number = let within = slice_get_within (attributed_numbers p) n f number in there_at parts.attributed n (omega (arith, part_count, within))
-
   pub part_at : (n f : ℕ) (g : Function) (variants : List Variant) → IsNth p tables n f g variants → (a : PartFunction) → slice_get parts.attributed n ≡ Some a → IsPartFunction g f variants a
   part_at n f g variants nth a is = are.codes.variants.each n f g variants a nth.number nth.there nth.table is
 
@@ -128,20 +117,16 @@ module _ (p : Program) (bodies : List Body) (tables : List (List Variant)) (part
   abbrev pub groups : List (List (List GuardRow))
   groups = map guards_of tables
 
-  groups_are : linked_groups parts.attributed ≡ groups
-  groups_are = map_same (λ (a : PartFunction). variant_guards a.variants) guards_of parts.attributed tables (part_count ∙ sym are.codes.are_tables.one_each) one_group
+  groups_are : groups_of parts.attributed ≡ groups
+  groups_are = map_same (λ (a : PartFunction). variant_guards a.variants) guards_of parts.attributed tables (part_count p bodies tables parts.functions parts.attributed are.codes ∙ sym are.codes.are_tables.one_each) one_group
 
   module _ (image : Fields) (linked : IsLinked parts image) where
-    abbrev pub entry : ℕ → ℕ
-    entry = label_address text_start (linked_lines parts) linked.sizing
-
-    abbrev at : ℕ → ℕ
-    at = address text_start linked.sizing
+    open linked_text parts linked.sizing linked.text use {entry, at}
 
     pub has_tables : HasTables image groups
     has_tables =
         let own = tables_with entry at linked.text parts in
-        let of_image = subst (λ (i : Fields). HasTables i (linked_groups parts.attributed)) (sym linked.image_is) own in
+        let of_image = subst (λ (i : Fields). HasTables i (groups_of parts.attributed)) (sym linked.image_is) own in
         subst (λ (gs : List (List (List GuardRow))). HasTables image gs) groups_are of_image
 
     pub switch_rows : image.switches ≡ map switch_row (part_switches p)
@@ -155,7 +140,7 @@ module _ (p : Program) (bodies : List Body) (tables : List (List Variant)) (part
 
     pub own_row : (n f : ℕ) (g : Function) (variants : List Variant) → IsNth p tables n f g variants → HasOwnRow n g
     own_row n f g variants nth =
-        let found = part_there n f nth.number in
+        let found = part_there p bodies tables parts.functions parts.attributed are.codes n f nth.number in
         let a = found.0 in
         let part = part_at n f g variants nth a found.1 in
         let functions = ap (λ (i : Fields). i.functions) linked.image_is in

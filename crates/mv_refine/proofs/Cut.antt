@@ -10,6 +10,7 @@ use Rattle.mv_refine.specs.CutRuns.{with_input}
 use Rattle.mv_refine.proofs.Leaves.{runs_leave}
 use Rattle.mv_refine.proofs.Follows.{read_takes_more, write_writes_more}
 use Rattle.mv_image.specs.Spelling.{Fields}
+use Rattle.mv_refine_machine.proofs.Inputs.{first_input}
 use Rattle.mv_refine_runs.specs.Behaves.{BehavesAlways, taken_of}
 use Rattle.mv_machine.specs.Runs.{State, Going, Reads, Writes, bytes_to_come, first, runs_from, runs}
 use Rattle.mv_machine.specs.Snapshots.{Asks}
@@ -24,10 +25,6 @@ use Rattle.mv_refine.proofs.Inputs.{parted}
 first_with : (image : Fields) (input other : List (Option ℕ)) (actions : List Action) → with_input (first image input actions) other ≡ first image other actions
 unfolding first
 first_with image input other actions = refl
-
-first_input : (image : Fields) (input : List (Option ℕ)) (actions : List Action) → (first image input actions).input ≡ input
-unfolding first
-first_input image input actions = refl
 
 longer : (s t m : List ℕ) (byte : ℕ) → t ≡ s ++ byte ∷ [] → Begins t m → length s < length m
 longer s t m byte e (rest, whole) =

@@ -128,12 +128,13 @@ module _ (p : Program) (image : Fields) (actions : List Action) (steps : ℕ) (b
 fit_program : (p : Program) (image : Fields) → SameFit p image → (actions : List Action) → All (λ a. IsTrue (image_actions.fits image.switches a)) actions → All (λ a. IsTrue (fits p a)) actions
 fit_program p image same actions = All-weaker (λ a. IsTrue (image_actions.fits image.switches a)) (λ a. IsTrue (fits p a)) (λ a h. subst IsTrue (same a) h) actions
 
+-- a snapshot has the bindings of the state that it is kept of
+pub kept_bindings : (machine : Snapshot) (s : State) → machine ≡ kept s machine.last → machine.bindings ≡ s.bindings
+unfolding kept
+kept_bindings machine s is = ap (λ (m : Snapshot). m.bindings) is
+
 module _ (p : Program) (image : Fields) (behaves : BehavesAlways p image) (actions : List Action) (words : All IsOfWord actions) (fit : All (λ a. IsTrue (fits p a)) actions) (steps : ℕ) (before after : Environment) (Heard : List Event → Type 0) (machine : Snapshot) where
   module _ (bytes : List ℕ) (told : before.input.left ≡ Some bytes) (are : All (λ b. b < 2 ^ 8) bytes) where
-    kept_bindings : (s : State) → machine ≡ kept s machine.last → machine.bindings ≡ s.bindings
-    unfolding kept
-    kept_bindings s is = ap (λ (m : Snapshot). m.bindings) is
-
     kept_room : (s : State) → machine ≡ kept s machine.last → machine.room ≡ s.room
     unfolding kept
     kept_room s is = ap (λ (m : Snapshot). m.room) is
@@ -150,7 +151,7 @@ module _ (p : Program) (image : Fields) (behaves : BehavesAlways p image) (actio
           output = subst (λ (i : List (Option ℕ)). Wrote before after (runs image i actions picks n).output) same done.output;
           taken = subst (λ (i : List (Option ℕ)). Took before after (take (taken_of bytes (runs image i actions picks n)) bytes)) same taken;
           heard = subst (λ (i : List (Option ℕ)). Heard (runs image i actions picks n).log) same done.heard;
-          bindings = subst (λ (i : List (Option ℕ)). machine.bindings ≡ (runs image i actions picks n).bindings) same (kept_bindings (runs image input actions picks n) done.state);
+          bindings = subst (λ (i : List (Option ℕ)). machine.bindings ≡ (runs image i actions picks n).bindings) same (kept_bindings machine (runs image input actions picks n) done.state);
           room = subst (λ (i : List (Option ℕ)). machine.room ≡ (runs image i actions picks n).room) same (kept_room (runs image input actions picks n) done.state);
         }
 

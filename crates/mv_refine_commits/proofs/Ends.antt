@@ -135,11 +135,7 @@ module _ (known : Known) (plain : StartIsRight) (attributed : List ℕ) (closed 
   abbrev is_run : IsRun access (no_frame entry) host
   is_run = ok known attributed closed image rules (bytes_to_come bytes) actions picks place entry
 
-  abbrev m : Watched
-  m = (host.run 0).memory
-
-  abbrev regs0 : List ℕ
-  regs0 = (host.run 0).regs
+  open host.run 0 use {memory as m, regs as regs0}
 
   at0 : At access host place entry is_run w start_address regs0 m 0
   at0 = record {

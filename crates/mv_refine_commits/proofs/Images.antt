@@ -5,12 +5,11 @@ use Rattle.std.proofs.lemmas.List.Elements.{All-tail}
 use Rattle.mv_ast.specs.declared.world.Action.{Action}
 use Rattle.mv_ast.specs.declared.world.Action.TheVariants.{Skip, Flip}
 use Rattle.mv_isa.specs.declared.instr.Cause.TheVariants as cause
-use Rattle.mv_isa.specs.Execution.{reg}
 use Rattle.mv_image.specs.Spelling.{Fields}
 use Rattle.mv_patch.specs.Orders.{is_known_order}
-use Rattle.mv_machine.specs.Runs.{State, Fault, Request, Exits, Reads, Writes, Traps, Plans, Polls, Unknown, argument, answered, stopped, live_frames, refused, ordered, planned, act, acted, polled, environment_call, runs_from, first}
+use Rattle.mv_machine.specs.Runs.{State, Fault, answered, stopped, live_frames, refused, ordered, planned, act, acted, polled, runs_from, first}
 use Rattle.mv_machine.proofs.Leaving.{Leaves, planned_leaves, polled_leaves, either}
-use Rattle.mv_refine_machine.proofs.Keeping as keeping
+use Rattle.mv_refine_machine.proofs.Keeping.{runs_keep, plans_keep}
 use Rattle.mv_ast.specs.Actions.{IsOfWord}
 
 module _ (image : Fields) where
@@ -21,25 +20,16 @@ module _ (image : Fields) where
   unfolding answered
   plan_keeps s h = record { refuses = λ actions answer. h; carries = λ room actions plan answer. h; faults = h }
 
-  call_keeps : (request : Request) (s : State) → Has s → Has (environment_call request s)
-  unfolding answered
-  call_keeps Exits s h = h
-  call_keeps Reads s h = h
-  call_keeps Writes s h = h
-  call_keeps Traps s h = h
-  call_keeps Plans s h = planned_leaves Has s (argument s) (reg s.regs 11) (plan_keeps s h)
-  call_keeps Polls s h = polled_leaves Has s (plan_keeps s h)
-  call_keeps Unknown s h = h
-
-  pub runs_keep : (s : State) (picks : List ℕ) (n : ℕ) → Has s → Has (runs_from s picks n)
-  runs_keep = keeping.runs_keep Has (record { goes = λ regs pc room s h. h; calls = call_keeps; faults = λ why s h. h })
-
-  first_has : (input : List (Option ℕ)) (actions : List Action) → Has (first image input actions)
-  unfolding first
-  first_has input actions = refl
-
   pub run_image : (input : List (Option ℕ)) (actions : List Action) (picks : List ℕ) (n : ℕ) → (runs_from (first image input actions) picks n).image ≡ image
-  run_image input actions picks n = runs_keep (first image input actions) picks n (first_has input actions)
+  unfolding first
+  run_image input actions picks n =
+      runs_keep Has
+      (plans_keep Has (record {
+        others = λ regs pc room input output stop s h. h;
+        plans = λ s code index h. planned_leaves Has s code index (plan_keeps s h);
+        polls = λ s h. polled_leaves Has s (plan_keeps s h);
+      }))
+      (first image input actions) picks n refl
 
 -- ---- each action that is left has a word
 
@@ -66,18 +56,8 @@ polled_words : (s : State) → AreOfWords s → AreOfWords (polled s)
 unfolding polled answered
 polled_words s h = either AreOfWords (nat_eq (live_frames s) 0) (acted s s.actions) (refused s 0) (acted_words s s.actions h h) h
 
-call_words : (request : Request) (s : State) → AreOfWords s → AreOfWords (environment_call request s)
-unfolding answered
-call_words Exits s h = h
-call_words Reads s h = h
-call_words Writes s h = h
-call_words Traps s h = h
-call_words Plans s h = planned_words s (argument s) (reg s.regs 11) h
-call_words Polls s h = polled_words s h
-call_words Unknown s h = h
-
 runs_words : (s : State) (picks : List ℕ) (n : ℕ) → AreOfWords s → AreOfWords (runs_from s picks n)
-runs_words = keeping.runs_keep AreOfWords (record { goes = λ regs pc room s h. h; calls = call_words; faults = λ why s h. h })
+runs_words = runs_keep AreOfWords (plans_keep AreOfWords (record { others = λ regs pc room input output stop s h. h; plans = planned_words; polls = polled_words }))
 
 pub first_actions : (image : Fields) (input : List (Option ℕ)) (actions : List Action) → (first image input actions).actions ≡ actions
 unfolding first

@@ -7,7 +7,7 @@ use Rattle.mv_isa.specs.declared.instr.Instr.TheVariants.{Lui, Jal, Jalr, Beq, L
 use Rattle.mv_isa.specs.Execution.{Access, Goes, reg, put, upper, sets, jumps, branches, loaded, stored, loads, stores, execute}
 use Rattle.mv_select_trees.proofs.Registers.{reg_zero}
 use Rattle.mv_select_control.proofs.Walk.{put_zero}
-use Rattle.mv_isa.proofs.LineSteps.{add_four}
+use Rattle.mv_isa.proofs.LineSteps.{add_four, jumps_to}
 
 pub add_pos : (a n : ℕ) → a + n < 2 ^ 32 → add a (word_of (pos n)) ≡ a + n
 unfolding add word_of
@@ -59,22 +59,18 @@ module _ {M : Type 0} (access : Access M) (m : M) (regs : List ℕ) (pc : ℕ) (
       let f : eqb (reg regs rs1) (reg regs 0) ≡ false = ne_eqb (reg regs rs1) (reg regs 0) (λ q. omega (arith, q, e, z)) in
       ap (λ b. cond b (jumps regs m (add pc (word_of (pos 28)))) (Goes regs (add pc 4) m)) f ∙ ap (λ next. Goes regs next m) (add_four pc small)
 
-  jumps_to : (rs : List ℕ) (to : ℕ) → to % 4 ≡ 0 → jumps rs m to ≡ Goes rs to m
-  unfolding jumps
-  jumps_to rs to e = rw e refl
-
   pub leaves_goes : (rs1 : ℕ) → pc % 4 ≡ 0 → reg regs rs1 ≡ 0 → execute access (Beq rs1 0 (pos 28)) regs pc m ≡ Goes regs (pc + 28) m
   unfolding execute branches
   leaves_goes rs1 even e =
       let z = reg_zero regs in
       let f : eqb (reg regs rs1) (reg regs 0) ≡ true = eq-eqb (reg regs rs1) (reg regs 0) (omega (arith, e, z)) in
       ap (λ b. cond b (jumps regs m (add pc (word_of (pos 28)))) (Goes regs (add pc 4) m)) f
-      ∙ ap (jumps regs m) (add_pos pc 28 (omega (arith, small))) ∙ jumps_to regs (pc + 28) (omega (arith, even))
+      ∙ ap (jumps regs m) (add_pos pc 28 (omega (arith, small))) ∙ jumps_to access m regs (pc + 28) (omega (arith, even))
 
   pub back_goes : (to : ℕ) → pc ≡ to + 24 → pc % 4 ≡ 0 → execute access (Jal 0 (negsuc 23)) regs pc m ≡ Goes regs to m
   unfolding execute
   back_goes to e even =
-      ap₂ (λ rs a. jumps rs m a) (put_zero regs (add pc 4)) (ap (λ a. add a (word_of (negsuc 23))) e ∙ add_back to (omega (arith, small, e))) ∙ jumps_to regs to (omega (arith, even, e))
+      ap₂ (λ rs a. jumps rs m a) (put_zero regs (add pc 4)) (ap (λ a. add a (word_of (negsuc 23))) e ∙ add_back to (omega (arith, small, e))) ∙ jumps_to access m regs to (omega (arith, even, e))
 
   pub fence_goes : execute access FenceI regs pc m ≡ Goes regs (pc + 4) (access.fence m)
   unfolding execute
@@ -87,4 +83,4 @@ module _ {M : Type 0} (access : Access M) (m : M) (regs : List ℕ) (pc : ℕ) (
   pub return_goes : (to : ℕ) → reg regs 1 ≡ to → to < 2 ^ 32 → to % 4 ≡ 0 → execute access (Jalr 0 1 (pos 0)) regs pc m ≡ Goes regs to m
   unfolding execute
   return_goes to e lt even =
-      ap₂ (λ rs a. jumps rs m a) (put_zero regs (add pc 4)) (ap (λ a. (let sum = add a (word_of (pos 0)) in sum - sum % 2)) e ∙ even_target to lt even) ∙ jumps_to regs to even
+      ap₂ (λ rs a. jumps rs m a) (put_zero regs (add pc 4)) (ap (λ a. (let sum = add a (word_of (pos 0)) in sum - sum % 2)) e ∙ even_target to lt even) ∙ jumps_to access m regs to even

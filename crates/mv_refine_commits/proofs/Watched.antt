@@ -49,6 +49,7 @@ use Rattle.mv_refine_commits.proofs.Beside.{step_beside, goes_beside}
 use Rattle.mv_refine_commits.proofs.Quiet.{quiet_told, quiet_tested}
 use Rattle.mv_refine_commits.proofs.Served.{in_globals, in_stack}
 use Rattle.mv_refine_commits.proofs.Unbarred.{unbarred}
+use Rattle.mv_refine_commits.proofs.WatchedRun.{watched_run}
 
 -- ---- stores
 
@@ -360,8 +361,7 @@ module _ (known : Known) (attributed : List ℕ) (closed : (pc address : ℕ) �
   abbrev machine : Machine Watched
   machine = narrowed (watched_machine attributed closed image input actions picks) test text
 
-  abbrev now : ℕ → Spot Watched
-  now = spot_at (first image input actions) picks
+  open watched_run attributed closed image input actions picks use {run as now}
 
   -- the word of the text, which stands there under the bindings, and its step
   record Shown (i : ℕ) (w : World) (next : Spot Watched) : Type 0 where
@@ -390,24 +390,21 @@ module _ (known : Known) (attributed : List ℕ) (closed : (pc address : ℕ) �
         };
       }
 
-  steps : WatchedStepsTaken image input actions picks s
-  steps = taken known image rules input actions picks s out
-
   sound_there : (i : ℕ) (w : World) (next : Spot Watched) → LeadsOn access s machine i w next → is_sound closed (texts_of image) (now i).memory.under (plain_spot (now i)) ≡ true
   unfolding is_sound
   sound_there i w next h =
       let r = shown i w next h in
       and_from (runs.is_sound closed (plain_spot (now i))) (keeps_text (texts_of image) (now i).memory.under (plain_spot (now i)))
-      (loads_open known image rules input actions picks s out closed i (outside w) next r.leads r.word r.stands r.step_on (λ a may. free (now i).pc r.word a r.there may)) (steps.keeps i (outside w) next r.leads)
+      (loads_open known image rules input actions picks s out closed i (outside w) next r.leads r.word r.stands r.step_on (λ a may. free (now i).pc r.word a r.there may)) ((taken known image rules input actions picks s out).keeps i (outside w) next r.leads)
 
   pub runs_in : IsRun access s machine
   runs_in = record {
     registers = (known.runs attributed (λ pc a. false) image input actions picks s out (λ pc a may. refl)).registers;
-    goes = λ i w next h. steps.goes i (outside w) next (shown i w next h).leads;
+    goes = λ i w next h. (taken known image rules input actions picks s out).goes i (outside w) next (shown i w next h).leads;
     sound = sound_there;
     stays = λ i w next h.
         let r = shown i w next h in
-        and_from (test (outside w)) (is_quiet image (outside w) next.memory) r.passes (quiet_tested known image (outside w) next.memory (steps.stays i (outside w) next r.leads));
+        and_from (test (outside w)) (is_quiet image (outside w) next.memory) r.passes (quiet_tested known image (outside w) next.memory ((taken known image rules input actions picks s out).stays i (outside w) next r.leads));
   }
 
 pub watched_runs : Known → WatchedRunsAreRuns

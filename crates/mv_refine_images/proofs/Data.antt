@@ -15,7 +15,7 @@ use Rattle.mv_isa.specs.declared.labelled.Line.{Line}
 use Rattle.mv_isa.specs.Code.{IsPlace, least_words, line_at}
 use Rattle.mv_image.specs.Spelling.{Fields}
 use Rattle.mv_source_forms.specs.Names.{words_of_global}
-use Rattle.mv_source_forms.specs.WellFormed.{IsWellFormed, IsWellFormedGlobal}
+use Rattle.mv_source_forms.specs.WellFormed.{IsWellFormedGlobal}
 use Rattle.mv_select_statements.specs.Frames.{Site}
 use Rattle.mv_refine_machine.specs.Layout.{IsPacked, IsSetOut}
 use Rattle.mv_linker.specs.Linked.{codes, function_variants, variant_codes}
@@ -27,9 +27,7 @@ use Rattle.mv_link_data.specs.Laws.{AreAddresses}
 use Rattle.mv_parts.proofs.LinkedLists.{all_variants}
 use Rattle.mv_parts.proofs.Lists.{one_of_all}
 use Rattle.mv_parts_bodies.specs.ProgramBodies.{AreLaidOut, IsOwnCode}
-use Rattle.mv_refine_images.proofs.LinkedProgram.{linked_program}
-use Rattle.mv_refine_images.specs.Built.{HasWordsOfGlobals, IsBuilt}
-use Rattle.mv_refine_images.proofs.Facts.{Laws}
+use Rattle.mv_refine_images.proofs.LinkedProgram.{Basis, linked_program}
 use Rattle.mv_refine_images.proofs.Listed.{in_either}
 use Rattle.mv_num.proofs.Lists.{there_at}
 
@@ -42,7 +40,8 @@ size_is (x ∷ xs) (suc g) = size_is xs g
 not_kept : false ≡ true → ⊥
 not_kept e = cc
 
-module _ (laws : Laws) (p : Program) (image : Fields) (formed : IsWellFormed p) (have_words : HasWordsOfGlobals p) (built : IsBuilt p image) where
+module _ (p : Program) (image : Fields) (basis : Basis p image) where
+  open basis use {laws, formed, have_words, built}
   open linked_program p image built use {parts, sizing, y, numbers, at}
 
   pub as_many : length parts.functions ≡ length p.functions

@@ -1,39 +1,35 @@
 -- The machine with a built image is a host for its program, and the program is loaded there.
-use Rattle.std.proofs.Common.{◌≡◌, ℕ, ◌<◌, ◌^◌, true, List, Option, Some, slice_get, All, refl}
+use Rattle.std.proofs.Common.{◌≡◌, ℕ, ◌<◌, ◌^◌, true, List, Some, slice_get, All, refl}
 use Rattle.std.proofs.lemmas.List.Elements.{All-map}
 use Rattle.mv_ast.specs.declared.world.Action.{Action}
-use Rattle.mv_ast.specs.declared.world.Binding.{Binding}
 use Rattle.mv_ast.specs.declared.program.Program.{Program}
 use Rattle.mv_ast.specs.declared.program.Function.{Function}
 use Rattle.mv_isa.specs.Code.{IsPlace}
 use Rattle.mv_image.specs.Spelling.{Fields}
-use Rattle.mv_source_forms.specs.WellFormed.{IsWellFormed}
 use Rattle.mv_machine.specs.Runs.{bytes_to_come}
-use Rattle.mv_select_control.specs.Runs.{Machine}
 use Rattle.mv_refine_machine.specs.Layout.{IsSetOut}
 use Rattle.mv_refine_machine.specs.Laws.{IsByteOrEnd}
 use Rattle.mv_refine_machine.specs.MachineRuns.{called_at}
 use Rattle.mv_refine_machine.specs.Under.{words_under}
 use Rattle.mv_refine_machine.proofs.Whole.{laid, own}
 use Rattle.mv_ast.specs.Actions.{IsOfWord}
-use Rattle.mv_refine_commits.specs.Watched.{Watched, access, watched_machine}
+use Rattle.mv_refine_commits.specs.Watched.{access}
 use Rattle.mv_refine_programs.specs.Hosts.{IsOpenHost, IsOpenlyLoaded}
 use Rattle.mv_link_text.specs.Text.{StubsArePlaced}
 use Rattle.mv_parts_tables.specs.Laws.{HaveTables}
-use Rattle.mv_refine_images.proofs.LinkedProgram.{linked_program}
-use Rattle.mv_refine_images.specs.Built.{HasWordsOfGlobals, IsBuilt}
+use Rattle.mv_refine_images.proofs.LinkedProgram.{Basis, linked_program}
 use Rattle.mv_refine_images.specs.Layouts.{address_of}
 use Rattle.mv_refine_images.proofs.Closed.{plan_open}
 use Rattle.mv_refine_images.proofs.Data.{entries, set_out}
-use Rattle.mv_refine_images.proofs.Facts.{Laws}
 use Rattle.mv_refine_images.proofs.Standing.{is_one, selected}
 use Rattle.mv_refine_images.proofs.Watching.{runs_openly}
 
-module _ (laws : Laws) (p : Program) (image : Fields) (formed : IsWellFormed p) (have_words : HasWordsOfGlobals p) (built : IsBuilt p image) where
-  open linked_program p image built use {parts, sizing, y, numbers, attributed, shut}
+module _ (p : Program) (image : Fields) (basis : Basis p image) where
+  open basis use {laws, formed, built}
+  open linked_program p image built use {parts, sizing, y, numbers, attributed, shut, machine}
 
   out : IsSetOut y
-  out = set_out laws p image formed have_words built
+  out = set_out p image basis
 
   pub stubs : StubsArePlaced parts image sizing
   stubs = laws.stubs parts image built.are.are built.are.fit built.linked
@@ -42,12 +38,6 @@ module _ (laws : Laws) (p : Program) (image : Fields) (formed : IsWellFormed p) 
   tables = laws.tables p formed built.bodies built.tables parts built.are image built.linked
 
   module _ (bytes : List ℕ) (actions : List Action) (picks : List ℕ) (are_bytes : All (λ b. b < 2 ^ 8) bytes) (of_words : All IsOfWord actions) (budget far : ℕ) where
-    abbrev machine : Machine Watched
-    machine = watched_machine attributed shut image (bytes_to_come bytes) actions picks
-
-    abbrev words : List Binding → ℕ → Option ℕ
-    words = words_under image
-
     bytes_or_end : All IsByteOrEnd (bytes_to_come bytes)
     bytes_or_end = All-map IsByteOrEnd Some bytes are_bytes
 
@@ -55,9 +45,9 @@ module _ (laws : Laws) (p : Program) (image : Fields) (formed : IsWellFormed p) 
     slots : (a f : ℕ) → called_at attributed image a ≡ Some f → IsPlace a × ((g : Function) → slice_get p.functions f ≡ Some g → g.attributed ≡ true)
     slots a f e =
         let s = laws.slots parts image built.are.are built.are.fit built.linked a f e in
-        ((s.1 s.0.0 s.0.1).here, λ g here. is_one laws p image formed have_words built s.0.0 f g s.0.1 here)
+        ((s.1 s.0.0 s.0.1).here, λ g here. is_one p image basis s.0.0 f g s.0.1 here)
 
-    host : IsOpenHost access y machine words shut budget far p numbers
+    host : IsOpenHost access y (machine bytes actions picks) (words_under image) shut budget far p numbers
     host = record {
       laid = laid y out;
       memory = laws.memory attributed shut image (bytes_to_come bytes) actions picks y out;
@@ -66,7 +56,7 @@ module _ (laws : Laws) (p : Program) (image : Fields) (formed : IsWellFormed p) 
           runs_openly laws.runs_alone attributed shut image built.rules (bytes_to_come bytes) actions picks from to s (own y out s stands) (λ pc a word le lt there may. free pc a word le lt there (less a may));
       runs_under = λ bs from to reach free s stands less.
           laws.runs_under attributed shut image built.rules (bytes_to_come bytes) actions picks bs from to s (own y out s stands) (λ pc a le lt may. free pc a le lt (less a may));
-      entries = entries laws p image formed have_words built;
+      entries = entries p image basis;
       calls = laws.calls attributed shut image built.rules (bytes_to_come bytes) actions picks bytes_or_end y budget far numbers p;
       stub =
           laws.orders attributed shut image built.rules (bytes_to_come bytes) actions of_words picks y out (address_of parts sizing) (address_of parts sizing) stubs.commit_ends stubs.commit
@@ -74,5 +64,5 @@ module _ (laws : Laws) (p : Program) (image : Fields) (formed : IsWellFormed p) 
       slots = slots;
     }
 
-    pub loaded : IsOpenlyLoaded access y machine words shut budget far p numbers
-    loaded = record { formed = formed; host = host; functions = selected laws p image formed have_words built }
+    pub loaded : IsOpenlyLoaded access y (machine bytes actions picks) (words_under image) shut budget far p numbers
+    loaded = record { formed = formed; host = host; functions = selected p image basis }

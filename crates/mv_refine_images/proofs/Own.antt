@@ -18,7 +18,6 @@ use Rattle.mv_image.specs.Patched.{site_at, site_before, variants_before}
 use Rattle.mv_image.specs.Spelling.{Fields}
 use Rattle.mv_lower_spec.specs.Functions.{lower_function}
 use Rattle.mv_source_forms.specs.Names.{words_of_global}
-use Rattle.mv_source_forms.specs.WellFormed.{IsWellFormed}
 use Rattle.mv_machine.specs.Runs.{State, bytes_to_come, runs}
 use Rattle.mv_select_calls.specs.Convention.{Layout}
 use Rattle.mv_refine_commits.specs.Tabled.{IsTabled}
@@ -29,12 +28,10 @@ use Rattle.mv_linker.specs.Linked.{codes, function_variants, variant_codes}
 use Rattle.mv_linker.specs.Tables.{variant_rows}
 use Rattle.mv_parts.proofs.Lists.{map_at}
 use Rattle.mv_parts.proofs.Numbers as numbered
-use Rattle.mv_refine_images.proofs.LinkedProgram.{linked_program}
-use Rattle.mv_refine_images.specs.Built.{HasWordsOfGlobals, IsBuilt}
+use Rattle.mv_refine_images.proofs.LinkedProgram.{Basis, linked_program}
 use Rattle.mv_refine_images.specs.Closed.{is_closed_to_variant, is_closed_to_variants_of, closed_to_codes, is_data_of, is_data_among, is_data_where, is_word_of, is_closed_from, is_closed_beside, closed}
 use Rattle.mv_refine_images.specs.Own.{IsOwnSwitch, IsVariantWord, HasVariantCode, LoadsNoOwnSwitch}
 use Rattle.mv_refine_images.proofs.Data.{as_many}
-use Rattle.mv_refine_images.proofs.Facts.{Laws}
 use Rattle.mv_refine_images.proofs.Host.{tables}
 use Rattle.mv_refine_images.proofs.Listed.{rows_count, test_of_variant, variants_of}
 use Rattle.mv_num.proofs.Lists.{there_at}
@@ -85,11 +82,12 @@ aligned h pc word has = by (eqb (pc % 4) 0) refl has
 not_both : false ≡ true → ⊥
 not_both e = cc
 
-module _ (laws : Laws) (p : Program) (image : Fields) (formed : IsWellFormed p) (have_words : HasWordsOfGlobals p) (built : IsBuilt p image) where
+module _ (p : Program) (image : Fields) (basis : Basis p image) where
+  open basis use {built}
   open linked_program p image built use {parts, sizing, y, at, shut}
 
   tabled : IsTabled p y image
-  tabled = (tables laws p image formed have_words built).tabled y (λ x. refl) (λ x. refl)
+  tabled = (tables p image basis).tabled y (λ x. refl) (λ x. refl)
 
   -- the function of a number
   function_at : (n a : ℕ) → IsOwnSwitch image n a → (g : Function) × (slice_get (attributed_functions p) n ≡ Some g)
@@ -232,7 +230,7 @@ module _ (laws : Laws) (p : Program) (image : Fields) (formed : IsWellFormed p) 
 
       word_closed : is_closed_from image parts sizing p 0 (closed_to_codes p parts) pc a ≡ true
       word_closed =
-          let test = test_of_variant p parts (as_many laws p image formed have_words built) n j part.0.function g part.0 variant.0 part.1 variant.1 refl function_is in
+          let test = test_of_variant p parts (as_many p image basis) n j part.0.function g part.0 variant.0 part.1 variant.1 refl function_is in
           let none_more : length parts.functions + v.variant ≡ 0 + number = omega (arith, number_is) in
           from_closed (closed_to_codes p parts) 0 number pc a (is_closed_to_variant p g) test (subst (λ z. is_word_of image parts sizing p z pc ≡ true) none_more is_its_word) (own_closed n a o g here)
 

@@ -15,13 +15,12 @@ use Rattle.mv_image.specs.Patched.{variants_before}
 use Rattle.mv_ir.specs.Combinations.{IsCombination}
 use Rattle.mv_ir.specs.Programs.{setting_of}
 use Rattle.mv_lower_spec.specs.Functions.{lower_function}
-use Rattle.mv_source_forms.specs.WellFormed.{IsWellFormed}
 use Rattle.mv_select_calls.specs.CallCode.{is_marked}
 use Rattle.mv_select_calls.specs.Laws as calls
-use Rattle.mv_select_control.specs.Placed.{Text, Placed}
+use Rattle.mv_select_control.specs.Placed.{Placed}
 use Rattle.mv_select_functions.specs.FunctionCode.{bytes_of, later_lines}
 use Rattle.mv_select_functions.specs.Functions.{IsOpen, shape_of}
-use Rattle.mv_refine_machine.specs.MachineRuns.{machine_text, called_at}
+use Rattle.mv_refine_machine.specs.MachineRuns.{called_at}
 use Rattle.mv_refine_machine.specs.Under.{words_under}
 use Rattle.mv_select_bodies.specs.SelectedBodies.{IsInProgram, globals_read, reach_of}
 use Rattle.mv_linker.specs.declared.parts.PartFunction.{PartFunction}
@@ -38,25 +37,21 @@ use Rattle.mv_parts_tables.specs.Leads.{IsLedTo}
 use Rattle.mv_parts_tables.specs.Rows.{IsNth}
 use Rattle.mv_parts_bodies.specs.ProgramBodies.{IsOwnCode, IsVariantAt, IsVariantCode, IsLinkedVariant, IsWritten, variant_number}
 use Rattle.mv_refine_programs.specs.Hosts.{IsPlain, IsVariant, IsPatched, IsSelected}
-use Rattle.mv_refine_images.proofs.LinkedProgram.{linked_program}
-use Rattle.mv_refine_images.specs.Built.{HasWordsOfGlobals, IsBuilt}
+use Rattle.mv_refine_images.proofs.LinkedProgram.{Basis, linked_program}
 use Rattle.mv_refine_images.specs.Closed.{is_closed_to_function, is_closed_to_variant, closed_to_codes}
 use Rattle.mv_refine_images.specs.Patched.{HasEntry, HasSlot, HasRow, IsInTables}
 use Rattle.mv_refine_images.proofs.Closed.{function_reads, variant_reads, code_open, site_open}
 use Rattle.mv_refine_images.proofs.Data.{as_many, laid_out, set_out, follow, own, ascend}
-use Rattle.mv_refine_images.proofs.Facts.{Laws}
 use Rattle.mv_refine_images.proofs.Listed.{one_each, rows_count, test_of_function, test_of_variant}
 use Rattle.mv_refine_images.proofs.Patched.{patched_functions_stand}
 use Rattle.std.proofs.lemmas.Option.{same_Some}
 
-module _ (laws : Laws) (p : Program) (image : Fields) (formed : IsWellFormed p) (have_words : HasWordsOfGlobals p) (built : IsBuilt p image) where
-  open linked_program p image built use {parts, sizing, y, numbers, at, attributed, shut}
-
-  abbrev words : Text
-  words = machine_text attributed image
+module _ (p : Program) (image : Fields) (basis : Basis p image) where
+  open basis use {laws, formed, built}
+  open linked_program p image built use {parts, sizing, y, numbers, at, attributed, shut, words}
 
   tests_are : length (closed_to_codes p parts) ≡ length (codes parts)
-  tests_are = one_each p parts (as_many laws p image formed have_words built)
+  tests_are = one_each p parts (as_many p image basis)
 
   numbers_are : attributed ≡ source.attributed_numbers p
   numbers_are = built.are.codes.variants.numbers
@@ -76,7 +71,7 @@ module _ (laws : Laws) (p : Program) (image : Fields) (formed : IsWellFormed p) 
 
   module _ (f : ℕ) (g : Function) (here : slice_get p.functions f ≡ Some g) (plain : g.attributed ≡ false) where
     abbrev own_code : (code : Labelled) × (slice_get parts.functions f ≡ Some code) × IsOwnCode p y numbers g code
-    own_code = own laws p image formed have_words built f g here
+    own_code = own p image basis f g here
 
     abbrev code : Labelled
     code = own_code.0
@@ -88,7 +83,7 @@ module _ (laws : Laws) (p : Program) (image : Fields) (formed : IsWellFormed p) 
     not_attributed n is = let yes : g.attributed ≡ true = is_one n f g is here in absurd (cc)
 
     placed : IsPlacedCode parts image sizing f code.items (at f)
-    placed = laws.plain parts image built.are.are built.are.fit built.linked f code ((follow laws p image formed have_words built).function f code own_code.1) is_own.written.labels not_attributed
+    placed = laws.plain parts image built.are.are built.are.fit built.linked f code ((follow p image basis).function f code own_code.1) is_own.written.labels not_attributed
 
     in_program : IsInProgram y (setting_of numbers p) false [] is_own.body
     in_program = subst (λ b. IsInProgram y (setting_of numbers p) b [] is_own.body) plain is_own.in_program
@@ -111,8 +106,8 @@ module _ (laws : Laws) (p : Program) (image : Fields) (formed : IsWellFormed p) 
           is_attributed = is_marked is_own.body.marked;
           next = placed.next;
           open_there =
-              code_open image parts sizing p (set_out laws p image formed have_words built) f (is_closed_to_function p g) (test_of_function p parts f g here) tests_are placed.next
-              (ascend laws p image formed have_words built) placed.before attributed is_own.body (function_reads p g is_own.body is_own.reads) (at f) (omega arith);
+              code_open image parts sizing p (set_out p image basis) f (is_closed_to_function p g) (test_of_function p parts f g here) tests_are placed.next
+              (ascend p image basis) placed.before attributed is_own.body (function_reads p g is_own.body is_own.reads) (at f) (omega arith);
           placed = subst (λ (items : List Line). Placed words placed.place at items (at f) placed.next) written.items placed.placed;
         }
 
@@ -123,7 +118,7 @@ module _ (laws : Laws) (p : Program) (image : Fields) (formed : IsWellFormed p) 
     n = attributed_before p.functions f
 
     abbrev generic_code : (code : Labelled) × (slice_get parts.functions f ≡ Some code) × IsOwnCode p y numbers g code
-    generic_code = own laws p image formed have_words built f g here
+    generic_code = own p image basis f g here
 
     abbrev generic : Labelled
     generic = generic_code.0
@@ -151,7 +146,7 @@ module _ (laws : Laws) (p : Program) (image : Fields) (formed : IsWellFormed p) 
 
     stands : IsPlacedCode parts image sizing f rest (at f + 4) × text.HasEntry parts image sizing n f instr
     stands =
-        laws.patched parts image built.are.are built.are.fit built.linked n f generic instr rest numbered_there ((follow laws p image formed have_words built).function f generic generic_code.1) is_generic.written.labels generic_written.items
+        laws.patched parts image built.are.are built.are.fit built.linked n f generic instr rest numbered_there ((follow p image basis).function f generic generic_code.1) is_generic.written.labels generic_written.items
 
     abbrev later : IsPlacedCode parts image sizing f rest (at f + 4)
     later = stands.0
@@ -176,7 +171,7 @@ module _ (laws : Laws) (p : Program) (image : Fields) (formed : IsWellFormed p) 
       is_at = record { number = table.1.number; there = here; variants = table.0; table = table.1.table; at = led.there }
 
       abbrev coded : (part : PartVariant) × IsLinkedVariant parts n led.place part × ((values : List ℕ) → IsVariantOf (zip (lower_function p g).switches values) (lower_function p g) v.body → IsVariantCode p y numbers g values v.body part)
-      coded = laws.variant_code p built.bodies built.tables parts y numbers (laid_out laws p image formed have_words built) n f led.place g v is_at
+      coded = laws.variant_code p built.bodies built.tables parts y numbers (laid_out p image basis) n f led.place g v is_at
 
       abbrev part : PartVariant
       part = coded.0
@@ -192,7 +187,7 @@ module _ (laws : Laws) (p : Program) (image : Fields) (formed : IsWellFormed p) 
 
       -- its number is behind those of all functions, of which some are attributed
       behind : (m : ℕ) → IsAttributed parts m k → ⊥
-      behind m h = let lt = (follow laws p image formed have_words built).attributed m k h in omega (arith, lt)
+      behind m h = let lt = (follow p image basis).attributed m k h in omega (arith, lt)
 
       variant_placed : IsPlacedCode parts image sizing k part.code.items (at k)
       variant_placed = laws.plain parts image built.are.are built.are.fit built.linked k part.code own_part.code_at c.written.labels behind
@@ -220,9 +215,9 @@ module _ (laws : Laws) (p : Program) (image : Fields) (formed : IsWellFormed p) 
             is_attributed = is_marked v.body.marked;
             next = variant_placed.next;
             open_there =
-                code_open image parts sizing p (set_out laws p image formed have_words built) k (is_closed_to_variant p g)
-                (test_of_variant p parts (as_many laws p image formed have_words built) n led.place f g own_part.function part own_part.there own_part.at function_is here) tests_are variant_placed.next
-                (ascend laws p image formed have_words built) variant_placed.before attributed v.body reads_open (at k) (omega arith);
+                code_open image parts sizing p (set_out p image basis) k (is_closed_to_variant p g)
+                (test_of_variant p parts (as_many p image basis) n led.place f g own_part.function part own_part.there own_part.at function_is here) tests_are variant_placed.next
+                (ascend p image basis) variant_placed.before attributed v.body reads_open (at k) (omega arith);
             placed = subst (λ (items : List Line). Placed words variant_placed.place at items (at k) variant_placed.next) c.written.items variant_placed.placed;
           }
 
@@ -245,7 +240,7 @@ module _ (laws : Laws) (p : Program) (image : Fields) (formed : IsWellFormed p) 
       site_opens : (a : ℕ) → called_at attributed image a ≡ Some f → IsOpen shut a (a + 8) (reach_of y v.body)
       site_opens a h =
           let s = called a h in
-          site_open image parts sizing p (set_out laws p image formed have_words built) g a s.site.site s.site.is_site s.site.no_site_behind s.here.2
+          site_open image parts sizing p (set_out p image basis) g a s.site.site s.site.is_site s.site.no_site_behind s.here.2
           (ap (slice_get (attributed_functions p)) s.site.of ∙ attributed_at p.functions f g here is) v.body reads_open
 
     in_tables : IsInTables attributed image shut text_start (linked_lines parts) sizing y p numbers f g
@@ -264,8 +259,8 @@ module _ (laws : Laws) (p : Program) (image : Fields) (formed : IsWellFormed p) 
           is_attributed = is_marked is_generic.body.marked;
           next = later.next;
           open_there =
-              code_open image parts sizing p (set_out laws p image formed have_words built) f (is_closed_to_function p g) (test_of_function p parts f g here) tests_are later.next
-              (ascend laws p image formed have_words built) later.before attributed is_generic.body (function_reads p g is_generic.body is_generic.reads) (at f + 4) (omega arith);
+              code_open image parts sizing p (set_out p image basis) f (is_closed_to_function p g) (test_of_function p parts f g here) tests_are later.next
+              (ascend p image basis) later.before attributed is_generic.body (function_reads p g is_generic.body is_generic.reads) (at f + 4) (omega arith);
           later = later.placed;
           entry = entry;
           slots = slot;

@@ -4,21 +4,16 @@ use Rattle.std.specs.Prelude.{IsTrue}
 use Rattle.std.specs.List.{flat_map}
 use Rattle.std.proofs.Math.ListN as lists
 use Rattle.std.proofs.lemmas.List.{length-map}
-use Rattle.std.proofs.lemmas.List.Elements.{All-from_get_or, All-weaker}
+use Rattle.std.proofs.lemmas.List.Elements.{All-from_get_or}
 use Rattle.mv_ast.specs.declared.program.Program.{Program}
-use Rattle.mv_ast.specs.declared.program.Global.{Global}
 use Rattle.mv_ast.specs.declared.world.Action.{Action}
 use Rattle.mv_ast.specs.Actions.{fits, IsOfWord}
-use Rattle.mv_source_forms.specs.Typing.{IsFirstValue}
 use Rattle.mv_image.specs.Spelling.{Fields}
 use Rattle.mv_ir.specs.World.{World}
 use Rattle.mv_ir.specs.Levels.{Code}
 use Rattle.mv_ir.specs.Programs.{setting_of, code_of, call_of_main}
 use Rattle.mv_ir.specs.Reached.{IsReached, EndsAreReached}
 use Rattle.mv_lower_spec.specs.Functions.{lower_program}
-use Rattle.mv_source_forms.specs.WellFormed.{IsWellFormed}
-use Rattle.mv_machine.specs.Runs.{bytes_to_come}
-use Rattle.mv_select_control.specs.Runs.{Machine}
 use Rattle.mv_select_calls.specs.Convention.{Stands}
 use Rattle.mv_select_functions.specs.Functions.{Begins}
 use Rattle.mv_refine_machine.specs.Laws.{IsFirst}
@@ -26,14 +21,12 @@ use Rattle.mv_refine_machine.specs.Under.{words_under}
 use Rattle.mv_refine_stubs.specs.Laws.{HoldsData}
 use Rattle.mv_refine_stubs.specs.Stubs.{return_address}
 use Rattle.mv_refine_commits.specs.Ends.{EntersQuietly}
-use Rattle.mv_refine_commits.specs.Watched.{Watched, access, watched_machine}
+use Rattle.mv_refine_commits.specs.Watched.{access}
 use Rattle.mv_refine_runs.specs.Behaves.{Behaves, LoadsWhatIsOpen}
 use Rattle.mv_refine_runs.specs.Main.{HasStubs, CallsMain}
 use Rattle.mv_refine_programs.specs.Laws.{first_seen}
 use Rattle.mv_linker.specs.Outcome as linker
-use Rattle.mv_link_data.specs.Laws.{IsFirstValueAmong, HasFirstValues}
-use Rattle.mv_refine_images.proofs.LinkedProgram.{linked_program}
-use Rattle.mv_refine_images.specs.Built.{HasWordsOfGlobals, IsBuilt}
+use Rattle.mv_refine_images.proofs.LinkedProgram.{Basis, linked_program}
 use Rattle.mv_refine_images.specs.Layouts.{address_of}
 use Rattle.mv_refine_images.specs.Laws.{BuiltProgramsBehave}
 use Rattle.mv_refine_images.specs.Own.{LoadsNoOwnSwitch}
@@ -41,31 +34,23 @@ use Rattle.mv_refine_images.proofs.Data.{addresses, numbering, size_is, sizes_co
 use Rattle.mv_refine_images.proofs.Facts.{Laws}
 use Rattle.mv_refine_images.proofs.Host.{loaded, stubs, tables}
 use Rattle.mv_refine_images.proofs.Own.{no_own_switch}
-use Rattle.mv_parts.proofs.LinkedTables.{first_value}
+use Rattle.mv_parts.proofs.LinkedTables.{first_values}
 
 -- the run of a lowered program ends so, also where it has no main
 run_reached : EndsAreReached → (p : Program) (numbers : List ℕ) (codes : List Code) (main : Option Code) (bound : ℕ) (w : World) → IsReached w (call_of_main (setting_of numbers p) codes main bound w).end
 run_reached reached p numbers codes None bound w = tt
 run_reached reached p numbers codes (Some main) bound w = reached p numbers codes main bound w
 
--- ---- the functions that are first values
-
-first_values : (p : Program) → All (λ (g : Global). All (IsFirstValue p g.ctype) g.first) p.globals → HasFirstValues p
-first_values p = All-weaker (λ (g : Global). All (IsFirstValue p g.ctype) g.first) (λ (g : Global). All (IsFirstValueAmong (length p.functions) g.ctype) g.first)
-    (λ g. All-weaker (IsFirstValue p g.ctype) (IsFirstValueAmong (length p.functions) g.ctype) (first_value p g.ctype) g.first) p.globals
-
-module _ (laws : Laws) (p : Program) (image : Fields) (formed : IsWellFormed p) (have_words : HasWordsOfGlobals p) (built : IsBuilt p image) (bytes : List ℕ) (actions : List Action) (picks : List ℕ)
+module _ (p : Program) (image : Fields) (basis : Basis p image) (bytes : List ℕ) (actions : List Action) (picks : List ℕ)
     (are_bytes : All (λ b. b < 2 ^ 8) bytes) (of_words : All IsOfWord actions) (fit : All (λ a. IsTrue (fits p a)) actions) where
-  open linked_program p image built use {parts, sizing, y, numbers, attributed, shut}
+  open basis use {laws, formed, built}
+  open linked_program p image built use {parts, sizing, y, numbers, attributed, shut, machine}
 
   abbrev first : World
   first = first_seen p numbers bytes actions
 
-  abbrev the_machine : Machine Watched
-  the_machine = watched_machine attributed shut image (bytes_to_come bytes) actions picks
-
   has_stubs : HasStubs attributed image y
-  has_stubs = let s = stubs laws p image formed have_words built in record {
+  has_stubs = let s = stubs p image basis in record {
     place = address_of parts sizing;
     entry = address_of parts sizing;
     main_label = parts.main;
@@ -78,7 +63,7 @@ module _ (laws : Laws) (p : Program) (image : Fields) (formed : IsWellFormed p) 
   -- ---- the first world
 
   is_first : IsFirst image bytes first
-  is_first = record { input = refl; output = refl; bindings = (tables laws p image formed have_words built).bindings numbers bytes actions; log = refl }
+  is_first = record { input = refl; output = refl; bindings = (tables p image basis).bindings numbers bytes actions; log = refl }
 
   data_is : image.globals ≡ map (linker.datum_word (address_of parts sizing)) parts.globals
   data_is = ap (λ (i : Fields). i.globals) built.linked.image_is
@@ -86,17 +71,17 @@ module _ (laws : Laws) (p : Program) (image : Fields) (formed : IsWellFormed p) 
   globals_are : image.globals ≡ flat_map (λ words. words) first.globals
   globals_are =
       data_is ∙ ap (map (linker.datum_word (address_of parts sizing))) built.are.globals
-      ∙ laws.words_first p (address_of parts sizing) numbers (first_values p formed.typed.globals) (addresses laws p image formed have_words built)
+      ∙ laws.words_first p (address_of parts sizing) numbers (first_values p formed.typed.globals) (addresses p image basis)
 
   size_counted : (g : ℕ) → y.size g ≡ length (get_or first.globals g [])
   size_counted g =
-      sym (size_is p.globals g) ∙ ap (λ (ns : List ℕ). get_or ns g 0) (sym (sizes_counted laws p image formed have_words built)) ∙ lists.get_or-map length first.globals g []
+      sym (size_is p.globals g) ∙ ap (λ (ns : List ℕ). get_or ns g 0) (sym (sizes_counted p image basis)) ∙ lists.get_or-map length first.globals g []
 
   holds : HoldsData y image first
   holds = record {
     are = globals_are;
     sizes = size_counted;
-    places = λ g lt. ap (λ (ns : List ℕ). 0x0010_0000 + 4 * sum (take g ns)) (sym (sizes_counted laws p image formed have_words built));
+    places = λ g lt. ap (λ (ns : List ℕ). 0x0010_0000 + 4 * sum (take g ns)) (sym (sizes_counted p image basis));
     words = let words = (laws.typed image built.rules).0.words.globals in All-from_get_or (λ word. word < 2 ^ 32) image.globals 0 (λ i lt. words i);
     room = let fits = built.linked.data_fits in
         let count : length image.globals ≡ length parts.globals = ap length data_is ∙ length-map parts.globals (linker.datum_word (address_of parts sizing)) in omega (arith, fits, count);
@@ -105,13 +90,13 @@ module _ (laws : Laws) (p : Program) (image : Fields) (formed : IsWellFormed p) 
   -- ---- main is called
 
   module _ (budget far : ℕ) where
-    enters : EntersQuietly y the_machine budget far (address_of parts sizing parts.main) first 3
+    enters : EntersQuietly y (machine bytes actions picks) budget far (address_of parts sizing parts.main) first 3
     enters =
-        let s = stubs laws p image formed have_words built in
+        let s = stubs p image basis in
         laws.starts attributed shut image built.rules bytes actions picks y budget far first is_first refl holds (ap (λ (i : Fields). i.entry) built.linked.image_is) (address_of parts sizing) (address_of parts sizing)
         parts.main s.start_ends s.start
 
-    begins : Begins access y the_machine 3
+    begins : Begins access y (machine bytes actions picks) 3
     begins =
         let sp = enters.stack in record {
           live = enters.live;
@@ -121,14 +106,14 @@ module _ (laws : Laws) (p : Program) (image : Fields) (formed : IsWellFormed p) 
           within = omega (arith, sp);
         }
 
-    stands : Stands access y the_machine budget far (y.entry p.main) first 3
-    stands = subst (λ f. Stands access y the_machine budget far (address_of parts sizing f) first 3) built.are.main enters.stands
+    stands : Stands access y (machine bytes actions picks) budget far (y.entry p.main) first 3
+    stands = subst (λ f. Stands access y (machine bytes actions picks) budget far (address_of parts sizing f) first 3) built.are.main enters.stands
 
     calls_main : (k : ℕ) → CallsMain attributed shut p image bytes actions picks y first budget far k
     calls_main k =
-        let m = laws.main_follows access y the_machine (words_under image) shut budget far p numbers
-        (loaded laws p image formed have_words built bytes actions picks are_bytes of_words budget far)
-        (numbering laws p image formed have_words built) bytes actions fit return_address 3 (omega arith, refl) enters.link begins stands k in record {
+        let m = laws.main_follows access y (machine bytes actions picks) (words_under image) shut budget far p numbers
+        (loaded p image basis bytes actions picks are_bytes of_words budget far)
+        (numbering p image basis) bytes actions fit return_address 3 (omega arith, refl) enters.link begins stands k in record {
           call = m.0;
           means = m.1;
           reached = subst (IsReached first) (sym m.2) (run_reached laws.ends_are_reached p numbers (code_of (lower_program p)) (slice_get (code_of (lower_program p)) p.main) k first);
@@ -136,11 +121,11 @@ module _ (laws : Laws) (p : Program) (image : Fields) (formed : IsWellFormed p) 
           follows = m.4;
         }
 
-  behaves : Behaves p image bytes actions picks × LoadsWhatIsOpen image shut bytes actions picks
-  behaves = laws.images_behave attributed shut p image bytes actions picks y built.rules has_stubs record { first = first; input = omega arith; calls = calls_main }
-
   pub behaves_and_loads : Behaves p image bytes actions picks × LoadsWhatIsOpen image shut bytes actions picks × LoadsNoOwnSwitch image bytes actions picks
-  behaves_and_loads = (behaves.0, behaves.1, no_own_switch laws p image formed have_words built bytes actions picks behaves.1)
+  behaves_and_loads =
+      let behaves = laws.images_behave attributed shut p image bytes actions picks y built.rules has_stubs record { first = first; input = omega arith; calls = calls_main } in
+      (behaves.0, behaves.1, no_own_switch p image basis bytes actions picks behaves.1)
 
 pub built_behaves : Laws → BuiltProgramsBehave
-built_behaves laws p image formed have_words built bytes actions picks are_bytes of_words fit = behaves_and_loads laws p image formed have_words built bytes actions picks are_bytes of_words fit
+built_behaves laws p image formed have_words built bytes actions picks are_bytes of_words fit =
+    behaves_and_loads p image (record { laws = laws; formed = formed; have_words = have_words; built = built }) bytes actions picks are_bytes of_words fit

@@ -15,12 +15,12 @@ use Rattle.mv_ir.specs.KnownFunctions.{next_byte, written}
 use Rattle.mv_ir.specs.Programs.{setting_of}
 use Rattle.mv_rv32.specs.Stepping.{access as room_access}
 use Rattle.mv_machine.specs.Runs.{bytes_to_come}
-use Rattle.mv_select_control.specs.Runs.{Spot, Machine, outside}
+use Rattle.mv_select_control.specs.Runs.{Machine, outside}
 use Rattle.mv_select_calls.specs.Convention.{Layout, Stands, Returns}
 use Rattle.mv_select_calls.specs.Environment.{Serves, ServesCalls}
 use Rattle.mv_refine_machine.specs.Calm.{Rest, IsCalm}
 use Rattle.mv_refine_machine.specs.Calls.{IsAnswered, AtCall, CallsAreAnswered}
-use Rattle.mv_refine_machine.specs.MachineRuns.{access, unpatched_word, run_of, machine_of, is_sound}
+use Rattle.mv_refine_machine.specs.MachineRuns.{access, unpatched_word, machine_of, is_sound}
 use Rattle.mv_refine_machine.specs.Laws.{IsByteOrEnd}
 use Rattle.mv_refine_machine.proofs.Answering.{answered_calls}
 use Rattle.mv_refine_machine.proofs.Calming.{calm_told, calm_tested}
@@ -57,9 +57,6 @@ module _ (attributed : List ℕ) (closed : (pc address : ℕ) → Bool) (image :
   abbrev machine : Machine Rest
   machine = machine_of attributed closed image input actions picks
 
-  abbrev run : ℕ → Spot Rest
-  run = run_of image input actions picks
-
   abbrev St : ℕ → World → ℕ → Type 0
   St = Stands access y machine budget far
 
@@ -70,26 +67,26 @@ module _ (attributed : List ℕ) (closed : (pc address : ℕ) → Bool) (image :
     globals : answer.world.globals ≡ w.globals
     small : answer.value < 2 ^ 32
 
-  module _ (outer answer : Answer) (w : World) (pc i : ℕ) (fits : Fits outer answer w) (h : St pc w i) (at_word : unpatched_word image pc ≡ Some (encode Ecall)) (done : IsAnswered image outer (run i) (run (i + 1)))
-      (one : is_sound closed (run i) ≡ true) where
+  module _ (outer answer : Answer) (w : World) (pc i : ℕ) (fits : Fits outer answer w) (h : St pc w i) (at_word : unpatched_word image pc ≡ Some (encode Ecall)) (done : IsAnswered image outer (machine.run i) (machine.run (i + 1)))
+      (one : is_sound closed (machine.run i) ≡ true) where
     comes_back : (spare bound cost : ℕ) → i + (spare + 1 + cost) ≤ budget → far ≤ i + bound
-        → (j : ℕ) × Returns access y machine budget far spare bound i (pc + 4) answer.world j × (reg (run j).regs 10 ≡ answer.value)
+        → (j : ℕ) × Returns access y machine budget far spare bound i (pc + 4) answer.world j × (reg (machine.run j).regs 10 ≡ answer.value)
     comes_back =
         let below = unpatched_below image pc (encode Ecall) at_word in
         returned access y machine budget far answer w pc i h (omega (arith, below)) (record {
-          regs = done.regs ∙ ap (put (run i).regs 10) fits.value;
+          regs = done.regs ∙ ap (put (machine.run i).regs 10) fits.value;
           next = done.pc;
-          loads = λ a. loads_same (run i).memory (run (i + 1)).memory a 4 done.room;
-          calm = calm_tested image (outside answer.world) (run (i + 1)).memory (subst (λ x. IsCalm image x (run (i + 1)).memory) fits.world done.calm);
+          loads = λ a. loads_same (machine.run i).memory (machine.run (i + 1)).memory a 4 done.room;
+          calm = calm_tested image (outside answer.world) (machine.run (i + 1)).memory (subst (λ x. IsCalm image x (machine.run (i + 1)).memory) fits.world done.calm);
           sound = one;
           globals = fits.globals;
           small = fits.small;
         })
 
-  at_call : (number pc i : ℕ) (w : World) → St pc w i → unpatched_word image pc ≡ Some (encode Ecall) → reg (run i).regs 17 ≡ number → AtCall image input actions picks number i (outside w)
+  at_call : (number pc i : ℕ) (w : World) → St pc w i → unpatched_word image pc ≡ Some (encode Ecall) → reg (machine.run i).regs 17 ≡ number → AtCall image input actions picks number i (outside w)
   at_call number pc i w h at_word asks = record {
-    calm = calm_told image (outside w) (run i).memory h.calm;
-    calls = is_call (unpatched_word image (run i).pc) (run i).regs (run i).pc (run i).memory (ap (unpatched_word image) h.at ∙ at_word);
+    calm = calm_told image (outside w) (machine.run i).memory h.calm;
+    calls = is_call (unpatched_word image (machine.run i).pc) (machine.run i).regs (machine.run i).pc (machine.run i).memory (ap (unpatched_word image) h.at ∙ at_word);
     asks = asks;
   }
 
@@ -100,7 +97,7 @@ module _ (attributed : List ℕ) (closed : (pc address : ℕ) → Bool) (image :
     byte_served : (args : List ℕ) (pc i : ℕ) → unpatched_word image pc ≡ Some (encode Ecall) → Serves access y machine budget far (setting_of numbers p) 1 pc (pc + 4) Getchar args i
     byte_served args pc i at_word spare bound w h asks paid asked =
         let at = at_call 1 pc i w h at_word asks.number in
-        let input_is : (run i).memory.input ≡ bytes_to_come w.input = at.calm.input in
+        let input_is : (machine.run i).memory.input ≡ bytes_to_come w.input = at.calm.input in
         let left = subst (All IsByteOrEnd) input_is (run_bytes image input actions picks i bytes) in
         comes_back (next_byte w.input (outside w)) (next_byte w.input w) w pc i
         (record { value = same_byte w.input w; world = same_world w.input w; globals = same_globals w.input w; small = byte_fits w.input w left })
@@ -110,10 +107,10 @@ module _ (attributed : List ℕ) (closed : (pc address : ℕ) → Bool) (image :
         → Serves access y machine budget far (setting_of numbers p) 1 pc (pc + 4) Putchar (x ∷ rest) i
     written_served x rest pc i at_word spare bound w h asks paid asked =
         let at = at_call 2 pc i w h at_word asks.number in
-        let argument : reg (run i).regs 10 ≡ x = asks.arguments 0 (omega arith) in
+        let argument : reg (machine.run i).regs 10 ≡ x = asks.arguments 0 (omega arith) in
         comes_back (written x (outside w)) (written x w) w pc i
         (record { value = refl; world = refl; globals = refl; small = omega arith })
-        h at_word (subst (λ v. IsAnswered image (written v (outside w)) (run i) (run (i + 1))) argument (answers.writes i (outside w) at))
+        h at_word (subst (λ v. IsAnswered image (written v (outside w)) (machine.run i) (machine.run (i + 1))) argument (answers.writes i (outside w) at))
         (answers.sound 2 i (outside w) at) spare bound (written x w).cost paid asked
 
     pub serves_calls : ServesCalls access y machine budget far (setting_of numbers p)

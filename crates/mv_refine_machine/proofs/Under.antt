@@ -39,9 +39,6 @@ module _ (attributed : List ℕ) (closed : (pc address : ℕ) → Bool) (image :
   abbrev under : Machine Rest
   under = alone (narrow.under machine (words_under image) bs) from to
 
-  taken : StepsAreTaken image input actions picks s
-  taken = steps_are_taken image input actions picks s out
-
   -- the word of the part of text, which stands there under the bindings, and its step
   record Shown (i : ℕ) (w : World) (next : Spot Rest) : Type 0 where
     word : ℕ
@@ -81,11 +78,11 @@ module _ (attributed : List ℕ) (closed : (pc address : ℕ) → Bool) (image :
   runs_under : IsRun access s under
   runs_under = record {
     registers = run_registers image input actions picks;
-    goes = λ i w next h. taken.goes i (outside w) next (shown i w next h).leads;
+    goes = λ i w next h. (steps_are_taken image input actions picks s out).goes i (outside w) next (shown i w next h).leads;
     sound = sound_there;
     stays = λ i w next h.
         and_from (has_bindings bs (outside w)) (is_calm image (outside w) next.memory) (and_parts (has_bindings bs (outside w)) (is_calm image (outside w) (machine.run i).memory) h.calm).0
-        (calm_tested image (outside w) next.memory (taken.stays i (outside w) next (shown i w next h).leads));
+        (calm_tested image (outside w) next.memory ((steps_are_taken image input actions picks s out).stays i (outside w) next (shown i w next h).leads));
   }
 
 pub runs_are_under : RunsAreRunsUnder

@@ -14,9 +14,8 @@ use Rattle.mv_isa.specs.Execution.{Access, reg}
 use Rattle.mv_ir.specs.Combinations.{IsCombination}
 use Rattle.mv_ir.specs.Meaning.{cleared}
 use Rattle.mv_ir.specs.KnownFunctions.{seen_from}
-use Rattle.mv_ir.specs.World.{World, Setting}
-use Rattle.mv_ir.specs.Outcome.{End, Stuck, Call, Bound}
-use Rattle.mv_ir.specs.Programs.{setting_of}
+use Rattle.mv_ir.specs.World.{World}
+use Rattle.mv_ir.specs.Outcome.{Stuck, Call}
 use Rattle.mv_ir_worlds.specs.Functions.{IsFreeIn, IsBoundIn}
 use Rattle.mv_ir_worlds.specs.Laws.{FunctionsAreFreeOrBound, FramesOfFree, FramesOfBound}
 use Rattle.mv_source_forms.specs.Names.{is_void}
@@ -24,7 +23,7 @@ use Rattle.mv_lower_spec.specs.Functions.{lower_function}
 use Rattle.mv_lower_spec.specs.Law.{strict_context}
 use Rattle.mv_select_control.specs.Runs.{Machine, outside}
 use Rattle.mv_select_calls.specs.CallCode.{link_register}
-use Rattle.mv_select_calls.specs.Convention.{Layout, IsTarget, Stands, Enters, FollowsCall, Answers, entry_cost, slot_cost, Convention, Conventions}
+use Rattle.mv_select_calls.specs.Convention.{Layout, IsTarget, Stands, Enters, Answers, entry_cost, slot_cost, Convention, Conventions}
 use Rattle.mv_select_functions.specs.Functions.{FunctionsKeep, LaterKeeps, part, alone}
 use Rattle.mv_select_functions.proofs.Alone.{word_in}
 use Rattle.mv_select_inline.specs.InlineOf.{inline_of}
@@ -34,6 +33,7 @@ use Rattle.mv_select_slots.specs.Laws as narrow
 use Rattle.mv_lower_calls.specs.SourceCalls.{as_call, any_frame, meaningless, call_by_source, source_call, source_levels}
 use Rattle.mv_lower_calls.specs.Laws.{BodiesAreRight, CallsKeepBindings}
 use Rattle.mv_refine_programs.specs.Hosts.{IsVariant, IsPatched, IsLoaded, SlotShows}
+use Rattle.mv_refine_programs.proofs.Called.{called}
 use Rattle.mv_refine_programs.proofs.Frames.{leaves_true}
 use Rattle.mv_refine_programs.proofs.Entries.{nothing_open, slot_in, plain_answers, free_answers, variant_promises, variant_answers, bound_answers, promised}
 
@@ -58,18 +58,11 @@ module _ {M : Type 0} (access : Access M) (y : Layout) (machine : Machine M) (wo
     (loaded : IsLoaded access y machine words closed budget far p numbers) (known : Known M) where
   open loaded use {host}
 
-  abbrev setting : Setting
-  setting = setting_of numbers p
-
   module _ (k : ℕ) (below : Conventions access y machine budget far (source_levels p numbers k)) where
-    abbrev levels : Bound
-    levels = source_levels p numbers k
+    open called access y machine budget far p numbers k use {setting, levels, FC}
 
     abbrev Source : ℕ → (depth frames : ℕ) → List ℕ → World → Call
     Source f depth frames args w = source_call p numbers k f args depth frames w
-
-    abbrev FC : (spare i back : ℕ) → End → Type 0
-    FC spare i back = FollowsCall access y machine budget far spare (length levels) i back
 
     module _ (f depth frames : ℕ) (args : List ℕ) where
       -- where there is no such function, or it has another number of parameters, nothing is promised
@@ -92,29 +85,25 @@ module _ {M : Type 0} (access : Access M) (y : Layout) (machine : Machine M) (wo
 
       -- ---- a function called at its entry
 
-      module _ (g : Function) (here : slice_get p.functions f ≡ Some g) (count : length args ≡ g.params) where
-        fitted : (back i : ℕ) → IsTarget back → reg (machine.run i).regs link_register ≡ back → Answers access y machine budget far entry_cost (length levels) (y.entry f) back depth frames args (Source f depth frames args) i
-        fitted back i target ra spare w stands enters paid asked = by g.attributed refl
-          where
-            attributed : g.attributed ≡ true → Bindings g w → FC spare i back (Source f depth frames args w).end
-            attributed is (inl free) =
-                free_answers access y machine words closed budget far p numbers loaded known.right k below f depth frames args g here count is known.later known.firsts known.told known.frames_free back i target ra spare w free
-                stands enters paid asked
-            attributed is (inr b) =
-                bound_answers access y machine words closed budget far p numbers loaded known.right k below f depth frames args g here count is b.0 b.2 b.3 known.each known.jumps known.told known.frames_bound
-                back i target ra spare w b.1 stands enters paid asked
-
-            by : (z : Bool) → g.attributed ≡ z → FC spare i back (Source f depth frames args w).end
-            by true is = attributed is (bindings_of g here is (y.entry f) i w stands)
-            by false not =
-                plain_answers access y machine words closed budget far p numbers loaded known.right k below f depth frames args g here count not known.each back i target ra spare w stands enters paid asked
-
       at_entry : (back i : ℕ) → IsTarget back → reg (machine.run i).regs link_register ≡ back →
           Answers access y machine budget far entry_cost (length levels) (y.entry f) back depth frames args (Source f depth frames args) i
       at_entry back i target ra spare w stands enters paid asked = by (slice_get p.functions f) refl
         where
+          attributed : (g : Function) (here : slice_get p.functions f ≡ Some g) (count : length args ≡ g.params) → g.attributed ≡ true → Bindings g w → FC spare i back (Source f depth frames args w).end
+          attributed g here count is (inl free) =
+              free_answers access y machine words closed budget far p numbers loaded known.right k below f depth frames args g here count is known.later known.firsts known.told known.frames_free back i target ra spare w free
+              stands enters paid asked
+          attributed g here count is (inr b) =
+              bound_answers access y machine words closed budget far p numbers loaded known.right k below f depth frames args g here count is b.0 b.2 b.3 known.each known.jumps known.told known.frames_bound
+              back i target ra spare w b.1 stands enters paid asked
+
+          fitted : (g : Function) (here : slice_get p.functions f ≡ Some g) (count : length args ≡ g.params) (z : Bool) → g.attributed ≡ z → FC spare i back (Source f depth frames args w).end
+          fitted g here count true is = attributed g here count is (bindings_of g here is (y.entry f) i w stands)
+          fitted g here count false not =
+              plain_answers access y machine words closed budget far p numbers loaded known.right k below f depth frames args g here count not known.each back i target ra spare w stands enters paid asked
+
           by_count : (g : Function) → slice_get p.functions f ≡ Some g → (b : Bool) → nat_eq g.params (length args) ≡ b → FC spare i back (Source f depth frames args w).end
-          by_count g e true q = fitted g e (sym (eqb-true g.params (length args) q)) back i target ra spare w stands enters paid asked
+          by_count g e true q = fitted g e (sym (eqb-true g.params (length args) q)) g.attributed refl
           by_count g e false q = subst (FC spare i back) (sym (misfit g e q w)) tt
 
           by : (o : Option Function) → slice_get p.functions f ≡ o → FC spare i back (Source f depth frames args w).end

@@ -11,10 +11,9 @@ use Rattle.mv_isa.specs.Standing.{SlotStands}
 use Rattle.mv_ir.specs.Combinations.{IsCombination}
 use Rattle.mv_ir.specs.KnownFunctions.{seen_from}
 use Rattle.mv_ir.specs.World as ir
-use Rattle.mv_ir.specs.World.{World, Setting}
-use Rattle.mv_ir.specs.Outcome.{End, Call, Bound}
+use Rattle.mv_ir.specs.World.{World}
+use Rattle.mv_ir.specs.Outcome.{Call}
 use Rattle.mv_ir.specs.Meaning.{Contents, body_from}
-use Rattle.mv_ir.specs.Programs.{setting_of}
 use Rattle.mv_ir_worlds.specs.Functions.{IsFreeIn, IsBoundIn}
 use Rattle.mv_ir_worlds.specs.Laws.{FramesOfFree, FramesOfBound}
 use Rattle.mv_lower_spec.specs.Functions.{lower_function}
@@ -22,7 +21,7 @@ use Rattle.mv_lower_correct.specs.Laws.{callee_frame}
 use Rattle.mv_select_control.specs.Placed.{Text}
 use Rattle.mv_select_control.specs.Runs.{Machine}
 use Rattle.mv_select_calls.specs.CallCode.{link_register}
-use Rattle.mv_select_calls.specs.Convention.{Layout, IsTarget, Stands, Enters, FollowsCall, Conventions}
+use Rattle.mv_select_calls.specs.Convention.{Layout, IsTarget, Stands, Enters, Conventions}
 use Rattle.mv_select_functions.specs.FunctionCode.{bytes_of}
 use Rattle.mv_select_functions.specs.Functions.{FunctionsKeep, LaterKeeps, LowersStack, IsOpen, frame_in, part, shape_of}
 use Rattle.mv_select_functions.proofs.Alone.{word_in}
@@ -32,6 +31,7 @@ use Rattle.mv_select_slots.specs.Laws as narrow
 use Rattle.mv_lower_calls.specs.SourceCalls.{source_call, source_levels, Promises}
 use Rattle.mv_lower_calls.specs.Laws.{BodiesAreRight}
 use Rattle.mv_refine_programs.specs.Hosts.{IsPlain, IsVariant, IsPatched, IsLoaded}
+use Rattle.mv_refine_programs.proofs.Called.{called}
 use Rattle.mv_refine_programs.proofs.Frames.{promises_kept, plain_frame, free_frame, bound_frame}
 
 -- ---- words that load nothing
@@ -50,12 +50,7 @@ module _ {M : Type 0} (access : Access M) (y : Layout) (machine : Machine M) (wo
     (loaded : IsLoaded access y machine words closed budget far p numbers) (right : BodiesAreRight) (k : ℕ) (below : Conventions access y machine budget far (source_levels p numbers k))
     (f depth frames : ℕ) (args : List ℕ) (g : Function) (here : slice_get p.functions f ≡ Some g) (count : length args ≡ g.params) where
   open loaded use {host}
-
-  abbrev setting : Setting
-  setting = setting_of numbers p
-
-  abbrev levels : Bound
-  levels = source_levels p numbers k
+  open called access y machine budget far p numbers k use {setting, levels, FC}
 
   abbrev place : ℕ
   place = attributed_before p.functions f
@@ -65,9 +60,6 @@ module _ {M : Type 0} (access : Access M) (y : Layout) (machine : Machine M) (wo
 
   abbrev Source : World → Call
   Source w = source_call p numbers k f args depth frames w
-
-  abbrev FC : (spare i back : ℕ) → End → Type 0
-  FC spare i back = FollowsCall access y machine budget far spare (length levels) i back
 
   -- what follows a call that promises another follows the other
   pub promised : (extra more spare i back : ℕ) (c other : Call) → extra ≤ more → Promises c other → i + (spare + more + other.cost) ≤ budget → (i + (spare + extra + c.cost) ≤ budget → FC spare i back c.end) →

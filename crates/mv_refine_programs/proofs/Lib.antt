@@ -1,4 +1,5 @@
 pub mod Frames
+pub mod Called
 pub mod Entries
 pub mod AllFunctions
 pub mod MainFunction

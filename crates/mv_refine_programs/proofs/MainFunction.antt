@@ -10,26 +10,27 @@ use Rattle.mv_meaning.specs.Meaning.{mean}
 use Rattle.mv_meaning_numbering.specs.Numberings.{IsNumbering}
 use Rattle.mv_isa.specs.Execution.{Access, reg}
 use Rattle.mv_ir.specs.World as ir
-use Rattle.mv_ir.specs.World.{World, Setting}
-use Rattle.mv_ir.specs.Outcome.{Calls, Call, Bound, Returned}
+use Rattle.mv_ir.specs.World.{World}
+use Rattle.mv_ir.specs.Outcome.{Calls, Call, Returned}
 use Rattle.mv_ir.specs.Keeps.{KeepsCall}
 use Rattle.mv_ir.specs.Meaning.{Contents, body_from}
-use Rattle.mv_ir.specs.Programs.{setting_of, execution_of, run_of_main}
+use Rattle.mv_ir.specs.Programs.{execution_of, run_of_main}
 use Rattle.mv_lower_spec.specs.Functions.{lower_function, lower_program}
-use Rattle.mv_lower_spec.specs.Statements.{levels}
+use Rattle.mv_lower_spec.specs.Statements.{levels as levels_of}
 use Rattle.mv_lower_correct.specs.Laws.{IsExecution}
 use Rattle.mv_select_control.specs.Runs.{Machine}
 use Rattle.mv_select_calls.specs.CallCode.{link_register}
 use Rattle.mv_select_calls.specs.Convention.{Layout, IsTarget, Stands, FollowsCall}
 use Rattle.mv_select_functions.specs.Functions.{MainKeeps, Begins}
-use Rattle.mv_lower_calls.specs.SourceCalls.{source_call, source_levels}
+use Rattle.mv_lower_calls.specs.SourceCalls.{source_call}
 use Rattle.mv_lower_calls.specs.Laws.{MainIsRight, MainEndsAlike}
 use Rattle.mv_refine_programs.specs.Hosts.{IsPlain, IsLoaded}
 use Rattle.mv_refine_programs.specs.Laws.{first_seen}
+use Rattle.mv_refine_programs.proofs.Called.{called}
 use Rattle.mv_refine_programs.proofs.AllFunctions.{Known, all_keep}
 
 -- there are as many levels as the bound says
-level_count : (calls : ℕ → Calls) (k : ℕ) → length (levels calls k) ≡ k
+level_count : (calls : ℕ → Calls) (k : ℕ) → length (levels_of calls k) ≡ k
 level_count calls zero = refl
 level_count calls (suc k) = let below = level_count calls k in omega (arith, below)
 
@@ -45,9 +46,7 @@ module _ {M : Type 0} (access : Access M) (y : Layout) (machine : Machine M) (wo
   here = loaded.formed.typed.entry.defined
 
   open loaded use {host}
-
-  abbrev setting : Setting
-  setting = setting_of numbers p
+  open called access y machine budget far p numbers k use {setting, levels, FC}
 
   abbrev s : IsPlain y machine.text words closed p numbers p.main main
   s = (loaded.functions p.main main here).plain (loaded.formed.entry main here)
@@ -55,21 +54,18 @@ module _ {M : Type 0} (access : Access M) (y : Layout) (machine : Machine M) (wo
   abbrev frame : ir.Frame
   frame = record { depth = 0; live = 0; bound = [] }
 
-  abbrev below : Bound
-  below = source_levels p numbers k
-
   abbrev first : World
   first = first_seen p numbers input actions
 
   record Followed : Type 0 where
     contents : Contents
-    follows : (spare : ℕ) → i + (spare + 44 + (body_from setting frame contents s.body [] below first).cost) ≤ budget → far ≤ i + length below →
-        FollowsCall access y machine budget far spare (length below) i back (body_from setting frame contents s.body [] below first).end
+    follows : (spare : ℕ) → i + (spare + 44 + (body_from setting frame contents s.body [] levels first).cost) ≤ budget → far ≤ i + length levels →
+        FC spare i back (body_from setting frame contents s.body [] levels first).end
 
   followed : Followed
   followed =
       let m =
-      keep_main access y host.laid machine host.memory setting host.entries budget far host.serves below
+      keep_main access y host.laid machine host.memory setting host.entries budget far host.serves levels
       (all_keep access y machine words closed budget far p numbers loaded known k) [] s.reach s.is_fine s.body s.ample s.fits (s.params ∙ loaded.formed.typed.entry.bare) s.place s.linked s.is_attributed
       (y.entry p.main) s.next (host.runs (y.entry p.main) s.next s.reach s.open_there) s.placed back i target ra in
       record { contents = m.0; follows = λ spare paid asked. m.1 spare first stands begins paid asked }
@@ -81,20 +77,20 @@ module _ {M : Type 0} (access : Access M) (y : Layout) (machine : Machine M) (wo
       × ((spare : ℕ) → i + (spare + 44 + c.cost) ≤ budget → far ≤ i + k → FollowsCall access y machine budget far spare k i back c.end)
   main_follows = (c, right_main p numbers loaded.formed numbering input actions k fit followed.contents main here, ends.0, ends.1, follows)
     where
-      ends : ((body_from setting frame followed.contents (lower_function p main) [] below first).end ≡ (run_of_main numbers (lower_program p) input actions k).end)
-          × ((w : World) → (body_from setting frame followed.contents (lower_function p main) [] below first).end ≡ Returned None w → ⊥)
+      ends : ((body_from setting frame followed.contents (lower_function p main) [] levels first).end ≡ (run_of_main numbers (lower_program p) input actions k).end)
+          × ((w : World) → (body_from setting frame followed.contents (lower_function p main) [] levels first).end ≡ Returned None w → ⊥)
       ends = alike p numbers loaded.formed numbering input actions k fit followed.contents main here
 
       c : Call
-      c = body_from setting frame followed.contents (lower_function p main) [] below first
+      c = body_from setting frame followed.contents (lower_function p main) [] levels first
 
-      kept : KeepsCall c (body_from setting frame followed.contents s.body [] below first)
-      kept = s.keeps setting frame followed.contents [] below first
+      kept : KeepsCall c (body_from setting frame followed.contents s.body [] levels first)
+      kept = s.keeps setting frame followed.contents [] levels first
 
       follows : (spare : ℕ) → i + (spare + 44 + c.cost) ≤ budget → far ≤ i + k → FollowsCall access y machine budget far spare k i back c.end
       follows spare paid asked =
           let cheaper = kept.cheaper in
           let count = level_count (source_call p numbers) k in
           subst (FollowsCall access y machine budget far spare k i back) (sym kept.same)
-          (subst (λ n. FollowsCall access y machine budget far spare n i back (body_from setting frame followed.contents s.body [] below first).end) count
+          (subst (λ n. FollowsCall access y machine budget far spare n i back (body_from setting frame followed.contents s.body [] levels first).end) count
           (followed.follows spare (omega (arith, paid, cheaper)) (omega (arith, asked, count))))

@@ -13,11 +13,9 @@ use Rattle.mv_isa.specs.Standing.{InstrStands, SlotStands}
 use Rattle.mv_ir.specs.declared.tree.Tree.{Tree}
 use Rattle.mv_ir.specs.declared.body.Body.{Body}
 use Rattle.mv_ir.specs.Combinations.{IsCombination}
-use Rattle.mv_ir.specs.Keeps.{KeepsBody, KeepsCall}
-use Rattle.mv_ir.specs.Meaning.{Contents, body_from}
-use Rattle.mv_ir.specs.Outcome.{Bound}
+use Rattle.mv_ir.specs.Keeps.{KeepsBody, KeepsUnder}
 use Rattle.mv_ir.specs.Programs.{setting_of}
-use Rattle.mv_ir.specs.World.{World, Setting}
+use Rattle.mv_ir.specs.World.{World}
 use Rattle.mv_ir_worlds.specs.Fit.{IsFit, is_fit}
 use Rattle.mv_ir_worlds.specs.Functions.{IsFreeIn, IsBoundIn}
 use Rattle.mv_lower_spec.specs.Functions.{lower_function}
@@ -63,12 +61,6 @@ pub record IsOpenHost {M : Type 0} (access : Access M) (y : Layout) (machine : M
   pub calls : ServesCalls access y machine budget far (setting_of numbers p)
   pub stub : ServesOrders access y (narrowed machine (is_fit p) machine.text) budget far (setting_of numbers p)
   pub slots : (at f : ℕ) → machine.text.slot at ≡ Some f → IsPlace at × ((g : Function) → slice_get p.functions f ≡ Some g → g.attributed ≡ true)
-
--- the same meaning, at no greater cost, in frames in which switches are read as these values
-abbrev pub KeepsUnder : List (ℕ × ℕ) → Body → Body → Type 0
-KeepsUnder ps b b' =
-    (setting : Setting) (depth live : ℕ) (contents : Contents) (args : List ℕ) (bound : Bound) (w : World) →
-    KeepsCall (body_from setting (record { depth = depth; live = live; bound = ps }) contents b args bound w) (body_from setting (record { depth = depth; live = live; bound = ps }) contents b' args bound w)
 
 module _ (y : Layout) (text : Text) (words : List Binding → ℕ → Option ℕ) (closed : (pc address : ℕ) → Bool) (p : Program) (numbers : List ℕ) (f : ℕ) (g : Function) where
   -- The code of a function that isn't attributed stands at its entry. It was selected from a body that means the same as the one the function is lowered

@@ -63,11 +63,7 @@ module _ (tested : CalmIsTested) (are_runs : RunsAreRuns) (begin_in_calm : RunsB
   none : runs image (bytes_to_come bytes) actions picks 0 ≡ start
   none = runs_none start picks
 
-  abbrev m : Rest
-  m = (machine.run 0).memory
-
-  abbrev regs0 : List ℕ
-  regs0 = (machine.run 0).regs
+  open machine.run 0 use {memory as m, regs as regs0}
 
   zero0 : (q : ℕ) → reg regs0 q ≡ 0
   zero0 q = ap (λ (s : State). reg s.regs q) none ∙ first_zero image bytes actions q

@@ -95,11 +95,7 @@ module _ {M : Type 0} (accesses : Access M) (machine : Machine M) (place entry :
   -- ---- the start stub, from the first time on
 
   module _ (w : World) (main_label end : ℕ) (p : Placed machine.text place entry (start_lines main_label) start_address end) (at0 : At w start_address (machine.run 0).regs (machine.run 0).memory 0) where
-    abbrev m : M
-    m = (machine.run 0).memory
-
-    abbrev regs0 : List ℕ
-    regs0 = (machine.run 0).regs
+    open machine.run 0 use {memory as m, regs as regs0}
 
     abbrev regs1 : List ℕ
     regs1 = put regs0 stack_register stack_end

@@ -106,7 +106,7 @@ module _ (c : ℕ → ℕ) where
   trees_renamed_one : (s : Stm) → HasTrees s
   trees_renamed_one = stm_ind HasTrees (λ x h. trees_to x ∙ trees_layer x h ∙ trees_from x)
 
-  trees_renamed : (code : List Stm) → trees (renamed_code c code) ≡ map (renamed_tree c) (trees code)
+  pub trees_renamed : (code : List Stm) → trees (renamed_code c code) ≡ map (renamed_tree c) (trees code)
   trees_renamed code = joined_renamed stm_trees (renamed_tree c) code (stms_ind HasTrees trees_renamed_one code)
 
   -- a count or list that no tree matters to

@@ -1,6 +1,7 @@
 -- The scan uses as many numbers as the greatest number of a body's intervals over one position.
 use Rattle.std.proofs.Common.{arith, ◌≡◌, ℕ, zero, suc, ◌+◌, ◌-◌, ◌<◌, ◌≤◌, Bool, true, false, cond, not, eqb, ltb, ◌&&◌, ◌||◌, List, [], ◌∷◌, ◌++◌, map, refl, sym, ap, ◌∙◌, ◌⊎◌, inl, inr, append_assoc, append-nil}
 use Rattle.std.proofs.lemmas.Bool.{cases_lt, cases_eq, lt-ltb, le-ltb, eq-eqb, ne_eqb, or_right}
+use Rattle.mv_ast.specs.Operators.{as_word}
 use Rattle.mv_ir.specs.declared.body.Body.{Body}
 use Rattle.mv_ir.specs.Live.{mark_at, filled, marks_length, live_at_start, marks_in_order, flow, nowhere, all_marks, interval, count_at, below, most_intervals, HasTemps}
 use Rattle.mv_ir.proofs.Keeping.{map_append}
@@ -13,9 +14,6 @@ use Rattle.mv_regalloc.proofs.Marks.{code_long}
 use Rattle.mv_regalloc.proofs.Ranges.{first_below, interval_at}
 use Rattle.mv_regalloc.proofs.Stands.{by_first_order, given_apart, given_used}
 use Rattle.mv_ast.specs.Names.{any_of}
-
-abbrev unit : Bool → ℕ
-unit c = cond c 1 0
 
 over_append : (at : ℕ) (xs ys : List Interval) → over at (xs ++ ys) ≡ over at xs + over at ys
 over_append at [] ys = omega arith
@@ -109,7 +107,7 @@ module _ (marks : ℕ → List Bool) (i : ℕ) where
   given_count (suc n) h =
       let a = given_count n (λ t l. h t (omega (arith, l))) in
       let b = ap (count_at i) (map_append filled_marks (below n) (n ∷ [])) ∙ count_both (map filled_marks (below n)) (filled_marks n ∷ []) in
-      let d : unit (mark_at (filled_marks n) i) ≡ unit (holds (span marks n) i) = ap unit (interval_at marks n i) ∙ ap (λ c. unit (c && holds (span marks n) i)) (h n (omega arith)) in
+      let d : as_word (mark_at (filled_marks n) i) ≡ as_word (holds (span marks n) i) = ap as_word (interval_at marks n i) ∙ ap (λ c. as_word (c && holds (span marks n) i)) (h n (omega arith)) in
       omega (arith, a, b, d)
 
   below_range : (a n : ℕ) → below (a + n) ≡ below a ++ range a n
@@ -139,7 +137,7 @@ mark_past (x ∷ xs) (suc i) h = mark_past xs i (omega (arith, h))
 past_count : (f : ℕ → List Bool) (i : ℕ) (ts : List ℕ) → ((t : ℕ) → marks_length (f t) ≤ i) → count_at i (map f ts) ≡ 0
 past_count f i [] h = refl
 past_count f i (t ∷ ts) h =
-    let a : unit (mark_at (f t) i) ≡ 0 = ap unit (mark_past (f t) i (h t)) in
+    let a : as_word (mark_at (f t) i) ≡ 0 = ap as_word (mark_past (f t) i (h t)) in
     let b = past_count f i ts h in
     omega (arith, a, b)
 
@@ -185,7 +183,7 @@ module _ (b : Body) (has : HasTemps b) where
   held_params zero h = refl
   held_params (suc n) h =
       let a = held_params n (omega (arith, h)) in
-      let e : unit (holds (span marks n) 0) ≡ 1 = ap unit (holds_start n h) in
+      let e : as_word (holds (span marks n) 0) ≡ 1 = ap as_word (holds_start n h) in
       omega (arith, a, e)
 
   pub begun_params : (n : ℕ) → n ≤ b.params → Begun 0 (given marks n)

@@ -13,3 +13,4 @@ pub mod EntryNames
 pub mod FunctionNames
 pub mod Addresses
 pub mod Common
+pub mod Naming

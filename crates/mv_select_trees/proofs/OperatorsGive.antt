@@ -8,7 +8,8 @@ use Rattle.mv_isa.specs.declared.instr.Instr.{Instr}
 use Rattle.mv_isa.specs.declared.instr.Instr.TheVariants.{Addi, Slti, Sltiu, Xori, Ori, Andi, Slli, Srli, Srai, Add, Sub, Sll, Slt, Sltu, Xor, Srl, Sra, Or, And, Mul}
 use Rattle.mv_isa.specs.declared.labelled.Line.{Line}
 use Rattle.mv_isa.specs.Execution.{Access, reg, put}
-use Rattle.mv_ir.specs.Trees.{flag, unary, binary}
+use Rattle.mv_ast.specs.Operators.{as_word}
+use Rattle.mv_ir.specs.Trees.{unary, binary}
 use Rattle.mv_select_trees.specs.TreeCode.{one, two, minus_one, unary_lines, binary_lines, immediate, immediate_lines, narrow_lines}
 use Rattle.mv_select_trees.specs.Straight.{Sets}
 use Rattle.mv_select_trees.specs.View.{AreRegisters, Gives}
@@ -38,25 +39,25 @@ module _ {M : Type 0} (access : Access M) (m : M) (entry : ℕ → ℕ) (lo hi :
       let big = 2 ^ 32 - 1 in
       by_one d (sub big a) (Xori d s minus_one) regs h w (sub_below big a) (xori_sets access m d s minus_one regs a big (sub big a) e minus_one_is (complement_is a (held_word s a regs h e)))
   unary_gives d s (suc (suc zero)) a regs h w e =
-      by_one d (flag (eqb a 0)) (Sltiu d s (pos 1)) regs h w (flag_below (eqb a 0)) (sltiu_sets access m d s (pos 1) regs a 1 (flag (eqb a 0)) e (word_of_pos 1 (omega arith)) (is_zero a))
+      by_one d (as_word (eqb a 0)) (Sltiu d s (pos 1)) regs h w (flag_below (eqb a 0)) (sltiu_sets access m d s (pos 1) regs a 1 (as_word (eqb a 0)) e (word_of_pos 1 (omega arith)) (is_zero a))
   unary_gives d s (suc (suc (suc o))) a regs h w e = clear_gives access m entry lo hi d regs h w
 
   -- a test of the difference
   equal_gives : (d s u a b : ℕ) (regs : List ℕ) → AreRegisters regs → Within lo hi d → a < 2 ^ 32 → b < 2 ^ 32 → reg regs s ≡ a → reg regs u ≡ b
-      → Leaves d (flag (eqb a b)) (two (Sub d s u) (Sltiu d d (pos 1))) regs
+      → Leaves d (as_word (eqb a b)) (two (Sub d s u) (Sltiu d d (pos 1))) regs
   equal_gives d s u a b regs h w p q e f =
       let x = sub a b in
-      by_two d (flag (eqb a b)) d x (Sub d s u) (Sltiu d d (pos 1)) regs h w (flag_below (eqb a b)) w (sub_below a b)
+      by_two d (as_word (eqb a b)) d x (Sub d s u) (Sltiu d d (pos 1)) regs h w (flag_below (eqb a b)) w (sub_below a b)
       (sub_sets access m d s u regs a b x e f refl)
-      (sltiu_sets access m d d (pos 1) (put regs d x) x 1 (flag (eqb a b)) (put_within lo hi d x regs h w) (word_of_pos 1 (omega arith)) (is_zero x ∙ ap flag (same_difference a b p q)))
+      (sltiu_sets access m d d (pos 1) (put regs d x) x 1 (as_word (eqb a b)) (put_within lo hi d x regs h w) (word_of_pos 1 (omega arith)) (is_zero x ∙ ap as_word (same_difference a b p q)))
 
   unequal_gives : (d s u a b : ℕ) (regs : List ℕ) → AreRegisters regs → Within lo hi d → a < 2 ^ 32 → b < 2 ^ 32 → reg regs s ≡ a → reg regs u ≡ b
-      → Leaves d (flag (not (eqb a b))) (two (Sub d s u) (Sltu d 0 d)) regs
+      → Leaves d (as_word (not (eqb a b))) (two (Sub d s u) (Sltu d 0 d)) regs
   unequal_gives d s u a b regs h w p q e f =
       let x = sub a b in
-      by_two d (flag (not (eqb a b))) d x (Sub d s u) (Sltu d 0 d) regs h w (flag_below (not (eqb a b))) w (sub_below a b)
+      by_two d (as_word (not (eqb a b))) d x (Sub d s u) (Sltu d 0 d) regs h w (flag_below (not (eqb a b))) w (sub_below a b)
       (sub_sets access m d s u regs a b x e f refl)
-      (sltu_sets access m d 0 d (put regs d x) 0 x (flag (not (eqb a b))) (reg_zero (put regs d x)) (put_within lo hi d x regs h w) (isnt_zero x ∙ ap (λ z. flag (not z)) (same_difference a b p q)))
+      (sltu_sets access m d 0 d (put regs d x) 0 x (as_word (not (eqb a b))) (reg_zero (put regs d x)) (put_within lo hi d x regs h w) (isnt_zero x ∙ ap (λ z. as_word (not z)) (same_difference a b p q)))
 
   -- an operator on two registers
   pub binary_gives : (d s u o a b : ℕ) (regs : List ℕ) → AreRegisters regs → Within lo hi d → a < 2 ^ 32 → b < 2 ^ 32 → reg regs s ≡ a → reg regs u ≡ b → Leaves d (binary o a b) (binary_lines o d s u) regs
@@ -71,9 +72,9 @@ module _ {M : Type 0} (access : Access M) (m : M) (entry : ℕ → ℕ) (lo hi :
   binary_gives d s u (suc (suc (suc (suc (suc (suc (suc zero))))))) a b regs h w p q e f = by_one d (shr_s a b) (Sra d s u) regs h w (shr_s_below a b) (sra_sets access m d s u regs a b (shr_s a b) e f refl)
   binary_gives d s u (suc (suc (suc (suc (suc (suc (suc (suc zero)))))))) a b regs h w p q e f = by_one d (shr_u a b) (Srl d s u) regs h w (shr_u_below a b p) (srl_sets access m d s u regs a b (shr_u a b) e f refl)
   binary_gives d s u (suc (suc (suc (suc (suc (suc (suc (suc (suc zero))))))))) a b regs h w p q e f =
-      by_one d (flag (lt_s a b)) (Slt d s u) regs h w (flag_below (lt_s a b)) (slt_sets access m d s u regs a b (flag (lt_s a b)) e f (truth_is (lt_s a b)))
+      by_one d (as_word (lt_s a b)) (Slt d s u) regs h w (flag_below (lt_s a b)) (slt_sets access m d s u regs a b (as_word (lt_s a b)) e f (truth_is (lt_s a b)))
   binary_gives d s u (suc (suc (suc (suc (suc (suc (suc (suc (suc (suc zero)))))))))) a b regs h w p q e f =
-      by_one d (flag (lt_u a b)) (Sltu d s u) regs h w (flag_below (lt_u a b)) (sltu_sets access m d s u regs a b (flag (lt_u a b)) e f (truth_is (lt_u a b)))
+      by_one d (as_word (lt_u a b)) (Sltu d s u) regs h w (flag_below (lt_u a b)) (sltu_sets access m d s u regs a b (as_word (lt_u a b)) e f (truth_is (lt_u a b)))
   binary_gives d s u (suc (suc (suc (suc (suc (suc (suc (suc (suc (suc (suc zero))))))))))) a b regs h w p q e f = equal_gives d s u a b regs h w p q e f
   binary_gives d s u (suc (suc (suc (suc (suc (suc (suc (suc (suc (suc (suc (suc zero)))))))))))) a b regs h w p q e f = unequal_gives d s u a b regs h w p q e f
   binary_gives d s u (suc (suc (suc (suc (suc (suc (suc (suc (suc (suc (suc (suc (suc o))))))))))))) a b regs h w p q e f = clear_gives access m entry lo hi d regs h w
@@ -92,19 +93,19 @@ module _ {M : Type 0} (access : Access M) (m : M) (entry : ℕ → ℕ) (lo hi :
   immediate_gives d s (suc (suc (suc (suc (suc (suc (suc zero))))))) a n i regs h w p q k e = by_one d (shr_s a n) (Srai d s i) regs h w (shr_s_below a n) (srai_sets access m d s i regs a n (shr_s a n) e (count_stands n i k) refl)
   immediate_gives d s (suc (suc (suc (suc (suc (suc (suc (suc zero)))))))) a n i regs h w p q k e = by_one d (shr_u a n) (Srli d s i) regs h w (shr_u_below a n p) (srli_sets access m d s i regs a n (shr_u a n) e (count_stands n i k) refl)
   immediate_gives d s (suc (suc (suc (suc (suc (suc (suc (suc (suc zero))))))))) a n i regs h w p q k e =
-      by_one d (flag (lt_s a n)) (Slti d s i) regs h w (flag_below (lt_s a n)) (slti_sets access m d s i regs a n (flag (lt_s a n)) e (short_stands n i q k) (truth_is (lt_s a n)))
+      by_one d (as_word (lt_s a n)) (Slti d s i) regs h w (flag_below (lt_s a n)) (slti_sets access m d s i regs a n (as_word (lt_s a n)) e (short_stands n i q k) (truth_is (lt_s a n)))
   immediate_gives d s (suc (suc (suc (suc (suc (suc (suc (suc (suc (suc zero)))))))))) a n i regs h w p q k e =
-      by_one d (flag (lt_u a n)) (Sltiu d s i) regs h w (flag_below (lt_u a n)) (sltiu_sets access m d s i regs a n (flag (lt_u a n)) e (short_stands n i q k) (truth_is (lt_u a n)))
+      by_one d (as_word (lt_u a n)) (Sltiu d s i) regs h w (flag_below (lt_u a n)) (sltiu_sets access m d s i regs a n (as_word (lt_u a n)) e (short_stands n i q k) (truth_is (lt_u a n)))
   immediate_gives d s (suc (suc (suc (suc (suc (suc (suc (suc (suc (suc (suc zero))))))))))) a n i regs h w p q k e =
       let x = sub a n in
-      by_two d (flag (eqb a n)) d x (Addi d s i) (Sltiu d d (pos 1)) regs h w (flag_below (eqb a n)) w (sub_below a n)
+      by_two d (as_word (eqb a n)) d x (Addi d s i) (Sltiu d d (pos 1)) regs h w (flag_below (eqb a n)) w (sub_below a n)
       (addi_sets access m d s i regs a (sub 0 n) x e (short_stands (sub 0 n) i (sub_below 0 n) k) (add_negative a n p q))
-      (sltiu_sets access m d d (pos 1) (put regs d x) x 1 (flag (eqb a n)) (put_within lo hi d x regs h w) (word_of_pos 1 (omega arith)) (is_zero x ∙ ap flag (same_difference a n p q)))
+      (sltiu_sets access m d d (pos 1) (put regs d x) x 1 (as_word (eqb a n)) (put_within lo hi d x regs h w) (word_of_pos 1 (omega arith)) (is_zero x ∙ ap as_word (same_difference a n p q)))
   immediate_gives d s (suc (suc (suc (suc (suc (suc (suc (suc (suc (suc (suc (suc zero)))))))))))) a n i regs h w p q k e =
       let x = sub a n in
-      by_two d (flag (not (eqb a n))) d x (Addi d s i) (Sltu d 0 d) regs h w (flag_below (not (eqb a n))) w (sub_below a n)
+      by_two d (as_word (not (eqb a n))) d x (Addi d s i) (Sltu d 0 d) regs h w (flag_below (not (eqb a n))) w (sub_below a n)
       (addi_sets access m d s i regs a (sub 0 n) x e (short_stands (sub 0 n) i (sub_below 0 n) k) (add_negative a n p q))
-      (sltu_sets access m d 0 d (put regs d x) 0 x (flag (not (eqb a n))) (reg_zero (put regs d x)) (put_within lo hi d x regs h w) (isnt_zero x ∙ ap (λ z. flag (not z)) (same_difference a n p q)))
+      (sltu_sets access m d 0 d (put regs d x) 0 x (as_word (not (eqb a n))) (reg_zero (put regs d x)) (put_within lo hi d x regs h w) (isnt_zero x ∙ ap (λ z. as_word (not z)) (same_difference a n p q)))
   immediate_gives d s (suc (suc (suc (suc (suc (suc (suc (suc (suc (suc (suc (suc (suc o))))))))))))) a n i regs h w p q k e = absurd cc
 
   -- a shift to the left and one to the right

@@ -8,7 +8,7 @@ use Rattle.std.proofs.Math.Nat.{div-le_self}
 use Rattle.mv_num.specs.Words.{word_of, add, sub, mul, shl, shr_s, shr_u, lt_u, signed, floor_div, sign_extend}
 use Rattle.mv_num.proofs.Signed.{sub_is, sign_extend_low, sign_extend_high}
 use Rattle.mv_isa.specs.Execution.{truth, upper}
-use Rattle.mv_ir.specs.Trees.{flag}
+use Rattle.mv_ast.specs.Operators.{as_word}
 use Rattle.mv_select_trees.specs.TreeCode.{upper_bits, lower_bits, minus_one}
 use Rattle.mv_num.proofs.Numbers.{word_of_pos, word_small, word_of_negsuc}
 
@@ -41,12 +41,12 @@ pub shr_u_below : (a b : ℕ) → a < 2 ^ 32 → shr_u a b < 2 ^ 32
 unfolding shr_u
 shr_u_below a b h = omega (arith, div-le_self a (2 ^ (b % 32)))
 
-pub flag_below : (b : Bool) → flag b < 2 ^ 32
+pub flag_below : (b : Bool) → as_word b < 2 ^ 32
 flag_below true = omega arith
 flag_below false = omega arith
 
 -- a test as a number, on the machine and in trees
-pub truth_is : (b : Bool) → truth b ≡ flag b
+pub truth_is : (b : Bool) → truth b ≡ as_word b
 unfolding truth
 truth_is b = refl
 
@@ -119,9 +119,9 @@ upper_below n = rw (upper_is n) (omega arith)
 
 -- ---- tests
 
-pub is_zero : (a : ℕ) → truth (lt_u a 1) ≡ flag (eqb a 0)
+pub is_zero : (a : ℕ) → truth (lt_u a 1) ≡ as_word (eqb a 0)
 unfolding truth lt_u
-is_zero a = ap flag (⊎_elim yes no (cases_eq a 0))
+is_zero a = ap as_word (⊎_elim yes no (cases_eq a 0))
   where
     yes : a ≡ 0 → ltb a 1 ≡ eqb a 0
     yes e = lt-ltb a 1 (omega arith) ∙ sym (eq-eqb a 0 e)
@@ -129,9 +129,9 @@ is_zero a = ap flag (⊎_elim yes no (cases_eq a 0))
     no : (a ≡ 0 → ⊥) → ltb a 1 ≡ eqb a 0
     no ne = le-ltb a 1 (grind (arith, ne)) ∙ sym (ne_eqb a 0 ne)
 
-pub isnt_zero : (a : ℕ) → truth (lt_u 0 a) ≡ flag (not (eqb a 0))
+pub isnt_zero : (a : ℕ) → truth (lt_u 0 a) ≡ as_word (not (eqb a 0))
 unfolding truth lt_u
-isnt_zero a = ap flag (⊎_elim yes no (cases_eq a 0))
+isnt_zero a = ap as_word (⊎_elim yes no (cases_eq a 0))
   where
     yes : a ≡ 0 → ltb 0 a ≡ not (eqb a 0)
     yes e = le-ltb 0 a (omega arith) ∙ sym (ap not (eq-eqb a 0 e))
@@ -157,7 +157,7 @@ same_difference a b p q = ⊎_elim yes no (cases_eq a b)
 pub bool_is : (a : ℕ) → truth (lt_u 0 a) ≡ cond (eqb a 0) 0 1
 bool_is a = isnt_zero a ∙ swapped (eqb a 0)
   where
-    swapped : (b : Bool) → flag (not b) ≡ cond b 0 1
+    swapped : (b : Bool) → as_word (not b) ≡ cond b 0 1
     swapped true = refl
     swapped false = refl
 

@@ -1,5 +1,5 @@
 -- Where a run has ended, as many words of text have changed as the meaning's bindings owe.
-use Rattle.std.proofs.Common.{◌≡◌, ℕ, List, Option, Some, None, sym, ap, ◌∙◌, subst}
+use Rattle.std.proofs.Common.{ℕ, List, Option, Some, None, sym, ap, ◌∙◌, subst}
 use Rattle.mv_ast.specs.declared.program.Program.{Program}
 use Rattle.mv_ast.specs.declared.world.Action.{Action}
 use Rattle.mv_ast.specs.declared.world.Binding.{Binding}
@@ -9,8 +9,8 @@ use Rattle.mv_build.specs.Verdicts.{IsBuiltFrom}
 use Rattle.mv_image.specs.Patched.{text_of}
 use Rattle.mv_image.specs.Spelling.{Fields}
 use Rattle.mv_list.specs.Changes.{patched_text}
-use Rattle.mv_machine.specs.Runs.{State, Stop, runs}
-use Rattle.mv_machine.specs.Snapshots.{Snapshot, kept}
+use Rattle.mv_machine.specs.Runs.{Stop, runs}
+use Rattle.mv_machine.specs.Snapshots.{Snapshot}
 use Rattle.mv_machine.specs.declared.machine.Stopped.{Stopped}
 use Rattle.mv_machine.specs.declared.machine.Stopped.TheVariants.{Ended, Trapped, Steps, InputFault, OutputFault, Fault, Memory}
 use Rattle.mv_meaning.specs.declared.meant.End.{End}
@@ -20,6 +20,7 @@ use Rattle.mv_refine.specs.Environment.{Environment}
 use Rattle.mv_refine.specs.Execution.{IsExecution}
 use Rattle.mv_refine.specs.Meant.{DoesAll, DoesOn, DoesFrom}
 use Rattle.mv_refine.specs.Run.{RanTo, Runs}
+use Rattle.mv_refine.proofs.Executed.{kept_bindings}
 use Rattle.mv_refine.specs.declared.execution.Execution.{Execution}
 use Rattle.mv_count_words.specs.Laws.{ShowsBindings}
 use Rattle.mv_count_words.specs.Lines.{line_count}
@@ -27,16 +28,12 @@ use Rattle.mv_count_words.specs.Owed.{CountsWords}
 use Rattle.mv_top.specs.WordLines.{CountsLines, CountsOn, CountsFrom}
 
 module _ (p : Program) (image : Fields) (shows : ShowsBindings p image) (actions : List Action) (steps : ℕ) (before after : Environment) (Heard : List Event → Type 0) (machine : Snapshot) where
-  kept_bindings : (s : State) → machine ≡ kept s machine.last → machine.bindings ≡ s.bindings
-  unfolding kept
-  kept_bindings s is = ap (λ (m : Snapshot). m.bindings) is
-
   counted : (bytes : List ℕ) (stop : Stop) (e : End) → RanTo image actions before after Heard machine stop steps → DoesAll before after Heard machine bytes (mean p bytes actions steps) image e →
       CountsLines p image actions steps machine bytes
   counted bytes stop e ran all =
       let input = ran.stands.input in
       let picks = ran.stands.picks in
-      let same = kept_bindings (runs image input actions picks steps) ran.stands.done.state in
+      let same = kept_bindings machine (runs image input actions picks steps) ran.stands.done.state in
       let meant = sym same ∙ all.bindings in
       let text = all.text ∙ ap (λ (bs : List Binding). text_of image (values_of bs)) (sym meant) in
       subst (λ (bs : List Binding). CountsWords p bs (line_count (patched_text image machine.room.held))) meant (shows input actions picks steps machine.room.held text)

@@ -28,8 +28,7 @@ use Rattle.mv_variants.proofs.Functions.{IsAttributed, are_domains, few_switches
 use Rattle.mv_variants.proofs.Rows.{values_long}
 
 module _ (p : Program) (formed : IsWellFormed p) (f : ℕ) (a : IsAttributed p f) where
-  abbrev g : Function
-  g = a.function
+  open a use {function as g}
 
   abbrev combined : List (List ℕ)
   combined = map (switch_domain p) g.switches

@@ -1,5 +1,6 @@
--- What linked parts are under a sizing, by the names that the laws on their text use.
+-- What linked parts are under a sizing, by the names that the laws on tables and text use.
 use Rattle.std.proofs.Common.{ℕ, List}
+use Rattle.mv_isa.specs.declared.labelled.Labelled.{Labelled}
 use Rattle.mv_isa.specs.declared.labelled.Line.{Line}
 use Rattle.mv_isa.specs.Code.{address, label_address, text_start}
 use Rattle.mv_image.specs.Spelling.{Fields}
@@ -7,18 +8,20 @@ use Rattle.mv_linker.specs.declared.parts.Parts.{Parts}
 use Rattle.mv_linker.specs.Linked.{codes, linked_lines, part_index}
 use Rattle.mv_linker.specs.Tables.{attributed_numbers}
 use Rattle.mv_linker.specs.Outcome.{image_with}
-use Rattle.mv_link_text.proofs.Lines.{IsOf}
+use Rattle.mv_linker.proofs.Lines.{IsOf}
 
 pub record LinkedText : Type 1 where
   pub lines : List Line
   -- where a line begins
   pub at : ℕ → ℕ
-  -- where a function's code begins
+  -- the codes of functions and variants, by number
+  pub all : List Labelled
+  -- where a code begins
   pub entry : ℕ → ℕ
   -- the attributed functions
   pub numbers : List ℕ
   pub image : Fields
-  -- the line of a function's label
+  -- the line of a code's label
   pub index : ℕ → ℕ
   -- a line has an address
   pub Of : ℕ → ℕ → Type 0
@@ -27,6 +30,7 @@ abbrev pub linked_text : Parts → (sizing words : List ℕ) → LinkedText
 linked_text parts sizing words = record {
   lines = linked_lines parts;
   at = address text_start sizing;
+  all = codes parts;
   entry = label_address text_start (linked_lines parts) sizing;
   numbers = attributed_numbers parts.attributed;
   image = image_with (label_address text_start (linked_lines parts) sizing) (address text_start sizing) words parts;

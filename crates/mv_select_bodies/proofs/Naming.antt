@@ -25,12 +25,6 @@ use Rattle.mv_select_bodies.proofs.FineCode.{knowns_roll}
 use Rattle.mv_ir.proofs.Common.{each_first, each_right}
 use Rattle.mv_select_bodies.proofs.Common.{constants_append}
 
--- ---- lists
-
--- ---- one level at a time
-
--- ---- what names only what is of a kind
-
 module _ (F : ℕ → Type 0) (K : Known → Type 0) (C : ℕ → Type 0) where
   pub record TreeNames (t : Tree) : Type 0 where
     pub functions : Each F (tree_functions t)
