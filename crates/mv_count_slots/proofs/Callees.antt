@@ -16,9 +16,10 @@ use Rattle.mv_lower_shape.specs.Calls.{code_weight, function_weight}
 use Rattle.mv_lower_shape.specs.Law.{LoweredCallAsOften}
 use Rattle.mv_regalloc.specs.Intervals.{IsRenamed}
 use Rattle.mv_parts_bound.specs.Slots.{slot_weight, weight_where, SlotsWeighAsCalls}
+use Rattle.mv_parts_bound.proofs.FewSlots.{marked_attributed}
 use Rattle.mv_select.specs.Selected.{selected_lines}
 use Rattle.mv_count_slots.specs.Calls.{once_for, CalleesHaveSlots}
-use Rattle.mv_count_slots.proofs.Calls.{each_among, lowered, marked_attributed, other, no_other, same_renamed}
+use Rattle.mv_count_slots.proofs.Calls.{each_among, lowered, other, no_other, same_renamed}
 use Rattle.mv_count_slots.proofs.Weights.{AddUp, weights_add}
 
 module _ (p : Program) (g : Function) (weight : ℕ → ℕ) where

@@ -20,14 +20,16 @@ use Rattle.mv_lower_shape.specs.Calls.{code_weight, attributed_once}
 use Rattle.mv_lower_shape.specs.Law.{LoweredCallAsOften}
 use Rattle.mv_regalloc.specs.Intervals.{IsRenamed}
 use Rattle.mv_parts_bound.specs.Slots.{slots, one_each, SlotsAreCalls}
-use Rattle.mv_parts_bound.proofs.FewSlots.{Among, marked_among}
+use Rattle.mv_parts_bound.proofs.FewSlots.{Among, marked_attributed}
 use Rattle.mv_parts_bound.proofs.Meant.{made}
+use Rattle.mv_parts_bound.proofs.Measures.{renamed_same}
+use Rattle.mv_parts_bound.proofs.Weights.{weights}
 use Rattle.mv_parts_bound.proofs.Variants.{made_calls, worked_calls}
 use Rattle.mv_select.specs.Selected.{selected_lines}
 use Rattle.mv_linker.specs.Tables.{is_slot, slot_count}
 use Rattle.mv_count_code.specs.Sizes.{renamed, folded, bound}
 use Rattle.mv_count_slots.specs.Calls.{marked_calls, attributed_calls, MarkedCallsHaveSlots, AttributedCallsHaveSlots, SourceCallsHaveSlots}
-use Rattle.mv_count_slots.proofs.Weights.{AddUp, weights_add, renamed_same}
+use Rattle.mv_count_slots.proofs.Weights.{AddUp, weights_add}
 
 -- ---- slots are counted alike
 
@@ -74,11 +76,6 @@ module _ (p : Program) (g : Function) where
   abbrev is_called : ℕ → Bool
   is_called f = is_among f (functions_called lowered.code)
 
-  pub marked_attributed : (f : ℕ) → is_marked lowered.marked f ≡ true → is_attributed (slice_get p.functions f) ≡ true
-  marked_attributed f e =
-      let (i, at, is) = marked_among is_called f 0 p.functions e in
-      let same : i ≡ f = omega (arith, at) in subst (λ k. is_attributed (slice_get p.functions k) ≡ true) same is
-
   -- the weight of each attributed function that isn't marked
   abbrev pub other : (weight : ℕ → ℕ) → ℕ → ℕ
   other weight f = cond (is_marked lowered.marked f) 0 (cond (is_attributed (slice_get p.functions f)) (weight f) 0)
@@ -107,7 +104,7 @@ module _ (p : Program) (g : Function) where
   one_other = other (λ f. 1)
 
   all_counted : (f : ℕ) → AddUp (attributed_once p) once one_other f
-  all_counted f = by (is_marked lowered.marked f) (λ e. ap (λ b. cond b 1 0) (marked_attributed f e))
+  all_counted f = by (is_marked lowered.marked f) (λ e. ap (λ b. cond b 1 0) (marked_attributed p g f e))
     where
       by : (b : Bool) → (b ≡ true → attributed_once p f ≡ 1) → attributed_once p f ≡ cond b 1 0 + cond b 0 (attributed_once p f)
       by true h = let one = h refl in omega (arith, one)
@@ -123,7 +120,7 @@ module _ (p : Program) (g : Function) where
 -- ---- laws
 
 pub same_renamed : (body b : Body) (r : IsRenamed body b) (direct : ℕ → ℕ) → code_weight direct 0 b.code ≡ code_weight direct 0 body.code
-same_renamed body b r direct = ap (λ (x : Body). code_weight direct 0 x.code) r.changes ∙ renamed_same direct r.numbers body.code
+same_renamed body b r direct = ap (λ (x : Body). code_weight direct 0 x.code) r.changes ∙ renamed_same (weights direct 0) r.numbers body.code
 
 module _ (are_calls : SlotsAreCalls) where
   pub marked_slots : MarkedCallsHaveSlots

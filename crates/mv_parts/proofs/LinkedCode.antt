@@ -24,7 +24,7 @@ use Rattle.mv_select_bodies.specs.Lines.{NamesThese, IsGoal, LinesAreNamed}
 use Rattle.mv_parts_bound.specs.Meant.{IsMadeUnder, MadeAreVariants}
 use Rattle.mv_parts_bound.specs.Names.{ReadAsWords}
 use Rattle.mv_parts_bound.specs.Variants.{MadeNameNoMore}
-use Rattle.mv_parts_bound.proofs.FewSlots.{marked_among}
+use Rattle.mv_parts_bound.proofs.FewSlots.{marked_attributed}
 use Rattle.mv_select.specs.Laws.{SelectedIsEncoded, SelectedLabelsAreOwn, SelectedBegins}
 use Rattle.mv_select.specs.Selected.{selected_lines, selected_labels}
 use Rattle.mv_linker.specs.Linked.{IsFunction, IsTarget, NamesAreThere}
@@ -56,13 +56,8 @@ module _ (laws : Laws) (p : Program) (f : ℕ) (g : Function) (of_program : IsFu
   lowered = lower_function p g
 
   -- what is marked in a lowered body is attributed
-  lowered_marks : (k : ℕ) → is_marked lowered.marked k ≡ true → is_attributed (slice_get p.functions k) ≡ true
-  lowered_marks k e =
-      let (i, at, is) = marked_among _ k 0 p.functions e in
-      let same : i ≡ k = omega (arith, at) in subst (λ n. is_attributed (slice_get p.functions n) ≡ true) same is
-
   marks : (b : Body) → b.marked ≡ lowered.marked → (k : ℕ) → is_marked b.marked k ≡ true → is_attributed (slice_get p.functions k) ≡ true
-  marks b same k e = lowered_marks k (subst (λ (ms : List ℕ). is_marked ms k ≡ true) same e)
+  marks b same k e = marked_attributed p g k (subst (λ (ms : List ℕ). is_marked ms k ≡ true) same e)
 
   pub renamed_names : (b : Body) → IsRenamed lowered b → NamesProgram p b
   renamed_names b renamed =

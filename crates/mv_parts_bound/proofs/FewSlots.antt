@@ -33,7 +33,8 @@ use Rattle.mv_parts_bound.specs.Slots.{slots, one_each, SlotsAreFew, OwnSlotsAre
 use Rattle.mv_parts_bound.proofs.Meant.{made}
 use Rattle.mv_parts_bound.proofs.Led.{bodies_made}
 use Rattle.mv_parts_bound.proofs.Groups.{groups_fit}
-use Rattle.mv_parts_bound.proofs.Weights.{w_roll, renamed_weight}
+use Rattle.mv_parts_bound.proofs.Measures.{renamed_no_more}
+use Rattle.mv_parts_bound.proofs.Weights.{w_roll, weights}
 use Rattle.mv_parts_bound.proofs.Variants.{made_calls, worked_calls}
 use Rattle.mv_parts_bound.proofs.Slots.{slots_are_calls}
 use Rattle.mv_num.proofs.Booleans.{and_left}
@@ -81,7 +82,7 @@ Among f k gs = (i : ℕ) × (f ≡ k + i) × (is_attributed (slice_get gs i) ≡
 later : (f k : ℕ) (g : Function) (gs : List Function) → Among f (suc k) gs → Among f k (g ∷ gs)
 later f k g gs (i, e, a) = (suc i, omega (arith, e), a)
 
-pub marked_among : (is_called : ℕ → Bool) (f k : ℕ) (gs : List Function) → is_marked (marked_from is_called k gs) f ≡ true → Among f k gs
+marked_among : (is_called : ℕ → Bool) (f k : ℕ) (gs : List Function) → is_marked (marked_from is_called k gs) f ≡ true → Among f k gs
 marked_among is_called f k [] e = absurd cc
 marked_among is_called f k (g ∷ gs) e = by (bool_cases (g.attributed && is_called k)) (marked_among is_called f (suc k) gs)
   where
@@ -94,15 +95,18 @@ marked_among is_called f k (g ∷ gs) e = by (bool_cases (g.attributed && is_cal
         ]
     by (inr t) rest = later f k g gs (rest (subst (λ b. is_marked (cond b (k ∷ marked_from is_called (suc k) gs) (marked_from is_called (suc k) gs)) f ≡ true) t e))
 
+pub marked_attributed : (p : Program) (g : Function) (f : ℕ) → is_marked (lower_function p g).marked f ≡ true → is_attributed (slice_get p.functions f) ≡ true
+marked_attributed p g f e =
+    let (i, at, is) = marked_among _ f 0 p.functions e in
+    let same : i ≡ f = omega (arith, at) in subst (λ k. is_attributed (slice_get p.functions k) ≡ true) same is
+
 marked_once : (p : Program) (g : Function) (f : ℕ) → one_each (is_marked (lower_function p g).marked) f ≤ attributed_once p f
 marked_once p g f = by (bool_cases (is_marked (lower_function p g).marked f))
   where
     by : (is_marked (lower_function p g).marked f ≡ true) ⊎ (is_marked (lower_function p g).marked f ≡ false) → one_each (is_marked (lower_function p g).marked) f ≤ attributed_once p f
     by (inr e) = let none : one_each (is_marked (lower_function p g).marked) f ≡ 0 = ap (λ b. cond b 1 0) e in omega (arith, none)
     by (inl e) =
-        let (i, at, is) = marked_among _ f 0 p.functions e in
-        let same : i ≡ f = omega (arith, at) in
-        let one : attributed_once p f ≡ 1 = ap (λ b. cond b 1 0) (subst (λ k. is_attributed (slice_get p.functions k) ≡ true) same is) in
+        let one : attributed_once p f ≡ 1 = ap (λ b. cond b 1 0) (marked_attributed p g f e) in
         let own : one_each (is_marked (lower_function p g).marked) f ≡ 1 = ap (λ b. cond b 1 0) e in
         omega (arith, one, own)
 
@@ -129,10 +133,10 @@ own_few_slots p g often folded result is_folded is_renamed =
 pub renamed_few_slots : RenamedSlotsAreFew
 renamed_few_slots p g often result is_renamed =
     let body = lower_function p g in
-    few p g often result (ap (λ (b : Body). b.marked) is_renamed.changes) (λ direct. subst (λ c. code_weight direct 0 c ≤ code_weight direct 0 body.code) (sym (ap (λ (b : Body). b.code) is_renamed.changes)) (renamed_weight direct 0 is_renamed.numbers body.code))
+    few p g often result (ap (λ (b : Body). b.marked) is_renamed.changes) (λ direct. subst (λ c. code_weight direct 0 c ≤ code_weight direct 0 body.code) (sym (ap (λ (b : Body). b.code) is_renamed.changes)) (renamed_no_more (weights direct 0) is_renamed.numbers body.code))
 
-product : (n m k : ℕ) → m ≤ k → n + m * n ≤ n * (1 + k)
-product n m k le =
+pub one_and_more : (n m k : ℕ) → m ≤ k → n + m * n ≤ n * (1 + k)
+one_and_more n m k le =
     let less : m * n ≤ k * n = mul-le-mul_right n le in
     let one : 1 + k ≡ suc k = omega arith in
     let all : n * (1 + k) ≡ k * n + n = ap (λ x. n * x) one ∙ mul_comm n (suc k) ∙ suc-mul k n in
@@ -157,4 +161,4 @@ pub all_few_slots : AllSlotsAreFew
 all_few_slots p g often folded own is_folded is_renamed domains rows variants merged made_rows place sizes =
     let sum = sum_few p g often domains rows variants merged made_rows place sizes own in
     let first : variant_slots place sizes own ≤ counts.calls p g = own_few_slots p g often folded own is_folded is_renamed place sizes (shape_of true own) in
-    omega (arith, sum, first, product (counts.calls p g) (length variants.bodies) (length rows) (groups_fit domains rows variants merged).bodies)
+    omega (arith, sum, first, one_and_more (counts.calls p g) (length variants.bodies) (length rows) (groups_fit domains rows variants merged).bodies)
