@@ -18,10 +18,11 @@ use Rattle.mv_regalloc.specs.Intervals.{IsRenamed}
 use Rattle.mv_parts_bound.specs.Meant.{MadeAreVariants}
 use Rattle.mv_parts_bound.specs.Led.{BodiesAreMade}
 use Rattle.mv_parts_bound.specs.Tables.{GroupsFit}
-use Rattle.mv_parts_bound.proofs.FewSlots.{one_and_some}
+use Rattle.mv_parts_bound.proofs.FewSlots.{one_and_more}
+use Rattle.mv_parts_bound.proofs.Measures.{bound_no_more, folded_no_more, renamed_no_more}
 use Rattle.mv_select.specs.Laws.{greatest_length, SelectedIsEncoded}
 use Rattle.mv_count_code.specs.Sizes.{IsBodyOf, renamed, folded, bound, words_of, frame_count, CodeIsShort, LinesAreShort, VariantsAreShort, FramesFit, FramesPass, LoweredFramesPass}
-use Rattle.mv_count_code.proofs.OwnWords.{words_allowed, bound_words, renamed_words, folded_words}
+use Rattle.mv_count_code.proofs.OwnWords.{words_allowed, words_measured}
 
 -- ---- no longer than another body
 
@@ -32,13 +33,13 @@ record IsNoLonger (body b : Body) : Type 0 where
 
 renamed_words_fewer : (body b : Body) → IsRenamed body b → most_words b.code ≤ most_words body.code
 renamed_words_fewer body b r =
-    let own : own_words b.code ≤ own_words body.code = subst (λ c. own_words c ≤ own_words body.code) (sym (ap (λ (x : Body). x.code) r.changes)) (renamed_words r.numbers body.code) in
+    let own : own_words b.code ≤ own_words body.code = subst (λ c. own_words c ≤ own_words body.code) (sym (ap (λ (x : Body). x.code) r.changes)) (renamed_no_more words_measured r.numbers body.code) in
     let trees = r.tree_nodes in
     omega (arith, own, trees)
 
 folded_words_fewer : (body b : Body) → IsFolded body b → most_words b.code ≤ most_words body.code
 folded_words_fewer body b h =
-    let own : own_words b.code ≤ own_words body.code = subst (λ c. own_words c ≤ own_words body.code) (sym h.code.2) (folded_words h.code.0 body.temps body.code) in
+    let own : own_words b.code ≤ own_words body.code = subst (λ c. own_words c ≤ own_words body.code) (sym h.code.2) (folded_no_more words_measured h.code.0 body.temps body.code) in
     let trees = h.smaller.tree_nodes in
     omega (arith, own, trees)
 
@@ -57,7 +58,7 @@ module _ (made : MadeAreVariants) where
   no_longer p g b (bound ps m) =
       let variant = made ps (lower_function p g) b m in
       let own : own_words m.bound.code ≤ own_words (lower_function p g).code =
-      subst (λ x. own_words x ≤ own_words (lower_function p g).code) (sym m.is_bound.code) (bound_words ps (lower_function p g).code)
+      subst (λ x. own_words x ≤ own_words (lower_function p g).code) (sym m.is_bound.code) (bound_no_more words_measured ps (lower_function p g).code)
       in
       let trees = m.is_bound.tree_nodes in
       record {
@@ -88,7 +89,7 @@ module _ (made : MadeAreVariants) where
         let all : sum_by greatest_length variants.bodies ≤ length variants.bodies * words_of g =
         sum_by-le greatest_length (words_of g) variants.bodies (All-from_get_or (λ b. greatest_length b ≤ words_of g) variants.bodies own each)
         in
-        omega (arith, first, all, one_and_some (words_of g) (length variants.bodies) (length rows) (groups_fit domains rows variants merged).bodies)
+        omega (arith, first, all, one_and_more (words_of g) (length variants.bodies) (length rows) (groups_fit domains rows variants merged).bodies)
       where
         each : (i : ℕ) → i < length variants.bodies → greatest_length (get_or variants.bodies i own) ≤ words_of g
         each i lt =

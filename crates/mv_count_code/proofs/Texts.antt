@@ -1,5 +1,5 @@
 -- The words of linked code, and the slots in it.
-use Rattle.std.proofs.Common.{arith, lit≤, ◌≡◌, ℕ, zero, suc, ◌+◌, ◌*◌, ◌<◌, ◌≤◌, Bool, true, false, cond, All, List, [], ◌∷◌, ◌++◌, length, map, Some, refl, sym, ap, ◌∙◌, subst}
+use Rattle.std.proofs.Common.{arith, lit≤, ◌≡◌, ℕ, zero, suc, ◌+◌, ◌*◌, ◌<◌, ◌≤◌, Bool, true, false, cond, All, List, [], ◌∷◌, length, map, Some, refl, sym, ap, ◌∙◌, subst}
 use Rattle.std.specs.Prelude.{sum, sum_by, filter, slice_get, slice_index}
 use Rattle.std.proofs.lemmas.List.{map-append}
 use Rattle.std.proofs.lemmas.List.Elements.{All-head, All-tail, All-weaker}
@@ -22,9 +22,6 @@ use Rattle.mv_count_code.specs.Texts.{IsCodeOf, TextsPass, SitesAreFew}
 
 abbrev words : List Line → ℕ
 words = sum_by greatest_words
-
-words_append : (xs ys : List Line) → words (xs ++ ys) ≡ words xs + words ys
-words_append xs ys = sum_by-append greatest_words xs ys
 
 -- ---- a sizing takes no more words than the greatest
 
@@ -66,7 +63,7 @@ parts_words f first [] = refl
 parts_words f first (code ∷ rest) =
     omega (
       arith,
-      words_append (function_part f first code) (function_parts (f + 1) (first + code.labels) rest),
+      sum_by-append greatest_words (function_part f first code) (function_parts (f + 1) (first + code.labels) rest),
       part_words f first code,
       parts_words (f + 1) (first + code.labels) rest,
       sum_by-cons code_words code rest,
@@ -192,7 +189,7 @@ texts_pass short p formed parts own variants count text =
       all,
       more,
       all_words p p.functions,
-      words_append (stub_lines parts.main) (function_parts 0 (length (codes parts)) (codes parts)),
+      sum_by-append greatest_words (stub_lines parts.main) (function_parts 0 (length (codes parts)) (codes parts)),
       stub_words parts.main,
       parts_words 0 (length (codes parts)) (codes parts),
       sum_by-append code_words parts.functions (variant_codes (function_variants parts.attributed)),

@@ -22,12 +22,14 @@ use Rattle.mv_regalloc.specs.Intervals.{IsRenamed}
 use Rattle.mv_parts_bound.specs.Slots.{slots, one_each, SlotsAreCalls}
 use Rattle.mv_parts_bound.proofs.FewSlots.{Among, marked_attributed}
 use Rattle.mv_parts_bound.proofs.Meant.{made}
+use Rattle.mv_parts_bound.proofs.Measures.{renamed_same}
+use Rattle.mv_parts_bound.proofs.Weights.{weights}
 use Rattle.mv_parts_bound.proofs.Variants.{made_calls, worked_calls}
 use Rattle.mv_select.specs.Selected.{selected_lines}
 use Rattle.mv_linker.specs.Tables.{is_slot, slot_count}
 use Rattle.mv_count_code.specs.Sizes.{renamed, folded, bound}
 use Rattle.mv_count_slots.specs.Calls.{marked_calls, attributed_calls, MarkedCallsHaveSlots, AttributedCallsHaveSlots, SourceCallsHaveSlots}
-use Rattle.mv_count_slots.proofs.Weights.{AddUp, weights_add, renamed_same}
+use Rattle.mv_count_slots.proofs.Weights.{AddUp, weights_add}
 
 -- ---- slots are counted alike
 
@@ -115,7 +117,7 @@ module _ (p : Program) (g : Function) where
 -- ---- laws
 
 pub same_renamed : (body b : Body) (r : IsRenamed body b) (direct : ℕ → ℕ) → code_weight direct 0 b.code ≡ code_weight direct 0 body.code
-same_renamed body b r direct = ap (λ (x : Body). code_weight direct 0 x.code) r.changes ∙ renamed_same direct r.numbers body.code
+same_renamed body b r direct = ap (λ (x : Body). code_weight direct 0 x.code) r.changes ∙ renamed_same (weights direct 0) r.numbers body.code
 
 module _ (are_calls : SlotsAreCalls) where
   pub marked_slots : MarkedCallsHaveSlots

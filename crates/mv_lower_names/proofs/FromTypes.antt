@@ -16,7 +16,8 @@ use Rattle.mv_ir.proofs.Induction.{Each}
 use Rattle.mv_source_forms.specs.Typing.{HasType, HasTypedParts, IsTypedAt, IsTypedOption, IsTypedStmt, ReturnsTyped}
 use Rattle.mv_source_forms.proofs.TypedParts.{TypedForm, TypedTarget, TypedExpr, AllTyped, FormParts, TargetParts, form_parts, target_parts, expr_form, expr_node, TypedStmt, TypedArm, AllStmts, AllArms, StmtParts, stmt_parts, stmt_node, arm_parts}
 use Rattle.mv_source_forms.proofs.ExpressionInduction.{FormChildren, TargetChildren}
-use Rattle.mv_lower_names.proofs.Premises.{AnyNumber, any_number, OwnNames, KnownOf, Optional, StmtKnown, StmtsKnown}
+use Rattle.mv_select_control.proofs.TreeNames.{AnyNumber, each_any}
+use Rattle.mv_lower_names.proofs.Premises.{OwnNames, KnownOf, Optional, StmtKnown, StmtsKnown}
 
 module _ (p : Program) (g : Function) (sizes : ℕ → Option ℕ) where
   -- a function of the program
@@ -140,7 +141,7 @@ module _ (p : Program) (g : Function) (sizes : ℕ → Option ℕ) where
   pub typed_stmts_known : StmtsKnown IsThere AnyKnown AnyNumber sizes PE PS PA
   typed_stmts_known = record {
     parts = λ x h. stmt_children x (subst (HasTypedParts p g) (out-roll-Stmt x) (stmt_node p g (roll-Stmt x) h)) (subst (StmtParts p g) (out-roll-Stmt x) (stmt_parts p g (roll-Stmt x) h));
-    labels = λ x h. any_number x.labels;
+    labels = λ x h. each_any x.labels;
     body = λ x h. each_stmt x.body (subst (λ (z : Arm-F Stmt Arm). AllStmts p g z.body) (out-roll-Arm x) (arm_parts p g (roll-Arm x) h));
   }
 

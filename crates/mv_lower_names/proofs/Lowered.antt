@@ -27,11 +27,13 @@ use Rattle.mv_source_forms.specs.Uses.{known_is_there, known_parameters, form_ca
 use Rattle.mv_lower_shape.specs.Law.{IsFunctionOf}
 use Rattle.mv_lower_shape.proofs.WithinExpressions.{at_index}
 use Rattle.mv_select_bodies.specs.SelectedBodies.{HasWords, IsOrder, constants, knowns}
+use Rattle.mv_select_bodies.proofs.NamedTrees.{IsWord}
 use Rattle.mv_lower_calls.specs.Bindings.{NeverRebinds, keeps_bindings, form_never_rebinds, never_rebinds}
 use Rattle.mv_lower_names.specs.Sources.{NumbersAreWords, is_word, fits_order, form_has_words, has_words, layer_has_words, arm_has_words}
 use Rattle.mv_select_bodies.proofs.Naming.{CodeNames, code_functions, code_knowns, code_constants}
+use Rattle.mv_select_control.proofs.TreeNames.{AnyNumber, each_any}
 use Rattle.mv_lower_names.proofs.Naming.{both, number_names, return_names}
-use Rattle.mv_lower_names.proofs.Premises.{AnyNumber, any_number, KnownOf, StmtsKnown}
+use Rattle.mv_lower_names.proofs.Premises.{KnownOf, StmtsKnown}
 use Rattle.mv_lower_names.proofs.Statements.{body_names}
 use Rattle.mv_lower_names.proofs.FromTypes as types
 use Rattle.mv_lower_names.proofs.FromFolds as tests
@@ -96,7 +98,7 @@ module _ (K : Known → Type 0) (test : Form-F Bool Bool Bool → Bool) (g : Fun
       (code_knowns AnyNumber K AnyNumber (lower_function_code g).code
       (function_names AnyNumber K AnyNumber tt tt tt g (tests.PF AnyNumber K AnyNumber test) (tests.PT AnyNumber K AnyNumber test) (tests.PE AnyNumber K AnyNumber test)
       (tests.PS AnyNumber K AnyNumber test sizes layers all_arm_layer) (tests.PA AnyNumber K AnyNumber test sizes layers all_arm_layer) (tests.test_known AnyNumber K AnyNumber test tells)
-      (tests.test_stmts_known AnyNumber K AnyNumber test sizes layers all_arm_layer stmt_tells (λ x r. record { labels = any_number x.labels; body = r }))
+      (tests.test_stmts_known AnyNumber K AnyNumber test sizes layers all_arm_layer stmt_tells (λ x r. record { labels = each_any x.labels; body = r }))
       (tests.each_true (tests.stmt_holds AnyNumber K AnyNumber test sizes layers all_arm_layer) g.body q)))
 
 abbrev IsKnownThere : Program → Known → Type 0
@@ -163,9 +165,6 @@ pub nothing_marked : (p : Program) (g : Function) → ((k : ℕ) (h : Function) 
 nothing_marked p g h = none_marked _ 0 p.functions h
 
 -- ---- constants
-
-abbrev IsWord : ℕ → Type 0
-IsWord n = n < 2 ^ 32
 
 word : (n : ℕ) → is_word n ≡ true → IsWord n
 word n q = ltb-true n (2 ^ 32) q

@@ -1,5 +1,5 @@
 -- What is known of the source where its code is to name only what is of some kinds: that its expressions and statements do, level by level.
-use Rattle.std.proofs.Common.{ℕ, suc, ◌<◌, max, List, [], ◌∷◌, length, Option, Some, None}
+use Rattle.std.proofs.Common.{ℕ, suc, ◌<◌, max, length, Option, Some, None}
 use Rattle.mv_ast.specs.declared.program.Known.{Known}
 use Rattle.mv_ast.specs.declared.program.Expr.{Expr, Expr-F, roll-Expr}
 use Rattle.mv_ast.specs.declared.program.Form.{Form, Form-F, roll-Form}
@@ -11,14 +11,6 @@ use Rattle.mv_ast.specs.declared.program.Arm.{Arm, Arm-F, roll-Arm}
 use Rattle.mv_ast.specs.Counts.{words_of_size}
 use Rattle.mv_ir.proofs.Induction.{Each}
 use Rattle.mv_source_forms.proofs.ExpressionInduction.{FormChildren, TargetChildren}
-
--- where nothing is asked of a number
-abbrev pub AnyNumber : ℕ → Type 0
-AnyNumber n = Unit {0}
-
-pub any_number : (ns : List ℕ) → Each AnyNumber ns
-any_number [] = tt
-any_number (n ∷ ns) = (tt, any_number ns)
 
 module _ (F : ℕ → Type 0) (K : Known → Type 0) (C : ℕ → Type 0) where
   -- what a form names itself is of the kinds

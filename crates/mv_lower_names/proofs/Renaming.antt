@@ -20,8 +20,7 @@ use Rattle.mv_regalloc.proofs.RenamedTrees.{renamed_tree_roll, renamed_stm_roll}
 use Rattle.mv_select_control.specs.Labels.{tree_functions, functions_of_all, callee_functions, named_layer, stm_functions, functions}
 use Rattle.mv_select_bodies.specs.SelectedBodies.{tree_constants, constants_of_all, constants, knowns_layer, stm_knowns}
 use Rattle.mv_lower_names.specs.Laws.{NamesTheSame}
-use Rattle.mv_select_control.proofs.TargetsStand.{named_roll}
-use Rattle.mv_select_control.proofs.TreeNames.{functions_roll}
+use Rattle.mv_select_control.proofs.TreeNames.{functions_roll, named_roll}
 use Rattle.mv_select_bodies.proofs.NamedTrees.{constants_roll}
 use Rattle.mv_select_bodies.proofs.FineCode.{knowns_roll}
 use Rattle.mv_select_bodies.proofs.Common.{constants_append}

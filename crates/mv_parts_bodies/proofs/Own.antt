@@ -4,7 +4,6 @@ use Rattle.std.proofs.lemmas.List.Elements.{All-from_get_or, All-weaker}
 use Rattle.std.proofs.lemmas.Option.{slice_get_within, same_Some}
 use Rattle.mv_ast.specs.declared.program.Program.{Program}
 use Rattle.mv_ast.specs.declared.program.Function.{Function}
-use Rattle.mv_ast.specs.declared.program.Known.{Known}
 use Rattle.mv_ast.specs.Plans.{is_among}
 use Rattle.mv_isa.specs.declared.labelled.Labelled.{Labelled}
 use Rattle.mv_ir.specs.declared.body.Body.{Body}
@@ -20,6 +19,7 @@ use Rattle.mv_select_control.specs.Labels.{functions}
 use Rattle.mv_select_calls.specs.CallCode.{is_marked}
 use Rattle.mv_select_calls.specs.Convention.{Layout}
 use Rattle.mv_select_bodies.specs.SelectedBodies.{AreRooms, AreWords, HasWords, IsInProgram, IsOrder, IsWithin, globals_read, knowns}
+use Rattle.mv_select_bodies.proofs.Lists.{IsIn}
 use Rattle.mv_linker.specs.declared.parts.Parts.{Parts}
 use Rattle.mv_variants.specs.declared.variant.Variant.{Variant}
 use Rattle.mv_parts.specs.Codes.{HasCode, IsCodeOf}
@@ -50,11 +50,8 @@ module _ (laws : Laws) (p : Program) (bodies : List Body) (tables : List (List V
   pub rooms : AreRooms y (lower_function p g).rooms
   rooms = rooms_are laws.rooms_stand p y out.layout out.globals out.data_fits (names_global (lower_function_code g).code)
 
-  abbrev MayAsk : Known → Type 0
-  MayAsk k = y.may_ask k ≡ true
-
-  pub may_ask : All MayAsk (knowns (lower_function p g).code)
-  may_ask = All-weaker (λ k. known_is_there p k ≡ true) MayAsk (λ k h. out.layout.asked k ∙ h) (knowns (lower_function p g).code) (laws.orders_there p f g of_program)
+  pub may_ask : All (IsIn y.may_ask) (knowns (lower_function p g).code)
+  may_ask = All-weaker (IsIn (known_is_there p)) (IsIn y.may_ask) (λ k h. out.layout.asked k ∙ h) (knowns (lower_function p g).code) (laws.orders_there p f g of_program)
 
   abbrev IsThere : ℕ → Type 0
   IsThere k = k < length numbers
@@ -98,7 +95,7 @@ module _ (laws : Laws) (p : Program) (bodies : List Body) (tables : List (List V
     within = within;
     rooms = own_rooms;
     constants = own_words.constants;
-    knowns = subst (All MayAsk) (sym names.knowns) may_ask;
+    knowns = subst (All (IsIn y.may_ask)) (sym names.knowns) may_ask;
     functions = subst (All IsThere) (sym names.functions) functions_there;
     free = unbound (scalars_read body.code);
     arrays = unbound (arrays_read body.code);

@@ -33,7 +33,8 @@ use Rattle.mv_parts_bound.specs.Slots.{slots, one_each, SlotsAreFew, OwnSlotsAre
 use Rattle.mv_parts_bound.proofs.Meant.{made}
 use Rattle.mv_parts_bound.proofs.Led.{bodies_made}
 use Rattle.mv_parts_bound.proofs.Groups.{groups_fit}
-use Rattle.mv_parts_bound.proofs.Weights.{w_roll, renamed_weight}
+use Rattle.mv_parts_bound.proofs.Measures.{renamed_no_more}
+use Rattle.mv_parts_bound.proofs.Weights.{w_roll, weights}
 use Rattle.mv_parts_bound.proofs.Variants.{made_calls, worked_calls}
 use Rattle.mv_parts_bound.proofs.Slots.{slots_are_calls}
 use Rattle.mv_num.proofs.Booleans.{and_left}
@@ -133,11 +134,11 @@ own_few_slots p g often folded result is_folded is_renamed =
 pub renamed_few_slots : RenamedSlotsAreFew
 renamed_few_slots p g often result is_renamed =
     let body = lower_function p g in
-    few p g often result (ap (λ (b : Body). b.marked) is_renamed.changes) (λ direct. subst (λ c. code_weight direct 0 c ≤ code_weight direct 0 body.code) (sym (ap (λ (b : Body). b.code) is_renamed.changes)) (renamed_weight direct 0 is_renamed.numbers body.code))
+    few p g often result (ap (λ (b : Body). b.marked) is_renamed.changes) (λ direct. subst (λ c. code_weight direct 0 c ≤ code_weight direct 0 body.code) (sym (ap (λ (b : Body). b.code) is_renamed.changes)) (renamed_no_more (weights direct 0) is_renamed.numbers body.code))
 
 -- one and what is no more than some are no more than one and some
-pub one_and_some : (n m k : ℕ) → m ≤ k → n + m * n ≤ n * (1 + k)
-one_and_some n m k le =
+pub one_and_more : (n m k : ℕ) → m ≤ k → n + m * n ≤ n * (1 + k)
+one_and_more n m k le =
     let less : m * n ≤ k * n = mul-le-mul_right n le in
     let one : 1 + k ≡ suc k = omega arith in
     let all : n * (1 + k) ≡ k * n + n = ap (λ x. n * x) one ∙ mul_comm n (suc k) ∙ suc-mul k n in
@@ -162,4 +163,4 @@ pub all_few_slots : AllSlotsAreFew
 all_few_slots p g often folded own is_folded is_renamed domains rows variants merged made_rows place sizes =
     let sum = sum_few p g often domains rows variants merged made_rows place sizes own in
     let first : variant_slots place sizes own ≤ counts.calls p g = own_few_slots p g often folded own is_folded is_renamed place sizes (shape_of true own) in
-    omega (arith, sum, first, one_and_some (counts.calls p g) (length variants.bodies) (length rows) (groups_fit domains rows variants merged).bodies)
+    omega (arith, sum, first, one_and_more (counts.calls p g) (length variants.bodies) (length rows) (groups_fit domains rows variants merged).bodies)

@@ -6,6 +6,7 @@ pub mod BoundNames
 pub mod FoldedNames
 pub mod RenamedNames
 pub mod NamesKept
+pub mod Measures
 pub mod Weights
 pub mod Variants
 pub mod OwnReads

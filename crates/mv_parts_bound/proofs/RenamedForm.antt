@@ -24,7 +24,7 @@ use Rattle.mv_regalloc.specs.Rename.{renamed_node, renamed_tree, renamed_stm, re
 use Rattle.mv_regalloc.proofs.Counts.{trees_renamed}
 use Rattle.mv_regalloc.proofs.RenamedTrees.{renamed_tree_roll, renamed_stm_roll}
 use Rattle.mv_parts_bound.specs.Meant.{RenamingKeepsForm}
-use Rattle.mv_parts_bound.proofs.Weights.{renamed_parts}
+use Rattle.mv_parts_bound.proofs.Measures.{renamed_parts}
 use Rattle.mv_fold.proofs.SetsNeeded.{unread_roll}
 
 or_both : (a b a' b' : Bool) → (a ≡ true → a' ≡ true) → (b ≡ true → b' ≡ true) → (a || b) ≡ true → (a' || b') ≡ true

@@ -16,7 +16,8 @@ use Rattle.mv_parts_bound.specs.Names.{NamesNoMore}
 use Rattle.mv_parts_bound.specs.Variants.{MadeNameNoMore, MadeCallNoMore, MadeAreInProgram, MadeFramesAreNoLarger}
 use Rattle.mv_parts_bound.proofs.Meant.{made}
 use Rattle.mv_parts_bound.proofs.NamesKept.{binding_names, folding_names, renaming_names}
-use Rattle.mv_parts_bound.proofs.Weights.{bound_weight, folded_weight, renamed_weight}
+use Rattle.mv_parts_bound.proofs.Measures.{bound_no_more, folded_no_more, renamed_no_more}
+use Rattle.mv_parts_bound.proofs.Weights.{weights}
 use Rattle.mv_num.proofs.Lists.{contains_all}
 
 -- ---- names
@@ -40,17 +41,17 @@ made_names ps body result words m =
 pub worked_calls : (direct : ℕ → ℕ) (through : ℕ) (bound folded result : Body) → IsFolded bound folded → IsRenamed folded result → code_weight direct through result.code ≤ code_weight direct through bound.code
 worked_calls direct through bound folded result is_folded is_renamed =
     let first : code_weight direct through folded.code ≤ code_weight direct through bound.code =
-    subst (λ c. code_weight direct through c ≤ code_weight direct through bound.code) (sym is_folded.code.2) (folded_weight direct through is_folded.code.0 bound.temps bound.code)
+    subst (λ c. code_weight direct through c ≤ code_weight direct through bound.code) (sym is_folded.code.2) (folded_no_more (weights direct through) is_folded.code.0 bound.temps bound.code)
     in
     let second : code_weight direct through result.code ≤ code_weight direct through folded.code =
-    subst (λ c. code_weight direct through c ≤ code_weight direct through folded.code) (sym (ap (λ (b : Body). b.code) is_renamed.changes)) (renamed_weight direct through is_renamed.numbers folded.code)
+    subst (λ c. code_weight direct through c ≤ code_weight direct through folded.code) (sym (ap (λ (b : Body). b.code) is_renamed.changes)) (renamed_no_more (weights direct through) is_renamed.numbers folded.code)
     in
     omega (arith, first, second)
 
 pub made_calls : MadeCallNoMore
 made_calls direct through ps body result m =
     let first : code_weight direct through m.bound.code ≤ code_weight direct through body.code =
-    subst (λ c. code_weight direct through c ≤ code_weight direct through body.code) (sym m.is_bound.code) (bound_weight direct through ps body.code)
+    subst (λ c. code_weight direct through c ≤ code_weight direct through body.code) (sym m.is_bound.code) (bound_no_more (weights direct through) ps body.code)
     in
     omega (arith, first, worked_calls direct through m.bound m.folded result m.is_folded m.is_renamed)
 

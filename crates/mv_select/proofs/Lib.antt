@@ -1,4 +1,3 @@
-pub mod EntryLines
 pub mod Layouts
 pub mod SameCode
 pub mod Selecting

@@ -15,16 +15,18 @@ use Rattle.mv_select_control.specs.Encoded.{most_words}
 use Rattle.mv_select_control.specs.Labels.{Names, CallsName, OwnLabels}
 use Rattle.mv_select_control.proofs.FlowEncoded.{flow_encoded}
 use Rattle.mv_select_control.proofs.LabelsOwn.{none, silent_own, both_own, labels_own}
-use Rattle.mv_select_control.proofs.TargetsStand.{targets_stand}
+use Rattle.mv_select_control.proofs.StatementsAreMade.{names_made}
+use Rattle.mv_select_control.proofs.TargetsStand.{stand_made, targets_stand}
+use Rattle.mv_select_control.proofs.TreeNames.{AnyNumber}
 use Rattle.mv_select_calls.specs.CallCode.{is_marked}
 use Rattle.mv_select_calls.specs.Lines.{StubsStand}
 use Rattle.mv_select_calls.proofs.CallsEncoded.{calls_encoded}
 use Rattle.mv_select_calls.proofs.CallsName.{calls_have_no_labels, call_targets_stand}
 use Rattle.mv_select_functions.specs.FunctionCode.{frame_bytes, prologue_lines, epilogue_lines}
 use Rattle.mv_select_functions.proofs.EncodedFrames.{frames_encoded}
+use Rattle.mv_select_functions.proofs.FramesAreMade.{prologue_made, epilogue_made}
 use Rattle.mv_select.specs.Selected.{layout_in, plan_of, selected_lines}
 use Rattle.mv_select.specs.Laws.{greatest_length, SelectedIsEncoded, SelectedLabelsAreOwn, SelectedTargetsStand, SelectedBegins}
-use Rattle.mv_select.proofs.EntryLines.{prologue_words, epilogue_words, words_name, words_stand}
 use Rattle.mv_select.proofs.Layouts.{calls_in, arrays_within, layout_code}
 use Rattle.mv_select.proofs.Within.{has_small_code}
 use Rattle.mv_isa.proofs.Common.{count_append}
@@ -42,9 +44,6 @@ module _ (attributed : Bool) (body : Body) where
 
 -- ---- labels
 
-abbrev Any : ℕ → Type 0
-Any l = Unit {0}
-
 end_here : (l : ℕ) → l < 1 → count_by (is_label l) (Label 0 ∷ []) ≡ 1
 end_here l h = ap (λ b. 0 + cond b 1 0) (eq-eqb 0 l (omega (arith, h)))
 
@@ -52,15 +51,15 @@ end_elsewhere : (l : ℕ) → 0 < l → count_by (is_label l) (Label 0 ∷ []) �
 end_elsewhere l h = ap (λ b. 0 + cond b 1 0) (ne_eqb 0 l (λ e. omega (arith, h, e)))
 
 -- the labels of a body behind that of its end
-end_own : (n : ℕ) (b rest : List Line) → OwnLabels 1 n b → All (Names Any) rest → OwnLabels 0 (suc n) (b ++ (Label 0 ∷ rest))
+end_own : (n : ℕ) (b rest : List Line) → OwnLabels 1 n b → All (Names AnyNumber) rest → OwnLabels 0 (suc n) (b ++ (Label 0 ∷ rest))
 end_own n b rest h names = record {
   own = λ l p q.
-      ⊎_elim (λ lt. omega (arith, count_append l b (Label 0 ∷ rest), count_append l (Label 0 ∷ []) rest, none Any rest names l, h.before l lt, end_here l lt))
-      (λ le. omega (arith, count_append l b (Label 0 ∷ rest), count_append l (Label 0 ∷ []) rest, none Any rest names l, h.own l le (omega (arith, q)), end_elsewhere l (omega (arith, le))))
+      ⊎_elim (λ lt. omega (arith, count_append l b (Label 0 ∷ rest), count_append l (Label 0 ∷ []) rest, none AnyNumber rest names l, h.before l lt, end_here l lt))
+      (λ le. omega (arith, count_append l b (Label 0 ∷ rest), count_append l (Label 0 ∷ []) rest, none AnyNumber rest names l, h.own l le (omega (arith, q)), end_elsewhere l (omega (arith, le))))
       (cases_lt l 1);
   before = λ l p. absurd (omega (arith, p));
   after = λ l p.
-      omega (arith, count_append l b (Label 0 ∷ rest), count_append l (Label 0 ∷ []) rest, none Any rest names l, h.after l (omega (arith, p)), end_elsewhere l (omega (arith, p)));
+      omega (arith, count_append l b (Label 0 ∷ rest), count_append l (Label 0 ∷ []) rest, none AnyNumber rest names l, h.after l (omega (arith, p)), end_elsewhere l (omega (arith, p)));
 }
 
 pub selected_labels_own : SelectedLabelsAreOwn
@@ -72,10 +71,10 @@ selected_labels_own attributed body =
     let lines = code.lines [] 1 in
     let calls = calls_have_no_labels (place_in body.rooms) (is_marked body.marked) in
     let rest = end_own code.labels lines stop (labels_own (plan_of attributed body) calls body.code [] 1)
-    (words_name Any stop (epilogue_words attributed body.temps bytes)) in
+    (epilogue_made (names_made AnyNumber) attributed body.temps bytes) in
     let count : 0 + suc code.labels ≡ suc code.labels = omega arith in
     subst (λ n. OwnLabels 0 n (selected_lines attributed body)) count
-    (both_own 0 0 (suc code.labels) start (lines ++ (Label 0 ∷ stop)) (silent_own Any 0 start (words_name Any start (prologue_words attributed body.params body.temps bytes))) rest)
+    (both_own 0 0 (suc code.labels) start (lines ++ (Label 0 ∷ stop)) (silent_own AnyNumber 0 start (prologue_made (names_made AnyNumber) attributed body.params body.temps bytes)) rest)
 
 -- ---- what it names
 
@@ -97,9 +96,9 @@ selected_targets_stand whole attributed body h =
       index = h.traps 2 (omega arith) (omega arith);
       functions = h.named;
     }) in
-    All-append (TargetStands whole) start (lines ++ (Label 0 ∷ stop)) (words_stand whole start (prologue_words attributed body.params body.temps bytes))
+    All-append (TargetStands whole) start (lines ++ (Label 0 ∷ stop)) (prologue_made (stand_made whole) attributed body.params body.temps bytes)
     (All-append (TargetStands whole) lines (Label 0 ∷ stop) within
-    (All-cons (TargetStands whole) (Label 0) stop tt (words_stand whole stop (epilogue_words attributed body.temps bytes))))
+    (All-cons (TargetStands whole) (Label 0) stop tt (epilogue_made (stand_made whole) attributed body.temps bytes)))
 
 -- ---- encodings
 

@@ -15,13 +15,12 @@ use Rattle.mv_ir.specs.declared.stm.Stm.TheViews.{roll-Stm}
 use Rattle.mv_ir.specs.declared.stm.Stm.TheFolds.{fold-roll-Stm, map-Stm}
 use Rattle.mv_ir.specs.Measures.{joined, callee_trees, layer_trees, stm_trees, array_read, layer_arrays, stm_arrays}
 use Rattle.mv_ir.specs.Live.{reads_temp, any_reads, is, Around, Flow, with_after, around_block, around_loop, live_in_order, marks_in_order, live_at_loop, layer_flow, flow, mark_at}
-use Rattle.mv_ir.specs.WellFormed as formed
-use Rattle.mv_ir.specs.WellFormed.{known_arguments, layer_named, stm_named, layer_arguments, stm_arguments}
+use Rattle.mv_ir.specs.WellFormed.{known_arguments, layer_named, stm_named, layer_arguments, stm_arguments, all_true}
 use Rattle.mv_ir.proofs.Induction.{Each, TreeChildren, tree_ind, StmChildren, stm_ind, stms_ind}
 use Rattle.mv_ir.proofs.Rolls.{reads_temp_roll, trees_roll, named_roll, arrays_roll, arguments_roll, flow_roll}
 use Rattle.mv_select_trees.specs.TreeCode.{temps_of}
 use Rattle.mv_select_trees.proofs.Rolls.{temps_roll}
-use Rattle.mv_select_control.specs.FlowCode.{Uses, all_true, may_read, may_write, fine_target, fine_known, fine_layer, is_fine_statement, are_fine}
+use Rattle.mv_select_control.specs.FlowCode.{Uses, may_read, may_write, fine_target, fine_known, fine_layer, is_fine_statement, are_fine}
 use Rattle.mv_select_control.proofs.StatementsDo.{fine_roll}
 use Rattle.mv_select_bodies.specs.SelectedBodies.{knowns_layer, stm_knowns, written_layer, stm_written}
 use Rattle.mv_select_bodies.proofs.Lists.{each_both, true_each, each_weaker}
@@ -137,7 +136,7 @@ module _ (is_fine : Tree → Bool) (may_ask : Known → Bool) (limit : ℕ) (use
   HoldsOf s = Holds (stm_trees s) (stm_named s) (stm_knowns s) (stm_arrays s) (stm_written s) (stm_arguments s)
 
   abbrev HoldsOfAll : List Stm → Type 0
-  HoldsOfAll code = Holds (joined (map stm_trees code)) (joined (map stm_named code)) (joined (map stm_knowns code)) (joined (map stm_arrays code)) (joined (map stm_written code)) (formed.all_true (map stm_arguments code))
+  HoldsOfAll code = Holds (joined (map stm_trees code)) (joined (map stm_named code)) (joined (map stm_knowns code)) (joined (map stm_arrays code)) (joined (map stm_written code)) (all_true (map stm_arguments code))
 
   abbrev Marked : Stm → (ℕ → Around) → Type 0
   Marked s r = (t : ℕ) → Each (Low limit t) ((flow t s).marks (r t))
@@ -155,7 +154,7 @@ module _ (is_fine : Tree → Bool) (may_ask : Known → Bool) (limit : ℕ) (use
     knowns = each_first Asked (stm_knowns s) (joined (map stm_knowns code)) h.knowns;
     arrays = each_first IsRead (stm_arrays s) (joined (map stm_arrays code)) h.arrays;
     written = each_first IsWritten (stm_written s) (joined (map stm_written code)) h.written;
-    arguments = and_left (stm_arguments s) (formed.all_true (map stm_arguments code)) h.arguments;
+    arguments = and_left (stm_arguments s) (all_true (map stm_arguments code)) h.arguments;
   }
 
   holds_rest : (s : Stm) (code : List Stm) → HoldsOfAll (s ∷ code) → HoldsOfAll code
@@ -165,7 +164,7 @@ module _ (is_fine : Tree → Bool) (may_ask : Known → Bool) (limit : ℕ) (use
     knowns = each_right Asked (stm_knowns s) (joined (map stm_knowns code)) h.knowns;
     arrays = each_right IsRead (stm_arrays s) (joined (map stm_arrays code)) h.arrays;
     written = each_right IsWritten (stm_written s) (joined (map stm_written code)) h.written;
-    arguments = and_right (stm_arguments s) (formed.all_true (map stm_arguments code)) h.arguments;
+    arguments = and_right (stm_arguments s) (all_true (map stm_arguments code)) h.arguments;
   }
 
   code_fine : (code : List Stm) → Each IsFineStm code → (r : ℕ → Around) → HoldsOfAll code → AllMarked code r → are_fine is_fine may_ask limit uses code ≡ true
@@ -232,7 +231,7 @@ module _ (is_fine : Tree → Bool) (may_ask : Known → Bool) (limit : ℕ) (use
         knowns = each_first Asked (joined (map stm_knowns a)) (joined (map stm_knowns b)) h.knowns;
         arrays = each_first IsRead (joined (map stm_arrays a)) (joined (map stm_arrays b)) h.arrays;
         written = each_first IsWritten (joined (map stm_written a)) (joined (map stm_written b)) h.written;
-        arguments = and_left (formed.all_true (map stm_arguments a)) (formed.all_true (map stm_arguments b)) h.arguments;
+        arguments = and_left (all_true (map stm_arguments a)) (all_true (map stm_arguments b)) h.arguments;
       }) (λ t. each_first (Low limit t) (in_a t) (in_b t) (m t).1) in
       let second = code_fine b f.1 r (record {
         trees = each_right P (joined (map stm_trees a)) (joined (map stm_trees b)) h.trees.1;
@@ -240,7 +239,7 @@ module _ (is_fine : Tree → Bool) (may_ask : Known → Bool) (limit : ℕ) (use
         knowns = each_right Asked (joined (map stm_knowns a)) (joined (map stm_knowns b)) h.knowns;
         arrays = each_right IsRead (joined (map stm_arrays a)) (joined (map stm_arrays b)) h.arrays;
         written = each_right IsWritten (joined (map stm_written a)) (joined (map stm_written b)) h.written;
-        arguments = and_right (formed.all_true (map stm_arguments a)) (formed.all_true (map stm_arguments b)) h.arguments;
+        arguments = and_right (all_true (map stm_arguments a)) (all_true (map stm_arguments b)) h.arguments;
       }) (λ t. each_right (Low limit t) (in_a t) (in_b t) (m t).1) in
       and_from (is_fine v) (all_true (map Fine a) && all_true (map Fine b)) test (and_from (all_true (map Fine a)) (all_true (map Fine b)) first second)
 
@@ -303,7 +302,7 @@ module _ (is_fine : Tree → Bool) (may_ask : Known → Bool) (limit : ℕ) (use
   -- Code is fine if its trees, its names, the known functions that it calls and the globals that it reads and writes are what is asked, and each temporary that is marked is below the limit.
   pub all_fine : (code : List Stm) → Each P (joined (map stm_trees code)) → Each Scalar (joined (map stm_named code)) → Each Asked (joined (map stm_knowns code)) →
       Each IsRead (joined (map stm_arrays code)) → Each IsWritten (joined (map stm_written code)) →
-      formed.all_true (map stm_arguments code) ≡ true → (r : ℕ → Around) → ((t : ℕ) → Each (Low limit t) (marks_in_order (map (flow t) code) (r t))) →
+      all_true (map stm_arguments code) ≡ true → (r : ℕ → Around) → ((t : ℕ) → Each (Low limit t) (marks_in_order (map (flow t) code) (r t))) →
       are_fine is_fine may_ask limit uses code ≡ true
   all_fine code trees named knowns arrays written arguments r marked =
       code_fine code (stms_ind IsFineStm (stm_ind IsFineStm (λ x f. from_layer x (layer x f))) code) r

@@ -1,40 +1,41 @@
 -- What the code of a whole function names.
 use Rattle.std.proofs.Common.{◌≡◌, ℕ, ◌+◌, ◌<◌, Bool, true, List, [], ◌∷◌, ◌++◌, None, All, inl, inr, refl, arith, lit≤}
-use Rattle.std.proofs.lemmas.List.Elements.{All-cons, All-nil}
+use Rattle.std.proofs.lemmas.List.Elements.{All-nil}
 use Rattle.mv_isa.specs.declared.labelled.Line.TheVariants.{Label}
 use Rattle.mv_ir.specs.declared.stm.Stm.{Stm}
 use Rattle.mv_select_statements.specs.StatementCode.{trap_label}
+use Rattle.mv_select_control.specs.declared.enclosing.Enclosing.{Enclosing}
 use Rattle.mv_select_control.specs.Labels.{functions}
+use Rattle.mv_select_control.proofs.TreeNames.{AnyNumber, all_any}
+use Rattle.mv_select_control.proofs.CodeIsMade.{code_made}
 use Rattle.mv_select_calls.specs.CallCode.{commit_label}
-use Rattle.mv_select_functions.specs.FunctionCode.{Shape, bytes_of, end_label, body_lines, prologue_lines, epilogue_lines, function_lines}
+use Rattle.mv_select_calls.proofs.CallsAreMade.{call_made, known_made}
+use Rattle.mv_select_functions.specs.FunctionCode.{Shape, bytes_of, end_label, plan, body_lines, prologue_lines, epilogue_lines, function_lines}
+use Rattle.mv_select_functions.proofs.FramesAreMade.{prologue_made, epilogue_made}
 use Rattle.mv_select_bodies.specs.Lines.{IsGoal, IsCounted, labels_of, LinesAreNamed}
-use Rattle.mv_select_bodies.proofs.TreeNames.{AllName, after, then_line}
-use Rattle.mv_select_bodies.proofs.StatementNames.{code_named}
-use Rattle.mv_select_bodies.proofs.EntryNames.{prologue_names, epilogue_names}
+use Rattle.mv_select_bodies.proofs.LinesNamed.{AllName, names_made, stub_names, slot_names}
 
 module _ (place size : ℕ → ℕ) (is_attributed : ℕ → Bool) (shape : Shape) (code : List Stm) where
   module _ (L P C Q S : ℕ → Type 0) (null : P (trap_label 3)) (depth : P (trap_label 4)) (commit : C commit_label) (slots : (f : ℕ) → Q f → is_attributed f ≡ true → S f)
       (division : P (trap_label 1)) (index : P (trap_label 2)) (own : (l : ℕ) → l < labels_of place size is_attributed shape code → L l × P l) (named : All Q (functions code)) where
     function_named : AllName L P C Q S (function_lines place size is_attributed shape code)
     function_named =
+        let made = names_made L P C Q S in
         let start = prologue_lines shape.attributed shape.params shape.temps (bytes_of shape) in
         let stop = epilogue_lines shape.attributed shape.temps (bytes_of shape) in
         let body = body_lines place size is_attributed shape code in
         let end = own end_label (omega arith) in
-        after L P C Q S start (body ++ (Label end_label ∷ stop)) (prologue_names L P C Q S shape.attributed shape.params shape.temps (bytes_of shape))
-        (after L P C Q S body (Label end_label ∷ stop)
-        (code_named L P C Q S null depth commit place size is_attributed shape slots end.1 division index code (end_label + 1) named (λ l from to. own l (omega (arith, to))))
-        (then_line L P C Q S (Label end_label) stop end.0 (epilogue_names L P C Q S shape.attributed shape.temps (bytes_of shape))))
+        let call = call_made made (slot_names L P C Q S) null depth place is_attributed slots in
+        let known = known_made made (stub_names L P C Q S commit_label commit) place in
+        made.after start (body ++ (Label end_label ∷ stop)) (prologue_made made shape.attributed shape.params shape.temps (bytes_of shape))
+        (made.after body (Label end_label ∷ stop)
+        (code_made made (plan place size is_attributed shape) call known end.1 division index code [] (All-nil (λ (e : Enclosing). P e.start)) (All-nil (λ (e : Enclosing). P e.end)) (end_label + 1)
+        (λ l from to. own l (omega (arith, to))) named)
+        (made.after (Label end_label ∷ []) stop (made.label end_label end.0) (epilogue_made made shape.attributed shape.temps (bytes_of shape))))
 
   -- whatever it names, slots stand where calls are counted
   pub function_counted : IsCounted None (function_lines place size is_attributed shape code)
-  function_counted =
-      let Any : ℕ → Type 0 = λ l. Unit {0} in
-      (function_named Any Any Any Any Any tt tt tt (λ f named marked. tt) tt tt (λ l lt. (tt, tt)) (All-any (functions code))).1
-    where
-      All-any : (fs : List ℕ) → All (λ (f : ℕ). Unit {0}) fs
-      All-any [] = All-nil (λ (f : ℕ). Unit {0})
-      All-any (f ∷ fs) = All-cons (λ (f : ℕ). Unit {0}) f fs tt (All-any fs)
+  function_counted = (function_named AnyNumber AnyNumber AnyNumber AnyNumber AnyNumber tt tt tt (λ f named marked. tt) tt tt (λ l lt. (tt, tt)) (all_any (functions code))).1
 
 pub lines_named : LinesAreNamed
 lines_named place size is_attributed shape code is_named named =

@@ -1,7 +1,6 @@
 -- A body within the limits, with what it names there, is one that the laws on functions speak of.
 use Rattle.std.proofs.Common.{◌≡◌, ⊎_elim, ℕ, zero, suc, ◌+◌, ◌*◌, ◌<◌, ◌≤◌, ◌&&◌, ◌||◌, Bool, true, eqb, ltb, leb, length, List, [], ◌∷◌, ◌++◌, None, refl, sym, ap, ◌∙◌, subst, arith, eq-eqb}
 use Rattle.std.proofs.lemmas.Bool.{cases_eq, ne_eqb, lt-ltb, le-leb, leb-true, or_right, or_left, and_from}
-use Rattle.mv_ast.specs.declared.program.Known.{Known}
 use Rattle.mv_ast.specs.Plans.{is_among}
 use Rattle.mv_ir.specs.declared.tree.Tree.{Tree}
 use Rattle.mv_ir.specs.declared.stm.Array.{Array}
@@ -25,11 +24,11 @@ use Rattle.mv_select_control.specs.Labels.{tree_functions, functions}
 use Rattle.mv_select_calls.specs.Convention.{Layout}
 use Rattle.mv_select_functions.specs.Functions.{IsAmple, shape_of, site_of, frame_in, IsFunction}
 use Rattle.mv_select_bodies.specs.SelectedBodies.{tree_constants, constants, IsOrder, knowns, globals_read, globals_written, is_in_globals, reach_of, IsInProgram, BodiesAreFunctions}
-use Rattle.mv_select_bodies.proofs.Lists.{each_weaker, each_both, each_joined, each_all, each_true, each_shallow}
+use Rattle.mv_select_bodies.proofs.Lists.{IsIn, each_weaker, each_both, each_joined, each_all, each_true, each_shallow}
 use Rattle.mv_select_bodies.proofs.FineCode.{ReadsBelow, IsScalar, IsAsked, all_fine}
 use Rattle.mv_select_bodies.proofs.Small.{marks_below, order_fine}
 use Rattle.mv_select_bodies.proofs.SamePlaces.{IsKnownArray, known_arrays}
-use Rattle.mv_select_bodies.proofs.NamedTrees.{IsWord, IsRead, IsOne, is_named, all_named, in_view, trees_named}
+use Rattle.mv_select_bodies.proofs.NamedTrees.{IsWord, IsOne, is_named, all_named, in_view, trees_named}
 use Rattle.mv_num.proofs.Booleans.{and_right, and_left}
 use Rattle.mv_ir.proofs.Common.{each_first, each_right}
 
@@ -145,19 +144,13 @@ module _ (y : Layout) (setting : ir.Setting) (attributed : Bool) (bound : List (
   is_fine v = leb (depth v) 4 && is_named b.temps count is_read v
 
   -- the globals that are read have rooms, and aren't read as bound
-  abbrev HasRoom : ℕ → Type 0
-  HasRoom g = has_room b.rooms g ≡ true
-
   abbrev IsFree : ℕ → Type 0
   IsFree g = found bound g ≡ None
 
-  arrays : Each (IsKnownArray (has_room b.rooms)) (named b.code)
-  arrays = known_arrays b member.within.formed
-
-  rooms_read : Each HasRoom (globals_read b.code)
+  rooms_read : Each (IsIn (has_room b.rooms)) (globals_read b.code)
   rooms_read =
-      each_append HasRoom (scalars_read b.code) (arrays_read b.code) (each_true (has_room b.rooms) (scalars_read b.code) member.within.formed.read)
-      (arrays_known (has_room b.rooms) b.code arrays)
+      each_append (IsIn (has_room b.rooms)) (scalars_read b.code) (arrays_read b.code) (each_true (has_room b.rooms) (scalars_read b.code) member.within.formed.read)
+      (arrays_known (has_room b.rooms) b.code (known_arrays b member.within.formed))
 
   free_read : Each IsFree (globals_read b.code)
   free_read =
@@ -167,14 +160,14 @@ module _ (y : Layout) (setting : ir.Setting) (attributed : Bool) (bound : List (
   record IsGood (v : Tree) : Type 0 where
     shallow : depth v ≤ 4
     words : Each IsWord (tree_constants v)
-    reads : Each (IsRead b.temps count is_read) (tree_reads v)
+    reads : Each (IsIn is_read) (tree_reads v)
     functions : Each (IsOne b.temps count is_read) (tree_functions v)
 
   tree_fine : (v : Tree) → IsGood v → ReadsBelow b.temps v → is_fine v ≡ true
   tree_fine v good low =
       and_from (leb (depth v) 4) (is_named b.temps count is_read v) (le-leb (depth v) 4 good.shallow) (all_named b.temps count is_read v good.words good.reads good.functions low)
 
-  good_trees : (ts : List Tree) → Each (λ v. depth v ≤ 4) ts → Each (λ v. Each IsWord (tree_constants v)) ts → Each (λ v. Each (IsRead b.temps count is_read) (tree_reads v)) ts →
+  good_trees : (ts : List Tree) → Each (λ v. depth v ≤ 4) ts → Each (λ v. Each IsWord (tree_constants v)) ts → Each (λ v. Each (IsIn is_read) (tree_reads v)) ts →
       Each (λ v. Each (IsOne b.temps count is_read) (tree_functions v)) ts → Each IsGood ts
   good_trees [] h k r f = tt
   good_trees (v ∷ ts) h k r f = (record { shallow = h.0; words = k.0; reads = r.0; functions = f.0 }, good_trees ts h.1 k.1 r.1 f.1)
@@ -183,7 +176,7 @@ module _ (y : Layout) (setting : ir.Setting) (attributed : Bool) (bound : List (
   trees_good =
       good_trees (trees b.code) (each_shallow 4 (trees b.code) member.within.shallow)
       (each_joined IsWord tree_constants (trees b.code) (each_all IsWord (constants b.code) member.constants))
-      (each_joined (IsRead b.temps count is_read) tree_reads (trees b.code) (each_among is_read (scalars_read b.code) (λ g. among_front g (scalars_read b.code) (arrays_read b.code))))
+      (each_joined (IsIn is_read) tree_reads (trees b.code) (each_among is_read (scalars_read b.code) (λ g. among_front g (scalars_read b.code) (arrays_read b.code))))
       (trees_named (IsOne b.temps count is_read) b.code (each_all (IsOne b.temps count is_read) (functions b.code) member.functions))
 
   abbrev IsWordy : Array → Type 0
@@ -193,17 +186,14 @@ module _ (y : Layout) (setting : ir.Setting) (attributed : Bool) (bound : List (
   wordy (array.Global g) h = lt-ltb 0 (y.size g) (member.rooms.words g h)
   wordy (array.Local l) h = tt
 
-  abbrev MayAsk : Known → Type 0
-  MayAsk k = y.may_ask k ≡ true
-
   asked : Each (IsAsked is_fine y.may_ask b.temps uses) (knowns b.code)
   asked =
-      let both = each_both MayAsk IsOrder (knowns b.code) (each_all MayAsk (knowns b.code) member.knowns) (each_all IsOrder (knowns b.code) member.within.orders) in
-      each_weaker (λ k. MayAsk k × IsOrder k) (IsAsked is_fine y.may_ask b.temps uses) (λ k h. order_fine is_fine y.may_ask b.temps uses k h.0 h.1) (knowns b.code) both
+      let both = each_both (IsIn y.may_ask) IsOrder (knowns b.code) (each_all (IsIn y.may_ask) (knowns b.code) member.knowns) (each_all IsOrder (knowns b.code) member.within.orders) in
+      each_weaker (λ k. IsIn y.may_ask k × IsOrder k) (IsAsked is_fine y.may_ask b.temps uses) (λ k h. order_fine is_fine y.may_ask b.temps uses k h.0 h.1) (knowns b.code) both
 
   code_fine : are_fine is_fine y.may_ask b.temps uses b.code ≡ true
   code_fine =
-      all_fine is_fine y.may_ask b.temps uses IsGood tree_fine b.code trees_good (each_weaker (IsKnownArray (has_room b.rooms)) IsWordy wordy (named b.code) arrays) asked
+      all_fine is_fine y.may_ask b.temps uses IsGood tree_fine b.code trees_good (each_weaker (IsKnownArray (has_room b.rooms)) IsWordy wordy (named b.code) (known_arrays b member.within.formed)) asked
       (each_among is_read (arrays_read b.code) (λ g. among_back g (scalars_read b.code) (arrays_read b.code)))
       (each_among reach.is_written (globals_written b.code) (λ g h. h))
       member.within.formed.arguments (λ t. nowhere) (marks_below b b.temps member.within.formed.temps (omega arith))
@@ -223,7 +213,7 @@ module _ (y : Layout) (setting : ir.Setting) (attributed : Bool) (bound : List (
     params = member.within.formed.params;
     temps = params_fit b member.within.formed.temps;
     small = member.within.frame;
-    read = λ g h. member.rooms.words g (each_one HasRoom (globals_read b.code) rooms_read g h);
+    read = λ g h. member.rooms.words g (each_one (IsIn (has_room b.rooms)) (globals_read b.code) rooms_read g h);
     free = each_one IsFree (globals_read b.code) free_read;
     fine = code_fine;
     trees = fine_tree;

@@ -6,10 +6,7 @@ pub mod NamedTrees
 pub mod Functions
 pub mod Holding
 pub mod RoomsStand
-pub mod TreeNames
-pub mod CallNames
-pub mod StatementNames
-pub mod EntryNames
+pub mod LinesNamed
 pub mod FunctionNames
 pub mod Addresses
 pub mod Common

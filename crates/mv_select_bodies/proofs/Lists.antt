@@ -4,12 +4,15 @@ use Rattle.std.proofs.lemmas.List.Elements.{All-head, All-tail}
 use Rattle.mv_ir.specs.declared.tree.Tree.{Tree}
 use Rattle.mv_ir.specs.Trees.{depth}
 use Rattle.mv_ir.specs.Measures.{joined, deepest_of}
-use Rattle.mv_ir.specs.WellFormed as formed
+use Rattle.mv_ir.specs.WellFormed.{all_true}
 use Rattle.mv_ir.proofs.Induction.{Each}
-use Rattle.mv_select_control.specs.FlowCode.{all_true}
 use Rattle.mv_num.proofs.Booleans.{and_right, and_left}
 use Rattle.std.proofs.lemmas.Bool.{and_from}
 use Rattle.mv_ir.proofs.Common.{each_first, each_right}
+
+-- one of those that a test tells
+abbrev pub IsIn : {A : Type 0} → (A → Bool) → A → Type 0
+IsIn test x = test x ≡ true
 
 pub each_weaker : {A : Type 0} (P Q : A → Type 0) → ((x : A) → P x → Q x) → (xs : List A) → Each P xs → Each Q xs
 each_weaker P Q f [] h = tt
@@ -27,11 +30,11 @@ pub each_all : {A : Type 0} (P : A → Type 0) (xs : List A) → All P xs → Ea
 each_all P [] h = tt
 each_all P (x ∷ xs) h = (All-head P x xs h, each_all P xs (All-tail P x xs h))
 
-pub each_true : {A : Type 0} (f : A → Bool) (xs : List A) → formed.all_true (map f xs) ≡ true → Each (λ x. f x ≡ true) xs
+pub each_true : {A : Type 0} (f : A → Bool) (xs : List A) → all_true (map f xs) ≡ true → Each (IsIn f) xs
 each_true f [] h = tt
-each_true f (x ∷ xs) h = (and_left (f x) (formed.all_true (map f xs)) h, each_true f xs (and_right (f x) (formed.all_true (map f xs)) h))
+each_true f (x ∷ xs) h = (and_left (f x) (all_true (map f xs)) h, each_true f xs (and_right (f x) (all_true (map f xs)) h))
 
-pub true_each : {A : Type 0} (f : A → Bool) (xs : List A) → Each (λ x. f x ≡ true) xs → all_true (map f xs) ≡ true
+pub true_each : {A : Type 0} (f : A → Bool) (xs : List A) → Each (IsIn f) xs → all_true (map f xs) ≡ true
 true_each f [] h = refl
 true_each f (x ∷ xs) h = and_from (f x) (all_true (map f xs)) h.0 (true_each f xs h.1)
 

@@ -19,10 +19,9 @@ use Rattle.mv_ir.proofs.Induction.{Each, each_append, TreeChildren, tree_ind, St
 use Rattle.mv_ir.proofs.Rolls.{reads_roll, reads_temp_roll, trees_roll}
 use Rattle.mv_select_trees.specs.View.{View, is_in_view}
 use Rattle.mv_select_control.specs.Labels.{functions_layer, tree_functions, callee_functions, functions_of_all, named_layer, stm_functions, functions}
-use Rattle.mv_select_control.proofs.TreeNames.{functions_roll}
-use Rattle.mv_select_control.proofs.TargetsStand.{named_roll}
+use Rattle.mv_select_control.proofs.TreeNames.{functions_roll, named_roll}
 use Rattle.mv_select_bodies.specs.SelectedBodies.{constants_layer, tree_constants}
-use Rattle.mv_select_bodies.proofs.Lists.{each_joined}
+use Rattle.mv_select_bodies.proofs.Lists.{IsIn, each_joined}
 use Rattle.mv_select_bodies.proofs.FineCode.{ReadsBelow}
 use Rattle.mv_ir.proofs.Common.{each_first, each_right}
 
@@ -36,9 +35,6 @@ abbrev pub IsWord : ℕ → Type 0
 IsWord n = n < 2 ^ 32
 
 module _ (temps count : ℕ) (is_read : ℕ → Bool) where
-  abbrev pub IsRead : ℕ → Type 0
-  IsRead g = is_read g ≡ true
-
   abbrev pub IsOne : ℕ → Type 0
   IsOne f = f < count
 
@@ -60,10 +56,10 @@ module _ (temps count : ℕ) (is_read : ℕ → Bool) where
   test_roll x = fold-roll-Tree Bool test_layer x
 
   abbrev IsNamed : Tree → Type 0
-  IsNamed v = Each IsWord (tree_constants v) → Each IsRead (tree_reads v) → Each IsOne (tree_functions v) → ReadsBelow temps v → is_named v ≡ true
+  IsNamed v = Each IsWord (tree_constants v) → Each (IsIn is_read) (tree_reads v) → Each IsOne (tree_functions v) → ReadsBelow temps v → is_named v ≡ true
 
   layer : (x : Tree-F Tree) → TreeChildren IsNamed x → Each IsWord (constants_layer (map-Tree Tree (List ℕ) tree_constants x)) →
-      Each IsRead (layer_reads (map-Tree Tree (List ℕ) tree_reads x)) → Each IsOne (functions_layer (map-Tree Tree (List ℕ) tree_functions x)) →
+      Each (IsIn is_read) (layer_reads (map-Tree Tree (List ℕ) tree_reads x)) → Each IsOne (functions_layer (map-Tree Tree (List ℕ) tree_functions x)) →
       ((t : ℕ) → layer_reads_temp t (map-Tree Tree Bool (reads_temp t) x) ≡ true → t < temps) → test_layer (map-Tree Tree Bool is_named x) ≡ true
   layer (tree.Number n) c word read one low = lt-ltb n (2 ^ 32) word.0
   layer (tree.Temp t) c word read one low = lt-ltb t temps (low t (eq-eqb t t refl))
@@ -72,19 +68,19 @@ module _ (temps count : ℕ) (is_read : ℕ → Bool) where
   layer (tree.Unary o a) c word read one low = c word read one low
   layer (tree.Binary o a b) c word read one low =
       and_from (is_named a) (is_named b)
-      (c.0 (each_first IsWord (tree_constants a) (tree_constants b) word) (each_first IsRead (tree_reads a) (tree_reads b) read)
+      (c.0 (each_first IsWord (tree_constants a) (tree_constants b) word) (each_first (IsIn is_read) (tree_reads a) (tree_reads b) read)
       (each_first IsOne (tree_functions a) (tree_functions b) one) (λ t e. low t (or_left (reads_temp t a) (reads_temp t b) e)))
-      (c.1 (each_right IsWord (tree_constants a) (tree_constants b) word) (each_right IsRead (tree_reads a) (tree_reads b) read)
+      (c.1 (each_right IsWord (tree_constants a) (tree_constants b) word) (each_right (IsIn is_read) (tree_reads a) (tree_reads b) read)
       (each_right IsOne (tree_functions a) (tree_functions b) one) (λ t e. low t (or_right (reads_temp t a) (reads_temp t b) e)))
   layer (tree.Narrow k a) c word read one low = c word read one low
 
   from_layer : (x : Tree-F Tree) → TreeChildren IsNamed x → IsNamed (roll-Tree x)
   from_layer x c word read one low =
       test_roll x ∙
-      layer x c (subst (Each IsWord) (constants_roll x) word) (subst (Each IsRead) (reads_roll x) read) (subst (Each IsOne) (functions_roll x) one)
+      layer x c (subst (Each IsWord) (constants_roll x) word) (subst (Each (IsIn is_read)) (reads_roll x) read) (subst (Each IsOne) (functions_roll x) one)
       (λ t e. low t (reads_temp_roll t x ∙ e))
 
-  pub all_named : (v : Tree) → Each IsWord (tree_constants v) → Each IsRead (tree_reads v) → Each IsOne (tree_functions v) → ReadsBelow temps v → is_named v ≡ true
+  pub all_named : (v : Tree) → Each IsWord (tree_constants v) → Each (IsIn is_read) (tree_reads v) → Each IsOne (tree_functions v) → ReadsBelow temps v → is_named v ≡ true
   all_named = tree_ind IsNamed from_layer
 
 -- such a tree is in view

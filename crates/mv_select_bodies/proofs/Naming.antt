@@ -17,8 +17,7 @@ use Rattle.mv_ir.specs.Measures.{layer_trees, stm_trees, trees}
 use Rattle.mv_ir.proofs.Induction.{Each, each_append}
 use Rattle.mv_ir.proofs.Rolls.{trees_roll}
 use Rattle.mv_select_control.specs.Labels.{functions_layer, tree_functions, functions_of_all, named_layer, stm_functions, functions}
-use Rattle.mv_select_control.proofs.TreeNames.{functions_roll}
-use Rattle.mv_select_control.proofs.TargetsStand.{named_roll}
+use Rattle.mv_select_control.proofs.TreeNames.{functions_roll, named_roll}
 use Rattle.mv_select_bodies.specs.SelectedBodies.{constants_layer, tree_constants, constants_of_all, constants, knowns_layer, stm_knowns, knowns}
 use Rattle.mv_select_bodies.proofs.NamedTrees.{constants_roll}
 use Rattle.mv_select_bodies.proofs.FineCode.{knowns_roll}

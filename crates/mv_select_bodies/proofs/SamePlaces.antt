@@ -36,19 +36,16 @@ use Rattle.mv_select_calls.specs.CallCode.{scratch_register, request_register, r
 use Rattle.mv_select_functions.specs.FunctionCode.{end_label, Shape, bytes_of, plan, prologue_lines, epilogue_lines, function_lines}
 use Rattle.mv_select_functions.specs.Functions.{shape_of}
 use Rattle.mv_select_bodies.specs.SelectedBodies.{CodeIsTheSame}
-use Rattle.mv_select_bodies.proofs.Lists.{each_joined, each_true, each_weaker}
+use Rattle.mv_select_bodies.proofs.Lists.{IsIn, each_joined, each_true, each_weaker}
 use Rattle.mv_ir.proofs.Common.{each_first, each_right}
 
+-- the globals that stand where they should
 module _ (is_known : ℕ → Bool) where
-  -- one of the globals that stand where they should
-  abbrev IsKnown : ℕ → Type 0
-  IsKnown g = is_known g ≡ true
-
   abbrev pub ReadsKnown : Tree → Type 0
-  ReadsKnown t = Each IsKnown (tree_reads t)
+  ReadsKnown t = Each (IsIn is_known) (tree_reads t)
 
   abbrev pub IsKnownArray : Array → Type 0
-  IsKnownArray (array.Global g) = IsKnown g
+  IsKnownArray (array.Global g) = IsIn is_known g
   IsKnownArray (array.Local l) = Unit {0}
 
   module _ (place place' : ℕ → ℕ) (same_place : (g : ℕ) → is_known g ≡ true → place g ≡ place' g) where
@@ -61,7 +58,7 @@ module _ (is_known : ℕ → Bool) where
     unfolding operand_lines tree_lines
     same_operand t c h r = ap (unless (own_register t)) (c h r r)
 
-    same_layer : (x : Tree-F Tree) → TreeChildren IsSameTree x → Each IsKnown (layer_reads (map-Tree Tree (List ℕ) tree_reads x)) → (d r : ℕ) → into_tree place x d r ≡ into_tree place' x d r
+    same_layer : (x : Tree-F Tree) → TreeChildren IsSameTree x → Each (IsIn is_known) (layer_reads (map-Tree Tree (List ℕ) tree_reads x)) → (d r : ℕ) → into_tree place x d r ≡ into_tree place' x d r
     same_layer (tree.Number n) c h d r = refl
     same_layer (tree.Temp t) c h d r = refl
     same_layer (tree.Global g) c h d r = ap (λ a. load_lines a d) (same_place g h.0)
@@ -70,15 +67,15 @@ module _ (is_known : ℕ → Bool) where
     same_layer (tree.Binary o a b) c h d r =
         let right = immediate_of o b in
         let p = operand_register a r in let q = operand_register b (r + 1) in
-        ap (λ l. l ++ operator_lines right o d p (operand_lines place b (r + 1)) q) (same_operand a c.0 (each_first IsKnown (tree_reads a) (tree_reads b) h) r) ∙
-        ap (λ l. operand_lines place' a r ++ operator_lines right o d p l q) (same_operand b c.1 (each_right IsKnown (tree_reads a) (tree_reads b) h) (r + 1))
+        ap (λ l. l ++ operator_lines right o d p (operand_lines place b (r + 1)) q) (same_operand a c.0 (each_first (IsIn is_known) (tree_reads a) (tree_reads b) h) r) ∙
+        ap (λ l. operand_lines place' a r ++ operator_lines right o d p l q) (same_operand b c.1 (each_right (IsIn is_known) (tree_reads a) (tree_reads b) h) (r + 1))
     same_layer (tree.Narrow k a) c h d r =
         let last = narrow_lines k d (operand_register a r) in
         ap (λ l. cond (keeps_words k) l (operand_lines place a r ++ last)) (c h d r) ∙
         ap (λ l. cond (keeps_words k) (tree_into place' a d r) (l ++ last)) (same_operand a c h r)
 
     same_into : (t : Tree) → IsSameTree t
-    same_into = tree_ind IsSameTree (λ x c h d r. into_roll place x d r ∙ same_layer x c (subst (Each IsKnown) (reads_roll x) h) d r ∙ sym (into_roll place' x d r))
+    same_into = tree_ind IsSameTree (λ x c h d r. into_roll place x d r ∙ same_layer x c (subst (Each (IsIn is_known)) (reads_roll x) h) d r ∙ sym (into_roll place' x d r))
 
     same_tree : (t : Tree) → ReadsKnown t → (r : ℕ) → tree_lines place t r ≡ tree_lines place' t r
     same_tree t h r = lines_are place t r ∙ same_into t h r r ∙ sym (lines_are place' t r)
@@ -206,14 +203,14 @@ module _ (is_known : ℕ → Bool) where
 module _ (b : Body) (formed : IsWellFormed b) where
   -- each array that the code names, and each scalar that its trees read, has a room
   pub known_arrays : Each (IsKnownArray (has_room b.rooms)) (named b.code)
-  known_arrays = each_weaker (λ a. is_there b.rooms b.arrays a ≡ true) (IsKnownArray (has_room b.rooms)) known (named b.code) (each_true (is_there b.rooms b.arrays) (named b.code) formed.named)
+  known_arrays = each_weaker (IsIn (is_there b.rooms b.arrays)) (IsKnownArray (has_room b.rooms)) known (named b.code) (each_true (is_there b.rooms b.arrays) (named b.code) formed.named)
     where
       known : (a : Array) → is_there b.rooms b.arrays a ≡ true → IsKnownArray (has_room b.rooms) a
       known (array.Global g) h = h
       known (array.Local l) h = tt
 
   pub known_reads : Each (ReadsKnown (has_room b.rooms)) (trees b.code)
-  known_reads = each_joined (λ g. has_room b.rooms g ≡ true) tree_reads (trees b.code) (each_true (has_room b.rooms) (scalars_read b.code) formed.read)
+  known_reads = each_joined (IsIn (has_room b.rooms)) tree_reads (trees b.code) (each_true (has_room b.rooms) (scalars_read b.code) formed.read)
 
 pub code_is_the_same : CodeIsTheSame
 code_is_the_same y attributed is_attributed b formed rooms =

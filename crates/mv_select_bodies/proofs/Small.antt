@@ -40,10 +40,7 @@ order_fine is_fine may_ask limit uses (Plan code index) asked h =
 tree_small : (v : Tree) → depth v ≤ 4 → ReadsBelow 507 v → is_small v ≡ true
 tree_small v shallow reads = and_from (leb (depth v) 4) (leb (temps_of v) 507) (le-leb (depth v) 4 shallow) (le-leb (temps_of v) 507 (temps_below 507 v reads))
 
-abbrev IsShallow : Tree → Type 0
-IsShallow v = depth v ≤ 4
-
-module _ (b : Body) (formed : IsWellFormed b) (few : b.temps ≤ 507) (shallow : Each IsShallow (trees b.code)) (orders : Each IsOrder (knowns b.code)) where
+module _ (b : Body) (formed : IsWellFormed b) (few : b.temps ≤ 507) (shallow : Each (λ v. depth v ≤ 4) (trees b.code)) (orders : Each IsOrder (knowns b.code)) where
   any_array : (a : Array) → IsScalar is_small any_known 507 any_global a
   any_array (array.Global g) = refl
   any_array (array.Local l) = tt
@@ -58,7 +55,7 @@ module _ (b : Body) (formed : IsWellFormed b) (few : b.temps ≤ 507) (shallow :
 
   code_small : are_small b.code ≡ true
   code_small =
-      all_fine is_small any_known 507 any_global IsShallow tree_small b.code shallow (any_arrays (named b.code))
+      all_fine is_small any_known 507 any_global (λ v. depth v ≤ 4) tree_small b.code shallow (any_arrays (named b.code))
       (each_weaker IsOrder (IsAsked is_small any_known 507 any_global) (λ k. order_fine is_small any_known 507 any_global k refl) (knowns b.code) orders) (any_globals (arrays_read b.code)) (any_globals (globals_written b.code))
       formed.arguments (λ t. nowhere) (marks_below b 507 formed.temps few)
 

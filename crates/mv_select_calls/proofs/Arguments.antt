@@ -9,6 +9,7 @@ use Rattle.mv_ir.specs.World as ir
 use Rattle.mv_ir.specs.Outcome.{State}
 use Rattle.mv_ir.specs.Trees.{depth, nodes_of_all}
 use Rattle.mv_ir.specs.Meaning.{of_tree}
+use Rattle.mv_ir.specs.WellFormed.{all_true}
 use Rattle.mv_select_trees.specs.TreeCode.{tree_into}
 use Rattle.mv_select_trees.specs.Straight.{Straight}
 use Rattle.mv_select_trees.specs.View.{AreScratch, Leaves}
@@ -20,7 +21,6 @@ use Rattle.mv_select_statements.specs.Leads.{limited}
 use Rattle.mv_select_statements.specs.Frames.{Site, view_of, IsFine, IsFit, Shows}
 use Rattle.mv_select_statements.proofs.FrameChanges.{frame_scratch}
 use Rattle.mv_select_statements.proofs.TreesFirst.{temps_held, named_held}
-use Rattle.mv_select_control.specs.FlowCode.{all_true}
 use Rattle.mv_select_calls.specs.CallCode.{scratch_register, argument_lines}
 use Rattle.mv_num.proofs.Booleans.{and_right, and_left}
 

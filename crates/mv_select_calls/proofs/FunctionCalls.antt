@@ -17,6 +17,7 @@ use Rattle.mv_ir.specs.Measures.{callee_trees}
 use Rattle.mv_ir.specs.Trees.{nodes, nodes_of_all}
 use Rattle.mv_ir.specs.Meaning as meaning
 use Rattle.mv_ir.specs.Meaning.{of_tree, Null, At, goal_at, goal, callee_nodes, call_to}
+use Rattle.mv_ir.specs.WellFormed.{all_true}
 use Rattle.mv_select_trees.specs.TreeCode.{tree_lines}
 use Rattle.mv_select_trees.proofs.Registers.{put_same, put_other, changes_put}
 use Rattle.mv_select_trees.proofs.TreesAreShort.{trees_are_short}
@@ -25,11 +26,10 @@ use Rattle.mv_select_statements.specs.Frames.{Site, IsFine, IsFit, Shows}
 use Rattle.mv_select_statements.proofs.FrameChanges.{frame_scratch}
 use Rattle.mv_select_statements.proofs.TreesFirst.{tree_first}
 use Rattle.mv_select_control.specs.declared.enclosing.Enclosing.{Enclosing}
-use Rattle.mv_select_control.specs.FlowCode.{all_true, fine_target, fine_layer}
-use Rattle.mv_select_control.specs.Placed.{Placed}
+use Rattle.mv_select_control.specs.FlowCode.{fine_target, fine_layer}
 use Rattle.mv_select_control.specs.Runs.{Machine, IsRun}
 use Rattle.mv_select_control.specs.Laws.{uses_of, LinesDo}
-use Rattle.mv_select_control.specs.Flow.{IsWithin, Follows}
+use Rattle.mv_select_control.specs.Flow.{IsWithin}
 use Rattle.mv_select_control.proofs.Walk.{placed_split, to_stands}
 use Rattle.mv_select_calls.specs.CallCode.{scratch_register, argument_lines, guarded_lines, jump_lines, transfer_lines, call_lines}
 use Rattle.mv_select_calls.specs.Convention.{Layout, Conventions}

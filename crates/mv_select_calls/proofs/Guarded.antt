@@ -25,12 +25,12 @@ use Rattle.mv_select_statements.specs.Frames.{Site, IsFit, Shows}
 use Rattle.mv_select_statements.proofs.Walks.{leads_straight}
 use Rattle.mv_select_control.specs.declared.enclosing.Enclosing.{Enclosing}
 use Rattle.mv_select_control.specs.FlowCode.{fine_target}
-use Rattle.mv_select_control.specs.Placed.{IsPlaced, Placed}
+use Rattle.mv_select_control.specs.Placed.{IsPlaced}
 use Rattle.mv_select_control.specs.Runs.{Spot, Machine, outside, IsRun}
 use Rattle.mv_select_control.specs.Laws.{uses_of}
-use Rattle.mv_select_control.specs.Flow.{AtTrap, Follows}
+use Rattle.mv_select_control.specs.Flow.{AtTrap}
 use Rattle.mv_select_control.proofs.Composition.{fewer}
-use Rattle.mv_select_control.proofs.Walk.{Reaches, placed_split, reaches_more, line_does, branch_passes, taken, leads_walk}
+use Rattle.mv_select_control.proofs.Walk.{placed_split, reaches_more, line_does, branch_passes, taken, leads_walk}
 use Rattle.mv_select_calls.specs.CallCode.{left_register, back_lines, guarded_lines}
 use Rattle.mv_select_calls.specs.Convention.{Layout, Conventions}
 use Rattle.mv_select_calls.specs.Laws.{IsCaller, IsLinked}

@@ -15,7 +15,7 @@ use Rattle.mv_ir.specs.World as ir
 use Rattle.mv_ir.specs.World.{Answer}
 use Rattle.mv_ir.specs.Outcome.{State, Bound}
 use Rattle.mv_ir.specs.Trees.{nodes_of_all}
-use Rattle.mv_ir.specs.WellFormed.{known_arguments}
+use Rattle.mv_ir.specs.WellFormed.{known_arguments, all_true}
 use Rattle.mv_ir.specs.Meaning as meaning
 use Rattle.mv_ir.specs.Meaning.{with_world, of_tree}
 use Rattle.mv_select_trees.specs.TreeCode.{number_lines}
@@ -30,11 +30,9 @@ use Rattle.mv_select_statements.specs.StatementCode.{first, second}
 use Rattle.mv_select_statements.specs.Leads.{limited}
 use Rattle.mv_select_statements.specs.Frames.{Site, IsFine, IsFit, Shows}
 use Rattle.mv_select_statements.proofs.FrameChanges.{frame_scratch}
-use Rattle.mv_select_control.specs.FlowCode.{all_true, fine_known, fine_target, fine_layer}
-use Rattle.mv_select_control.specs.Placed.{Placed}
+use Rattle.mv_select_control.specs.FlowCode.{fine_known, fine_target, fine_layer}
 use Rattle.mv_select_control.specs.Runs.{Spot, Machine, outside, IsRun}
 use Rattle.mv_select_control.specs.Laws.{uses_of, LinesDo}
-use Rattle.mv_select_control.specs.Flow.{Here}
 use Rattle.mv_select_control.proofs.Walk.{placed_split, stands_at, line_does, steps_on, to_stands}
 use Rattle.mv_select_calls.specs.CallCode.{link_register, live_register, request_register, request_of, commit_label, result_lines, argument_lines, order_lines, ask_lines, known_lines}
 use Rattle.mv_select_calls.specs.Convention as convention

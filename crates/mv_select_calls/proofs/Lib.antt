@@ -7,5 +7,6 @@ pub mod FunctionCalls
 pub mod KnownCalls
 pub mod Equations
 pub mod CallsEncoded
+pub mod CallsAreMade
 pub mod CallsName
 pub mod Small

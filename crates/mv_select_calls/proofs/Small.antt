@@ -7,9 +7,9 @@ use Rattle.mv_ast.specs.declared.program.Known.TheVariants.{Getchar, Putchar, Po
 use Rattle.mv_ir.specs.declared.tree.Tree.{Tree}
 use Rattle.mv_ir.specs.declared.stm.Callee.{Callee}
 use Rattle.mv_ir.specs.Measures.{callee_trees}
-use Rattle.mv_ir.specs.WellFormed.{known_arguments}
+use Rattle.mv_ir.specs.WellFormed.{known_arguments, all_true}
 use Rattle.mv_select_statements.specs.Encoded.{IsSmall}
-use Rattle.mv_select_control.specs.FlowCode.{all_true, fine_target, fine_known}
+use Rattle.mv_select_control.specs.FlowCode.{fine_target, fine_known}
 use Rattle.mv_select_control.specs.Layouts.{any_global, any_known, is_small, small_call, small_known}
 use Rattle.mv_select_control.proofs.Small.{small_tree}
 use Rattle.mv_num.proofs.Booleans.{and_right, and_left}

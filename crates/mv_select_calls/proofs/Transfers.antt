@@ -27,11 +27,11 @@ use Rattle.mv_select_statements.proofs.TreesFirst.{add_small, temp_written}
 use Rattle.mv_select_statements.proofs.Walks.{leads_one}
 use Rattle.mv_select_control.specs.declared.enclosing.Enclosing.{Enclosing}
 use Rattle.mv_select_control.specs.FlowCode.{fine_target}
-use Rattle.mv_select_control.specs.Placed.{IsPlaced, Placed}
+use Rattle.mv_select_control.specs.Placed.{IsPlaced}
 use Rattle.mv_select_control.specs.Runs.{Spot, Machine, outside, IsRun}
 use Rattle.mv_select_control.specs.Laws.{uses_of}
-use Rattle.mv_select_control.specs.Flow.{Here, AtTrap, IsCut, Follows}
-use Rattle.mv_select_control.proofs.Walk.{Reaches, stands_at, line_does, steps_on, leads_walk, to_here}
+use Rattle.mv_select_control.specs.Flow.{AtTrap, IsCut}
+use Rattle.mv_select_control.proofs.Walk.{stands_at, line_does, steps_on, leads_walk, to_here}
 use Rattle.mv_select_calls.specs.CallCode.{link_register, left_register, live_register, scratch_register, result_lines, back_lines, jump_lines}
 use Rattle.mv_select_calls.specs.Convention as convention
 use Rattle.mv_select_calls.specs.Convention.{Layout, frame_limit, IsSaved, IsAbove, HoldsGlobals, Enters, Returns, FollowsCall, IsTarget, Convention}

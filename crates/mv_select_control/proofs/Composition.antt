@@ -5,7 +5,7 @@ use Rattle.mv_ir.specs.Outcome.{State, End, Returned, Trapped, More, Stuck, Outc
 use Rattle.mv_select_statements.specs.Frames.{Site}
 use Rattle.mv_select_control.specs.declared.enclosing.Enclosing.{Enclosing}
 use Rattle.mv_select_control.specs.Runs.{Machine}
-use Rattle.mv_select_control.specs.Flow.{IsWithin, Here, IsCut, FollowsEnd, Follows, Does}
+use Rattle.mv_select_control.specs.Flow.{IsWithin, IsCut}
 use Rattle.mv_select_control.proofs.Course.{course}
 
 -- a bound within one that is within another

@@ -20,9 +20,9 @@ use Rattle.mv_select_statements.proofs.ScalarStatements.{at_first, after_operand
 use Rattle.mv_select_statements.proofs.TreesFirst.{HasOperand, operand_first}
 use Rattle.mv_select_control.specs.declared.enclosing.Enclosing.{Enclosing}
 use Rattle.mv_select_control.specs.FlowCode.{enclosing_at, if_lines, loop_lines, block_lines, loop_at, block_at}
-use Rattle.mv_select_control.specs.Placed.{IsPlaced, Placed}
+use Rattle.mv_select_control.specs.Placed.{IsPlaced}
 use Rattle.mv_select_control.specs.Runs.{Machine, IsRun}
-use Rattle.mv_select_control.specs.Flow.{IsWithin, Here, Follows, Does}
+use Rattle.mv_select_control.specs.Flow.{IsWithin}
 use Rattle.mv_select_control.proofs.Composition.{Jumps, rest, at_place, block_does, jump_follows, loop_does}
 use Rattle.mv_select_control.proofs.Walk.{placed_split, Reaches, jump_stands, branch_passes, taken, line_does, leads_walk, to_stands, to_here}
 use Rattle.mv_select_control.proofs.Course.{course}

@@ -9,9 +9,9 @@ use Rattle.mv_ir.specs.declared.stm.Stm as at
 use Rattle.mv_ir.specs.declared.stm.Stm.TheOpen as stm
 use Rattle.mv_ir.specs.declared.stm.Stm.TheVariants.{rolls-Set, rolls-SetGlobal, rolls-Divide, rolls-Check, rolls-Read, rolls-Write, rolls-Zero, rolls-If, rolls-Loop, rolls-Block, rolls-Break, rolls-Back, rolls-Call, rolls-Known, rolls-Return}
 use Rattle.mv_ir.specs.Measures.{callee_trees}
-use Rattle.mv_ir.specs.WellFormed.{known_arguments}
+use Rattle.mv_ir.specs.WellFormed.{known_arguments, all_true}
 use Rattle.mv_select_statements.specs.StatementCode.{set_lines, set_global_lines, divide_lines, check_lines, read_lines, write_lines, return_lines}
-use Rattle.mv_select_control.specs.FlowCode.{Plan, plain, home, size, zero_code, if_code, loop_code, block_code, break_code, back_code, statement_code, code_of, all_true, Uses, may_read, may_write, fine_target, fine_known, is_fine_statement, are_fine}
+use Rattle.mv_select_control.specs.FlowCode.{Plan, plain, home, size, zero_code, if_code, loop_code, block_code, break_code, back_code, statement_code, code_of, Uses, may_read, may_write, fine_target, fine_known, is_fine_statement, are_fine}
 use Rattle.mv_select_control.proofs.StatementsDo.{code_roll, fine_roll}
 
 module _ (plan : Plan) where

@@ -25,7 +25,7 @@ use Rattle.mv_select_statements.specs.StatementCode.{first, second, bounds_lines
 use Rattle.mv_select_statements.specs.Encoded.{IsCode, IsSmall, AreEncoded}
 use Rattle.mv_select_statements.proofs.EncodedCode.{are_encoded, both as join, jump}
 use Rattle.mv_select_control.specs.declared.enclosing.Enclosing.{Enclosing}
-use Rattle.mv_select_control.specs.FlowCode.{Plan, Emitted, in_turn, enclosing_at, zero_lines, branch_lines, loop_lines, block_lines, loop_at, block_at, home, size, code_layer, statement_code, all_true, may_read, may_write, fine_layer}
+use Rattle.mv_select_control.specs.FlowCode.{Plan, Emitted, in_turn, enclosing_at, zero_lines, branch_lines, loop_lines, block_lines, loop_at, block_at, home, size, code_layer, statement_code, may_read, may_write, fine_layer}
 use Rattle.mv_select_control.specs.Layouts.{plan_in, any_global, any_known, is_small, is_small_statement}
 use Rattle.mv_select_control.specs.Encoded.{words_layer, stm_words, CallsAreEncoded, FlowIsEncoded}
 use Rattle.mv_select_control.proofs.ArraysWithin.{plan_within}
@@ -33,6 +33,7 @@ use Rattle.mv_select_control.proofs.Small.{small_tree}
 use Rattle.mv_select_control.proofs.StatementsDo.{code_roll, fine_roll}
 use Rattle.mv_num.proofs.Booleans.{and_right, and_left}
 use Rattle.mv_ir.proofs.Joining.{nodes_append}
+use Rattle.mv_ir.specs.WellFormed.{all_true}
 
 pub words_roll : (x : Stm-F Stm) → stm_words (roll-Stm x) ≡ words_layer (map-Stm Stm ℕ stm_words x)
 unfolding stm_words

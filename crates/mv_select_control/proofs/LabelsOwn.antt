@@ -19,7 +19,8 @@ use Rattle.mv_select_control.specs.declared.enclosing.Enclosing.{Enclosing}
 use Rattle.mv_select_control.specs.FlowCode.{Plan, Emitted, in_turn, plain, enclosing_at, zero_lines, branch_lines, loop_lines, block_lines, loop_at, block_at, home, size, code_layer, statement_code}
 use Rattle.mv_select_control.specs.Labels.{Names, CallsName, OwnLabels, LabelsAreOwn, LabelsAreFew, tree_functions}
 use Rattle.mv_select_control.proofs.StatementsDo.{code_roll}
-use Rattle.mv_select_control.proofs.TreeNames.{operand_names, set_names, set_global_names, divide_names, check_names, read_names, write_names, bounds_names, clear_names, return_names, jump_names}
+use Rattle.mv_select_control.proofs.TreeNames.{AnyNumber, all_any}
+use Rattle.mv_select_control.proofs.StatementsAreMade.{LineByLine, names_made, operand_made, set_made, set_global_made, divide_made, check_made, read_made, write_made, bounds_made, clear_made, return_made}
 use Rattle.mv_isa.proofs.Common.{count_append}
 
 -- ---- single lines
@@ -134,14 +135,11 @@ branch_own q label n k a b h g = record {
 
 -- ---- statements
 
-abbrev Any : ℕ → Type 0
-Any l = Unit {0}
+abbrev named : LineByLine (All (Names AnyNumber)) (λ l. ⊥) AnyNumber AnyNumber
+named = names_made AnyNumber
 
-any : (xs : List ℕ) → All Any xs
-any xs k d lt = tt
-
-zero_own : (place : ℕ → ℕ) (label at n : ℕ) → OwnLabels label 2 (zero_lines label at n)
-zero_own place label at n = record {
+zero_own : (label at n : ℕ) → OwnLabels label 2 (zero_lines label at n)
+zero_own label at n = record {
   own = λ l p q. omega (arith, parts l, marks l label p q);
   before = λ l p. omega (arith, parts l, mark_above l label p, mark_above l (label + 1) (omega (arith, p)));
   after = λ l p. omega (arith, parts l, mark_below l label (omega (arith, p)), mark_below l (label + 1) (omega (arith, p)));
@@ -162,13 +160,13 @@ zero_own place label at n = record {
           count_append l turn (clear_lines ++ (middle ++ test)),
           count_append l clear_lines (middle ++ test),
           count_append l middle test,
-          none Any (bounds_lines at n) (bounds_names Any place at n) l,
-          none Any clear_lines (clear_names Any place) l,
+          none AnyNumber (bounds_lines at n) (bounds_made named at n) l,
+          none AnyNumber clear_lines (clear_made named) l,
           jump,
           branch,
         )
 
-module _ (plan : Plan) (calls : CallsName Any plan.calls) where
+module _ (plan : Plan) (calls : CallsName AnyNumber plan.calls) where
   abbrev Owns : Emitted → Type 0
   Owns code = (around : List Enclosing) (label : ℕ) → OwnLabels label code.labels (code.lines around label)
 
@@ -176,7 +174,7 @@ module _ (plan : Plan) (calls : CallsName Any plan.calls) where
   StmOwns s = Owns (statement_code plan s)
 
   pub in_order_own : (code : List Stm) → Each StmOwns code → Owns (in_turn (map (statement_code plan) code))
-  in_order_own [] h around label = silent_own Any label [] (All-nil (Names Any))
+  in_order_own [] h around label = silent_own AnyNumber label [] (All-nil (Names AnyNumber))
   in_order_own (s ∷ code) h around label =
       let here = statement_code plan s in
       let rest = in_turn (map (statement_code plan) code) in
@@ -192,24 +190,24 @@ module _ (plan : Plan) (calls : CallsName Any plan.calls) where
       parts : (l : ℕ) → count_by (is_label l) (operand_lines plan.place t first ++ ls) ≡ count_by (is_label l) ls
       parts l =
           let test = operand_lines plan.place t first in
-          omega (arith, count_append l test ls, none Any test (operand_names Any plan.place t (any (tree_functions t)) first) l)
+          omega (arith, count_append l test ls, none AnyNumber test (operand_made named plan.place t (all_any (tree_functions t)) first) l)
 
-  plain_own : (ls : List Line) → All (Names Any) ls → Owns (plain ls)
-  plain_own ls h around label = silent_own Any label ls h
+  plain_own : (ls : List Line) → All (Names AnyNumber) ls → Owns (plain ls)
+  plain_own ls h around label = silent_own AnyNumber label ls h
 
   layer : (x : Stm-F Stm) → StmChildren StmOwns x → Owns (code_layer plan (map-Stm Stm Emitted (statement_code plan) x))
-  layer (stm.Set t v) h around label = plain_own _ (set_names Any plan.place t v (any _)) around label
-  layer (stm.SetGlobal g v) h around label = plain_own _ (set_global_names Any plan.place g v (any _)) around label
-  layer (stm.Divide t o a b) h around label = plain_own _ (divide_names Any plan.place t o a b tt (any _) (any _)) around label
-  layer (stm.Check a i) h around label = plain_own _ (check_names Any plan.place (size plan a) i tt (any _)) around label
-  layer (stm.Read t a i) h around label = plain_own _ (read_names Any plan.place t (size plan a) (home plan a) i tt (any _)) around label
-  layer (stm.Write a i v) h around label = plain_own _ (write_names Any plan.place (size plan a) (home plan a) i v tt (any _) (any _)) around label
-  layer (stm.Zero a) h around label = zero_own plan.place label (plan.array_at a) (plan.array_size a)
-  layer (stm.Return v) h around label = plain_own _ (return_names Any plan.place plan.end v tt (any _)) around label
-  layer (stm.Break n) h around label = let to = (enclosing_at around n plan.end).end in silent_own Any label (Jump 0 to ∷ []) (jump_names Any plan.place to tt)
-  layer (stm.Back n) h around label = let to = (enclosing_at around n plan.end).start in silent_own Any label (Jump 0 to ∷ []) (jump_names Any plan.place to tt)
-  layer (stm.Call r f args) h around label = plain_own _ (calls.call r f args (any _)) around label
-  layer (stm.Known r k args) h around label = plain_own _ (calls.known r k args (any _)) around label
+  layer (stm.Set t v) h around label = plain_own _ (set_made named plan.place t v (all_any _)) around label
+  layer (stm.SetGlobal g v) h around label = plain_own _ (set_global_made named plan.place g v (all_any _)) around label
+  layer (stm.Divide t o a b) h around label = plain_own _ (divide_made named plan.place t o a b tt (all_any _) (all_any _)) around label
+  layer (stm.Check a i) h around label = plain_own _ (check_made named plan.place (size plan a) i tt (all_any _)) around label
+  layer (stm.Read t a i) h around label = plain_own _ (read_made named plan.place t (size plan a) (home plan a) i tt (all_any _)) around label
+  layer (stm.Write a i v) h around label = plain_own _ (write_made named plan.place (size plan a) (home plan a) i v tt (all_any _) (all_any _)) around label
+  layer (stm.Zero a) h around label = zero_own label (plan.array_at a) (plan.array_size a)
+  layer (stm.Return v) h around label = plain_own _ (return_made named plan.place plan.end v tt (all_any _)) around label
+  layer (stm.Break n) h around label = let to = (enclosing_at around n plan.end).end in silent_own AnyNumber label (Jump 0 to ∷ []) (named.jump to tt)
+  layer (stm.Back n) h around label = let to = (enclosing_at around n plan.end).start in silent_own AnyNumber label (Jump 0 to ∷ []) (named.jump to tt)
+  layer (stm.Call r f args) h around label = plain_own _ (calls.call r f args (all_any _)) around label
+  layer (stm.Known r k args) h around label = plain_own _ (calls.known r k args (all_any _)) around label
   layer (stm.Block b) h around label =
       let inner = in_turn (map (statement_code plan) b) in
       block_own label inner.labels (inner.lines (block_at label ∷ around) (label + 1)) (in_order_own b h (block_at label ∷ around) (label + 1))

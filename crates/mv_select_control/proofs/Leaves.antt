@@ -17,7 +17,7 @@ use Rattle.mv_select_statements.specs.Laws as statements
 use Rattle.mv_select_control.specs.declared.enclosing.Enclosing.{Enclosing}
 use Rattle.mv_select_control.specs.Placed.{Placed}
 use Rattle.mv_select_control.specs.Runs.{Spot, Machine, outside, Calm, IsRun}
-use Rattle.mv_select_control.specs.Flow.{Here, Follows}
+use Rattle.mv_select_control.specs.Flow.{Follows}
 use Rattle.mv_select_control.specs.Laws.{LinesDo}
 use Rattle.mv_select_control.proofs.Walk.{leads_walk, to_stands, to_here}
 use Rattle.mv_select_control.proofs.Course.{course}

@@ -11,6 +11,8 @@ pub mod Leaves
 pub mod Small
 pub mod StatementsDo
 pub mod TargetsStand
+pub mod StatementsAreMade
+pub mod CodeIsMade
 pub mod TreeNames
 pub mod Walk
 pub mod Zeroing

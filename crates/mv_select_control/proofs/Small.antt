@@ -17,7 +17,7 @@ use Rattle.mv_select_statements.specs.Encoded.{IsSmall}
 use Rattle.mv_select_control.specs.Layouts.{any_global, any_known, is_small, small_call, small_known, is_small_statement, are_small}
 use Rattle.mv_select_control.proofs.Equations.{fine_set, fine_setglobal, fine_divide, fine_check, fine_read, fine_write, fine_if, fine_loop, fine_block, fine_call, fine_known_call, fine_return}
 use Rattle.mv_select_control.specs.FlowCode.{may_read, may_write}
-use Rattle.mv_num.proofs.Booleans.{and_right, and_left}
+use Rattle.mv_num.proofs.Booleans.{and_cases, and_right, and_left}
 
 pub small_tree : (v : Tree) → is_small v ≡ true → IsSmall v
 small_tree v h =
@@ -31,10 +31,7 @@ module _ (s : Stm) (small : is_small_statement s ≡ true) where
 
   -- a temporary that is written, and what else is asked
   target_and : (t : ℕ) (b : Bool) → (ltb t 507 && b) ≡ true → (t < 507) × (b ≡ true)
-  target_and t b h = (ltb-true t 507 (and_left (ltb t 507) b h), and_right (ltb t 507) b h)
-
-  pair : (b d : Bool) → (b && d) ≡ true → (b ≡ true) × (d ≡ true)
-  pair b d h = (and_left b d h, and_right b d h)
+  target_and t b h = let both = and_cases (ltb t 507) b h in (ltb-true t 507 both.0, both.1)
 
   pub small_set : (t : ℕ) (v : Tree) → s ≡ at.Set t v → (t < 507) × IsSmall v
   small_set t v same =
@@ -47,7 +44,7 @@ module _ (s : Stm) (small : is_small_statement s ≡ true) where
   pub small_divide : (t o : ℕ) (a b : Tree) → s ≡ at.Divide t o a b → (t < 507) × IsSmall a × IsSmall b
   small_divide t o a b same =
       let h = target_and t (is_small a && is_small b) (of_kind (at.Divide t o a b) (ltb t 507 && (is_small a && is_small b)) same (fine_divide is_small any_known 507 any_global t o a b)) in
-      let l = pair (is_small a) (is_small b) h.1 in
+      let l = and_cases (is_small a) (is_small b) h.1 in
       (h.0, small_tree a l.0, small_tree b l.1)
 
   pub small_check : (a : Array) (i : Tree) → s ≡ at.Check a i → is_small i ≡ true
@@ -63,12 +60,12 @@ module _ (s : Stm) (small : is_small_statement s ≡ true) where
   small_write a i v same =
       let may = may_write is_small any_known 507 any_global a in
       let both = is_small i && is_small v in
-      pair (is_small i) (is_small v) (and_right may both (of_kind (at.Write a i v) (may && both) same (fine_write is_small any_known 507 any_global a i v)))
+      and_cases (is_small i) (is_small v) (and_right may both (of_kind (at.Write a i v) (may && both) same (fine_write is_small any_known 507 any_global a i v)))
 
   pub small_if : (t : Tree) (a b : List Stm) → s ≡ at.If t a b → (is_small t ≡ true) × (are_small a ≡ true) × (are_small b ≡ true)
   small_if t a b same =
-      let h = pair (is_small t) (are_small a && are_small b) (of_kind (at.If t a b) (is_small t && (are_small a && are_small b)) same (fine_if is_small any_known 507 any_global t a b)) in
-      let l = pair (are_small a) (are_small b) h.1 in
+      let h = and_cases (is_small t) (are_small a && are_small b) (of_kind (at.If t a b) (is_small t && (are_small a && are_small b)) same (fine_if is_small any_known 507 any_global t a b)) in
+      let l = and_cases (are_small a) (are_small b) h.1 in
       (h.0, l.0, l.1)
 
   pub small_loop : (b : List Stm) → s ≡ at.Loop b → are_small b ≡ true

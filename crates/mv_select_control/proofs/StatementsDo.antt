@@ -18,14 +18,14 @@ use Rattle.mv_ir.specs.Meaning.{of_tree, elements, with_temp, with_elements, tra
 use Rattle.mv_ir.specs.Trees.{divide}
 use Rattle.mv_ir.proofs.Induction.{Each, StmChildren, stm_ind, stms_ind}
 use Rattle.mv_ir.proofs.Keeping.{meaning_roll}
+use Rattle.mv_ir.specs.WellFormed.{all_true}
 use Rattle.mv_select_statements.specs.Frames.{Site, IsRead, IsWritten, IsFine, IsFit}
 use Rattle.mv_select_statements.proofs.ScalarStatements.{set_done, set_global_done, divide_done, return_done}
 use Rattle.mv_select_statements.proofs.ArrayStatements.{check_done, read_done, write_done}
 use Rattle.mv_select_control.specs.declared.enclosing.Enclosing.{Enclosing}
-use Rattle.mv_select_control.specs.FlowCode.{Uses, CallLines, Plan, Emitted, in_turn, loop_at, block_at, code_layer, statement_code, all_true, may_read, may_write, fine_layer, is_fine_statement}
-use Rattle.mv_select_control.specs.Placed.{Placed}
+use Rattle.mv_select_control.specs.FlowCode.{Uses, CallLines, Plan, Emitted, in_turn, loop_at, block_at, code_layer, statement_code, may_read, may_write, fine_layer, is_fine_statement}
 use Rattle.mv_select_control.specs.Runs.{Machine, IsRun}
-use Rattle.mv_select_control.specs.Flow.{IsWithin, Does}
+use Rattle.mv_select_control.specs.Flow.{IsWithin}
 use Rattle.mv_select_control.specs.Laws.{plan_of, uses_of, LinesDo, CallsDo}
 use Rattle.mv_select_control.proofs.Composition.{within_within, nothing_does, then_does}
 use Rattle.mv_select_control.proofs.Control.{break_does, back_does, block_stands, loop_stands, if_stands}

@@ -20,7 +20,7 @@ use Rattle.mv_select_statements.specs.Laws.{IsCleared}
 use Rattle.mv_select_statements.proofs.ZeroStatement.{cleared_all, bounds_done, clear_done}
 use Rattle.mv_select_control.specs.declared.enclosing.Enclosing.{Enclosing}
 use Rattle.mv_select_control.specs.FlowCode.{zero_lines}
-use Rattle.mv_select_control.specs.Placed.{IsPlaced, Placed}
+use Rattle.mv_select_control.specs.Placed.{IsPlaced}
 use Rattle.mv_select_control.specs.Runs.{Machine, IsRun}
 use Rattle.mv_select_control.specs.Flow.{Does}
 use Rattle.mv_select_control.proofs.Walk.{placed_split, Stands, Reaches, reaches_more, stands_at, jump_stands, branch_passes, taken, line_does, leads_walk, to_stands, to_here}

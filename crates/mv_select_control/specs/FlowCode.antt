@@ -13,7 +13,7 @@ use Rattle.mv_ir.specs.declared.stm.Stm.TheOpen.{Stm-F}
 use Rattle.mv_ir.specs.declared.stm.Stm.TheOpen as stm
 use Rattle.mv_ir.specs.declared.stm.Stm.TheFolds.{fold-Stm}
 use Rattle.mv_ir.specs.Measures.{callee_trees}
-use Rattle.mv_ir.specs.WellFormed.{known_arguments}
+use Rattle.mv_ir.specs.WellFormed.{all_true, known_arguments}
 use Rattle.mv_select_trees.specs.TreeCode.{operand_lines, operand_register}
 use Rattle.mv_select_statements.specs.declared.elements.Home.{Home}
 use Rattle.mv_select_statements.specs.declared.elements.Home.TheVariants as place_at
@@ -157,10 +157,6 @@ module _ (plan : Plan) where
   code_of statements = in_turn (map statement_code statements)
 
 -- ---- what statements name is there
-
-abbrev pub all_true : List Bool → Bool
-all_true [] = true
-all_true (b ∷ bs) = b && all_true bs
 
 -- which globals have a word, and of which the elements may be read and written
 pub record Uses : Type 0 where

@@ -7,12 +7,12 @@ use Rattle.mv_ir.specs.declared.stm.Callee.{Callee}
 use Rattle.mv_ir.specs.declared.stm.Stm.{Stm}
 use Rattle.mv_ir.specs.Measures.{callee_trees}
 use Rattle.mv_ir.specs.Trees.{depth}
-use Rattle.mv_ir.specs.WellFormed.{known_arguments}
+use Rattle.mv_ir.specs.WellFormed.{known_arguments, all_true}
 use Rattle.mv_select_trees.specs.TreeCode.{temps_of}
 use Rattle.mv_select_trees.specs.Rooms.{place_in}
 use Rattle.mv_select_control.specs.declared.layout.Space.{Space}
 use Rattle.mv_select_control.specs.declared.layout.Layout.{Layout}
-use Rattle.mv_select_control.specs.FlowCode.{Uses, CallLines, Plan, all_true, fine_target, fine_known, is_fine_statement, are_fine}
+use Rattle.mv_select_control.specs.FlowCode.{Uses, CallLines, Plan, fine_target, fine_known, is_fine_statement, are_fine}
 
 -- how many words a global has, and 0 where it has no room
 abbrev pub size_in : List Room → ℕ → ℕ

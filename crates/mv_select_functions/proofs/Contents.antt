@@ -15,21 +15,18 @@ use Rattle.mv_select_calls.specs.Convention.{Layout, IsAbove}
 use Rattle.mv_select_calls.specs.Laws.{IsOfFrame}
 use Rattle.mv_select_functions.specs.FunctionCode.{array_offset, bytes_of}
 use Rattle.mv_select_functions.specs.Functions.{IsLaid, IsMemory, shape_of, IsAmple, RunsWithin}
-use Rattle.mv_select_functions.proofs.EntryShown.{Here, word_of_stack, Holds}
+use Rattle.mv_select_functions.proofs.EntryShown.{Here, word_at, Holds}
 use Rattle.mv_select_functions.proofs.Frame.{IsFrame, temp_is, frame_word}
 use Rattle.mv_select_functions.proofs.Prologue.{Prepared}
 
 -- ---- told before the entry of a function with so many arguments, whose frame is to stand from sp up
 
 module _ {M : Type 0} (access : Access M) (before : List ℕ) (m0 : M) (sp : ℕ) where
-  abbrev word_before : ℕ → ℕ
-  word_before b = unwrap_or (access.load m0 b 4) 0
-
   abbrev temp_before : ℕ → ℕ
-  temp_before t = cond (ltb t 9) (reg before (temp_register t)) (word_before (sp + temp_offset t))
+  temp_before t = cond (ltb t 9) (reg before (temp_register t)) (word_at access m0 (sp + temp_offset t))
 
   pub contents_before : Body → ℕ → Contents
-  contents_before body count = record { temps = λ j. temp_before (count + j); arrays = λ a i. word_before (sp + array_offset body.temps body.arrays a + 4 * i) }
+  contents_before body count = record { temps = λ j. temp_before (count + j); arrays = λ a i. word_at access m0 (sp + array_offset body.temps body.arrays a + 4 * i) }
 
 -- for a function that begins at time i
 abbrev pub contents_at : {M : Type 0} → Access M → Machine M → Bool → Body → (count i : ℕ) → Contents
@@ -46,13 +43,10 @@ module _ {M : Type 0} (access : Access M) (y : Layout) (laid : IsLaid y) (machin
   abbrev S : Site
   S = Here access y laid machine memory budget far reach attributed body (outside w) p.regs p.mem caller is calm
 
-  abbrev word_now : ℕ → ℕ
-  word_now = word_of_stack access y laid machine memory budget far reach attributed body (outside w) p.regs p.mem caller is calm
-
   -- the words of the frame but those of saved registers
-  kept_word : (x : Cell) → IsThere S x → IsOfFrame x → sp + 40 ≤ address S x → word_before access before m0 sp (address S x) ≡ word_now (address S x)
+  kept_word : (x : Cell) → IsThere S x → IsOfFrame x → sp + 40 ≤ address S x → word_at access m0 (address S x) ≡ word_at access p.mem (address S x)
   kept_word x there own high =
-      let h : IsAbove y (reg p.regs 2) (address S x) = frame_word y laid reach (shape_of attributed body) (reg p.regs) caller word_now is x there own in
+      let h : IsAbove y (reg p.regs 2) (address S x) = frame_word y laid reach (shape_of attributed body) (reg p.regs) caller (word_at access p.mem) is x there own in
       let low = h.0 in
       ap (λ o. unwrap_or o 0) (sym (p.words (address S x) (inl (omega (arith, low, is.low), h.1, h.2)) (λ j lt e. omega (arith, e, lt, high, min-le_right body.temps 9))))
 
@@ -61,11 +55,11 @@ module _ {M : Type 0} (access : Access M) (y : Layout) (laid : IsLaid y) (machin
   unfolding contents_before
   holds_still count = record {
     low = λ t le small. ap (temp_before access before m0 sp) (total t le)
-        ∙ ap (λ b. cond b (reg before (temp_register t)) (word_before access before m0 sp (sp + temp_offset t))) (lt-ltb t 9 small) ∙ sym (same_register t le small);
+        ∙ ap (λ b. cond b (reg before (temp_register t)) (word_at access m0 (sp + temp_offset t))) (lt-ltb t 9 small) ∙ sym (same_register t le small);
     high = λ t le big lt. ap (temp_before access before m0 sp) (total t le)
-        ∙ ap (λ b. cond b (reg before (temp_register t)) (word_before access before m0 sp (sp + temp_offset t))) (le-ltb t 9 big)
-        ∙ ap (λ z. word_before access before m0 sp (z + temp_offset t)) (sym p.sp_is) ∙ kept_word (TempCell t) (big, lt) tt (temp_high t big);
-    arrays = λ a n lt. ap (λ z. word_before access before m0 sp (z + array_offset body.temps body.arrays a + 4 * n)) (sym p.sp_is)
+        ∙ ap (λ b. cond b (reg before (temp_register t)) (word_at access m0 (sp + temp_offset t))) (le-ltb t 9 big)
+        ∙ ap (λ z. word_at access m0 (z + temp_offset t)) (sym p.sp_is) ∙ kept_word (TempCell t) (big, lt) tt (temp_high t big);
+    arrays = λ a n lt. ap (λ z. word_at access m0 (z + array_offset body.temps body.arrays a + 4 * n)) (sym p.sp_is)
         ∙ kept_word (Element (array.Local a) n) lt tt (array_high a n);
   }
     where

@@ -43,24 +43,24 @@ rest_at : (f : ℕ → ℕ) (n : ℕ) (args : List ℕ) (t : ℕ) → length arg
 rest_at f n args t le lt =
     get_or-append_right args (first_items (n - length args) f) (length args) t 0 refl le ∙ items_at (n - length args) f (t - length args) (omega (arith, le, lt))
 
+-- the word of memory at an address
+abbrev pub word_at : {M : Type 0} → Access M → M → ℕ → ℕ
+word_at access m b = unwrap_or (access.load m b 4) 0
+
 module _ {M : Type 0} (access : Access M) (y : Layout) (laid : IsLaid y) (machine : Machine M) (memory : IsMemory access y machine) (budget far : ℕ)
     (reach : Reach) (attributed : Bool) (body : Body) (w : World) (regs : List ℕ) (m : M) (caller : ℕ) (is : IsFrame y (shape_of attributed body) (reg regs 2) caller)
     (calm : machine.is_calm w m ≡ true) where
-  -- the word of memory at an address
-  abbrev pub word_of_stack : ℕ → ℕ
-  word_of_stack b = unwrap_or (access.load m b 4) 0
-
   abbrev pub Here : Site
-  Here = S y laid reach (shape_of attributed body) (reg regs) caller word_of_stack is
+  Here = S y laid reach (shape_of attributed body) (reg regs) caller (word_at access m) is
 
-  pub loaded : (b : ℕ) → IsStack y b → access.load m b 4 ≡ Some (word_of_stack b)
+  pub loaded : (b : ℕ) → IsStack y b → access.load m b 4 ≡ Some (word_at access m b)
   loaded b h = let v = memory.stack w m b calm h in v.1 ∙ ap Some (sym (ap (λ o. unwrap_or o 0) v.1))
 
   -- the contents of the frame, behind so many arguments, are what registers and memory have
   pub record Holds (count : ℕ) (contents : Contents) : Type 0 where
     pub low : (t : ℕ) → count ≤ t → t < 9 → contents.temps (t - count) ≡ reg regs (temp_register t)
-    pub high : (t : ℕ) → count ≤ t → 9 ≤ t → t < body.temps → contents.temps (t - count) ≡ word_of_stack (address Here (TempCell t))
-    pub arrays : (a i : ℕ) → i < slice_index body.arrays a → contents.arrays a i ≡ word_of_stack (address Here (Element (array.Local a) i))
+    pub high : (t : ℕ) → count ≤ t → 9 ≤ t → t < body.temps → contents.temps (t - count) ≡ word_at access m (address Here (TempCell t))
+    pub arrays : (a i : ℕ) → i < slice_index body.arrays a → contents.arrays a i ≡ word_at access m (address Here (Element (array.Local a) i))
 
   module _ (args : List ℕ) (contents : Contents) (now : World) (few : length args ≤ 8) (count : length args ≤ body.temps) (are : AreRegisters regs)
       (globals : HoldsGlobals access y machine budget far now m) (held : (j : ℕ) → j < length args → reg regs (temp_register j) ≡ slice_index args j) (holds : Holds (length args) contents) where
@@ -76,10 +76,10 @@ module _ {M : Type 0} (access : Access M) (y : Layout) (laid : IsLaid y) (machin
         (λ (h : length args ≤ t). sym (behind t h lt ∙ holds.low t h small))
         (cases_lt t (length args))
 
-    high_temp : (t : ℕ) → t < body.temps → 9 ≤ t → slice_index begin.temps t ≡ word_of_stack (address Here (TempCell t))
+    high_temp : (t : ℕ) → t < body.temps → 9 ≤ t → slice_index begin.temps t ≡ word_at access m (address Here (TempCell t))
     high_temp t lt big = let le : length args ≤ t = omega (arith, few, big) in behind t le lt ∙ holds.high t le big lt
 
-    local_is : (a i : ℕ) → i < slice_index body.arrays a → slice_index (elements (array.Local a) begin) i ≡ word_of_stack (address Here (Element (array.Local a) i))
+    local_is : (a i : ℕ) → i < slice_index body.arrays a → slice_index (elements (array.Local a) begin) i ≡ word_at access m (address Here (Element (array.Local a) i))
     local_is a i lt =
         ap (λ xs. slice_index xs i) (arrays_at contents.arrays body.arrays a) ∙ items_at (slice_index body.arrays a) (contents.arrays a) i lt ∙ holds.arrays a i lt
 
@@ -92,23 +92,23 @@ module _ {M : Type 0} (access : Access M) (y : Layout) (laid : IsLaid y) (machin
 
     in_memory : (x : Cell) → IsThere Here x → access.load m (address Here x) 4 ≡ Some (content Here begin x)
     in_memory (TempCell t) h =
-        loaded (address Here (TempCell t)) (stack_cell (TempCell t) (frame_word y laid reach (shape_of attributed body) (reg regs) caller word_of_stack is (TempCell t) h tt))
+        loaded (address Here (TempCell t)) (stack_cell (TempCell t) (frame_word y laid reach (shape_of attributed body) (reg regs) caller (word_at access m) is (TempCell t) h tt))
         ∙ ap Some (sym (high_temp t h.1 h.0))
     in_memory (Element (array.Global g) i) h = globals.loads g i h
     in_memory (Element (array.Local a) i) h =
-        loaded (address Here (Element (array.Local a) i)) (stack_cell (Element (array.Local a) i) (frame_word y laid reach (shape_of attributed body) (reg regs) caller word_of_stack is (Element (array.Local a) i) h tt))
+        loaded (address Here (Element (array.Local a) i)) (stack_cell (Element (array.Local a) i) (frame_word y laid reach (shape_of attributed body) (reg regs) caller (word_at access m) is (Element (array.Local a) i) h tt))
         ∙ ap Some (sym (local_is a i h))
-    in_memory (Kept b) h = loaded b (stack_cell (Kept b) (frame_word y laid reach (shape_of attributed body) (reg regs) caller word_of_stack is (Kept b) h tt))
+    in_memory (Kept b) h = loaded b (stack_cell (Kept b) (frame_word y laid reach (shape_of attributed body) (reg regs) caller (word_at access m) is (Kept b) h tt))
 
     word_below : (x : Cell) → IsWord y (address Here x) → IsThere Here x → content Here begin x < 2 ^ 32
     word_below x word h = memory.words m (address Here x) (content Here begin x) word (in_memory x h)
 
     words : (x : Cell) → IsThere Here x → content Here begin x < 2 ^ 32
-    words (TempCell t) h = word_below (TempCell t) (inl (stack_cell (TempCell t) (frame_word y laid reach (shape_of attributed body) (reg regs) caller word_of_stack is (TempCell t) h tt))) h
+    words (TempCell t) h = word_below (TempCell t) (inl (stack_cell (TempCell t) (frame_word y laid reach (shape_of attributed body) (reg regs) caller (word_at access m) is (TempCell t) h tt))) h
     words (Element (array.Global g) i) h = globals.words g i h
     words (Element (array.Local a) i) h =
-        word_below (Element (array.Local a) i) (inl (stack_cell (Element (array.Local a) i) (frame_word y laid reach (shape_of attributed body) (reg regs) caller word_of_stack is (Element (array.Local a) i) h tt))) h
-    words (Kept b) h = word_below (Kept b) (inl (stack_cell (Kept b) (frame_word y laid reach (shape_of attributed body) (reg regs) caller word_of_stack is (Kept b) h tt))) h
+        word_below (Element (array.Local a) i) (inl (stack_cell (Element (array.Local a) i) (frame_word y laid reach (shape_of attributed body) (reg regs) caller (word_at access m) is (Element (array.Local a) i) h tt))) h
+    words (Kept b) h = word_below (Kept b) (inl (stack_cell (Kept b) (frame_word y laid reach (shape_of attributed body) (reg regs) caller (word_at access m) is (Kept b) h tt))) h
 
     pub begins_shown : Shows Here access begin regs m
     begins_shown = record {

@@ -11,16 +11,16 @@ use Rattle.mv_select_trees.specs.TreeCode.{two, temp_register}
 use Rattle.mv_select_trees.specs.View.{AreRegisters}
 use Rattle.mv_select_trees.proofs.Registers.{put_same, put_other, put_registers}
 use Rattle.mv_select_statements.specs.StatementCode.{first}
-use Rattle.mv_select_statements.specs.Frames.{Site, Kept, Shows, Reach}
+use Rattle.mv_select_statements.specs.Frames.{Kept, Shows, Reach}
 use Rattle.mv_select_statements.proofs.FrameChanges.{register_is, register_zero, register_low, register_high, one_register}
 use Rattle.mv_select_control.specs.Runs.{Machine, outside}
 use Rattle.mv_select_control.proofs.Walk.{placed_split}
 use Rattle.mv_select_calls.specs.CallCode.{link_register, live_register, left_register}
 use Rattle.mv_select_calls.specs.Convention.{Layout, IsTarget, IsSaved, IsAbove}
-use Rattle.mv_select_functions.specs.FunctionCode.{Shape, bytes_of, saved_count, saved_register, restore_lines, leave_lines, epilogue_lines}
+use Rattle.mv_select_functions.specs.FunctionCode.{bytes_of, saved_count, saved_register, restore_lines, leave_lines, epilogue_lines}
 use Rattle.mv_select_functions.specs.Functions.{IsStack, IsLaid, IsMemory, shape_of, IsAmple, RunsWithin}
 use Rattle.mv_select_functions.proofs.Entry.{sp_apart, Restores, restore_walk}
-use Rattle.mv_select_functions.proofs.EntryShown.{Here, word_of_stack, loaded}
+use Rattle.mv_select_functions.proofs.EntryShown.{Here, word_at, loaded}
 use Rattle.mv_select_functions.proofs.Frame.{IsFrame, kept_low, kept_high}
 use Rattle.mv_select_functions.proofs.FrameWords.{frame_course}
 use Rattle.mv_select_functions.proofs.Prologue.{Prepared, room_for_saved, saved_words}
@@ -52,9 +52,6 @@ module _ {M : Type 0} (access : Access M) (y : Layout) (laid : IsLaid y) (machin
     (reach : Reach) (ample : IsAmple y reach) (runs : RunsWithin access y machine reach) (budget far : ℕ) (place : ℕ → ℕ) (attributed : Bool) (body : Body) where
   open frame_course access y laid machine memory reach ample runs budget far place use {of.{Placed as Ps}, Stands as Ws}
 
-  abbrev shape : Shape
-  shape = shape_of attributed body
-
   abbrev bytes : ℕ
   bytes = bytes_of (shape_of attributed body)
 
@@ -73,19 +70,17 @@ module _ {M : Type 0} (access : Access M) (y : Layout) (laid : IsLaid y) (machin
   module _ (args : List ℕ) (live sp caller : ℕ) (before : List ℕ) (m0 : M) (w0 : World) (next0 i0 : ℕ)
       (p : Prepared access y laid machine memory reach ample runs budget far place (shape_of attributed body) args live sp before m0 w0 next0 i0)
       (is : IsFrame y (shape_of attributed body) (reg p.regs 2) caller) (calm : machine.is_calm (outside w0) p.mem ≡ true) where
-    abbrev S : Site
-    S = Here access y laid machine memory budget far reach attributed body (outside w0) p.regs p.mem caller is calm
-
-    module _ (w : World) (l : State) (regs : List ℕ) (m : M) (f : Shows S access l regs m) where
+    module _ (w : World) (l : State) (regs : List ℕ) (m : M)
+        (f : Shows (Here access y laid machine memory budget far reach attributed body (outside w0) p.regs p.mem caller is calm) access l regs m) where
       -- the saved registers are still in the frame
       still_saved : (j : ℕ) → j < saved_count body.temps → access.load m (sp + 4 * j) 4 ≡ Some (reg before (saved_register j))
       still_saved j lt =
           let few : j < 10 = omega (arith, lt, min-le_right body.temps 9) in
           let at : reg p.regs 2 + 4 * j ≡ sp + 4 * j = ap (λ z. z + 4 * j) p.sp_is in
-          let stack = saved_words y shape (reg p.regs 2) caller is j few in
+          let stack = saved_words y (shape_of attributed body) (reg p.regs 2) caller is j few in
           let kept = kept_low (reg p.regs 2) caller y.top (reg p.regs 2 + 4 * j) stack.2 (omega arith) (omega (arith, few)) in
-          let held : access.load m (sp + 4 * j) 4 ≡ Some (word_of_stack access y laid machine memory budget far reach attributed body (outside w0) p.regs p.mem caller is calm (sp + 4 * j)) =
-          subst (λ b. access.load m b 4 ≡ Some (word_of_stack access y laid machine memory budget far reach attributed body (outside w0) p.regs p.mem caller is calm b)) at (f.in_memory (Kept (reg p.regs 2 + 4 * j)) kept) in
+          let held : access.load m (sp + 4 * j) 4 ≡ Some (word_at access p.mem (sp + 4 * j)) =
+          subst (λ b. access.load m b 4 ≡ Some (word_at access p.mem b)) at (f.in_memory (Kept (reg p.regs 2 + 4 * j)) kept) in
           held ∙ ap Some (ap (λ o. unwrap_or o 0) (p.saved j lt))
 
       above_frame : reg before 2 ≡ caller → (b : ℕ) → IsAbove y (reg before 2) b → access.load m b 4 ≡ access.load m0 b 4

@@ -12,7 +12,7 @@ use Rattle.mv_select_trees.proofs.Instructions.{lw_sets}
 use Rattle.mv_select_statements.specs.Frames.{Site, Cell, TempCell, Element, Kept, address, Reach}
 use Rattle.mv_select_statements.proofs.TreesFirst.{add_small}
 use Rattle.mv_select_statements.proofs.Walks.{sw_moves}
-use Rattle.mv_select_control.specs.Placed.{IsPlaced, Placed}
+use Rattle.mv_select_control.specs.Placed.{IsPlaced}
 use Rattle.mv_select_control.specs.Runs.{Machine, outside, IsRun}
 use Rattle.mv_select_control.proofs.Walk as walk
 use Rattle.mv_select_control.proofs.Walk.{line_does, steps_on}

@@ -62,9 +62,6 @@ module _ {M : Type 0} (access : Access M) (y : Layout) (laid : IsLaid y) (machin
   abbrev frame : ir.Frame
   frame = frame_at attributed bound depth live
 
-  abbrev before : List ℕ
-  before = (machine.run i).regs
-
   abbrev caller : ℕ
   caller = reg (machine.run i).regs 2
 
@@ -102,7 +99,7 @@ module _ {M : Type 0} (access : Access M) (y : Layout) (laid : IsLaid y) (machin
   live_small = omega (arith, begun.counts, begun.left)
 
   prep : Prepared access y laid machine memory reach ample runs budget far place (shape_of attributed body) args live sp (machine.run i).regs (machine.run i).memory w p.0 i
-  prep = prologue_walk access y laid machine memory reach ample runs budget far place shape args live sp caller before (machine.run i).memory w mid p.0 i is_frame fn.params refl begun.live_is live_small stands.are
+  prep = prologue_walk access y laid machine memory reach ample runs budget far place shape args live sp caller (machine.run i).regs (machine.run i).memory w mid p.0 i is_frame fn.params refl begun.live_is live_small stands.are
       (λ j lt. begun.arguments j (omega (arith, lt, count))) p.1
       (record { is = lowers.goes; calm = stands.calm; sound = before_next (λ t. machine.is_sound (machine.run t) ≡ true) i stands.sound lowers.sound })
 
@@ -116,7 +113,7 @@ module _ {M : Type 0} (access : Access M) (y : Layout) (laid : IsLaid y) (machin
   S = shown.Here access y laid machine memory budget far reach attributed body (outside w) prep.regs prep.mem caller is calm
 
   abbrev kept : ℕ → ℕ
-  kept = shown.word_of_stack access y laid machine memory budget far reach attributed body (outside w) prep.regs prep.mem caller is calm
+  kept = shown.word_at access prep.mem
 
   globals_now : HoldsGlobals access y machine budget far w prep.mem
   globals_now = record {
@@ -140,7 +137,7 @@ module _ {M : Type 0} (access : Access M) (y : Layout) (laid : IsLaid y) (machin
 
   held_still : shown.Holds access y laid machine memory budget far reach attributed body (outside w) prep.regs prep.mem caller is calm (length args)
       (contents_at access machine attributed body (length args) i)
-  held_still = holds_still access y laid machine memory reach ample runs budget far place attributed body args live sp caller before (machine.run i).memory w p.0 i prep is calm count
+  held_still = holds_still access y laid machine memory reach ample runs budget far place attributed body args live sp caller (machine.run i).regs (machine.run i).memory w p.0 i prep is calm count
 
   abbrev begin : State
   begin = shown.begin access y laid machine memory budget far reach attributed body (outside w) prep.regs prep.mem caller is calm args contents w few enough prep.are globals_now held held_still
@@ -202,7 +199,7 @@ module _ {M : Type 0} (access : Access M) (y : Layout) (laid : IsLaid y) (machin
           (machine.run j).regs (machine.run j).memory j (to_stands access S machine okS place end_label budget far 0 (spare + 13) k (place end_label) l j h))
 
       un : Unwound access y laid machine memory reach ample runs budget far place attributed body (machine.run i).regs (machine.run i).memory back l.world (machine.run j).regs (machine.run j).memory j
-      un = epilogue_walk access y laid machine memory reach ample runs budget far place attributed body args live sp caller before (machine.run i).memory w p.0 i prep is calm l.world l
+      un = epilogue_walk access y laid machine memory reach ample runs budget far place attributed body args live sp caller (machine.run i).regs (machine.run i).memory w p.0 i prep is calm l.world l
           (machine.run j).regs (machine.run j).memory h.shows back q.2.0 next j fn.params fn.temps refl begun.live_is live_small ra target q.2.2 a
 
       memory_is : (machine.run un.time).memory ≡ (machine.run j).memory

@@ -10,5 +10,6 @@ pub mod Epilogue
 pub mod FunctionKeeps
 pub mod Equations
 pub mod EncodedFrames
+pub mod FramesAreMade
 pub mod WholeFunction
 pub mod Alone

@@ -115,9 +115,6 @@ module _ {M : Type 0} (access : Access M) (y : Layout) (machine : Machine M) (te
             follows_narrowed spare k j back (call u).end (keeps u t)
             (answers back j target ra spare u t (stands_too to u j s) (enters_too depth frames args j e) paid asked)
 
-    abbrev FC : (spare k i back : ℕ) → End → Type 0
-    FC = FollowsCall access y machine budget far
-
     pub jumps_under : IsLaid y → Runs access y narrowed → (to at : ℕ) → InstrStands text.word at (Jal 0 (distance at to)) → IsPlace at → IsPlace to →
         (depth frames : ℕ) (args : List ℕ) (w : World) (i : ℕ) → test (outside w) ≡ true → Stands access y machine budget far at w i → Enters access y machine budget far depth frames args i →
         Jumps access y machine budget far to depth frames args w i
@@ -156,7 +153,7 @@ module _ {M : Type 0} (access : Access M) (y : Layout) (machine : Machine M) (te
           asked = r.asked;
         }
 
-        follows : (spare k back : ℕ) (x : End) → FC spare k (i + 1) back x → FC spare k i back x
+        follows : (spare k back : ℕ) (x : End) → FollowsCall access y machine budget far spare k (i + 1) back x → FollowsCall access y machine budget far spare k i back x
         follows spare k back (Returned None u) c = (c.0, came spare k back u c.0 c.1)
         follows spare k back (Returned (Some v) u) c = (c.0, came spare k back u c.0 c.1, c.2)
         follows spare k back (Trapped code u) c = c
@@ -202,14 +199,11 @@ module _ {M : Type 0} (access : Access M) (y : Layout) (machine : Machine M) (te
       }
 
   module _ (inner : World → Bool) (text other : Text) where
-    abbrev once : Machine M
-    once = spec.narrowed machine test text
-
     abbrev twice : Machine M
     twice = spec.narrowed (spec.narrowed machine inner other) test text
 
     -- a run that is narrowed is one where the machine was narrowed before
-    runs_twice : (s : Site) → IsRun access s once → IsRun access s twice
+    runs_twice : (s : Site) → IsRun access s (spec.narrowed machine test text) → IsRun access s twice
     runs_twice s ok = record {
       registers = ok.registers;
       goes = λ i w next h. ok.goes i w next (leads i w next h);
@@ -226,7 +220,7 @@ module _ {M : Type 0} (access : Access M) (y : Layout) (machine : Machine M) (te
             let p = and_parts (test w) (inner w && machine.is_calm w m) h in
             let q = and_parts (inner w) (machine.is_calm w m) p.1 in (p.0, q.0, q.1)
 
-        leads : (i : ℕ) (w : World) (next : Spot M) → LeadsOn access s twice i w next → LeadsOn access s once i w next
+        leads : (i : ℕ) (w : World) (next : Spot M) → LeadsOn access s twice i w next → LeadsOn access s (spec.narrowed machine test text) i w next
         leads i w next h = let p = parts (outside w) (machine.run i).memory h.calm in record {
           calm = and_from (test (outside w)) (machine.is_calm (outside w) (machine.run i).memory) p.0 p.2;
           steps = h.steps;

@@ -37,9 +37,6 @@ module _ {M : Type 0} (access : Access M) (y : Layout) (laid : IsLaid y) (machin
   abbrev At : ℕ → World → ℕ → Type 0
   At = Stands access y machine budget far
 
-  abbrev FC : (spare k i back : ℕ) → End → Type 0
-  FC = FollowsCall access y machine budget far
-
   -- ---- steps that leave memory alone
 
   pub record Stepped (pc : ℕ) (regs : List ℕ) (w : World) (i : ℕ) : Type 0 where
@@ -123,7 +120,7 @@ module _ {M : Type 0} (access : Access M) (y : Layout) (laid : IsLaid y) (machin
           }
 
       -- what follows the call of the function follows that of the slot
-      follows : (spare k : ℕ) (x : End) → FC (spare + 1) k (i + 1) (at + 4) x → FC spare k i (at + 8) x
+      follows : (spare k : ℕ) (x : End) → FollowsCall access y machine budget far (spare + 1) k (i + 1) (at + 4) x → FollowsCall access y machine budget far spare k i (at + 8) x
       follows spare k (Returned None u) c = (c.0 + 1, came spare k u c.0 c.1)
       follows spare k (Returned (Some v) u) c = (c.0 + 1, came spare k u c.0 c.1, ap (λ r. reg r first) (comes u c.0 c.1.stands).registers ∙ c.2)
       follows spare k (Trapped code u) c = c
