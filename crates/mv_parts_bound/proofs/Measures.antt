@@ -11,18 +11,19 @@ use Rattle.mv_ir.specs.declared.stm.Stm.TheOpen as stm
 use Rattle.mv_ir.specs.declared.stm.Stm.TheViews.{roll-Stm}
 use Rattle.mv_ir.specs.declared.stm.Stm.TheFolds.{map-Stm}
 use Rattle.mv_ir.specs.Measures.{joined, total}
+use Rattle.mv_ir.specs.Rolled.{number, temp}
 use Rattle.mv_ir.proofs.Induction.{Each, StmChildren, stm_ind, stms_ind}
 use Rattle.mv_ir.proofs.Keeping.{map_append}
 use Rattle.mv_ir.proofs.Joining.{total_append}
 use Rattle.mv_clone.specs.Bind.{bound_callee, bound_layer, bound_stm, bound_code}
 use Rattle.mv_clone.proofs.Bound.{bound_stm_roll}
-use Rattle.mv_fold.specs.Simple.{constant, number, simple_tree, jumps, ended, simple_callee, alone, division, choice, simple_layer, simple_stm, simple_code}
+use Rattle.mv_fold.specs.Simple.{constant, simple_tree, jumps, ended, simple_callee, alone, division, choice, simple_layer, simple_stm, simple_code}
 use Rattle.mv_fold.specs.Shortened.{shortened}
 use Rattle.mv_fold.specs.Needed.{needed_layer, needed_stm, needed_code}
 use Rattle.mv_fold.specs.Folded.{simple_body}
 use Rattle.mv_fold.proofs.SimpleKept.{simple_stm_roll}
 use Rattle.mv_fold.proofs.NeededEquations.{needed_stm_roll}
-use Rattle.mv_fold.proofs.Shortening.{temp, shortened_is}
+use Rattle.mv_fold.proofs.Shortening.{shortened_is}
 use Rattle.mv_regalloc.specs.Rename.{renamed_callee, renamed_layer, renamed_stm, renamed_code}
 use Rattle.mv_regalloc.proofs.RenamedTrees.{renamed_stm_roll}
 
