@@ -1,4 +1,4 @@
-use Rattle.std.proofs.Common.{◌≡◌, [], ◌∷◌, length, map, ap, ◌∙◌, subst}
+use Rattle.std.proofs.Common.{false, ◌≡◌, [], ◌∷◌, length, map, ap, ◌∙◌, subst}
 use Rattle.std.proofs.lemmas.List.{append-nil, length-replicate}
 use Rattle.mv_regalloc.specs.Rows.{live_before, rows_in_order, sets, stm_rows}
 use Rattle.mv_regalloc.specs.Shared.{LiveSets, walked, with_live, with_rows}

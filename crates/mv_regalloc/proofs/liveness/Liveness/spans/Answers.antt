@@ -1,4 +1,4 @@
-use Rattle.std.proofs.Common.{length, map, reverse, sym, subst}
+use Rattle.std.proofs.Common.{false, length, map, reverse, sym, subst}
 use Rattle.std.specs.Prelude.{IfOk}
 use Rattle.std.proofs.lemmas.List.{length-replicate}
 use Rattle.mv_regalloc.specs.Shared.{bits_at}
