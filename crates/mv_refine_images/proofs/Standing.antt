@@ -117,14 +117,11 @@ module _ (p : Program) (image : Fields) (basis : Basis p image) where
     abbrev n : ℕ
     n = attributed_before p.functions f
 
-    abbrev generic_code : (code : Labelled) × (slice_get parts.functions f ≡ Some code) × IsOwnCode p y numbers g code
-    generic_code = own p image basis f g here
-
     abbrev generic : Labelled
-    generic = generic_code.0
+    generic = (own p image basis f g here).0
 
     abbrev is_generic : IsOwnCode p y numbers g generic
-    is_generic = generic_code.2
+    is_generic = (own p image basis f g here).2
 
     abbrev table : (variants : List Variant) × IsNth p built.tables n f g variants
     table = laws.tabled p built.bodies built.tables parts built.are f g here is
@@ -146,7 +143,7 @@ module _ (p : Program) (image : Fields) (basis : Basis p image) where
 
     stands : IsPlacedCode parts image sizing f rest (at f + 4) × text.HasEntry parts image sizing n f instr
     stands =
-        laws.patched parts image built.are.are built.are.fit built.linked n f generic instr rest numbered_there ((follow p image basis).function f generic generic_code.1) is_generic.written.labels generic_written.items
+        laws.patched parts image built.are.are built.are.fit built.linked n f generic instr rest numbered_there ((follow p image basis).function f generic (own p image basis f g here).1) is_generic.written.labels generic_written.items
 
     abbrev later : IsPlacedCode parts image sizing f rest (at f + 4)
     later = stands.0
