@@ -10,7 +10,6 @@ use Rattle.mv_ast.specs.declared.program.Known.TheVariants.{Getchar, Putchar, Po
 use Rattle.mv_ast.specs.declared.program.Expr.{Expr}
 use Rattle.mv_ast.specs.declared.program.Form.{Form-F}
 use Rattle.mv_ast.specs.declared.program.Form.TheOpen as open_form
-use Rattle.mv_ast.specs.declared.program.Target.{Target}
 use Rattle.mv_ast.specs.declared.program.Target.TheVariants.{outs-Global, outs-Local, outs-GlobalAt, outs-LocalAt}
 use Rattle.mv_ast.specs.Plans.{attributed_functions}
 use Rattle.mv_check_scope.specs.declared.meaning.Meaning.TheVariants as meaning

@@ -1,5 +1,5 @@
 -- What tests on types say.
-use Rattle.std.proofs.Common.{◌≡◌, ℕ, Bool, true, false, ◌||◌, refl, ◌∙◌, ap, if◌then◌else◌}
+use Rattle.std.proofs.Common.{◌≡◌, ℕ, Bool, true, false, ◌||◌, refl, ap, if◌then◌else◌}
 use Rattle.std.proofs.lemmas.Bool.{eqb-true}
 use Rattle.mv_num.specs.Kinds.{kind_number}
 use Rattle.mv_ast.specs.declared.program.CType.{CType}

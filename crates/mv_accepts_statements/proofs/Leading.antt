@@ -1,7 +1,6 @@
 -- What leads from one scope of a function to a later one.
 use Rattle.std.proofs.Common.{◌≡◌, ℕ, ◌⊎◌, inl, inr, sym, ◌∙◌, ap, subst, List, Some}
 use Rattle.mv_ast.specs.declared.program.CType.TheVariants.{Pointer}
-use Rattle.mv_ast.specs.declared.program.Function.{Function}
 use Rattle.mv_ast.specs.declared.program.Signature.{Signature}
 use Rattle.mv_check_scope.specs.declared.meaning.Meaning.{Meaning}
 use Rattle.mv_check_scope.specs.declared.meaning.Meaning.TheVariants as meaning

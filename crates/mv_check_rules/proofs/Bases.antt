@@ -11,7 +11,7 @@ use Rattle.mv_ast.specs.declared.unit.Specs.{Specs, out-Specs}
 use Rattle.mv_ast.specs.Names.{any_of}
 use Rattle.mv_check_scope.specs.declared.scope.Scope.{Scope}
 use Rattle.mv_check_expressions.specs.Judged.{Judged, Good, Broken, and_then}
-use Rattle.mv_check_expressions.specs.TypeNames.{undeclared_enum, type_of, type_or_broken, named_type}
+use Rattle.mv_check_expressions.specs.TypeNames.{undeclared_enum, type_or_broken, named_type}
 use Rattle.mv_check_declarations.specs.declared.attributes.Attribute.{Attribute}
 use Rattle.mv_check_declarations.specs.declared.attributes.Holder.{Holder}
 use Rattle.mv_check_declarations.specs.declared.attributes.Position.{Position}

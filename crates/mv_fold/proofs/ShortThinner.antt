@@ -1,12 +1,12 @@
 -- Shortening the end of a body's code keeps the body whole, and makes no interval longer.
-use Rattle.std.proofs.Common.{◌≡◌, ℕ, ◌<◌, Bool, true, false, ◌||◌, List, [], ◌∷◌, ◌++◌, refl, sym, subst, append-nil}
+use Rattle.std.proofs.Common.{◌≡◌, ℕ, Bool, true, false, ◌||◌, List, [], ◌∷◌, ◌++◌, refl, sym, subst, append-nil}
 use Rattle.mv_ir.specs.declared.tree.Tree.{Tree}
 use Rattle.mv_ir.specs.declared.stm.Stm.{Stm}
 use Rattle.mv_ir.specs.declared.stm.Stm.TheOpen.{Stm-F}
 use Rattle.mv_ir.specs.declared.stm.Stm.TheOpen as stm
 use Rattle.mv_ir.specs.declared.stm.Stm.TheViews.{roll-Stm}
 use Rattle.mv_ir.specs.declared.body.Body.{Body}
-use Rattle.mv_ir.specs.Live.{any_reads, Around, Flow, with_after, live_in_order, marks_in_order, flow, nowhere, live_at_start}
+use Rattle.mv_ir.specs.Live.{any_reads, Flow, with_after, live_in_order, marks_in_order, flow, nowhere, live_at_start}
 use Rattle.mv_ir.proofs.Rolls.{flow_roll, flow_of_layer}
 use Rattle.mv_ir.specs.Rolled.{temp, set, set_global, return_with}
 use Rattle.mv_fold.specs.Shortened.{shortened}

@@ -2,11 +2,10 @@
 use Rattle.std.proofs.Common.{◌≡◌, ℕ, zero, suc, ◌+◌, ◌*◌, ◌≤◌, max, true, List, [], ◌∷◌, map, Some, refl, arith}
 use Rattle.std.specs.Prelude.{sum}
 use Rattle.std.proofs.lemmas.List.Sums.{sum_by-cons}
-use Rattle.mv_ast.specs.declared.program.Arm.{Arm-F}
 use Rattle.mv_ast.specs.declared.program.Expr.{Expr}
 use Rattle.mv_ast.specs.declared.program.Form.TheVariants as form
 use Rattle.mv_ast.specs.declared.program.Known.TheVariants as known
-use Rattle.mv_ast.specs.declared.program.Stmt.{Stmt, Stmt-F}
+use Rattle.mv_ast.specs.declared.program.Stmt.{Stmt}
 use Rattle.mv_ast.specs.declared.program.Stmt.TheVariants as stmt
 use Rattle.mv_ast.specs.declared.program.Target.TheVariants as target
 use Rattle.mv_ast.specs.Counts.{greatest, form_sum, target_sum, form_greatest, target_greatest, one_more_than, expr_nodes, expr_depth, stmt_nodes_step, arm_nodes_step, stmt_nodes, stmt_depth, nodes, depth, depth_layer, arm_depth_layer}

@@ -1,5 +1,5 @@
 -- The values of a declared local, stored one after the other.
-use Rattle.std.proofs.Common.{◌≡◌, ℕ, suc, ◌+◌, ◌-◌, ◌^◌, ◌≤◌, ◌<◌, List, ◌∷◌, map, length, get_or, drop, replicate, Bool, if◌then◌else◌, arith, sym, ◌∙◌, ap, subst, Result, Ok, Err}
+use Rattle.std.proofs.Common.{◌≡◌, ℕ, suc, ◌+◌, ◌-◌, ◌<◌, List, ◌∷◌, map, length, get_or, drop, replicate, Bool, if◌then◌else◌, arith, sym, ◌∙◌, ap, subst, Result, Ok, Err}
 use Rattle.std.specs.Prelude.{slice_set}
 use Rattle.std.proofs.lemmas.List.{drop_more}
 use Rattle.mv_ast.specs.declared.program.Program.{Program}

@@ -11,7 +11,7 @@ use Rattle.mv_ir.specs.declared.stm.Stm.TheOpen.{Stm-F}
 use Rattle.mv_ir.specs.declared.stm.Stm.TheOpen as stm
 use Rattle.mv_ir.specs.World.{Setting, Frame}
 use Rattle.mv_ir.specs.Trees.{Value, value, nodes, nodes_of_all, divide}
-use Rattle.mv_ir.specs.Outcome.{State, Returned, Outcome, Next, Ends, Run, Meaning, in_order}
+use Rattle.mv_ir.specs.Outcome.{State, Returned, Outcome, Next, Ends, Meaning, in_order}
 use Rattle.mv_ir.specs.Meaning.{elements, with_temp, with_world, with_global, with_elements, traps, At, goal_of, goal, callee_nodes, call_to, known_end, statement}
 use Rattle.mv_ir.specs.Keeps.{KeepsRun, KeepsMeaning}
 use Rattle.mv_ir.proofs.Keeping.{run_refl, run_equal, spend_keeps, loop_keeps, block_keeps, either_keeps}

@@ -1,5 +1,5 @@
 -- Lemmas on this crate's words that the crates above share.
-use Rattle.std.proofs.Common.{List, [], ◌∷◌, ◌++◌, ◌+◌, All, ◌≡◌, ℕ, sym, ap, ◌∙◌, suc, max}
+use Rattle.std.proofs.Common.{List, [], ◌∷◌, ◌++◌, All, ◌≡◌, ℕ, sym, ap, ◌∙◌, suc, max}
 use Rattle.mv_ir.proofs.Induction.{Each}
 use Rattle.std.proofs.lemmas.List.Elements.{All-nil, All-cons}
 use Rattle.mv_ir.specs.declared.tree.Tree.TheVariants.{rolls-Number, rolls-Temp, rolls-Global, rolls-Function, rolls-Unary, rolls-Binary, rolls-Narrow}

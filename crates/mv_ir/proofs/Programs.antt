@@ -1,5 +1,5 @@
 -- If each function of a program keeps its meaning, they do so together: at each bound, at no greater cost.
-use Rattle.std.proofs.Common.{arith, ℕ, zero, suc, cond, eqb, ltb, List, [], ◌∷◌, map, Option, Some, None, refl, sym, ◌∙◌, subst, ap}
+use Rattle.std.proofs.Common.{arith, ℕ, zero, suc, eqb, ltb, List, [], ◌∷◌, map, Option, Some, None, refl, sym, ◌∙◌, subst, ap}
 use Rattle.std.specs.Prelude.{slice_get}
 use Rattle.mv_ir.specs.declared.stm.Stm.{Stm}
 use Rattle.mv_ir.specs.declared.stm.Stm.TheOpen.{Stm-F}
@@ -7,7 +7,7 @@ use Rattle.mv_ir.specs.declared.stm.Stm.TheOpen as stm
 use Rattle.mv_ir.specs.declared.stm.Stm.TheFolds.{map-Stm}
 use Rattle.mv_ir.specs.declared.body.Body.{Body}
 use Rattle.mv_ir.specs.World.{World, Setting, Frame}
-use Rattle.mv_ir.specs.Outcome.{State, Run, Call, Bound, Meaning, in_order, block_end, block, loop}
+use Rattle.mv_ir.specs.Outcome.{State, Call, Bound, Meaning, in_order, block_end, block, loop}
 use Rattle.mv_ir.specs.Meaning.{Goal, Nowhere, Null, At, call_end, made_call, within, call_to, statement, meaning, code_meaning, of_tree, body_end, entry_state, cleared, body_meaning}
 use Rattle.mv_ir.specs.Keeps.{KeepsRun, KeepsCall}
 use Rattle.mv_ir.specs.KeptPrograms.{KeepsFunction, KeepsFunctions, KeepsBound}

@@ -7,13 +7,13 @@ use Rattle.std.proofs.lemmas.Bool.{cases_lt, cases_eq}
 use Rattle.mv_isa.specs.declared.labelled.Labelled.{Labelled}
 use Rattle.mv_isa.specs.declared.labelled.Line.{Line}
 use Rattle.mv_isa.specs.declared.labelled.Line.TheVariants.{Word, Label, Jump, Branch, Entry, Slot}
-use Rattle.mv_isa.specs.Code.{IsSizing, line_at, least_words, address, text_start}
+use Rattle.mv_isa.specs.Code.{IsSizing, line_at, least_words, text_start}
 use Rattle.mv_isa.specs.Standing.{LineStands, word_at}
 use Rattle.mv_asm.specs.Outcome.{AreWordsUnder}
 use Rattle.mv_image.specs.Spelling.{Fields}
 use Rattle.mv_image.specs.WellFormed.{IsInText}
 use Rattle.mv_linker.specs.declared.parts.Parts.{Parts}
-use Rattle.mv_linker.specs.Linked.{codes, relabelled, linked_lines, first_label, line_count, part_index, AreParts}
+use Rattle.mv_linker.specs.Linked.{relabelled, linked_lines, first_label, line_count, part_index, AreParts}
 use Rattle.mv_linker.specs.Tables.{is_slot, BeginsWithWords}
 use Rattle.mv_linker.specs.Laws.{FunctionStands}
 use Rattle.mv_linker.proofs.Places.{function_law}

@@ -1,5 +1,5 @@
 -- The sites of linked lines: one for each slot, in order.
-use Rattle.std.proofs.Common.{◌≡◌, ℕ, zero, suc, ◌+◌, ◌<◌, ◌≤◌, ◌++◌, true, false, List, [], ◌∷◌, Some, length, map, slice_get, get_or, eqb, cond, Bool, All, refl, ap, sym, ◌∙◌, arith, eq-eqb}
+use Rattle.std.proofs.Common.{◌≡◌, ℕ, zero, suc, ◌+◌, ◌<◌, ◌++◌, true, false, List, [], ◌∷◌, Some, length, map, slice_get, get_or, eqb, cond, Bool, All, refl, ap, sym, ◌∙◌, arith, eq-eqb}
 use Rattle.std.specs.Prelude.{sum_by}
 use Rattle.std.proofs.lemmas.List.Elements.{All-nil, All-cons, All-append, All-head, All-tail, All-map, All-from_recursion}
 use Rattle.std.proofs.lemmas.List.Sums.{sum_by-append, sum_by-cons}

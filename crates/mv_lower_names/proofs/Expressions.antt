@@ -18,7 +18,7 @@ use Rattle.mv_source_forms.specs.Names.{is_void}
 use Rattle.mv_source_forms.proofs.ExpressionFolds.{along_exprs}
 use Rattle.mv_source_forms.proofs.ExpressionInduction.{FormChildren, TargetChildren}
 use Rattle.mv_lower_shape.proofs.Folds.{lowered_exprs, lowers}
-use Rattle.mv_lower_names.proofs.Naming.{both, then, number_names, temp_names, global_names, function_names, unary_names, binary_names, narrowed_names, set_names, set_global_names, divide_names, check_names, read_names, write_names, choose_names, known_names, direct_names, through_names, naming}
+use Rattle.mv_lower_names.proofs.Naming.{then, number_names, temp_names, global_names, function_names, unary_names, binary_names, narrowed_names, set_names, set_global_names, divide_names, check_names, read_names, write_names, choose_names, known_names, direct_names, through_names, naming}
 use Rattle.mv_lower_names.proofs.Premises.{OwnNames, KnownOf}
 
 module _ (F : ℕ → Type 0) (K : Known → Type 0) (C : ℕ → Type 0) (zero_is : C 0) (one_is : C 1) (greatest_is : C 4294967295) where

@@ -24,7 +24,7 @@ use Rattle.mv_lower_spec.specs.Correct.{Ground, resting, none, val, Shows, Corre
 use Rattle.mv_lower_spec.proofs.Running as run
 use Rattle.mv_lower_spec.proofs.Running.{nodes_number, nodes_temp, nodes_binary}
 use Rattle.mv_lower_spec.proofs.Showing as show
-use Rattle.mv_meaning.proofs.Sequences.{in_order_both, assoc}
+use Rattle.mv_meaning.proofs.Sequences.{in_order_both}
 use Rattle.mv_lower_spec.proofs.Bare.{bare_of}
 use Rattle.mv_lower_spec.proofs.Flows as flows
 use Rattle.mv_lower_spec.proofs.Flows.{code}

@@ -7,14 +7,14 @@ use Rattle.mv_ast.specs.declared.program.Program.{Program}
 use Rattle.mv_ast.specs.declared.program.Global.{Global}
 use Rattle.mv_ast.specs.declared.program.Function.{Function}
 use Rattle.mv_ast.specs.declared.program.Expr.{Expr}
-use Rattle.mv_ast.specs.declared.program.Form.{Form, roll-Form, out-roll-Form}
+use Rattle.mv_ast.specs.declared.program.Form.{out-roll-Form}
 use Rattle.mv_ast.specs.declared.program.Form.TheOpen as form
 use Rattle.mv_ast.specs.declared.program.Target.{Target, roll-Target, out-Target, out-roll-Target}
-use Rattle.mv_ast.specs.declared.program.Stmt.{Stmt, roll-Stmt, every_made-Stmt}
+use Rattle.mv_ast.specs.declared.program.Stmt.{roll-Stmt, every_made-Stmt}
 use Rattle.mv_ast.specs.declared.program.Stmt.TheOpen as stmt
 use Rattle.mv_ast.specs.Starts.{first_words_under}
 use Rattle.mv_meaning_numbering.proofs.Constants.{comes_number}
-use Rattle.mv_source_forms.specs.Typing.{IsNull, IsFirstValue, HasType, LvalueHasType, HasTypedParts, IsTypedExpr, IsTypedStmt, IsTypedFunction, IsFunctionOf, IsTyped}
+use Rattle.mv_source_forms.specs.Typing.{IsNull, IsFirstValue, LvalueHasType, HasTypedParts, IsTypedExpr, IsTypedStmt, IsTypedFunction, IsFunctionOf, IsTyped}
 use Rattle.mv_source_forms.proofs.TypedParts.{rolled, TypedTarget, expr_made, target_made}
 use Rattle.mv_ast.specs.Types.{int}
 

@@ -1,5 +1,5 @@
 -- Lemmas on lists that the crates above share.
-use Rattle.std.proofs.Common.{◌≡◌, ℕ, zero, suc, ◌+◌, List, [], ◌∷◌, ◌++◌, Some, slice_get, ◌<◌, length, refl, ◌∙◌, ap, arith, set, ◌≢◌, Bool, true, false, ltb, get_or, map, subst, slice_set, ◌≤◌, ◌-◌, zero-add, suc-add, Contains}
+use Rattle.std.proofs.Common.{◌≡◌, ℕ, zero, suc, ◌+◌, List, [], ◌∷◌, ◌++◌, Some, slice_get, ◌<◌, length, refl, ◌∙◌, ap, arith, set, ◌≢◌, Bool, true, false, ltb, get_or, map, subst, slice_set, ◌≤◌, zero-add, suc-add, Contains}
 use Rattle.std.specs.Prelude.{slice_index, slice_index_or, sum, All}
 use Rattle.std.specs.List.{position, position_or_len}
 use Rattle.std.proofs.lemmas.Bool.{lt-ltb}

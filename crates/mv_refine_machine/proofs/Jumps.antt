@@ -1,5 +1,5 @@
 -- The jumps that a plan puts into text are JAL.
-use Rattle.std.proofs.Common.{◌≡◌, ℕ, ◌-◌, ◌^◌, ◌<◌, Option, Some, refl, ap, ◌∙◌, arith}
+use Rattle.std.proofs.Common.{◌≡◌, ℕ, ◌^◌, ◌<◌, Option, Some, refl, ap, ◌∙◌, arith}
 use Rattle.std.proofs.lemmas.Int.{ints}
 use Rattle.mv_isa.specs.declared.instr.Instr.TheVariants.{Jal}
 use Rattle.mv_isa.specs.Formats.{low_in, i_word}

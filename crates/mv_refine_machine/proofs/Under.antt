@@ -17,7 +17,7 @@ use Rattle.mv_refine_machine.specs.Calm.{Rest, is_calm}
 use Rattle.mv_refine_machine.specs.Layout.{OwnOutsideText}
 use Rattle.mv_refine_machine.specs.Laws.{RunsAreRunsUnder}
 use Rattle.mv_refine_machine.specs.MachineRuns.{access, bound_word, is_sound, machine_of}
-use Rattle.mv_refine_machine.specs.Steps.{LeadsUnder, StepsAreTaken}
+use Rattle.mv_refine_machine.specs.Steps.{LeadsUnder}
 use Rattle.mv_refine_machine.specs.Under.{words_under}
 use Rattle.mv_refine_machine.proofs.Calming.{calm_told, calm_tested}
 use Rattle.mv_refine_machine.proofs.Fetches.{calm_choice}

@@ -7,7 +7,7 @@ use Rattle.mv_ir.specs.Live.{mark_at, all_marks, IsWhole, HasTemps}
 use Rattle.mv_ir.specs.WellFormed.{all_true, all_around, is_there, has_room}
 use Rattle.mv_regalloc.specs.Scan.{used, number_of, Overlap}
 use Rattle.mv_regalloc.specs.Rename.{renamed, Fits}
-use Rattle.mv_regalloc.specs.Intervals.{span, by_first, range, given, allotted, IsRenamed, others, positions}
+use Rattle.mv_regalloc.specs.Intervals.{span, range, given, allotted, IsRenamed, others, positions}
 use Rattle.mv_regalloc.specs.Tracked.{IsNumbered}
 use Rattle.mv_regalloc.specs.declared.number.Numbering.{Numbering}
 use Rattle.mv_regalloc.proofs.Apart.{numbers_apart, number_found}

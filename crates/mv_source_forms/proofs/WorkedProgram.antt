@@ -10,14 +10,14 @@ use Rattle.mv_ast.specs.declared.program.Function.{Function}
 use Rattle.mv_ast.specs.declared.program.Expr.{Expr, Expr-F, roll-Expr, fold-roll-Expr}
 use Rattle.mv_ast.specs.declared.program.Form.{Form, Form-F, map-Form, roll-Form, fold-Form, fold-roll-Form}
 use Rattle.mv_ast.specs.declared.program.Form.TheOpen as form
-use Rattle.mv_ast.specs.declared.program.Target.{Target, fold-Target, Target-F, map-Target, fold-roll-Target, roll-Target, out-Target, out-roll-Target}
+use Rattle.mv_ast.specs.declared.program.Target.{Target, Target-F, map-Target, fold-roll-Target, roll-Target, out-Target, out-roll-Target}
 use Rattle.mv_ast.specs.declared.program.Stmt.{Stmt, Stmt-F, map-Stmt, roll-Stmt, every_made-Stmt, fold-roll-Stmt}
 use Rattle.mv_ast.specs.declared.program.Stmt.TheOpen as stmt
 use Rattle.mv_ast.specs.declared.program.Arm.{Arm, Arm-F, fold-Arm, map-Arm, roll-Arm, every-Arm, every_made-Arm, fold-roll-Arm}
 use Rattle.mv_ast.specs.Counts.{words_of_size, form_sum, target_sum, one_more_than, expr_nodes, form_nodes, target_nodes, stmt_nodes_step, arm_nodes_step, stmt_nodes, arm_nodes}
 use Rattle.mv_source_forms.specs.Uses.{all_layer, all_arm_layer, all_expressions, form_calls_known, target_in_parts, calls_known, target_calls_known}
 use Rattle.mv_source_forms.specs.WellFormed.{program_nodes, IsWellFormedFunction, IsWellFormed}
-use Rattle.mv_source_forms.specs.Typing.{HasType, LvalueHasType, HasTypedParts, IsTypedExpr, IsTypedAt, local_types, IsTypedStmt, IsTypedFunction}
+use Rattle.mv_source_forms.specs.Typing.{LvalueHasType, HasTypedParts, IsTypedExpr, IsTypedAt, local_types, IsTypedStmt, IsTypedFunction}
 use Rattle.mv_ast.specs.Names.{names_local, form_names, target_names, inner_names, target_names_local}
 use Rattle.mv_source_forms.specs.Names.{names_form, names_target, names_layer, is_well_named, form_is_well_named, target_is_well_named, stmt_named_layer, arm_named_layer, stmt_is_well_formed, arm_is_well_formed}
 use Rattle.mv_source_forms.specs.Jumps.{Jumping, stmt_jumps, arm_jumps, jumps_layer, arm_jumps_layer}

@@ -1,5 +1,5 @@
 -- Which status comes of a command, from what each status says.
-use Rattle.std.proofs.Common.{ℕ, ◌≡◌, ◌^◌, ◌<◌, ◌⊎◌, inl, inr, true, false, List, [], refl, sym, ap, ◌∙◌, subst, Option, Some, None}
+use Rattle.std.proofs.Common.{ℕ, ◌≡◌, ◌⊎◌, inl, inr, true, false, List, [], refl, sym, ap, ◌∙◌, subst, Option, Some, None}
 use Rattle.mv_ast.specs.declared.program.Program.{Program}
 use Rattle.mv_ast.specs.declared.world.Event.{Event}
 use Rattle.mv_io.specs.Shelves.{Files, Lacks}
@@ -7,7 +7,6 @@ use Rattle.mv_front.specs.Verdicts.{IsRefused}
 use Rattle.mv_front.specs.declared.refusal.Refusal.{Refusal}
 use Rattle.mv_build.specs.Verdicts.{PassesLimit}
 use Rattle.mv_exec.specs.Loading.{IsBadImage}
-use Rattle.mv_gen.specs.Generated.{generated}
 use Rattle.mv_refine.specs.Environment.{Writing}
 use Rattle.mv_command.specs.Commands.{Asked, Runs, Builds, Executes, Lists, Evaluates, Generates, IsCommand, IsNoCommand}
 use Rattle.mv_command.proofs.Same.{same_asked}
@@ -20,7 +19,6 @@ use Rattle.mv_top.specs.Outcomes as outcomes
 use Rattle.mv_top.specs.Outcomes.{Comes, Does, IsCarriedOut, IsDue}
 use Rattle.mv_top.specs.Outside as outsides
 use Rattle.mv_top.specs.Outside.{Outside, Holds, OfFile, ShelfFailed, Tells}
-use Rattle.mv_top.specs.Running.{no_action}
 use Rattle.mv_top.proofs.RunsDecided.{run_ended, run_refused, run_wrong_item}
 use Rattle.mv_top.proofs.OthersDecided.{build_done, build_refused, eval_ended, eval_refused, exec_bad, exec_stands, exec_wrong_item, gen_ended, gen_stands, list_bad, list_done, show_done}
 

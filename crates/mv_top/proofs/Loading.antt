@@ -1,6 +1,6 @@
 -- From the load of a file to what comes of the command.
 use Rattle.std.proofs.Common.{ℕ, ◌≡◌, ◌⊎◌, List, Option, Some, None, refl, sym, subst}
-use Rattle.std.specs.Prelude.{Vec, Ok, Err}
+use Rattle.std.specs.Prelude.{Vec, Ok}
 use Rattle.std.specs.declared.alloc.Global.{Global}
 use Rattle.mv_io.specs.Shelves.{Files, Lacks, Loads}
 use Rattle.mv_io.specs.declared.outside.ShelfError.{ShelfError}

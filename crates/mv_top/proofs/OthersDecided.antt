@@ -1,5 +1,5 @@
 -- Which status comes of what is evaluated, built, run as an image, listed or generated.
-use Rattle.std.proofs.Common.{ℕ, ◌≡◌, ◌≤◌, ◌<◌, ◌^◌, ◌⊎◌, inl, inr, List, [], take, refl, sym, ap, ◌∙◌, subst, Option, Some, arith}
+use Rattle.std.proofs.Common.{ℕ, ◌≡◌, ◌≤◌, ◌<◌, ◌^◌, ◌⊎◌, inl, inr, List, [], take, refl, sym, ap, ◌∙◌, subst, Some, arith}
 use Rattle.std.specs.Prelude.{Result, Ok, Err, ⊤}
 use Rattle.std.proofs.lemmas.List.Elements.{All-nil}
 use Rattle.mv_ast.specs.declared.program.Program.{Program}
@@ -26,7 +26,7 @@ use Rattle.mv_command.specs.declared.options.TheConstants.{DEFAULT_STEPS}
 use Rattle.mv_operator.specs.Operator.{IsImageActions, IsImageFirstWrong}
 use Rattle.mv_operator.proofs.Acting as operator
 use Rattle.mv_notes.specs.declared.status.Status.{Status}
-use Rattle.mv_notes.specs.declared.status.Status.TheVariants.{Refused, Memory, BadImage, Done}
+use Rattle.mv_notes.specs.declared.status.Status.TheVariants.{Refused, BadImage, Done}
 use Rattle.mv_build.specs.Verdicts.{PassesLimit}
 use Rattle.mv_top.specs.Building as building
 use Rattle.mv_top.specs.Building.{BuildDoes}

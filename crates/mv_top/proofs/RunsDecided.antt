@@ -1,5 +1,5 @@
 -- Which status comes of the run of a text.
-use Rattle.std.proofs.Common.{ℕ, ◌≡◌, ◌^◌, ◌<◌, ◌⊎◌, inl, inr, List, [], refl, sym, ap, ◌∙◌, subst, Option, Some}
+use Rattle.std.proofs.Common.{ℕ, ◌≡◌, ◌^◌, ◌<◌, ◌⊎◌, inl, inr, List, [], refl, sym, ap, ◌∙◌, subst, Some}
 use Rattle.std.specs.Prelude.{All}
 use Rattle.mv_ast.specs.declared.program.Program.{Program}
 use Rattle.mv_ast.specs.declared.world.Action.{Action}
@@ -25,7 +25,7 @@ use Rattle.mv_command.specs.declared.command.RunOptions.{RunOptions}
 use Rattle.mv_operator.specs.Operator.{IsActions, IsFirstWrong}
 use Rattle.mv_operator.proofs.Acting as operator
 use Rattle.mv_notes.specs.declared.status.Status.{Status}
-use Rattle.mv_notes.specs.declared.status.Status.TheVariants.{Refused, Memory}
+use Rattle.mv_notes.specs.declared.status.Status.TheVariants.{Refused}
 use Rattle.mv_top.specs.Decisions.{Ends, Is, IsWithinLimits, Stands}
 use Rattle.mv_top.specs.Evaluating.{status_of_end}
 use Rattle.mv_top.specs.Running as running

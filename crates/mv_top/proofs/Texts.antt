@@ -1,6 +1,6 @@
 -- From the answers of the layers to what comes of a text that is run, built or evaluated.
 use Rattle.std.proofs.Common.{ℕ, ◌≡◌, ◌≤◌, List, [], sym, subst, Option}
-use Rattle.std.specs.Prelude.{Result, Err, IsErrOf, ⊤}
+use Rattle.std.specs.Prelude.{Result, IsErrOf, ⊤}
 use Rattle.mv_ast.specs.declared.program.Program.{Program}
 use Rattle.mv_ast.specs.declared.world.Action.{Action}
 use Rattle.mv_ast.specs.declared.world.Event.{Event}

@@ -1,5 +1,5 @@
 -- What comes of a run of an image that is loaded.
-use Rattle.std.specs.Prelude.{ℕ, ◌≡◌, List, []}
+use Rattle.std.specs.Prelude.{ℕ, List, []}
 use Rattle.mv_ast.specs.declared.world.Action.{Action}
 use Rattle.mv_ast.specs.declared.world.Event.{Event}
 use Rattle.mv_exec.specs.Loading.{IsBadImage}
