@@ -1,5 +1,5 @@
 -- What specifiers declare: enumerators and tags. The type that they name is no pointer.
-use Rattle.std.proofs.Common.{◌≡◌, ℕ, inl, refl, sym, ◌∙◌, ap, subst, Bool, true, false, is_some, List, [], ◌∷◌, length, take, drop, Option, Some, None}
+use Rattle.std.proofs.Common.{◌≡◌, ℕ, inl, refl, sym, ◌∙◌, ap, subst, Bool, true, false, is_some, if◌then◌else◌, List, [], ◌∷◌, length, take, drop, Option, Some, None}
 use Rattle.mv_num.specs.declared.kind.Kind.{Kind}
 use Rattle.mv_ast.specs.declared.place.Place.{Place}
 use Rattle.mv_ast.specs.declared.unit.Declarator.{Declarator}
