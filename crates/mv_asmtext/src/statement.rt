@@ -36,6 +36,7 @@ pub struct Operands {
     pub value: Value,
 }
 
+/// An instruction or a directive, with its operands.
 #[derive(Drop)]
 pub struct Statement {
     pub operation: Operation,

@@ -197,6 +197,7 @@ fn called_with(
     })
 }
 
+/// A call of a function (C11 6.5.2.2), with as many arguments as it takes, which must convert to the types of its parameters.
 pub fn call(
     alloc: Global,
     scope: &Scope,

@@ -1,4 +1,6 @@
-// The forms of an expression: what a node is, given what its parts are, and the rules that it breaks.
+// The forms of an expression: what a node is, given what its parts are, and the rules that it breaks. Beside those that its
+// form asks for there are those of its use (`breaches_of_use`). A form fails for want of memory only where it takes an
+// allocator.
 
 ghost use Rattle.std.specs.Prelude.{◌≡◌, IfOk, Some};
 ghost use Rattle.mv_ast.specs.declared.unit.What.TheOpen as what;
@@ -29,6 +31,7 @@ use mv_num::boxed::Boxed;
 use mv_num::kind::Kind;
 use std::alloc::{AllocError, Global};
 
+/// A number (C11 6.5.1), which breaks no rule of its own.
 pub fn number(scope: &Scope, place: Place, used: Use, n: u32, kind: Kind) -> Result<Seen, RuleError>
     ensures { IsJudged (by_itself scope.now place used (what.Number n kind)) result }
 {
@@ -48,6 +51,7 @@ fn is_uncalled(used: Use, seen: &Seen) -> bool
     }
 }
 
+/// A name (C11 6.5.1). It must be declared, a function that it names defined, and a known function called.
 pub fn name(scope: &Scope, place: Place, used: Use, name: &[u8]) -> Result<Seen, RuleError>
     ensures { IsJudged (by_itself scope.now place used (what.Name name.now)) result }
 {
@@ -117,6 +121,8 @@ fn unary_seen(alloc: Global, used: Use, op: u8, operand: Seen) -> Result<Seen, A
     Ok(seen)
 }
 
+/// An operator before its operand (C11 6.5.3.2, 6.5.3.3), of which it must take the type. `&` stands before a function, or
+/// before a switch where one is wanted, and `*` before a function pointer.
 pub fn unary(
     alloc: Global,
     scope: &Scope,
@@ -138,6 +144,7 @@ pub fn unary(
     concluded(place, breaches, seen)
 }
 
+/// An operator between two operands (C11 6.5.5 to 6.5.14), of which it must take the types.
 pub fn binary(
     alloc: Global,
     scope: &Scope,
@@ -161,6 +168,7 @@ pub fn binary(
     concluded(place, breaches, seen)
 }
 
+/// `?:` (C11 6.5.15). The test must be a scalar, and the sides integers, or a function pointer and what converts to its type.
 pub fn choose(
     alloc: Global,
     scope: &Scope,
@@ -185,6 +193,8 @@ pub fn choose(
     concluded(place, breaches, seen)
 }
 
+/// An assignment (C11 6.5.16) to an object without `const`. A simple one is of a value that converts to its type, a compound
+/// one of an integer to an integer. In an attributed function the object must be no switch.
 pub fn assign(
     alloc: Global,
     scope: &Scope,
@@ -214,6 +224,7 @@ pub fn assign(
     concluded(place, breaches, seen)
 }
 
+/// `++` or `--` before an integer object without `const` (C11 6.5.3.1), which in an attributed function must be no switch.
 pub fn before(
     alloc: Global,
     scope: &Scope,
@@ -238,6 +249,7 @@ pub fn before(
     concluded(place, breaches, seen)
 }
 
+/// `++` or `--` behind such an object (C11 6.5.2.4).
 pub fn after(
     scope: &Scope,
     place: Place,
@@ -305,6 +317,7 @@ fn element_of(alloc: Global, array: Option<Elements>, index: Expr) -> Result<See
     }
 }
 
+/// An element of an array (C11 6.5.2.1), at an index that must be an integer.
 pub fn index(
     alloc: Global,
     scope: &Scope,
@@ -337,6 +350,7 @@ fn is_wrong_cast(used: Use, to: CType, from: CType) -> bool
     }
 }
 
+/// A cast (C11 6.5.4) of an integer, or of anything to `void` where the cast is used for its effect alone.
 pub fn cast(
     alloc: Global,
     scope: &Scope,

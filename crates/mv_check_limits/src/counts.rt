@@ -27,7 +27,7 @@ pub fn are_too_many_parameters(count: u64) -> bool
     count > 8
 }
 
-// A count that is above a bound.
+/// A count, where it is above a bound.
 pub fn above(greatest: u64, count: u64) -> Option<u64>
     ensures { result ≡ first_above greatest (count ∷ []) }
 {
@@ -72,6 +72,7 @@ pub fn counts_of(unit: &Unit, program: &Program) -> Counts
     }
 }
 
+/// The first number of values of a switch's domain that is too many: above 16.
 pub fn values(program: &Program) -> Option<u64>
     ensures { result ≡ first_above 16 (values_limit program.now).counts }
 {
@@ -93,6 +94,7 @@ fn own_switches(function: &Function) -> u64
     }
 }
 
+/// The first number of switches of an attributed function that is too many: above 6.
 pub fn switches_of_functions(program: &Program) -> Option<u64>
     ensures { result ≡ first_above 6 (switches_of_function_limit program.now).counts }
 {
@@ -100,7 +102,7 @@ pub fn switches_of_functions(program: &Program) -> Option<u64>
     functions.map(|f| own_switches(f)).find(|count| *count > 6)
 }
 
-// The elements of an array.
+/// How many elements an array of this size has, and 0 for what is no array.
 pub fn elements(size: Option<u32>) -> u64
     ensures { result ≡ elements_of size }
 {
@@ -121,7 +123,7 @@ fn global_elements(program: &Program) -> Option<u64>
         .find(|count| *count > 262_144)
 }
 
-// The first array of some locals that is too long.
+/// The first number of elements of some locals that is too many: above 262,144.
 pub fn elements_of(locals: &[Local]) -> Option<u64>
     ensures { result ≡ first_above 262144 (map (λ l. elements_of l.size) locals.now) }
 {
@@ -177,6 +179,8 @@ fn assignments(program: &Program, function: &Function) -> u64
     }
 }
 
+/// The first number of assignments of a function's switches that is too many: above 64. A function that isn't attributed has
+/// none.
 pub fn most_assignments(program: &Program) -> Option<u64>
     requires small { first_above 16 (values_limit program.now).counts ≡ None }
     requires few { first_above 6 (switches_of_function_limit program.now).counts ≡ None }
@@ -191,7 +195,7 @@ pub fn most_assignments(program: &Program) -> Option<u64>
     None
 }
 
-// The first array that is too long, of the globals and then of the locals.
+/// The first number of elements that is too many, above 262,144: of the globals, and then of the locals of each function.
 pub fn all_elements(program: &Program) -> Option<u64>
     ensures { result ≡ first_above 262144 (elements_limit program.now).counts }
 {

@@ -9,7 +9,7 @@ use mv_num::boxed::Boxed;
 use mv_num::kind::Kind;
 use std::alloc::{AllocError, Global};
 
-// The number of a kind, by which kinds are told apart.
+/// The number of a kind, from 0 to 6, by which kinds are told apart.
 pub(crate) fn kind_number(kind: Kind) -> u8
     ensures { result ≡ kind_number kind }
 {

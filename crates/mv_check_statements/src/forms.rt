@@ -53,6 +53,7 @@ pub fn misplaced_case(
     Err(RuleError::Rule(place, rules::LABELS))
 }
 
+/// `break` (C11 6.8.6.3), which must have a loop or a `switch` around it.
 pub fn break_statement(place: Place, around: Around, scope: &Scope) -> Result<Stmt, RuleError>
     ensures { IsBehind (break_judgement place around scope.now) result scope.now }
 {
@@ -63,6 +64,7 @@ pub fn break_statement(place: Place, around: Around, scope: &Scope) -> Result<St
     }
 }
 
+/// `continue` (C11 6.8.6.2), which must have a loop around it.
 pub fn continue_statement(place: Place, around: Around, scope: &Scope) -> Result<Stmt, RuleError>
     ensures { IsBehind (continue_judgement place around scope.now) result scope.now }
 {

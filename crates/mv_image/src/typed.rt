@@ -15,6 +15,7 @@ pub(crate) fn words(words: &[u32])
     ensures { AreWords words.now }
 {}
 
+/// Each switch row has room for 16 values, and these are words.
 pub(crate) fn switches(rows: &[SwitchRow])
     ensures whole { All SwitchWhole rows.now }
     ensures values { All (λ (row : SwitchRow). AreWords row.values) rows.now }
@@ -25,6 +26,7 @@ pub(crate) fn switches(rows: &[SwitchRow])
     }
 }
 
+/// Each function row has room for 6 switches.
 pub(crate) fn functions(rows: &[FunctionRow])
     ensures { All FunctionWhole rows.now }
 {
@@ -33,6 +35,7 @@ pub(crate) fn functions(rows: &[FunctionRow])
     }
 }
 
+/// Each variant row has room for an inline body of 2 words, and these are words.
 pub(crate) fn variants(rows: &[VariantRow])
     ensures whole { All VariantWhole rows.now }
     ensures words { All (λ (row : VariantRow). AreWords row.words) rows.now }
@@ -43,6 +46,7 @@ pub(crate) fn variants(rows: &[VariantRow])
     }
 }
 
+/// Each guard row has room for the ranges of 6 switches, whose ends are words.
 pub(crate) fn guards(rows: &[GuardRow])
     ensures whole { All GuardWhole rows.now }
     ensures lowest { All (λ (row : GuardRow). AreWords row.low) rows.now }

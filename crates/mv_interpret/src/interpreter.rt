@@ -516,7 +516,7 @@ fn flow_of(
     }
 }
 
-// What some statements do in order.
+/// What some statements do in order (C11 6.8.2), up to the first behind which control goes elsewhere.
 #[cycle(evaluation)]
 pub fn flow_of_all(
     program: &Program,

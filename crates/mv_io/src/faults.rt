@@ -33,6 +33,7 @@ impl Model for FaultSchedule {
 }
 
 impl FaultSchedule {
+    /// A schedule of which no call was made yet. A number 0 is that of no call.
     pub fn new(failing: Vec<u32>) -> FaultSchedule
         ensures { result ≡ unused failing.items }
     {

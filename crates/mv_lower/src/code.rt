@@ -37,6 +37,7 @@ pub fn in_body(jumps: Jumps) -> Jumps
     }
 }
 
+/// A list of one statement.
 pub fn alone(alloc: Global, stm: Stm) -> Result<List<Stm>, AllocError>
     ensures { IfOk result (λ code. code ≡ stm ∷ []) }
 {

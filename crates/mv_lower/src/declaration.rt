@@ -47,6 +47,7 @@ fn clear_words(size: Option<u32>, local: u32) -> Stm
     }
 }
 
+/// How many words a local of this size has: 1 where it is no array.
 pub fn words(size: Option<u32>) -> u32
     ensures { result ≡ words_of_size size }
 {

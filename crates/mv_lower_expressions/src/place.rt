@@ -36,6 +36,7 @@ pub fn start(place: &Place, n: u32) -> u32
     }
 }
 
+/// A tree that needs no code before it.
 pub fn alone(alloc: Global, tree: Tree, top: u32) -> Value
     ensures { seen result ≡ alone tree top }
 {

@@ -43,6 +43,7 @@ pub fn followed_by_all(mut code: List<Stm>, more: List<Stm>) -> Result<List<Stm>
     Ok(code)
 }
 
+/// Whether there is no code.
 #[tactic(auto, using(crate::proofs::Emitting::empties))]
 pub fn is_empty(code: &List<Stm>) -> bool
     ensures { result ≡ is_empty code.now }

@@ -25,6 +25,7 @@ impl<'a> Model for Operator<'a> {
 }
 
 impl<'a> Operator<'a> {
+    /// Nothing is taken yet.
     pub(crate) fn new(actions: &'a [Action]) -> Operator<'a>
         ensures { result ≡ actions.now }
     {

@@ -16,6 +16,7 @@ pub struct Recorder {
 }
 
 impl Recorder {
+    /// Takes the memory for so many events, and leaves at the last of them. An error is want of memory.
     pub fn new(alloc: Global, room: u32) -> Result<Recorder, AllocError>
         requires { 1 ≤ room }
         ensures told { IfOk result (λ recorder. ⟦<Recorder as Probe>⟧.told recorder ≡ Some []) }

@@ -173,6 +173,7 @@ impl Liveness {
         Ok(())
     }
 
+    /// Inserts temporaries in order. Where memory lacks, the first of them may be live.
     pub fn insert_all(&mut self, temps: &[u32]) -> Result<(), AllocError>
         ensures { OnOk result (self.new ≡ with_live self.old (with_temps temps.now self.old.live)) }
     {
@@ -182,6 +183,7 @@ impl Liveness {
         Ok(())
     }
 
+    /// A temporary past the end has no bit. Where memory lacks, the sets are as they were.
     pub fn remove(&mut self, temp: u32) -> Result<(), AllocError>
         ensures ok { OnOk result (self.new ≡ with_live self.old (slice_set self.old.live temp false)) }
         ensures err { OnErr result (self.new ≡ self.old) }
@@ -192,6 +194,7 @@ impl Liveness {
         Ok(())
     }
 
+    /// Removes a temporary, if there is one. Where memory lacks, the sets are as they were.
     pub fn remove_some(&mut self, temp: Option<u32>) -> Result<(), AllocError>
         ensures { OnOk result (self.new ≡ with_live self.old (put_bit temp false self.old.live)) }
     {

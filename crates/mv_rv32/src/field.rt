@@ -7,6 +7,7 @@ ghost use Rattle.mv_isa.specs.Execution.{upper};
 use crate::arith;
 use mv_num::word::of_signed;
 
+/// The opcode: bits 6 to 0 (RISC-V unprivileged ISA 2.2).
 #[inline(always)]
 #[tactic(auto, unfolding(mv_isa::specs::Formats::opcode_of))]
 pub(crate) fn opcode(word: u32) -> u32
@@ -15,6 +16,7 @@ pub(crate) fn opcode(word: u32) -> u32
     word & 0x7f
 }
 
+/// The register that is written: bits 11 to 7.
 #[inline(always)]
 #[tactic(auto, unfolding(mv_isa::specs::Formats::rd_of))]
 pub(crate) fn rd(word: u32) -> usize
@@ -24,6 +26,7 @@ pub(crate) fn rd(word: u32) -> usize
     ((word >> 7) & 0x1f) as usize
 }
 
+/// funct3: bits 14 to 12.
 #[inline(always)]
 #[tactic(auto, unfolding(mv_isa::specs::Formats::funct3_of))]
 pub(crate) fn funct3(word: u32) -> u32
@@ -33,6 +36,7 @@ pub(crate) fn funct3(word: u32) -> u32
     (word >> 12) & 7
 }
 
+/// The first register that is read: bits 19 to 15.
 #[inline(always)]
 #[tactic(auto, unfolding(mv_isa::specs::Formats::rs1_of))]
 pub(crate) fn rs1(word: u32) -> usize
@@ -42,6 +46,7 @@ pub(crate) fn rs1(word: u32) -> usize
     ((word >> 15) & 0x1f) as usize
 }
 
+/// The second one: bits 24 to 20.
 #[inline(always)]
 #[tactic(auto, unfolding(mv_isa::specs::Formats::rs2_of))]
 pub(crate) fn rs2(word: u32) -> usize
@@ -51,7 +56,7 @@ pub(crate) fn rs2(word: u32) -> usize
     ((word >> 20) & 0x1f) as usize
 }
 
-// The count of a shift by an immediate.
+/// The count of a shift by an immediate, from 0 to 31: bits 24 to 20 (2.4).
 #[inline(always)]
 #[tactic(auto, unfolding(mv_isa::specs::Formats::rs2_of))]
 pub(crate) fn count(word: u32) -> u32
@@ -60,6 +65,7 @@ pub(crate) fn count(word: u32) -> u32
     of_signed(((word >> 20) & 0x1f) as i32)
 }
 
+/// funct7 and funct3 as one number below 1024: bits 31 to 25 above bits 14 to 12.
 #[inline(always)]
 #[tactic(auto, unfolding(mv_isa::specs::Formats::functs_of, mv_isa::specs::Formats::funct7_of, mv_isa::specs::Formats::funct3_of))]
 pub(crate) fn functs(word: u32) -> u32
@@ -85,6 +91,7 @@ fn signed_21(x: u32) -> i32
     (x << 11).cast_signed() >> 11
 }
 
+/// The immediate of format I, the word of a number from -2048 to 2047: bits 31 to 20 (2.3).
 #[inline(always)]
 #[tactic(auto, unfolding(mv_isa::specs::Formats::i_imm))]
 pub(crate) fn imm_i(word: u32) -> u32
@@ -93,6 +100,7 @@ pub(crate) fn imm_i(word: u32) -> u32
     of_signed(signed_12(word >> 20))
 }
 
+/// That of format S, of the same range: bits 31 to 25, and 11 to 7.
 #[inline(always)]
 #[tactic(auto, unfolding(mv_isa::specs::Formats::s_imm))]
 pub(crate) fn imm_s(word: u32) -> u32
@@ -101,6 +109,7 @@ pub(crate) fn imm_s(word: u32) -> u32
     of_signed(signed_12((word >> 25) * 0x20 + ((word >> 7) & 0x1f)))
 }
 
+/// That of format B, the word of an even distance in bytes from -4096 to 4094.
 #[inline(always)]
 pub(crate) fn imm_b(word: u32) -> u32
     ensures { result ≡ word_of (b_imm word) }
@@ -109,6 +118,7 @@ pub(crate) fn imm_b(word: u32) -> u32
     (word >> 31) * 0xffff_f000 + low
 }
 
+/// That of format U: bits 31 to 12 where they stand, and zeros below.
 #[inline(always)]
 #[tactic(auto, unfolding(mv_isa::specs::Formats::u_imm))]
 pub(crate) fn upper(word: u32) -> u32
@@ -117,6 +127,7 @@ pub(crate) fn upper(word: u32) -> u32
     arith::upper((word >> 12) as i32)
 }
 
+/// That of format J, the word of an even distance in bytes from -2^20 to 2^20 - 2.
 #[inline(always)]
 #[tactic(auto, unfolding(mv_isa::specs::Formats::j_imm))]
 pub(crate) fn imm_j(word: u32) -> u32

@@ -11,7 +11,7 @@ use mv_num::kind::Kind;
 use mv_num::word;
 
 impl Hart {
-    // What a register reads.
+    /// What a register reads: x0 is 0 (RISC-V unprivileged ISA 2.1).
     #[inline(always)]
     #[tactic(auto, unfolding(mv_isa::specs::Execution::reg))]
     pub(crate) fn reg(&self, register: usize) -> u32
@@ -21,7 +21,7 @@ impl Hart {
         self.regs[register]
     }
 
-    // Whether two registers are equal, or the first is less, as signed numbers or as unsigned ones.
+    /// Whether two registers are equal, for BEQ and BNE (2.5).
     #[inline(always)]
     pub(crate) fn are_equal(&self, rs1: usize, rs2: usize) -> bool
         requires rs1 { rs1 < 32 }
@@ -31,6 +31,7 @@ impl Hart {
         self.reg(rs1) == self.reg(rs2)
     }
 
+    /// Whether the first is less as a signed number, for BLT and BGE (2.5).
     #[inline(always)]
     pub(crate) fn is_less_s(&self, rs1: usize, rs2: usize) -> bool
         requires rs1 { rs1 < 32 }
@@ -40,6 +41,7 @@ impl Hart {
         word::lt_s(self.reg(rs1), self.reg(rs2))
     }
 
+    /// Whether the first is less as an unsigned number, for BLTU and BGEU (2.5).
     #[inline(always)]
     pub(crate) fn is_less_u(&self, rs1: usize, rs2: usize) -> bool
         requires rs1 { rs1 < 32 }
@@ -62,7 +64,7 @@ impl Hart {
         }
     }
 
-    // On to the next instruction.
+    /// On to the next instruction.
     #[inline(always)]
     pub(crate) fn goes_on(&mut self) -> Stepped
         ensures regs { self.new.regs ≡ self.old.regs }
@@ -73,7 +75,7 @@ impl Hart {
         Stepped::Next
     }
 
-    // On to the next instruction, with a value in a register.
+    /// On to the next instruction, with a value in a register.
     #[inline(always)]
     #[tactic(auto, unfolding(mv_isa::specs::Execution::sets))]
     pub(crate) fn sets(&mut self, rd: usize, value: u32) -> Stepped
@@ -85,7 +87,7 @@ impl Hart {
         self.goes_on()
     }
 
-    // A jump, with the address of the next instruction in a register.
+    /// A jump, with the address of the next instruction in a register (2.5). It faults where the target is no multiple of 4.
     #[inline(always)]
     #[tactic(auto, unfolding(mv_isa::specs::Execution::jumps))]
     pub(crate) fn jumps(&mut self, rd: usize, target: u32) -> Stepped
@@ -103,7 +105,7 @@ impl Hart {
         Stepped::Next
     }
 
-    // A branch, taken where the test holds.
+    /// A branch, taken where the test holds (2.5). It faults only where it is taken and the target is no multiple of 4.
     #[inline(always)]
     #[tactic(auto, unfolding(mv_isa::specs::Execution::jumps))]
     pub(crate) fn branches(&mut self, offset: u32, test: bool) -> Stepped
@@ -122,7 +124,8 @@ impl Hart {
         Stepped::Next
     }
 
-    // A load into a register.
+    /// A load of 1, 2 or 4 bytes into a register (2.6), the sign of a signed kind or zeros above them. It faults where memory
+    /// refuses it.
     #[inline(always)]
     #[tactic(auto, unfolding(crate::specs::Stepping::access))]
     pub(crate) fn loads(
@@ -148,7 +151,8 @@ impl Hart {
         }
     }
 
-    // A store of a register.
+    /// A store of the lowest 1, 2 or 4 bytes of a register (2.6). It faults where memory refuses it. A store into text that
+    /// finds no memory for the word that stood there gives `Memory`, and changes nothing.
     #[inline(always)]
     #[tactic(auto, unfolding(crate::specs::Stepping::access))]
     pub(crate) fn stores(

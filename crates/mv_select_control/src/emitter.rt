@@ -47,7 +47,8 @@ impl Emitter {
         }
     }
 
-    // Leaves the n-th of what encloses the code.
+    /// A jump to the end of the n-th of what encloses the code, counted from 0, the innermost; past all of them to the
+    /// function's end.
     pub(crate) fn push_break(&mut self, n: u32, end: u32) -> Result<(), AllocError>
         ensures { OnOk result (self.new ≡ with_lines self.old (Jump 0 (enclosing_at self.old.around n end).end ∷ [])) }
     {
@@ -56,7 +57,7 @@ impl Emitter {
         Ok(())
     }
 
-    // Starts the n-th of what encloses the code again.
+    /// A jump to the start of the n-th, counted likewise. Of a block, and of the function, it is one to the end.
     pub(crate) fn push_back(&mut self, n: u32, end: u32) -> Result<(), AllocError>
         ensures { OnOk result (self.new ≡ with_lines self.old (Jump 0 (enclosing_at self.old.around n end).start ∷ [])) }
     {
@@ -71,7 +72,7 @@ impl Emitter {
         self.around.enclosing(n, end)
     }
 
-    // The start of a loop, whose first label is the first free one.
+    /// The start of a loop, which takes two labels, for its start and its end.
     pub(crate) fn open_loop(&mut self) -> Result<(), AllocError>
         requires { self.old.free + 2 < 2 ^ 32 }
         ensures { OnOk result (self.new ≡ loop_opened self.old) }
@@ -84,7 +85,7 @@ impl Emitter {
         Ok(())
     }
 
-    // The end of the loop with this first label.
+    /// The end of the loop with this first label, from which control goes to its start.
     pub(crate) fn close_loop(&mut self, label: u32) -> Result<(), AllocError>
         requires { label + 1 < 2 ^ 32 }
         ensures { OnOk result (self.new ≡ loop_closed self.old label) }
@@ -93,6 +94,7 @@ impl Emitter {
         self.push_two(Line::Jump(0, label), Line::Label(label + 1))
     }
 
+    /// The start of a block, which takes a label for its end and needs no line.
     pub(crate) fn open_block(&mut self) -> Result<(), AllocError>
         requires { self.old.free + 1 < 2 ^ 32 }
         ensures { OnOk result (self.new ≡ block_opened self.old) }
@@ -103,6 +105,7 @@ impl Emitter {
         Ok(())
     }
 
+    /// The end of the block with this label.
     pub(crate) fn close_block(&mut self, label: u32) -> Result<(), AllocError>
         ensures { OnOk result (self.new ≡ block_closed self.old label) }
     {
@@ -111,7 +114,7 @@ impl Emitter {
         Ok(())
     }
 
-    // Goes on with the first list of an `If` where the test isn't 0, and else at the first free label.
+    /// Goes on with the first list of an `If` where the test isn't 0, and else at the first of two labels that it takes.
     pub(crate) fn open_branch(&mut self, rooms: &[Room], test: &Tree) -> Result<(), AllocError>
         requires test { is_small test.now ≡ true }
         requires label { self.old.free + 2 < 2 ^ 32 }
@@ -125,7 +128,7 @@ impl Emitter {
         Ok(())
     }
 
-    // From the first list to the second.
+    /// From the first list to the second of the `If` with this first label.
     pub(crate) fn turn_branch(&mut self, label: u32) -> Result<(), AllocError>
         requires { label + 1 < 2 ^ 32 }
         ensures { OnOk result (self.new ≡ branch_turned self.old label) }
@@ -133,6 +136,7 @@ impl Emitter {
         self.push_two(Line::Jump(0, label + 1), Line::Label(label))
     }
 
+    /// The end of the `If` with this first label, behind its second list.
     pub(crate) fn close_branch(&mut self, label: u32) -> Result<(), AllocError>
         requires { label + 1 < 2 ^ 32 }
         ensures { OnOk result (self.new ≡ branch_closed self.old label) }
@@ -141,7 +145,7 @@ impl Emitter {
         Ok(())
     }
 
-    // Makes the words of an array of the frame 0, in a loop whose first label is the first free one.
+    /// Makes the words of an array of the frame 0, in a loop that takes two labels. It changes a0 and a1.
     pub(crate) fn push_zero(&mut self, array: Space) -> Result<(), AllocError>
         requires within { IsInFrame array }
         requires label { self.old.free + 2 < 2 ^ 32 }

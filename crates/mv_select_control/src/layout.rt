@@ -40,7 +40,7 @@ fn words_of(rooms: &[Room], global: u32) -> u32
     0
 }
 
-// The space of an array, and none past the last.
+/// The space of an array of the frame, by its number. Past the last one it has no words, and is at sp.
 pub(crate) fn space_of(arrays: &[Space], array: u32) -> Space
     requires { All IsInFrame arrays.now }
     ensures value { result ≡ space_in arrays.now array }
@@ -52,7 +52,7 @@ pub(crate) fn space_of(arrays: &[Space], array: u32) -> Space
     }
 }
 
-// Where an array's first element stands.
+/// Where an array's first element stands: for a global an address, 0 without room, and else the bytes above sp.
 pub(crate) fn home_of(rooms: &[Room], arrays: &[Space], array: Array) -> Home
     requires { All IsInFrame arrays.now }
     ensures value { result ≡ home_of (place_in rooms.now) (array_at_in arrays.now) array }
@@ -64,7 +64,7 @@ pub(crate) fn home_of(rooms: &[Room], arrays: &[Space], array: Array) -> Home
     }
 }
 
-// How many elements an array has.
+/// How many elements an array has, and 0 where it has no room.
 pub(crate) fn size_of(rooms: &[Room], arrays: &[Space], array: Array) -> u32
     requires { All IsInFrame arrays.now }
     ensures { result ≡ size_of (size_in rooms.now) (array_size_in arrays.now) array }

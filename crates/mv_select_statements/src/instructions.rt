@@ -63,7 +63,7 @@ pub(crate) fn push_keep(code: &mut List<Line>, temp: u32) -> Result<(), AllocErr
     )
 }
 
-// A division of two registers.
+/// A division of two registers, by its number in `mv_ir::operators`. Any other number gives 0.
 #[tactic(auto, using(crate::proofs::Equations::divisions))]
 pub(crate) fn division(operator: u8, rd: u8, rs1: u8, rs2: u8) -> Instr
     ensures { result ≡ division operator rd rs1 rs2 }

@@ -50,7 +50,8 @@ fn immediate(operator: u8, n: u32) -> Option<i32>
     }
 }
 
-// The same for a tree.
+/// What stands in an instruction for a tree at the right of an operator, by its number in `mv_ir::operators`, where the tree is
+/// a number that fits: from -2048 to 2047, negated for a difference, `==` and `!=`; or the count of a shift, below 32.
 #[tactic(auto, unfolding(crate::specs::TreeCode::immediate_of), using(crate::proofs::Equations::trees))]
 pub(crate) fn immediate_of(operator: u8, tree: &Tree) -> Option<i32>
     ensures { result ≡ immediate_of operator tree.now }
@@ -66,7 +67,7 @@ pub(crate) fn immediate_of(operator: u8, tree: &Tree) -> Option<i32>
     }
 }
 
-// An operator on a register and what stands for a number.
+/// An operator on a register and what stands for a number at its right.
 #[tactic(auto, using(crate::proofs::Equations::immediate_operators))]
 pub(crate) fn push_immediate(
     code: &mut List<Line>,

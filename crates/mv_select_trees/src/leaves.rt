@@ -57,7 +57,7 @@ pub fn push_number(code: &mut List<Line>, n: u32, rd: u8) -> Result<(), AllocErr
     }
 }
 
-// The word at an address into a register.
+/// Puts code at the end that leaves the word at an address in a register, and changes no other.
 pub(crate) fn push_load(code: &mut List<Line>, address: u32, rd: u8) -> Result<(), AllocError>
     ensures { OnOk result (code.new ≡ code.old ++ load_lines address rd) }
 {
@@ -90,7 +90,7 @@ pub fn temp_offset(temp: u32) -> i32
     (4 * (temp + 1)) as i32
 }
 
-// The instruction that reads a temporary.
+/// The instruction that reads a temporary into a register.
 #[tactic(auto, unfolding(crate::specs::TreeCode::read_temp))]
 pub(crate) fn read_temp(temp: u32, rd: u8) -> Instr
     requires { temp < 507 }

@@ -8,7 +8,7 @@ use mv_num::kind::Kind;
 use mv_num::list::List;
 use std::alloc::AllocError;
 
-// Negation, complement or logical not of a register.
+/// Negation, complement or logical not of a register, by its number in `mv_ir::operators`. Any other number gives 0.
 #[tactic(auto, using(crate::proofs::Equations::unary_operators))]
 pub(crate) fn push_unary(
     code: &mut List<Line>,
@@ -47,7 +47,7 @@ pub(crate) fn push_unary(
     }
 }
 
-// An operator on two registers.
+/// An operator on two registers, by its number in `mv_ir::operators`. Any other number gives 0.
 #[tactic(auto, using(crate::proofs::Equations::binary_operators))]
 pub(crate) fn push_binary(
     code: &mut List<Line>,
@@ -93,14 +93,15 @@ pub(crate) fn push_binary(
     }
 }
 
-// Whether a conversion leaves each word as it is.
+/// Whether a conversion to this kind leaves each word as it is.
 pub(crate) fn keeps_words(kind: Kind) -> bool
     ensures { result ≡ keeps_words kind }
 {
     matches!(kind, Kind::Int | Kind::UInt)
 }
 
-// A conversion of a register: by a shift to the left, and one back with the sign or with zeros.
+/// A conversion of a register: to `_Bool` by a comparison with 0, to `char` and `short` types by a shift to the left, and one
+/// back with the sign or with zeros.
 #[tactic(auto, unfolding(crate::specs::TreeCode::narrow_lines))]
 pub(crate) fn push_narrow(
     code: &mut List<Line>,

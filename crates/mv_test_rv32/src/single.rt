@@ -35,6 +35,7 @@ fn number(line: &str) -> Option<(u32, &str)> {
 }
 
 impl<'a> Vector<'a> {
+    /// What a line says, or none where it is no such line.
     pub(crate) fn parse(line: &'a str) -> Option<Vector<'a>> {
         let (name, rest) = line.split_once(' ')?;
         let (word, rest) = number(rest)?;
@@ -82,6 +83,7 @@ pub(crate) struct Bench {
 }
 
 impl Bench {
+    /// Both words are 0. An error is want of memory.
     pub(crate) fn new(alloc: Global) -> Result<Bench, AllocError> {
         let mut text = List::new(alloc);
         text.push(0)?;
