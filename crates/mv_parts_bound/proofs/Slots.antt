@@ -12,13 +12,13 @@ use Rattle.mv_ir.specs.declared.stm.Stm.TheViews.{roll-Stm}
 use Rattle.mv_ir.specs.declared.stm.Stm.TheFolds.{map-Stm}
 use Rattle.mv_ir.proofs.Induction.{Each, StmChildren, stm_ind, stms_ind}
 use Rattle.mv_select_trees.specs.TreeCode.{tree_lines, operand_lines, operand_register}
-use Rattle.mv_select_statements.specs.StatementCode.{first, trap_label}
+use Rattle.mv_select_statements.specs.StatementCode.{first, trap_label, set_lines, set_global_lines, divide_lines, check_lines, read_lines, write_lines, return_lines}
 use Rattle.mv_select_control.specs.declared.enclosing.Enclosing.{Enclosing}
 use Rattle.mv_select_control.specs.FlowCode.{Plan, Emitted, in_turn, branch_lines, loop_at, block_at, home, size, code_layer, statement_code}
 use Rattle.mv_select_control.proofs.StatementsDo.{code_roll}
 use Rattle.mv_select_control.proofs.TreeNames.{AnyNumber, all_any}
 use Rattle.mv_select_control.proofs.StatementsAreMade.{LineByLine, tree_made, operand_made, set_made, set_global_made, divide_made, check_made, read_made, write_made, return_made}
-use Rattle.mv_select_calls.specs.CallCode.{scratch_register, result_lines, guarded_lines, slot_lines, jump_lines, argument_lines, transfer_lines, call_lines}
+use Rattle.mv_select_calls.specs.CallCode.{scratch_register, result_lines, guarded_lines, slot_lines, jump_lines, argument_lines, transfer_lines, call_lines, known_lines}
 use Rattle.mv_select_calls.proofs.CallsAreMade.{result_made, argument_made, known_made}
 use Rattle.mv_select_functions.specs.FunctionCode.{Shape, bytes_of, end_label, plan, body_lines, prologue_lines, epilogue_lines, function_lines}
 use Rattle.mv_select_functions.proofs.FramesAreMade.{prologue_made, epilogue_made}
@@ -131,12 +131,12 @@ module _ (weight : ℕ → ℕ) (place : ℕ → ℕ) (is_attributed : ℕ → B
     plain = none_weighs weight
 
     layer : (x : Stm-F Stm) → StmChildren StmHas x → CodeHas (layer_weight direct 0 (map-Stm Stm ℕ w x)) (code_layer P (map-Stm Stm Emitted (statement_code P) x))
-    layer (stm.Set t v) h around label = plain _ (set_made none_made place t v (all_any _))
-    layer (stm.SetGlobal g v) h around label = plain _ (set_global_made none_made place g v (all_any _))
-    layer (stm.Divide t o a b) h around label = plain _ (divide_made none_made place t o a b tt (all_any _) (all_any _))
-    layer (stm.Check a i) h around label = plain _ (check_made none_made place (size P a) i tt (all_any _))
-    layer (stm.Read t a i) h around label = plain _ (read_made none_made place t (size P a) (home P a) i tt (all_any _))
-    layer (stm.Write a i v) h around label = plain _ (write_made none_made place (size P a) (home P a) i v tt (all_any _) (all_any _))
+    layer (stm.Set t v) h around label = plain (set_lines place t v) (set_made none_made place t v (all_any _))
+    layer (stm.SetGlobal g v) h around label = plain (set_global_lines place g v) (set_global_made none_made place g v (all_any _))
+    layer (stm.Divide t o a b) h around label = plain (divide_lines place t o a b) (divide_made none_made place t o a b tt (all_any _) (all_any _))
+    layer (stm.Check a i) h around label = plain (check_lines place (size P a) i) (check_made none_made place (size P a) i tt (all_any _))
+    layer (stm.Read t a i) h around label = plain (read_lines place t (home P a) (size P a) i) (read_made none_made place t (size P a) (home P a) i tt (all_any _))
+    layer (stm.Write a i v) h around label = plain (write_lines place (home P a) (size P a) i v) (write_made none_made place (size P a) (home P a) i v tt (all_any _) (all_any _))
     layer (stm.Zero a) h around label = refl
     layer (stm.If t a b) h around label =
         let one_code = in_turn (map (statement_code P) a) in
@@ -158,8 +158,8 @@ module _ (weight : ℕ → ℕ) (place : ℕ → ℕ) (is_attributed : ℕ → B
     layer (stm.Break n) h around label = refl
     layer (stm.Back n) h around label = refl
     layer (stm.Call r f args) h around label = call_has r f args
-    layer (stm.Known r k args) h around label = plain _ (known_made none_made refl place r k args (all_any _))
-    layer (stm.Return v) h around label = plain _ (return_made none_made place end_label v tt (all_any _))
+    layer (stm.Known r k args) h around label = plain (known_lines place r k args) (known_made none_made refl place r k args (all_any _))
+    layer (stm.Return v) h around label = plain (return_lines place end_label v) (return_made none_made place end_label v tt (all_any _))
 
     from_layer : (x : Stm-F Stm) → StmChildren StmHas x → StmHas (roll-Stm x)
     from_layer x h = subst (λ n. CodeHas n (statement_code P (roll-Stm x))) (sym (w_roll direct 0 x)) (subst (CodeHas (layer_weight direct 0 (map-Stm Stm ℕ w x))) (sym (code_roll P x)) (layer x h))
