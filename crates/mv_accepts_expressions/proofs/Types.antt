@@ -6,7 +6,7 @@ use Rattle.mv_ast.specs.declared.program.CType.{CType}
 use Rattle.mv_ast.specs.declared.program.CType.TheVariants.{Void, Scalar, Pointer}
 use Rattle.mv_check_scope.specs.Conversions.{same_type, is_integer, is_pointer, promotion, usual, int, unsigned}
 use Rattle.mv_source_forms.specs.Typing.{IsInteger}
-use Rattle.mv_num.proofs.Kinds.{one_kind}
+use Rattle.mv_num.proofs.KindNumbers.{one_kind}
 
 pub same_is : (s t : CType) → same_type s t ≡ true → s ≡ t
 same_is Void Void h = refl

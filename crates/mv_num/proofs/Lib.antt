@@ -3,4 +3,4 @@ pub mod Signed
 pub mod Booleans
 pub mod Numbers
 pub mod Lists
-pub mod Kinds
+pub mod KindNumbers
