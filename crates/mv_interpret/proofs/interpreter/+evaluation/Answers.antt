@@ -20,9 +20,9 @@ use Rattle.mv_ast.specs.Worlds.{give, counted}
 use Rattle.mv_meaning.specs.declared.state.Lvalue.TheVariants as lvalue
 use Rattle.mv_interpret.specs.declared.state.Halt.TheVariants as halt
 use Rattle.mv_meaning.specs.declared.state.Flow.TheVariants.{Goes, Breaks, Continues}
-use Rattle.mv_meaning.specs.Meaning.{Evaluation, global_element, local_element, value_of, optional_value, then_on, unless_zero}
+use Rattle.mv_meaning.specs.Meaning.{Evaluation, global_element, local_element, value_of, optional_value, then_on, unless_zero, flow_of_all, put_values}
 use Rattle.mv_interpret.specs.Runs.{IsOutcome, world_of, goes_back, optional_outcome}
-use Rattle.mv_meaning.specs.Loops.{own_context, for_from}
+use Rattle.mv_meaning.specs.Loops.{own_context, for_from, arms_from}
 use Rattle.mv_interpret.proofs.Calls.{too_deep, out_of_bound, missing, went_through, failed_inside, through_null, through_some, through_none}
 use Rattle.mv_meaning.proofs.Contexts.{numbers_at}
 use Rattle.mv_interpret.proofs.Depths.{stmt_within, arm_within, arms_within, stmts_depth, arms_depth, below-Block, below-Clear, below-Express, below-If, below-While, below-Do, below-For, below-Switch, below-Return, less_spent, spent_less}
@@ -30,6 +30,7 @@ use Rattle.mv_meaning.proofs.Equations.{value_of-Number, value_of-Read, value_of
 use Rattle.mv_interpret.proofs.Lists.{values_init, values_step, values_fail, values_end}
 use Rattle.mv_interpret.proofs.Orders.{flows_step, flows_left, flows_fail, then_on-other}
 use Rattle.mv_interpret.proofs.Steps.{within, reached, in_range, out_of_range, on, failed, gave, halted, begun, zero_way, other_way, truth-zero, truth-one, stored_in, changed, unchanged, stepped_after}
+use Rattle.mv_interpret.proofs.Steps.{all_done}
 use Rattle.mv_interpret.proofs.Stores.{stores_step, stores_fail, cleared}
 use Rattle.mv_interpret.proofs.SwitchRuns.{arms_step, arms_left, arms_fail, switched}
 use Rattle.mv_interpret.proofs.Turns.{elsewhere, carried, is_back, left_loop, while_back, do_back, for_back, no_turn, while_turned, do_turned, for_turned}
