@@ -38,7 +38,7 @@ module _ (form_of : Form-F Bool Bool Bool → Bool) (target_of : Target-F Bool B
   abbrev target_below : Target-F Form Target Expr → Target-F Bool Bool Bool
   target_below = map-Target Form Target Expr Bool Bool Bool (fold-Form Bool Bool Bool form_of target_of layer_in) target_holds holds
 
-  by_form : (t : CType) (w : Form) (z : Form-F Form Target Expr) → out-Form w ≡ z → form_of (form_below z) ≡ true → holds (typed t w) ≡ true
+  pub by_form : (t : CType) (w : Form) (z : Form-F Form Target Expr) → out-Form w ≡ z → form_of (form_below z) ≡ true → holds (typed t w) ≡ true
   by_form t w z o h =
       fold_out-Expr Bool Bool Bool form_of target_of layer_in (typed t w) ∙
       (fold_out-Form Bool Bool Bool form_of target_of layer_in w ∙ (ap (λ y. form_of (form_below y)) o ∙ h))
@@ -47,11 +47,11 @@ module _ (form_of : Form-F Bool Bool Bool → Bool) (target_of : Target-F Bool B
   by_target l z o h = fold_out-Target Bool Bool Bool form_of target_of layer_in l ∙ (ap (λ y. target_of (target_below y)) o ∙ h)
 
   module _ (asks_parts : (z : Form-F Bool Bool Bool) → is_known_call z ≡ false → form_in z ≡ true → form_of z ≡ true) where
-    by_parts : (t : CType) (w : Form) (z : Form-F Form Target Expr) → out-Form w ≡ z → is_known_call (form_below z) ≡ false → form_in (form_below z) ≡ true →
+    pub by_parts : (t : CType) (w : Form) (z : Form-F Form Target Expr) → out-Form w ≡ z → is_known_call (form_below z) ≡ false → form_in (form_below z) ≡ true →
         holds (typed t w) ≡ true
     by_parts t w z o q h = by_form t w z o (asks_parts (form_below z) q h)
 
-    convert_tested : (t : CType) (a : Expr) → holds a ≡ true → holds (typed t (form.Convert a)) ≡ true
+    pub convert_tested : (t : CType) (a : Expr) → holds a ≡ true → holds (typed t (form.Convert a)) ≡ true
     convert_tested t a h = by_parts t (form.Convert a) (open_form.Convert a) (outs-Convert a) refl (one_tested (holds a) h)
 
     pub converted_tested : (t : CType) (e : Expr) → holds e ≡ true → holds (converted_to t e) ≡ true
