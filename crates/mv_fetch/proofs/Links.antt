@@ -1,6 +1,6 @@
 -- The ways through the log of stores.
-use Rattle.std.proofs.Common.{◌≡◌, ◌≢◌, ℕ, ◌+◌, ◌-◌, ◌<◌, ◌≤◌, ⊎_elim, List, [], ◌∷◌, ◌++◌, length, take, slice_index, slice_set, refl, sym, ap, ◌∙◌, subst, arith, length-append, length-set}
-use Rattle.std.proofs.lemmas.List.{get_or-set_same, get_or-set_other, get_or_append_left, get_or_at, take-append-le, get_or_past, take_all}
+use Rattle.std.proofs.Common.{◌≡◌, ◌≢◌, ℕ, ◌+◌, ◌-◌, ◌<◌, ◌≤◌, ⊎_elim, List, [], ◌∷◌, ◌++◌, length, replicate, take, slice_index, slice_set, refl, sym, ap, ◌∙◌, subst, arith, length-append, length-set}
+use Rattle.std.proofs.lemmas.List.{get_or-set_same, get_or-set_other, get_or_append_left, get_or_at, take-append-le, get_or_past, take_all, get_or-replicate, length-replicate}
 use Rattle.std.proofs.lemmas.Bool.{cases_eq, cases_lt}
 use Rattle.mv_fetch.specs.View.{olds, item, EndsAt, IsLinked}
 use Rattle.mv_fetch.specs.declared.log.Older.{Older}
@@ -139,3 +139,15 @@ all_forgotten ends log h k = ⊎_elim
     (λ (some : 0 < slice_index ends k). let f = h k (slice_index ends k - 1) (omega (arith, some)) in let from = f.0 in let to = f.1 in absurd (omega (arith, from, to)))
     (λ (none : slice_index ends k ≤ 0). omega (arith, none))
     (cases_lt 0 (slice_index ends k))
+
+-- at first no word has a store
+pub linked_first : (n : ℕ) → IsLinked (replicate n 0) []
+linked_first n = record {
+  newest = λ (k : ℕ) (below : k < length (replicate n 0)).
+      let none : slice_index (replicate n 0) k ≡ 0 = get_or-replicate n k 0 0 (omega (arith, below, length-replicate {A = ℕ} n 0)) in record {
+        within = omega (arith, none);
+        all = ap (λ (end : ℕ). olds k (take end [])) none;
+        last = λ (q : ℕ) (e : q + 1 ≡ slice_index (replicate n 0) k). absurd (omega (arith, e, none));
+      };
+  earlier = λ (q : ℕ) (below : q < 0). absurd (omega (arith, below));
+}

@@ -1,8 +1,11 @@
-use Rattle.std.proofs.Common.{◌∙◌}
-use Rattle.mv_fetch.proofs.Places.{first_at}
+use Rattle.std.proofs.Common.{◌≤◌, ◌∙◌, length, subst}
+use Rattle.mv_num.specs.Regions.{text_limit}
+use Rattle.mv_fetch.specs.Held.{Room}
+use Rattle.mv_fetch.proofs.Places.{first_choice_at}
 use Rattle.mv_fetch.proofs.memory.Memory.first_choice.Goals as goal
 
-pub returns-in-Some : goal.returns-in-Some
-returns-in-Some c =
-    let at = c.in-Some.ensures.some in
-    c.word.ensures ∙ first_at c.args.self.now.held c.args.address c.in-Some.index at.0 at.1 at.2
+pub returns : goal.returns
+returns c =
+    let at = c.words_above.ensures in
+    let short = subst (λ (v : Room). length v.held.text ≤ text_limit) c.self.view_is c.self.invariant.text in
+    c.word.ensures ∙ first_choice_at c.args.self.now.held c.args.address c.words_above.result short at.here at.elsewhere
