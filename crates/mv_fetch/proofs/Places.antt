@@ -43,7 +43,7 @@ globals_index a low high =
     let t3 : ltb a 0x0020_0000 ≡ true = grind (arith, nat_tests, high) in
     rw (t2, t3) refl
 
-stack_index : (a : ℕ) → 0x0020_0000 ≤ a → a < 0x0040_0000 → index_of a ≡ (a - 0x0020_0000) / 4
+pub stack_index : (a : ℕ) → 0x0020_0000 ≤ a → a < 0x0040_0000 → index_of a ≡ (a - 0x0020_0000) / 4
 unfolding index_of
 stack_index a low high =
     let t2 : ltb a 0x0010_0000 ≡ false = grind (arith, nat_tests, low) in
