@@ -8,20 +8,11 @@ ghost use Rattle.mv_descriptors.specs.Widths.{switch_words, function_words, vari
 ghost use Rattle.mv_image.specs.Faults.{Rules, Spells, CountsFit};
 
 use crate::image::Image;
-use mv_descriptors::{FunctionRow, Row, SwitchRow, VariantRow};
+use mv_descriptors::{FunctionRow, Row, SwitchRow, VariantRow, push_all};
 use mv_num::bytes::bytes_of_words;
 use mv_num::list::List;
 use mv_num::text::Text;
 use std::alloc::{AllocError, Global};
-
-fn push_words(to: &mut List<u32>, words: &[u32]) -> Result<(), AllocError>
-    ensures { OnOk result (to.new ≡ to.old ++ words.now) }
-{
-    for word in words {
-        to.push(*word)?;
-    }
-    Ok(())
-}
 
 fn push_rows<R: Row>(to: &mut List<u32>, rows: &[R]) -> Result<(), AllocError>
     requires { All R.is_clean rows.now }
@@ -95,9 +86,9 @@ fn words_of_image(alloc: Global, image: &Image, names: usize) -> Result<List<u32
     ensures { IfOk result (λ words. words ≡ words_in image.now) }
 {
     let mut words = List::new(alloc);
-    push_words(&mut words, &header(image, names))?;
-    push_words(&mut words, image.text().as_slice())?;
-    push_words(&mut words, image.globals().as_slice())?;
+    push_all(&mut words, &header(image, names))?;
+    push_all(&mut words, image.text().as_slice())?;
+    push_all(&mut words, image.globals().as_slice())?;
     push_tables(&mut words, image)?;
     Ok(words)
 }
