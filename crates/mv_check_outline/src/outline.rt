@@ -27,7 +27,8 @@ pub struct Outline {
     pub switches: Names,
 }
 
-fn is_function(declarator: &Declarator) -> bool
+/// Whether a declarator declares a function.
+pub fn is_function(declarator: &Declarator) -> bool
     ensures { result ≡ spec.is_function declarator.now }
 {
     match declarator.shape {
@@ -36,13 +37,15 @@ fn is_function(declarator: &Declarator) -> bool
     }
 }
 
-fn is_marked(item: &Item, declarator: &Declarator) -> bool
+/// Whether a declarator has the attribute: among the specifiers of its item, or behind it.
+pub fn is_marked(item: &Item, declarator: &Declarator) -> bool
     ensures { result ≡ spec.is_marked item.now declarator.now }
 {
     item.specs.marks.len() > 0 || declarator.marks.len() > 0
 }
 
-fn name_of(declarator: &Declarator) -> &[u8]
+/// The name of a declarator, empty where it has none.
+pub fn name_of(declarator: &Declarator) -> &[u8]
     ensures { result.now ≡ spec.name_of declarator.now }
 {
     match &declarator.name {

@@ -2,13 +2,12 @@
 
 ghost use Rattle.std.specs.Prelude.{◌≡◌, IfOk, OnOk};
 ghost use Rattle.mv_check_outline.specs.Names.{with_names, place_of};
-ghost use Rattle.mv_check_outline.specs.Outlined as outlined;
 ghost use Rattle.mv_types.specs.Foreknown as spec;
 
 use crate::contents::Foreknown;
 use mv_ast::unit::{Declarator, Item, Shape, Unit};
 use mv_check_outline::names::Names;
-use mv_check_outline::outline::outline_of;
+use mv_check_outline::outline::{is_function, is_marked, name_of, outline_of};
 use mv_num::results::both;
 use std::alloc::{AllocError, Global};
 
@@ -17,29 +16,6 @@ use std::alloc::{AllocError, Global};
 pub enum Said {
     Constant,
     Attributed,
-}
-
-/// Whether a declarator declares a function.
-pub fn is_function(declarator: &Declarator) -> bool
-    ensures { result ≡ outlined.is_function declarator.now }
-{
-    matches!(declarator.shape, Shape::Function(_))
-}
-
-fn is_marked(item: &Item, declarator: &Declarator) -> bool
-    ensures { result ≡ outlined.is_marked item.now declarator.now }
-{
-    item.specs.marks.len() > 0 || declarator.marks.len() > 0
-}
-
-/// The name of a declarator, empty where it has none.
-pub fn name_of(declarator: &Declarator) -> &[u8]
-    ensures { result.now ≡ outlined.name_of declarator.now }
-{
-    match &declarator.name {
-        Some(name) => name.bytes(),
-        None => &[],
-    }
 }
 
 fn is_constant(item: &Item, declarator: &Declarator) -> bool

@@ -14,7 +14,7 @@ ghost use Rattle.mv_types.specs.Repeated.{is_bare, AreSettled};
 ghost use Rattle.mv_types.specs.Units.{base_of, by_entity, nameless_values, named_declarator, declarator_judgement, declares_constant, holders, declares_nothing, names_judgement, item_judgement, program_judgement, unit_judgement};
 
 use crate::contents::{Completed, Contents, Foreknown};
-use crate::foreknown::{foreknown_of, is_function, name_of};
+use crate::foreknown::foreknown_of;
 use crate::program::complete;
 use crate::{functions, objects};
 use mv_ast::program::{Function, Local};
@@ -28,6 +28,7 @@ use mv_check_declarations::specifiers::{Specified, specifiers};
 use mv_check_expressions::error::RuleError;
 use mv_check_expressions::rules;
 use mv_check_outline::names::Names;
+use mv_check_outline::outline::{is_function, name_of};
 use mv_check_scope::scope::Scope;
 use mv_num::list::List;
 use mv_num::results::both;
