@@ -71,10 +71,6 @@ simple_goal : (f : Callee) → SameGoal (simple_callee f) f
 simple_goal (callee.Direct f) = refl
 simple_goal (callee.Through t) = tt
 
-same_goal : (f : Callee) → SameGoal f f
-same_goal (callee.Direct f) = refl
-same_goal (callee.Through t) = tt
-
 module _ {layer : Stm-F ℕ → ℕ} {m : Stm → ℕ} (of : Measure layer m) where
   abbrev all : List Stm → ℕ
   all code = total (map m code)
