@@ -11,4 +11,4 @@ mod laws;
 mod words;
 
 pub use laws::data_law;
-pub use words::{data_words, first_data};
+pub use words::{data_words, first_data, words_of_size};

@@ -7,7 +7,8 @@ use mv_linker::Datum;
 use mv_num::list::List;
 use std::alloc::{AllocError, Global};
 
-fn words_of_size(size: Option<u32>) -> u32
+/// How many words an object of this size has: one where it is no array.
+pub fn words_of_size(size: Option<u32>) -> u32
     ensures { result ≡ words_of_size size }
 {
     match size {

@@ -1,10 +1,10 @@
 //! The switches of a program.
 
 ghost use Rattle.std.specs.Prelude.{◌≡◌, ◌<◌, ◌^◌, length, slice_get, Some, IfOk};
-ghost use Rattle.mv_ast.specs.Counts.{words_of_size};
 ghost use Rattle.mv_parts.specs.Switches as spec;
 
 use mv_ast::program::{Global as Object, Program, Switch};
+use mv_link_data::words_of_size;
 use mv_linker::PartSwitch;
 use mv_num::list::List;
 use mv_num::text::Text;
@@ -62,14 +62,4 @@ fn words_of(globals: &[Object]) -> u32
         words += words_of_size(global.size);
     }
     words
-}
-
-// How many words an object of this size has: one where it is no array.
-fn words_of_size(size: Option<u32>) -> u32
-    ensures { result ≡ words_of_size size }
-{
-    match size {
-        None => 1,
-        Some(size) => size,
-    }
 }
