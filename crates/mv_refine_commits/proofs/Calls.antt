@@ -30,7 +30,7 @@ use Rattle.mv_refine_stores.specs.Between.{IsSettled}
 use Rattle.mv_refine_commits.specs.Watch.{texts_of}
 use Rattle.mv_refine_commits.specs.Watched.{access, watched, IsQuiet}
 use Rattle.mv_refine_commits.specs.Hosted.{WatchedCallsAreServed}
-use Rattle.mv_refine_commits.proofs.Known.{Known}
+use Rattle.mv_refine_commits.specs.Known.{Known}
 use Rattle.mv_refine_commits.proofs.Orders.{quiet_inside, quiet_outside}
 use Rattle.mv_refine_commits.proofs.Planned.{no_pairs}
 use Rattle.mv_refine_commits.proofs.Quiet.{quiet_told, quiet_tested}

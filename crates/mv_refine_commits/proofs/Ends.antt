@@ -30,7 +30,7 @@ use Rattle.mv_refine_commits.specs.Watch.{texts_of, keeps_text, is_sound}
 use Rattle.mv_refine_commits.specs.Watched.{Watched, access, IsQuiet, is_quiet, watched_machine}
 use Rattle.mv_refine_commits.specs.Served.{at, SoundAt}
 use Rattle.mv_refine_commits.specs.Ends.{EntersQuietly, ComesQuietly, EndsQuietly, WatchedStartIsRight, WatchedExitIsRight, WatchedTrapIsRight}
-use Rattle.mv_refine_commits.proofs.Known.{Known}
+use Rattle.mv_refine_commits.specs.Known.{Known}
 use Rattle.mv_refine_commits.proofs.Hosted.{watched_begins}
 use Rattle.mv_refine_commits.proofs.Orders.{quiet_inside, quiet_outside}
 use Rattle.mv_refine_commits.proofs.Quiet.{quiet_told, quiet_tested}

@@ -24,7 +24,7 @@ use Rattle.mv_refine_stores.specs.Between.{IsWhole}
 use Rattle.mv_refine_commits.specs.Watch.{texts_of}
 use Rattle.mv_refine_commits.specs.Watched.{Watched, access, watched, put_room, plan_words}
 use Rattle.mv_refine_commits.specs.Hosted.{WatchedRunsBegin, WatchedMemory}
-use Rattle.mv_refine_commits.proofs.Known.{Known}
+use Rattle.mv_refine_commits.specs.Known.{Known}
 use Rattle.mv_refine_commits.proofs.Quiet.{quiet_told, quiet_tested}
 use Rattle.mv_refine_commits.proofs.Images.{first_actions}
 use Rattle.mv_refine_commits.proofs.Tabled.{room_stored}

@@ -1,4 +1,3 @@
-pub mod Known
 pub mod Areas
 pub mod Instrs
 pub mod PlanWords

@@ -41,7 +41,7 @@ use Rattle.mv_refine_machine.specs.MachineRuns.{machine_text, unpatched_word}
 use Rattle.mv_refine_commits.specs.Watched.{Watched, access, watched, IsQuiet, is_quiet, watched_machine}
 use Rattle.mv_refine_commits.specs.Served.{IsPlanned, IsPlanOpen, AtStub, IsBack}
 use Rattle.mv_refine_commits.specs.Tabled.{IsTabled, TabledOrdersAreServed}
-use Rattle.mv_refine_commits.proofs.Known.{Known as Laws}
+use Rattle.mv_refine_commits.specs.Known.{Known as Laws}
 use Rattle.mv_refine_commits.proofs.Images.{run_image, run_actions}
 use Rattle.mv_refine_commits.proofs.Planning.{plan_gives, poll_gives}
 use Rattle.mv_refine_commits.proofs.Quiet.{quiet_told, quiet_tested}

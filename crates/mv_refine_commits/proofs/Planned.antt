@@ -15,7 +15,7 @@ use Rattle.mv_refine_commits.specs.Watch.{texts_of}
 use Rattle.mv_refine_commits.specs.Storing.{spelled_plan, HasPlan}
 use Rattle.mv_refine_commits.specs.Watched.{watched, plan_words, IsQuiet}
 use Rattle.mv_refine_commits.specs.Served.{IsPlanned}
-use Rattle.mv_refine_commits.proofs.Known.{Known}
+use Rattle.mv_refine_commits.specs.Known.{Known}
 use Rattle.mv_refine_commits.proofs.Areas.{Writes, writes}
 use Rattle.mv_refine_commits.proofs.PlanWords.{pairs_size, plan_small}
 use Rattle.mv_patch.proofs.Common.{none_differ}

@@ -24,7 +24,7 @@ use Rattle.mv_select_calls.specs.Environment.{stub_cost}
 use Rattle.mv_refine_machine.specs.Layout.{IsSetOut}
 use Rattle.mv_refine_commits.specs.Watched.{Watched, access, watched, put_room, IsQuiet}
 use Rattle.mv_refine_commits.specs.Served.{IsPlanned}
-use Rattle.mv_refine_commits.proofs.Known.{Known}
+use Rattle.mv_refine_commits.specs.Known.{Known}
 use Rattle.mv_refine_commits.proofs.Flips.{with_switch}
 use Rattle.mv_refine_commits.proofs.Planned.{no_pairs, KeepsAll, keeps_all, Leaves, IsWorld, planned_by, globals_stay}
 use Rattle.mv_refine_commits.proofs.Served.{loads_outside}

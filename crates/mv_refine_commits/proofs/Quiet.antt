@@ -9,7 +9,7 @@ use Rattle.mv_ir.specs.World.{World}
 use Rattle.mv_refine_commits.specs.Watch.{texts_of}
 use Rattle.mv_refine_commits.specs.Watched.{Watched, IsQuiet, is_quiet, same_action, same_actions, is_nothing}
 use Rattle.mv_refine_commits.specs.Laws.{QuietIsTested}
-use Rattle.mv_refine_commits.proofs.Known.{Known}
+use Rattle.mv_refine_commits.specs.Known.{Known}
 
 action_told : (a b : Action) → same_action a b ≡ true → a ≡ b
 action_told Skip Skip h = refl

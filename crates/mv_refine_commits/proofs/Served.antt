@@ -40,7 +40,7 @@ use Rattle.mv_refine_commits.specs.Storing.{HasPlan, Planned, opened, Committed}
 use Rattle.mv_refine_commits.specs.Watched.{watched, IsQuiet}
 use Rattle.mv_refine_commits.specs.Served.{at, under, SoundAt, QuietAt, IsPlanOpen, AtStub, IsBack}
 use Rattle.mv_refine_commits.specs.Laws.{StubServes}
-use Rattle.mv_refine_commits.proofs.Known.{Known}
+use Rattle.mv_refine_commits.specs.Known.{Known}
 use Rattle.mv_refine_commits.proofs.Stands.{StubStands, stub_stands}
 use Rattle.mv_refine_commits.proofs.Fetched.{executes, instr_is, plainly_sound, target_is}
 use Rattle.mv_refine_commits.proofs.Instrs.{return_goes}

@@ -44,7 +44,7 @@ use Rattle.mv_refine_stores.specs.Between.{IsBetween, IsSettled, is_between}
 use Rattle.mv_refine_commits.specs.Watch.{texts_of, into_text, keeps_text, is_sound}
 use Rattle.mv_refine_commits.specs.Watched.{Watched, access, watched, put_room, IsQuiet, is_quiet, plain_spot, spot_at, watched_machine}
 use Rattle.mv_refine_commits.specs.WatchedRuns.{LeadsBound, WatchedStepsTaken, WatchedStepsAreTaken, WatchedRunsAreRuns, WatchedRunsAreRunsAlone, WatchedRunsAreRunsUnder}
-use Rattle.mv_refine_commits.proofs.Known.{Known}
+use Rattle.mv_refine_commits.specs.Known.{Known}
 use Rattle.mv_refine_commits.proofs.Beside.{step_beside, goes_beside}
 use Rattle.mv_refine_commits.proofs.Quiet.{quiet_told, quiet_tested}
 use Rattle.mv_refine_commits.proofs.Served.{in_globals, in_stack}

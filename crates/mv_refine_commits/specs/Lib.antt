@@ -1,3 +1,4 @@
+pub mod Known
 pub mod Watch
 pub mod Storing
 pub mod Watched

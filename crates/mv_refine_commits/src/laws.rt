@@ -1,5 +1,6 @@
 //! What runs do while commits are made. The calls do nothing: their contracts are the laws.
 
+ghost use Rattle.mv_refine_commits.specs.Known.{Known};
 ghost use Rattle.mv_refine_commits.specs.Laws.{QuietIsTested, StubServes};
 ghost use Rattle.mv_refine_commits.specs.Ends.{WatchedExitIsRight, WatchedStartIsRight, WatchedTrapIsRight};
 ghost use Rattle.mv_refine_commits.specs.Hosted.{WatchedCallsAreServed, WatchedMemory, WatchedRunsBegin};
@@ -13,9 +14,9 @@ use mv_refine_machine::{calm_is_tested, runs_are_runs, runs_begin_in_calm, texts
 use mv_refine_stores::{text_between_law, texts_of_images_law};
 use mv_refine_stubs::{exit_is_right, start_is_right, trap_is_right};
 
-/// The test of calm is true exactly where the machine is calm and no commit is under way.
-pub fn quiet_is_tested()
-    ensures { QuietIsTested }
+// The laws of the crates below on which these stand, as one premise.
+fn laws_below()
+    ensures { Known }
 {
     calm_is_tested();
     runs_are_runs();
@@ -28,19 +29,18 @@ pub fn quiet_is_tested()
     fit_worlds_law();
 }
 
+/// The test of calm is true exactly where the machine is calm and no commit is under way.
+pub fn quiet_is_tested()
+    ensures { QuietIsTested }
+{
+    laws_below();
+}
+
 /// The stub that stands in an image's text carries out each call for a plan.
 pub fn stub_serves()
     ensures { StubServes }
 {
-    calm_is_tested();
-    runs_are_runs();
-    runs_begin_in_calm();
-    texts_are_found();
-    text_between_law();
-    texts_of_images_law();
-    pairs_law();
-    tables_law();
-    fit_worlds_law();
+    laws_below();
 }
 
 /// The run whose memory tells the commit that is under way is one on which code runs, each instruction from a place with settled text and room for its
@@ -52,30 +52,14 @@ pub fn watched_runs_law()
     ensures under { WatchedRunsAreRunsUnder }
     ensures steps { WatchedStepsAreTaken }
 {
-    calm_is_tested();
-    runs_are_runs();
-    runs_begin_in_calm();
-    texts_are_found();
-    text_between_law();
-    texts_of_images_law();
-    pairs_law();
-    tables_law();
-    fit_worlds_law();
+    laws_below();
 }
 
 /// With the tables of a program in the image, the stub serves the orders and polls of the program, as the calling convention says.
 pub fn tabled_orders_are_served()
     ensures { TabledOrdersAreServed }
 {
-    calm_is_tested();
-    runs_are_runs();
-    runs_begin_in_calm();
-    texts_are_found();
-    text_between_law();
-    texts_of_images_law();
-    pairs_law();
-    tables_law();
-    fit_worlds_law();
+    laws_below();
 }
 
 /// What code needs of that run beside it. `begins`: it begins in calm. `memory`: memory has the words of globals and stack. `calls`: the machine serves `getchar` and
@@ -85,15 +69,7 @@ pub fn watched_machine_law()
     ensures memory { WatchedMemory }
     ensures calls { WatchedCallsAreServed }
 {
-    calm_is_tested();
-    runs_are_runs();
-    runs_begin_in_calm();
-    texts_are_found();
-    text_between_law();
-    texts_of_images_law();
-    pairs_law();
-    tables_law();
-    fit_worlds_law();
+    laws_below();
 }
 
 /// What a sound place tells of a state.
@@ -108,15 +84,7 @@ pub fn watched_ends_law()
     ensures exits { WatchedExitIsRight }
     ensures traps { WatchedTrapIsRight }
 {
-    calm_is_tested();
-    runs_are_runs();
-    runs_begin_in_calm();
-    texts_are_found();
-    text_between_law();
-    texts_of_images_law();
-    pairs_law();
-    tables_law();
-    fit_worlds_law();
+    laws_below();
     start_is_right();
     exit_is_right();
     trap_is_right();

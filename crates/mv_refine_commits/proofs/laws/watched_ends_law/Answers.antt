@@ -2,55 +2,10 @@ use Rattle.mv_refine_commits.proofs.Ends as lemmas
 use Rattle.mv_refine_commits.proofs.laws.watched_ends_law.Goals as goal
 
 pub returns-clause-starts : goal.returns-clause-starts
-returns-clause-starts c = lemmas.start_is_right (record {
-  calms = c.calm_is_tested.ensures;
-  runs = c.runs_are_runs.ensures;
-  begins = c.runs_begin_in_calm.ensures;
-  found = c.texts_are_found.ensures;
-  between = c.text_between_law.ensures.between;
-  tested = c.text_between_law.ensures.tested;
-  ranges = c.text_between_law.ensures.range;
-  rooms = c.text_between_law.ensures.whole;
-  images = c.texts_of_images_law.ensures.texts;
-  finds = c.texts_of_images_law.ensures.room;
-  differ = c.pairs_law.ensures.differences;
-  tells = c.tables_law.ensures.pairs;
-  fits = c.fit_worlds_law.ensures.told;
-  keep_fit = c.fit_worlds_law.ensures.knowns;
-}) c.start_is_right.ensures
+returns-clause-starts c = lemmas.start_is_right c.laws_below.ensures c.start_is_right.ensures
 
 pub returns-clause-exits : goal.returns-clause-exits
-returns-clause-exits c = lemmas.exit_is_right (record {
-  calms = c.calm_is_tested.ensures;
-  runs = c.runs_are_runs.ensures;
-  begins = c.runs_begin_in_calm.ensures;
-  found = c.texts_are_found.ensures;
-  between = c.text_between_law.ensures.between;
-  tested = c.text_between_law.ensures.tested;
-  ranges = c.text_between_law.ensures.range;
-  rooms = c.text_between_law.ensures.whole;
-  images = c.texts_of_images_law.ensures.texts;
-  finds = c.texts_of_images_law.ensures.room;
-  differ = c.pairs_law.ensures.differences;
-  tells = c.tables_law.ensures.pairs;
-  fits = c.fit_worlds_law.ensures.told;
-  keep_fit = c.fit_worlds_law.ensures.knowns;
-}) c.exit_is_right.ensures
+returns-clause-exits c = lemmas.exit_is_right c.laws_below.ensures c.exit_is_right.ensures
 
 pub returns-clause-traps : goal.returns-clause-traps
-returns-clause-traps c = lemmas.trap_is_right (record {
-  calms = c.calm_is_tested.ensures;
-  runs = c.runs_are_runs.ensures;
-  begins = c.runs_begin_in_calm.ensures;
-  found = c.texts_are_found.ensures;
-  between = c.text_between_law.ensures.between;
-  tested = c.text_between_law.ensures.tested;
-  ranges = c.text_between_law.ensures.range;
-  rooms = c.text_between_law.ensures.whole;
-  images = c.texts_of_images_law.ensures.texts;
-  finds = c.texts_of_images_law.ensures.room;
-  differ = c.pairs_law.ensures.differences;
-  tells = c.tables_law.ensures.pairs;
-  fits = c.fit_worlds_law.ensures.told;
-  keep_fit = c.fit_worlds_law.ensures.knowns;
-}) c.trap_is_right.ensures
+returns-clause-traps c = lemmas.trap_is_right c.laws_below.ensures c.trap_is_right.ensures

@@ -3,55 +3,10 @@ use Rattle.mv_refine_commits.proofs.Calls as calls
 use Rattle.mv_refine_commits.proofs.laws.watched_machine_law.Goals as goal
 
 pub returns-clause-begins : goal.returns-clause-begins
-returns-clause-begins c = lemmas.watched_begins (record {
-  calms = c.calm_is_tested.ensures;
-  runs = c.runs_are_runs.ensures;
-  begins = c.runs_begin_in_calm.ensures;
-  found = c.texts_are_found.ensures;
-  between = c.text_between_law.ensures.between;
-  tested = c.text_between_law.ensures.tested;
-  ranges = c.text_between_law.ensures.range;
-  rooms = c.text_between_law.ensures.whole;
-  images = c.texts_of_images_law.ensures.texts;
-  finds = c.texts_of_images_law.ensures.room;
-  differ = c.pairs_law.ensures.differences;
-  tells = c.tables_law.ensures.pairs;
-  fits = c.fit_worlds_law.ensures.told;
-  keep_fit = c.fit_worlds_law.ensures.knowns;
-})
+returns-clause-begins c = lemmas.watched_begins c.laws_below.ensures
 
 pub returns-clause-memory : goal.returns-clause-memory
-returns-clause-memory c = lemmas.watched_memory (record {
-  calms = c.calm_is_tested.ensures;
-  runs = c.runs_are_runs.ensures;
-  begins = c.runs_begin_in_calm.ensures;
-  found = c.texts_are_found.ensures;
-  between = c.text_between_law.ensures.between;
-  tested = c.text_between_law.ensures.tested;
-  ranges = c.text_between_law.ensures.range;
-  rooms = c.text_between_law.ensures.whole;
-  images = c.texts_of_images_law.ensures.texts;
-  finds = c.texts_of_images_law.ensures.room;
-  differ = c.pairs_law.ensures.differences;
-  tells = c.tables_law.ensures.pairs;
-  fits = c.fit_worlds_law.ensures.told;
-  keep_fit = c.fit_worlds_law.ensures.knowns;
-})
+returns-clause-memory c = lemmas.watched_memory c.laws_below.ensures
 
 pub returns-clause-calls : goal.returns-clause-calls
-returns-clause-calls c = calls.watched_calls (record {
-  calms = c.calm_is_tested.ensures;
-  runs = c.runs_are_runs.ensures;
-  begins = c.runs_begin_in_calm.ensures;
-  found = c.texts_are_found.ensures;
-  between = c.text_between_law.ensures.between;
-  tested = c.text_between_law.ensures.tested;
-  ranges = c.text_between_law.ensures.range;
-  rooms = c.text_between_law.ensures.whole;
-  images = c.texts_of_images_law.ensures.texts;
-  finds = c.texts_of_images_law.ensures.room;
-  differ = c.pairs_law.ensures.differences;
-  tells = c.tables_law.ensures.pairs;
-  fits = c.fit_worlds_law.ensures.told;
-  keep_fit = c.fit_worlds_law.ensures.knowns;
-})
+returns-clause-calls c = calls.watched_calls c.laws_below.ensures

@@ -1,4 +1,4 @@
--- What is known of text between two bindings, as one premise.
+-- What the laws of the crates below say, on which those here stand, as one premise.
 use Rattle.mv_ir_worlds.specs.Laws.{FitIsTold, KnownsKeepFit}
 use Rattle.mv_patch.specs.Laws.{PairsAreDifferences, TablesTellPairs}
 use Rattle.mv_refine_stores.specs.Laws.{TextIsBetween, BetweenIsTested, PairsAreInRange, RoomsAreWhole, TextsOfImages, StoresFindRoom}
