@@ -6,7 +6,7 @@ ghost use Rattle.mv_lower.specs.Statements.{seen_code, seen_jumps, express_of, r
 
 use mv_ir::stm::Stm;
 use mv_ir::tree::Tree;
-use mv_lower_expressions::value::Value;
+use mv_lower_expressions::value::{Value, one_statement};
 use mv_num::list::List;
 use std::alloc::{AllocError, Global};
 
@@ -35,15 +35,6 @@ pub fn in_body(jumps: Jumps) -> Jumps
         again: 0,
         around: jumps.around + 2,
     }
-}
-
-/// A list of one statement.
-pub fn alone(alloc: Global, stm: Stm) -> Result<List<Stm>, AllocError>
-    ensures { IfOk result (λ code. code ≡ stm ∷ []) }
-{
-    let mut code = List::new(alloc);
-    code.push(stm)?;
-    Ok(code)
 }
 
 /// An expression statement (C11 6.8.3).
@@ -76,7 +67,7 @@ pub fn return_value(value: Value, n: u32) -> Result<Code, AllocError>
 pub fn leave(alloc: Global, jumps: Jumps, n: u32) -> Result<Code, AllocError>
     ensures { IfOk result (λ c. seen_code c ≡ break_at (seen_jumps jumps) n) }
 {
-    let code = alone(alloc, Stm::Break(jumps.leave))?;
+    let code = one_statement(alloc, Stm::Break(jumps.leave))?;
     Ok(Code { code, top: n })
 }
 
@@ -85,7 +76,7 @@ pub fn leave(alloc: Global, jumps: Jumps, n: u32) -> Result<Code, AllocError>
 pub fn go_on(alloc: Global, jumps: Jumps, n: u32) -> Result<Code, AllocError>
     ensures { IfOk result (λ c. seen_code c ≡ continue_at (seen_jumps jumps) n) }
 {
-    let code = alone(alloc, Stm::Break(jumps.again))?;
+    let code = one_statement(alloc, Stm::Break(jumps.again))?;
     Ok(Code { code, top: n })
 }
 
@@ -94,7 +85,7 @@ pub fn go_on(alloc: Global, jumps: Jumps, n: u32) -> Result<Code, AllocError>
 pub fn end(alloc: Global, jumps: Jumps, n: u32) -> Result<Code, AllocError>
     ensures { IfOk result (λ c. seen_code c ≡ end_at (seen_jumps jumps) n) }
 {
-    let code = alone(alloc, Stm::Break(jumps.around))?;
+    let code = one_statement(alloc, Stm::Break(jumps.around))?;
     Ok(Code { code, top: n })
 }
 
@@ -120,7 +111,7 @@ pub fn choose(test: Value, a: Code, b: Code, n: u32) -> Result<Code, AllocError>
 fn in_block(alloc: Global, code: List<Stm>) -> Result<List<Stm>, AllocError>
     ensures { IfOk result (λ c. c ≡ enclosed code ∷ []) }
 {
-    alone(alloc, Stm::Block(code))
+    one_statement(alloc, Stm::Block(code))
 }
 
 // A test that leaves the loop, and else the body.
@@ -138,7 +129,7 @@ fn test_and_body(
         tree,
         top: _,
     } = test;
-    let leaving = alone(alloc, Stm::Break(0))?;
+    let leaving = one_statement(alloc, Stm::Break(0))?;
     code.push(Stm::If(tree, body, leaving))?;
     Ok(code)
 }
@@ -151,7 +142,7 @@ pub fn while_loop(alloc: Global, test: Value, body: Code, n: u32) -> Result<Code
     let top = test.top.max(body.top);
     let inner = in_block(alloc, body.code)?;
     let turn = test_and_body(alloc, test, inner, n)?;
-    let code = alone(alloc, Stm::Loop(turn))?;
+    let code = one_statement(alloc, Stm::Loop(turn))?;
     Ok(Code { code, top })
 }
 
@@ -163,7 +154,7 @@ pub fn do_loop(alloc: Global, body: Code, test: Value, n: u32) -> Result<Code, A
     let top = test.top.max(body.top);
     let mut turn = in_block(alloc, body.code)?;
     turn.append(test_and_body(alloc, test, List::new(alloc), n)?)?;
-    let code = alone(alloc, Stm::Loop(turn))?;
+    let code = one_statement(alloc, Stm::Loop(turn))?;
     Ok(Code { code, top })
 }
 

@@ -6,12 +6,12 @@ ghost use Rattle.mv_lower.specs.Statements.{seen_jumps, seen_code};
 ghost use Rattle.mv_lower_expressions.specs.Values.{seen};
 ghost use Rattle.mv_lower.specs.Switches.{default_place, all_tests, switch_of};
 
-use crate::code::{Code, Jumps, alone};
+use crate::code::{Code, Jumps};
 use mv_ast::program::Arm;
 use mv_ir::operators;
 use mv_ir::stm::Stm;
 use mv_ir::tree::Tree;
-use mv_lower_expressions::value::{Value, is_empty};
+use mv_lower_expressions::value::{Value, is_empty, one_statement};
 use mv_num::boxed::Boxed;
 use mv_num::list::List;
 use std::alloc::{AllocError, Global};
@@ -34,7 +34,7 @@ pub fn in_arm(jumps: Jumps) -> Jumps
 fn begin_at(alloc: Global, n: u32, i: u32) -> Result<List<Stm>, AllocError>
     ensures { IfOk result (λ code. code ≡ set n (number i) ∷ break 0 ∷ []) }
 {
-    let mut code = alone(alloc, Stm::Set(n, Tree::Number(i)))?;
+    let mut code = one_statement(alloc, Stm::Set(n, Tree::Number(i)))?;
     code.push(Stm::Break(0))?;
     Ok(code)
 }
@@ -113,7 +113,7 @@ pub fn arm_code(alloc: Global, n: u32, i: u32, mut code: List<Stm>) -> Result<Li
     code.push(Stm::Set(n, Tree::Number(0)))?;
     let arm = Boxed::new(alloc, Tree::Number(i))?;
     let place = Boxed::new(alloc, Tree::Temp(n))?;
-    alone(
+    one_statement(
         alloc,
         Stm::If(
             Tree::Binary(operators::LESS_UNSIGNED, arm, place),
@@ -128,7 +128,7 @@ pub fn arm_code(alloc: Global, n: u32, i: u32, mut code: List<Stm>) -> Result<Li
 fn after_block(alloc: Global, inner: List<Stm>, code: List<Stm>) -> Result<List<Stm>, AllocError>
     ensures { IfOk result (λ c. c ≡ enclosed inner ∷ code) }
 {
-    let mut all = alone(alloc, Stm::Block(inner))?;
+    let mut all = one_statement(alloc, Stm::Block(inner))?;
     all.append(code)?;
     Ok(all)
 }

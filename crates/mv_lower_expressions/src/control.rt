@@ -1,21 +1,15 @@
 // Choices between values, and stores of values.
-ghost use Rattle.std.specs.Prelude.{◌≡◌, ◌+◌, ◌++◌, ◌∷◌, [], ◌<◌, ◌^◌, IfOk, max};
+ghost use Rattle.std.specs.Prelude.{◌≡◌, ◌+◌, ◌++◌, ◌<◌, ◌^◌, IfOk, max};
 ghost use Rattle.mv_lower_spec.specs.Lowered.{truth_in};
 ghost use Rattle.mv_lower_expressions.specs.Values.{seen, both_of, either_of, choice_of, number_in, chosen, set_local_of, set_global_of};
 
 use crate::tree::truth;
-use crate::value::{Value, followed_by, made_low, put_away};
+use crate::value::{Value, followed_by, made_low, one_statement, put_away};
 use mv_ir::stm::Stm;
 use mv_ir::tree::Tree;
 use mv_num::list::List;
 use mv_num::results;
 use std::alloc::{AllocError, Global};
-
-fn alone(alloc: Global, stm: Stm) -> Result<List<Stm>, AllocError>
-    ensures { IfOk result (λ code. code ≡ stm ∷ []) }
-{
-    followed_by(List::new(alloc), stm)
-}
 
 // The truth of a value, in a temporary.
 #[tactic(auto, using(crate::proofs::Emitting::emitted))]
@@ -30,7 +24,7 @@ fn truth_in(alloc: Global, value: Value, n: u32) -> Result<List<Stm>, AllocError
 fn number_in(alloc: Global, number: u32, n: u32) -> Result<List<Stm>, AllocError>
     ensures { IfOk result (λ code. code ≡ number_in number n) }
 {
-    alone(alloc, Stm::Set(n, Tree::Number(number)))
+    one_statement(alloc, Stm::Set(n, Tree::Number(number)))
 }
 
 // One of two lists of statements, by a value. Each leaves a value in the temporary.

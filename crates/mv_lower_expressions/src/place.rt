@@ -8,7 +8,7 @@ ghost use Rattle.mv_lower_expressions.specs.Places.{seen_place, start_of, alone,
 use crate::control::{set_global, set_local};
 use crate::operands::{binary, convert};
 use crate::tree::next_tree;
-use crate::value::{Value, followed_by, followed_by_all};
+use crate::value::{Value, followed_by, followed_by_all, one_statement};
 use mv_ast::program::CType;
 use mv_ir::stm::{Array, Stm};
 use mv_ir::tree::Tree;
@@ -217,7 +217,7 @@ fn local_after(
     requires { n + 1 < 2 ^ 32 }
     ensures { IfOk result (λ w. seen w ≡ after_of up ctype (InLocal local) n) }
 {
-    let code = followed_by(List::new(alloc), Stm::Set(n, Tree::Temp(local)))?;
+    let code = one_statement(alloc, Stm::Set(n, Tree::Temp(local)))?;
     let (code, next) = results::both(code, next_tree(alloc, up, ctype, Tree::Temp(n)))?;
     Ok(Value {
         code: followed_by(code, Stm::Set(local, next))?,
@@ -237,7 +237,7 @@ fn global_after(
     requires { n + 1 < 2 ^ 32 }
     ensures { IfOk result (λ w. seen w ≡ after_of up ctype (InGlobal global) n) }
 {
-    let code = followed_by(List::new(alloc), Stm::Set(n, Tree::Global(global)))?;
+    let code = one_statement(alloc, Stm::Set(n, Tree::Global(global)))?;
     let (code, next) = results::both(code, next_tree(alloc, up, ctype, Tree::Temp(n)))?;
     Ok(Value {
         code: followed_by(code, Stm::SetGlobal(global, next))?,

@@ -7,7 +7,7 @@ use crate::tree::is_low;
 use mv_ir::stm::Stm;
 use mv_ir::tree::Tree;
 use mv_num::list::List;
-use std::alloc::AllocError;
+use std::alloc::{AllocError, Global};
 
 /// Code, the tree of a value where it ends, and what is above all temporaries that it writes.
 #[derive(Drop)]
@@ -15,6 +15,13 @@ pub struct Value {
     pub code: List<Stm>,
     pub tree: Tree,
     pub top: u32,
+}
+
+/// Code of one statement.
+pub fn one_statement(alloc: Global, stm: Stm) -> Result<List<Stm>, AllocError>
+    ensures { IfOk result (λ code. code ≡ stm ∷ []) }
+{
+    followed_by(List::new(alloc), stm)
 }
 
 /// Code followed by a statement.
