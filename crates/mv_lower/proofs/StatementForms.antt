@@ -117,24 +117,24 @@ module _ (g : Function) where
   unfolding stmts_at stmt_at
   stmt_block body j = lowered _ _ j (outs-Block body)
 
-  pub stmt_express : (e : Expr) (j : Jumps) → stmt_at g (at.Express e) j ≡ express_of (expr_at e n) n
+  pub stmt_express : (e : Expr) (j : Jumps) → stmt_at g (at.Express e) j ≡ express_of (expr_at e n)
   unfolding express_of expr_at
   stmt_express e j = lowered _ _ j (outs-Express e)
 
-  pub stmt_if : (e : Expr) (a b : List Stmt) (j : Jumps) → stmt_at g (at.If e a b) j ≡ if_of (expr_at e n) (stmts_at g a j) (stmts_at g b j) n
+  pub stmt_if : (e : Expr) (a b : List Stmt) (j : Jumps) → stmt_at g (at.If e a b) j ≡ if_of (expr_at e n) (stmts_at g a j) (stmts_at g b j)
   unfolding if_of expr_at stmts_at stmt_at
   stmt_if e a b j = lowered _ _ j (outs-If e a b)
 
-  pub stmt_while : (e : Expr) (body : List Stmt) (j : Jumps) → stmt_at g (at.While e body) j ≡ while_of (expr_at e n) (stmts_at g body (in_body j)) n
+  pub stmt_while : (e : Expr) (body : List Stmt) (j : Jumps) → stmt_at g (at.While e body) j ≡ while_of (expr_at e n) (stmts_at g body (in_body j))
   unfolding while_of expr_at stmts_at stmt_at
   stmt_while e body j = lowered _ _ j (outs-While e body)
 
-  pub stmt_do : (body : List Stmt) (e : Expr) (j : Jumps) → stmt_at g (at.Do body e) j ≡ do_of (stmts_at g body (in_body j)) (expr_at e n) n
+  pub stmt_do : (body : List Stmt) (e : Expr) (j : Jumps) → stmt_at g (at.Do body e) j ≡ do_of (stmts_at g body (in_body j)) (expr_at e n)
   unfolding do_of expr_at stmts_at stmt_at
   stmt_do body e j = lowered _ _ j (outs-Do body e)
 
   pub stmt_for : (first : List Stmt) (test step : Option Expr) (body : List Stmt) (j : Jumps) →
-      stmt_at g (at.For first test step body) j ≡ for_of (stmts_at g first j) (optional_at 1 test n) (optional_at 0 step n) (stmts_at g body (in_body j)) n
+      stmt_at g (at.For first test step body) j ≡ for_of (stmts_at g first j) (optional_at 1 test n) (optional_at 0 step n) (stmts_at g body (in_body j))
   unfolding for_of stmts_at stmt_at optional_at
   stmt_for first test step body j = lowered _ _ j (outs-For first test step body)
 

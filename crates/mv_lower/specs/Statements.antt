@@ -4,10 +4,11 @@ use Rattle.mv_ast.specs.declared.program.Function.{Function}
 use Rattle.mv_ast.specs.declared.program.Expr.{Expr}
 use Rattle.mv_ast.specs.declared.program.Stmt.{Stmt}
 use Rattle.mv_ast.specs.declared.program.Arm.{Arm}
+use Rattle.mv_ir.specs.declared.stm.Stm.{Stm}
 use Rattle.mv_ast.specs.Counts.{expr_nodes, own_nodes, stmt_total, arm_total}
 use Rattle.mv_lower_spec.specs.Lowered.{Lowered}
 use Rattle.mv_source_forms.specs.Names.{is_void, size_in}
-use Rattle.mv_lower_spec.specs.Statements.{Jumps, Code, Placed, LoweredArm, in_sequence, lower_express, lower_return, lower_end, lower_break, lower_continue, lower_if, lower_while, lower_do, lower_for}
+use Rattle.mv_lower_spec.specs.Statements.{Jumps, Code, Placed, LoweredArm, in_sequence, lower_express, lower_return, lower_end, lower_break, lower_continue, lower_if, test_and_body, lower_while, lower_do, lower_for}
 use Rattle.mv_lower_spec.specs.LowerStatements.{lower_stmt, lower_arm}
 use Rattle.mv_lower_spec.specs.Functions.{outermost}
 use Rattle.mv_lower.specs.declared.code.Jumps as declared
@@ -38,25 +39,28 @@ arm_at g a = lower_arm (length g.locals) (size_in g.locals) (is_void g.result) a
 unfoldable pub stmts_at : Function → List Stmt → Jumps → Code
 stmts_at g body j = in_sequence (length g.locals) (map (stmt_at g) body) j
 
--- ---- from their parts
+-- ---- from their parts: a value that is given is the same at each number of locals, so 0 stands for any
 
-unfoldable pub express_of : Lowered → ℕ → Code
-express_of x n = lower_express n (given x) outermost
+unfoldable pub express_of : Lowered → Code
+express_of x = lower_express 0 (given x) outermost
 
-unfoldable pub return_of : Lowered → ℕ → Code
-return_of x n = lower_return n (given x) outermost
+unfoldable pub return_of : Lowered → Code
+return_of x = lower_return 0 (given x) outermost
 
-unfoldable pub if_of : Lowered → Code → Code → ℕ → Code
-if_of x a b n = lower_if n (given x) (standing a) (standing b) outermost
+unfoldable pub if_of : Lowered → Code → Code → Code
+if_of x a b = lower_if 0 (given x) (standing a) (standing b) outermost
 
-unfoldable pub while_of : Lowered → Code → ℕ → Code
-while_of x a n = lower_while n (given x) (standing a) outermost
+abbrev pub tested_body : Lowered → List Stm → List Stm
+tested_body x body = test_and_body 0 (given x) body
 
-unfoldable pub do_of : Code → Lowered → ℕ → Code
-do_of a x n = lower_do n (standing a) (given x) outermost
+unfoldable pub while_of : Lowered → Code → Code
+while_of x a = lower_while 0 (given x) (standing a) outermost
 
-unfoldable pub for_of : Code → Lowered → Lowered → Code → ℕ → Code
-for_of first test step a n = lower_for n (standing first) (given test) (given step) (standing a) outermost
+unfoldable pub do_of : Code → Lowered → Code
+do_of a x = lower_do 0 (standing a) (given x) outermost
+
+unfoldable pub for_of : Code → Lowered → Lowered → Code → Code
+for_of first test step a = lower_for 0 (standing first) (given test) (given step) (standing a) outermost
 
 unfoldable pub break_at : Jumps → ℕ → Code
 break_at j n = lower_break n j
@@ -70,7 +74,7 @@ end_at j n = lower_end n j
 -- `return`, with or without a value
 abbrev pub return_at : Option Expr → Jumps → ℕ → Code
 return_at None j n = end_at j n
-return_at (Some e) j n = return_of (expr_at e n) n
+return_at (Some e) j n = return_of (expr_at e n)
 
 -- ---- sizes, which bound the numbers of temporaries, of blocks and of arms
 

@@ -1,8 +1,8 @@
 // Lowered statements, from what their parts are lowered to.
 ghost use Rattle.std.specs.Prelude.{◌≡◌, ◌+◌, ◌++◌, ◌∷◌, [], ◌<◌, ◌^◌, IfOk, OnOk};
-ghost use Rattle.mv_lower_spec.specs.Statements.{in_body, in_arm, enclosed, test_and_body};
-ghost use Rattle.mv_lower_expressions.specs.Values.{seen, given};
-ghost use Rattle.mv_lower.specs.Statements.{seen_code, seen_jumps, express_of, return_of, if_of, while_of, do_of, for_of, break_at, continue_at, end_at};
+ghost use Rattle.mv_lower_spec.specs.Statements.{in_body, in_arm, enclosed};
+ghost use Rattle.mv_lower_expressions.specs.Values.{seen};
+ghost use Rattle.mv_lower.specs.Statements.{seen_code, seen_jumps, express_of, return_of, if_of, tested_body, while_of, do_of, for_of, break_at, continue_at, end_at};
 
 use mv_ir::stm::Stm;
 use mv_ir::tree::Tree;
@@ -39,8 +39,8 @@ pub fn in_body(jumps: Jumps) -> Jumps
 
 /// An expression statement (C11 6.8.3).
 #[tactic(auto, unfolding(crate::specs::Statements::express_of))]
-pub fn express(value: Value, n: u32) -> Code
-    ensures { seen_code result ≡ express_of (seen value) n }
+pub fn express(value: Value) -> Code
+    ensures { seen_code result ≡ express_of (seen value) }
 {
     Code {
         code: value.code,
@@ -50,8 +50,8 @@ pub fn express(value: Value, n: u32) -> Code
 
 /// `return` with a value (C11 6.8.6.4).
 #[tactic(auto, using(mv_lower_expressions::proofs::Emitting::emitted), unfolding(crate::specs::Statements::return_of))]
-pub fn return_value(value: Value, n: u32) -> Result<Code, AllocError>
-    ensures { IfOk result (λ c. seen_code c ≡ return_of (seen value) n) }
+pub fn return_value(value: Value) -> Result<Code, AllocError>
+    ensures { IfOk result (λ c. seen_code c ≡ return_of (seen value)) }
 {
     let Value {
         mut code,
@@ -91,8 +91,8 @@ pub fn end(alloc: Global, jumps: Jumps, n: u32) -> Result<Code, AllocError>
 
 /// `if` (C11 6.8.4.1).
 #[tactic(auto, using(mv_lower_expressions::proofs::Emitting::emitted), unfolding(crate::specs::Statements::if_of))]
-pub fn choose(test: Value, a: Code, b: Code, n: u32) -> Result<Code, AllocError>
-    ensures { IfOk result (λ c. seen_code c ≡ if_of (seen test) (seen_code a) (seen_code b) n) }
+pub fn choose(test: Value, a: Code, b: Code) -> Result<Code, AllocError>
+    ensures { IfOk result (λ c. seen_code c ≡ if_of (seen test) (seen_code a) (seen_code b)) }
 {
     let Value {
         mut code,
@@ -116,13 +116,8 @@ fn in_block(alloc: Global, code: List<Stm>) -> Result<List<Stm>, AllocError>
 
 // A test that leaves the loop, and else the body.
 #[tactic(auto, using(mv_lower_expressions::proofs::Emitting::emitted))]
-fn test_and_body(
-    alloc: Global,
-    test: Value,
-    body: List<Stm>,
-    n: u32,
-) -> Result<List<Stm>, AllocError>
-    ensures { IfOk result (λ c. c ≡ test_and_body n (given (seen test)) body) }
+fn test_and_body(alloc: Global, test: Value, body: List<Stm>) -> Result<List<Stm>, AllocError>
+    ensures { IfOk result (λ c. c ≡ tested_body (seen test) body) }
 {
     let Value {
         mut code,
@@ -136,24 +131,24 @@ fn test_and_body(
 
 /// `while` (C11 6.8.5.1).
 #[tactic(auto, using(mv_lower_expressions::proofs::Emitting::emitted), unfolding(crate::specs::Statements::while_of))]
-pub fn while_loop(alloc: Global, test: Value, body: Code, n: u32) -> Result<Code, AllocError>
-    ensures { IfOk result (λ c. seen_code c ≡ while_of (seen test) (seen_code body) n) }
+pub fn while_loop(alloc: Global, test: Value, body: Code) -> Result<Code, AllocError>
+    ensures { IfOk result (λ c. seen_code c ≡ while_of (seen test) (seen_code body)) }
 {
     let top = test.top.max(body.top);
     let inner = in_block(alloc, body.code)?;
-    let turn = test_and_body(alloc, test, inner, n)?;
+    let turn = test_and_body(alloc, test, inner)?;
     let code = one_statement(alloc, Stm::Loop(turn))?;
     Ok(Code { code, top })
 }
 
 /// `do` (C11 6.8.5.2). The test comes behind the block of the body, which `continue` leaves.
 #[tactic(auto, using(mv_lower_expressions::proofs::Emitting::emitted), unfolding(crate::specs::Statements::do_of))]
-pub fn do_loop(alloc: Global, body: Code, test: Value, n: u32) -> Result<Code, AllocError>
-    ensures { IfOk result (λ c. seen_code c ≡ do_of (seen_code body) (seen test) n) }
+pub fn do_loop(alloc: Global, body: Code, test: Value) -> Result<Code, AllocError>
+    ensures { IfOk result (λ c. seen_code c ≡ do_of (seen_code body) (seen test)) }
 {
     let top = test.top.max(body.top);
     let mut turn = in_block(alloc, body.code)?;
-    turn.append(test_and_body(alloc, test, List::new(alloc), n)?)?;
+    turn.append(test_and_body(alloc, test, List::new(alloc))?)?;
     let code = one_statement(alloc, Stm::Loop(turn))?;
     Ok(Code { code, top })
 }
@@ -166,13 +161,12 @@ pub fn for_loop(
     test: Value,
     step: Value,
     body: Code,
-    n: u32,
 ) -> Result<Code, AllocError>
-    ensures { IfOk result (λ c. seen_code c ≡ for_of (seen_code first) (seen test) (seen step) (seen_code body) n) }
+    ensures { IfOk result (λ c. seen_code c ≡ for_of (seen_code first) (seen test) (seen step) (seen_code body)) }
 {
     let above = test.top.max(step.top.max(body.top));
     let inner = in_block(alloc, body.code)?;
-    let mut turn = test_and_body(alloc, test, inner, n)?;
+    let mut turn = test_and_body(alloc, test, inner)?;
     turn.append(step.code)?;
     let Code { mut code, top } = first;
     code.push(Stm::Loop(turn))?;

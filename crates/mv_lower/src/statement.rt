@@ -58,29 +58,29 @@ fn lower_stmt(
             let size = size_of(&function.locals, *l);
             Ok(declare(alloc, size, *l, any_names(values, *l), given, n)?)
         }
-        Stmt::Express(e) => Ok(express(lower_expr(alloc, e, n)?, n)),
+        Stmt::Express(e) => Ok(express(lower_expr(alloc, e, n)?)),
         Stmt::If(e, a, b) => {
             let test = lower_expr(alloc, e, n)?;
             let a = lower_stmts(alloc, function, a, jumps)?;
             let b = lower_stmts(alloc, function, b, jumps)?;
-            Ok(choose(test, a, b, n)?)
+            Ok(choose(test, a, b)?)
         }
         Stmt::While(e, body) => {
             let test = lower_expr(alloc, e, n)?;
             let body = lower_stmts(alloc, function, body, in_body(jumps))?;
-            Ok(while_loop(alloc, test, body, n)?)
+            Ok(while_loop(alloc, test, body)?)
         }
         Stmt::Do(body, e) => {
             let body = lower_stmts(alloc, function, body, in_body(jumps))?;
             let test = lower_expr(alloc, e, n)?;
-            Ok(do_loop(alloc, body, test, n)?)
+            Ok(do_loop(alloc, body, test)?)
         }
         Stmt::For(first, test, step, body) => {
             let first = lower_stmts(alloc, function, first, jumps)?;
             let test = lower_optional(alloc, 1, test, n)?;
             let step = lower_optional(alloc, 0, step, n)?;
             let body = lower_stmts(alloc, function, body, in_body(jumps))?;
-            Ok(for_loop(alloc, first, test, step, body, n)?)
+            Ok(for_loop(alloc, first, test, step, body)?)
         }
         Stmt::Switch(e, arms) => {
             let value = lower_expr(alloc, e, n)?;
@@ -103,7 +103,7 @@ fn lower_return(alloc: Global, e: &Option<Expr>, jumps: Jumps, n: u32) -> Result
         None => Ok(end(alloc, jumps, n)?),
         Some(e) => {
             let value = lower_expr(alloc, e, n)?;
-            Ok(return_value(value, n)?)
+            Ok(return_value(value)?)
         }
     }
 }
