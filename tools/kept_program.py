@@ -7,6 +7,8 @@
 A kept program is a file of `out/` at the top, named by its kind and its sum. So it is found exactly for the sources and the
 toolchain that it was made of, whatever the times of the files say.
 """
+import contextlib
+import fcntl
 import hashlib
 import os
 import shutil
@@ -60,6 +62,19 @@ def find(known_sum):
     return next((kind for kind in KINDS if os.access(place_of(kind, known_sum), os.X_OK)), None)
 
 
+@contextlib.contextmanager
+def alone(at_a_wait):
+    """Lets one process in at a time. One that has to wait calls the function first."""
+    os.makedirs(PLACE, exist_ok=True)
+    with open(os.path.join(PLACE, "lock"), "w", encoding="utf-8") as lock:
+        try:
+            fcntl.flock(lock, fcntl.LOCK_EX | fcntl.LOCK_NB)
+        except BlockingIOError:
+            at_a_wait()
+            fcntl.flock(lock, fcntl.LOCK_EX)
+        yield
+
+
 def keep(program, kind, known_sum):
     """Keeps a program in the place of all others of its kind."""
     os.makedirs(PLACE, exist_ok=True)
@@ -74,7 +89,8 @@ def keep(program, kind, known_sum):
             os.remove(copied)
     for name in os.listdir(PLACE):
         if name.startswith(f"multiverse-{kind}-") and name != os.path.basename(kept):
-            os.remove(os.path.join(PLACE, name))
+            with contextlib.suppress(FileNotFoundError):
+                os.remove(os.path.join(PLACE, name))
 
 
 def main(words):

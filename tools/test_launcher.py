@@ -106,7 +106,7 @@ class Launcher(unittest.TestCase):
         """Returns the status of a run, what it wrote and its notes."""
         with self.start(*words, **how) as run:
             out, notes = run.communicate()
-        return run.returncode, out.decode(), notes.decode()
+        return run.returncode, out.decode(errors="backslashreplace"), (notes or b"").decode(errors="backslashreplace")
 
     def terminal(self):
         try:
@@ -200,6 +200,40 @@ class Launcher(unittest.TestCase):
         status, out, notes = self.run_it("run", "a.c")
         self.assertEqual((status, out), (NO_PROGRAM, ""))
         self.assertIn("src/main.rt:1:1: error[mismatched-types]: here", notes)
+
+    def assert_no_program(self, run, reason):
+        status, out, notes = run
+        self.assertEqual((status, out), (NO_PROGRAM, ""))
+        self.assertTrue(all(line.startswith("multiverse: ") for line in notes.splitlines()), notes)
+        self.assertIn(reason, notes)
+
+    def test_folder_of_kept_programs_that_can_t_be_written(self):
+        self.write("top/out", "")
+        self.assert_no_program(self.run_it("run", "a.c"), "out")
+
+    def test_kept_program_that_can_t_be_run(self):
+        self.gate()
+        kept = [name for name in os.listdir(os.path.join(self.top, "out")) if name.startswith("multiverse-")]
+        for text, reason in (("\0", "format"), ("#!/none\n", "No such file")):
+            self.write(f"top/out/{kept[0]}", text)
+            self.assert_no_program(self.run_it("run", "a.c"), reason)
+            self.assertIn(reason, self.run_at_terminal("run", "a.c"))
+
+    def test_first_runs_at_the_same_time(self):
+        runs = [self.start("run", str(n)) for n in range(4)]
+        for n, run in enumerate(runs):
+            out, notes = run.communicate()
+            self.assertEqual((run.returncode, out), (0, f"[run]\n[{n}]\n".encode()))
+            self.assertTrue(notes.decode().endswith("ended 3\n"))
+        self.assertEqual(self.tries(), 1)
+
+    def test_closed_standard_error(self):
+        for _ in range(2):
+            self.assertEqual(self.run_it("run", "a.c", stderr=None, preexec_fn=lambda: os.close(2))[:2], (0, "[run]\n[a.c]\n"))
+        self.assertEqual(self.run_it("--build", stderr=None, preexec_fn=lambda: os.close(2))[:2], (0, ""))
+
+    def test_words_that_are_no_text(self):
+        self.assertIn("\\udcff.c can't be read", self.explained("shelf fault", "run", b"\xff.c"))
 
     def test_much_output(self):
         self.write("long", "")
