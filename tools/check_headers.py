@@ -17,8 +17,6 @@ QUOTED = re.compile(r"`([^`]+)`")
 PATH = re.compile(r"^[\w.]+(/[\w.*]+)+/?$")
 # Words of C, of the commands and of shells, which stand in no source of ours.
 OUTSIDE = {"EOF", "rt", "ci", "gcc", "clang", "as", "objdump", "llvm"}
-# Commands that README says are still to come.
-COMING = {"build", "exec", "list", "gen"}
 
 
 def words_below(folder):
@@ -59,7 +57,7 @@ def missing(text, root, crate, every, crates):
         if not re.fullmatch(r"[\w:{}, ]+", quoted):
             continue
         for word in WORD.findall(quoted):
-            known = word in every or word in crates or word in OUTSIDE | COMING
+            known = word in every or word in crates or word in OUTSIDE
             if not known and not os.path.exists(os.path.join(root, word)):
                 found.append(word)
     return found

@@ -125,7 +125,7 @@ module _ (p : Program) (own : ℕ) (f : Function) where
   element_named : (s : Storage) (i : Expr) → IsArray p own f s → IsNamed i → IsNamedTarget (element_at s i)
   element_named (storage.Global g) i h k =
       by_target _ (open_form.GlobalAt g i) (outs-GlobalAt g i) (λ parts free apart.
-      and_from _ _ (ap not h) (k parts free (λ l q. (or_parts _ _ (or_parts false _ (apart l q)).1).0)))
+      and_from _ _ (ap not h.0) (and_from _ _ (ap not h.1) (k parts free (λ l q. (or_parts _ _ (or_parts false _ (apart l q)).1).0))))
   element_named (storage.Local m) i h k =
       by_target _ (open_form.LocalAt m i) (outs-LocalAt m i) (λ parts free apart.
       and_from _ _ (lt-ltb m (length f.locals) (slice_get_within f.locals m h.0 h.2))

@@ -9,7 +9,7 @@ use Rattle.mv_ast.specs.declared.program.Stmt.{Stmt}
 use Rattle.mv_ast.specs.declared.unit.Line.{Line}
 use Rattle.mv_ast.specs.declared.unit.Param.{Param}
 use Rattle.mv_ast.specs.Orders as orders
-use Rattle.mv_ast.specs.Plans.{attributed_functions}
+use Rattle.mv_ast.specs.Plans.{is_among, attributed_functions}
 use Rattle.mv_check_scope.specs.declared.meaning.Meaning.{Meaning}
 use Rattle.mv_check_scope.specs.declared.meaning.Meaning.TheVariants as meaning
 use Rattle.mv_check_scope.specs.declared.meaning.Storage.{Storage}
@@ -34,9 +34,9 @@ abbrev pub IsScalar : Function → Storage → Type 0
 IsScalar f (storage.Global g) = Unit {0}
 IsScalar f (storage.Local l) = (local : Local) × (slice_get f.locals l ≡ Some local) × (local.size ≡ None)
 
--- a local array, or a global that is none of the function's switches
+-- a local array, or a global that is none of the function's switches and no pointer switch
 abbrev pub IsArray : Program → ℕ → Function → Storage → Type 0
-IsArray p own f (storage.Global g) = is_own_switch p (slice_get p.functions own) g ≡ false
+IsArray p own f (storage.Global g) = (is_own_switch p (slice_get p.functions own) g ≡ false) × (is_among g p.pointers ≡ false)
 IsArray p own f (storage.Local l) = (local : Local) × (size : ℕ) × (slice_get f.locals l ≡ Some local) × (local.size ≡ Some size)
 
 -- one of the six kinds of orders

@@ -216,7 +216,7 @@ module _ (k : Foreknown) (c : Contents) (functions : List Function) (main : ℕ)
         array_shaped s t o size e =
             let x = still s t o in
             subst (λ (z : Storage). IsArray p own f z) (sym o.global)
-            (ap (λ g. is_own_switch p g o.number) there ∙ no_array o.number size x.0 x.1 (x.3 ∙ e) f.switches numbers)
+            (ap (λ g. is_own_switch p g o.number) there ∙ no_array o.number size x.0 x.1 (x.3 ∙ e) f.switches numbers, ap (is_among o.number) made.pointers)
 
         shaped : (name : List ℕ) (m : Meaning) → IsDeclared k before name m → IsShaped p own f m
         shaped name (meaning.Object v) d =

@@ -1,5 +1,5 @@
 -- What a unit's program is made of.
-use Rattle.std.proofs.Common.{◌≡◌, ℕ, refl, ◌∙◌, ap, List, map, Option, Some, None}
+use Rattle.std.proofs.Common.{◌≡◌, ℕ, refl, ◌∙◌, ap, List, [], map, Option, Some, None}
 use Rattle.std.specs.Prelude.{codes}
 use Rattle.mv_ast.specs.declared.program.Function.{Function}
 use Rattle.mv_ast.specs.declared.program.Program.{Program}
@@ -47,6 +47,7 @@ pub record IsMade (c : Contents) (functions : List Function) (main : ℕ) (p : P
   pub signatures : p.signatures ≡ c.scope.signatures
   pub globals : p.globals ≡ map (λ o. o.global) c.objects
   pub defined : p.functions ≡ map (with_switches p.switches) functions
+  pub pointers : p.pointers ≡ []
   pub entry : p.main ≡ main
 
 pub is_made : (c : Contents) (functions : List Function) (main : ℕ) → c.functions ≡ map (λ f. Some f) functions → IsMade c functions main (program_of c main)
@@ -55,5 +56,6 @@ is_made c functions main q = record {
   signatures = refl;
   globals = refl;
   defined = ap (λ fs. map (with_switches (switches_from 0 c.objects)) (present fs)) q ∙ ap (map (with_switches (switches_from 0 c.objects))) (present_is functions);
+  pointers = refl;
   entry = refl;
 }

@@ -1,21 +1,21 @@
 -- The program of a unit that keeps the rules.
-use Rattle.std.proofs.Common.{◌≡◌, ℕ, ◌≤◌, sym, ◌∙◌, ap, subst, false, [], Some, None, slice_get}
-use Rattle.std.specs.Prelude.{All}
+use Rattle.std.proofs.Common.{◌≡◌, ℕ, ◌≤◌, sym, ◌∙◌, ap, subst, arith, false, length, [], Some, None, slice_get}
+use Rattle.std.specs.Prelude.{◌≢◌, All, AllPairs}
 use Rattle.mv_ast.specs.declared.program.Function.{Function}
 use Rattle.mv_ast.specs.declared.program.Global.{Global}
 use Rattle.mv_ast.specs.declared.program.Program.{Program}
 use Rattle.mv_ast.specs.declared.unit.Unit as unit
 use Rattle.mv_ast.specs.Plans.{attributed_functions}
 use Rattle.std.specs.List.{AllByRecursion}
-use Rattle.std.proofs.lemmas.List.Elements.{recursion_from_All}
+use Rattle.std.proofs.lemmas.List.Elements.{All-nil, recursion_from_All}
 use Rattle.mv_check_expressions.specs.Judged.{Good}
 use Rattle.mv_check_declarations.specs.Turns.{through}
 use Rattle.mv_accepts_expressions.specs.Soundness.{Fits}
 use Rattle.mv_accepts_statements.specs.Bodies.{BodyGrows, ParametersFit}
 use Rattle.mv_accepts_statements.proofs.Judging.{of_good}
 use Rattle.mv_check_limits.specs.Limits.{first_exceeded}
-use Rattle.mv_source_forms.specs.Typing.{IsFirstValue, HasTypedMain}
-use Rattle.mv_source_forms.specs.WellFormed.{IsWellFormed, program_nodes}
+use Rattle.mv_source_forms.specs.Typing.{IsFirstValue, IsPointerSwitch, HasTypedMain}
+use Rattle.mv_source_forms.specs.WellFormed.{IsWellFormedPointer, IsWellFormed, program_nodes}
 use Rattle.mv_accepts_bodies.specs.Definitions.{DefinitionHasParameters, DefinitionIsFormed}
 use Rattle.mv_accepts_programs.specs.OwnSwitches.{OwnSwitchesAreNamed}
 use Rattle.mv_types.specs.declared.contents.Contents.{Contents}
@@ -124,6 +124,7 @@ module _ (laws : Laws) where
         functions =
             functions_typed k c (present c.functions) main p made all_defined.all sound.0 sound.1 laws.parameters counted.below attributed_are.below formed.switches
             formed.integers laws.formed laws.own;
+        pointers = subst (All (IsPointerSwitch p)) (sym made.pointers) (All-nil _);
         globals = globals_typed;
         entry = entry_typed;
       };
@@ -132,6 +133,8 @@ module _ (laws : Laws) where
           formed.integers laws.formed laws.own;
       globals = formed.globals;
       switches = formed.switches;
+      pointers = subst (All (IsWellFormedPointer p)) (sym made.pointers) (All-nil _);
+      different_pointers = subst (AllPairs (λ g h. g ≢ h)) (sym made.pointers) (λ i j d h k. absurd (omega (arith, k)));
       entry = entry_plain;
-      limits = laws.limits p none small;
+      limits = laws.limits p none (let e = ap length made.pointers in omega (arith, e)) small;
     }

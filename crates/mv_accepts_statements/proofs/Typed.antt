@@ -86,7 +86,7 @@ module _ (p : Program) (f : Function) where
 -- whatever the program is
 module _ (values : GoodIsTyped) (effects : EffectIsTyped) where
   abbrev no_program : Program
-  no_program = record { signatures = []; globals = []; functions = []; switches = []; main = 0 }
+  no_program = record { signatures = []; globals = []; functions = []; switches = []; pointers = []; main = 0 }
 
   abbrev no_function : CType → Function
   no_function t = record { name = []; attributed = false; result = t; params = 0; locals = []; switches = []; body = [] }

@@ -12,11 +12,11 @@ numbers_from n (f ∷ fs) = n ∷ numbers_from (suc n) fs
 abbrev pub own_numbers : Program → List ℕ
 own_numbers p = numbers_from 1 p.functions
 
--- the index of the function that has a number, counted on from another index
-abbrev pub function_from : ℕ → List ℕ → ℕ → Option ℕ
-function_from i [] v = None
-function_from i (n ∷ ns) v = if nat_eq n v then Some i else function_from (suc i) ns v
+-- the place of a number in a list, counted on from another place
+abbrev pub place_from : ℕ → List ℕ → ℕ → Option ℕ
+place_from i [] v = None
+place_from i (n ∷ ns) v = if nat_eq n v then Some i else place_from (suc i) ns v
 
 -- the function that has a number, where one has it
 abbrev pub function_of_number : List ℕ → ℕ → Option ℕ
-function_of_number numbers v = function_from 0 numbers v
+function_of_number numbers v = place_from 0 numbers v

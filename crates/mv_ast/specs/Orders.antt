@@ -1,11 +1,11 @@
 -- The orders, which are commits and reverts, by their codes.
 use Rattle.std.specs.Prelude.{ℕ}
 
--- a commit of all functions
+-- a commit of all functions and pointer switches
 abbrev pub commit : ℕ
 commit = 0
 
--- a revert of all functions
+-- a revert of all functions and pointer switches
 abbrev pub revert : ℕ
 revert = 1
 
@@ -17,11 +17,11 @@ commit_function = 2
 abbrev pub revert_function : ℕ
 revert_function = 3
 
--- a commit of the functions that have one switch
+-- a commit of the functions that have one switch, or of one pointer switch
 abbrev pub commit_references : ℕ
 commit_references = 4
 
--- a revert of the functions that have one switch
+-- a revert of the functions that have one switch, or of one pointer switch
 abbrev pub revert_references : ℕ
 revert_references = 5
 

@@ -4,25 +4,25 @@ use Rattle.mv_ast.specs.declared.program.CType.{CType}
 use Rattle.mv_ast.specs.declared.program.CType.TheVariants.{Void, Scalar, Pointer}
 use Rattle.mv_ast.specs.declared.program.Program.{Program}
 use Rattle.mv_ast.specs.declared.program.Global.{Global}
-use Rattle.mv_ast.specs.declared.world.Action.{Action}
-use Rattle.mv_ast.specs.Worlds.{World}
-use Rattle.mv_ast.specs.Plans.{attributed_functions, free}
+use Rattle.mv_ast.specs.Worlds.{World, Act}
+use Rattle.mv_ast.specs.Plans.{all_free}
 use Rattle.mv_ast.specs.Counts.{words_of_size}
 
 -- the first words of a global: its given values, and then 0
 abbrev pub first_words : Global → List ℕ
 first_words g = g.first ++ replicate (words_of_size g.size - length g.first) 0
 
--- all functions are free, and nothing was taken or written
-abbrev pub first_world : Program → List ℕ → List Action → World
-first_world p input actions = record {
+-- in a hart all functions and pointer switches are free, and nothing was taken or written
+abbrev pub first_world : Program → (hart : ℕ) → (input : List ℕ) → List Act → World
+first_world p hart input actions = record {
   globals = map first_words p.globals;
+  hart = hart;
   depth = 0;
   live = 0;
   input = input;
   taken = 0;
   output = [];
-  bindings = map (λ f. free) (attributed_functions p);
+  bindings = all_free p;
   actions = actions;
   log = [];
 }
@@ -42,5 +42,5 @@ abbrev pub first_words_under : List ℕ → Global → List ℕ
 first_words_under numbers g = map (renumbered_at g.ctype numbers) (first_words g)
 
 -- with function pointers as a numbering writes them
-abbrev pub first_world_under : Program → (numbers : List ℕ) → (input : List ℕ) → (actions : List Action) → World
-first_world_under p numbers input actions = record (first_world p input actions) { globals = map (first_words_under numbers) p.globals }
+abbrev pub first_world_under : Program → (numbers : List ℕ) → (hart : ℕ) → (input : List ℕ) → List Act → World
+first_world_under p numbers hart input actions = record (first_world p hart input actions) { globals = map (first_words_under numbers) p.globals }

@@ -25,8 +25,8 @@ pub struct Signature {
     pub params: List<CType>,
 }
 
-/// A whole program: its defined functions and its globals in order of their first declaration, its switches, each signature
-/// once, and the number of the function `main`.
+/// A whole program: its defined functions and its globals in order of their first declaration, its switches, its pointer
+/// switches, each signature once, and the number of the function `main`.
 #[derive(Drop)]
 pub struct Program {
     /// The types of functions, each once.
@@ -37,6 +37,8 @@ pub struct Program {
     pub functions: List<Function>,
     /// A switch's number is its index here.
     pub switches: List<Switch>,
+    /// The globals of the pointer switches, which are marked function pointers, in order of declaration.
+    pub pointers: List<u32>,
     /// The number of the function `main`.
     pub main: u32,
 }
@@ -106,8 +108,9 @@ pub enum Target {
     LocalAt(u32, Boxed<Expr>),
 }
 
-/// A function that is known without declaration. A plan is a commit or a revert, by its code (`orders`): of all functions, of the
-/// attributed function with this index among the attributed ones, or of those that have the switch with this index.
+/// A function that is known without declaration. A plan is a commit or a revert, by its code (`orders`): of all attributed
+/// functions and pointer switches, of the attributed function with this index among the attributed ones, or of what refers to the
+/// switch with this index: the functions that have it, or the pointer switch, whose index counts on behind the switches.
 #[derive(Clone, Copy, PartialEq, Eq, Debug)]
 pub enum Known {
     /// Gives the next byte of the input, or -1 at its end.
@@ -116,7 +119,7 @@ pub enum Known {
     Putchar,
     /// Lets the operator act, and gives 1 where a switch is flipped, else 0.
     Poll,
-    /// A commit or a revert: its code, and the index of what it addresses, 0 where it addresses all functions.
+    /// A commit or a revert: its code, and the index of what it addresses, 0 where it addresses all.
     Plan(u8, u32),
 }
 
@@ -162,7 +165,8 @@ pub enum Form {
     After(bool, Target),
     /// A call of the function with this number, and its arguments in order.
     Direct(u32, List<Expr>),
-    /// A call through a pointer: the arguments in order, and the callee.
+    /// A call through a pointer: the arguments in order, and the callee. One whose callee is the read of a pointer switch goes to
+    /// the function to which that is bound, where it is bound.
     Through(List<Expr>, Boxed<Expr>),
     /// A call of a known function, and its arguments.
     Known(Known, List<Expr>),

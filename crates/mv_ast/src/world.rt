@@ -5,6 +5,7 @@ ghost use Rattle.mv_ast.specs.Plans.{free};
 
 /// What an attributed function is bound to: a value for each of its switches in their order, or nothing.
 /// `count` is the number of its switches, and the values behind them are 0. A free one has `count` 0 and zeros alone.
+/// A pointer switch is bound to a function: its `count` is 1, and its value is one more than the function's number.
 #[derive(Clone, Copy, PartialEq, Eq, Debug)]
 pub struct Binding {
     /// Whether it is bound to values at all.
@@ -16,7 +17,7 @@ pub struct Binding {
 }
 
 impl Binding {
-    /// The binding of a function that is bound to nothing, as all are at the start.
+    /// The binding of what is bound to nothing, as all is at the start.
     pub fn free() -> Binding
         ensures { result ≡ free }
     {
@@ -28,21 +29,22 @@ impl Binding {
     }
 }
 
-/// A changed binding, of the attributed function with this number among the attributed ones.
+/// A changed binding, of the attributed function with this number among the attributed ones, or of a pointer switch, whose
+/// number counts on behind these.
 #[derive(Clone, Copy, PartialEq, Eq, Debug)]
 pub struct Event {
-    /// The number among the attributed functions, in order of declaration from 0.
+    /// The number among the attributed functions, in order of declaration from 0, and then among the pointer switches.
     pub function: u32,
     /// The new binding.
     pub binding: Binding,
 }
 
-/// What the operator does at a poll: nothing, or a store of a value in a switch, by its number, with a commit of all functions.
+/// What the operator does at a poll: nothing, or a store of a value in a switch, by its number, with a commit of all.
 #[derive(Clone, Copy, PartialEq, Eq, Debug)]
 pub enum Action {
     /// Nothing happens.
     Skip,
-    /// A value is stored in a switch, and all functions are committed.
+    /// A value is stored in a switch, and all functions and pointer switches are committed.
     Flip { switch: u32, value: u32 },
 }
 

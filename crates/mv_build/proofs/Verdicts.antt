@@ -4,6 +4,7 @@ use Rattle.std.specs.Prelude.{Result, Ok, Err, IfOk, IfErr}
 use Rattle.mv_ast.specs.declared.program.Program.{Program}
 use Rattle.mv_accepts_facts.specs.Laws.{ProgramsHaveTableFacts}
 use Rattle.mv_accepts_programs.specs.Checked.{ProgramsOfTextsAreWellFormed}
+use Rattle.mv_front.proofs.Few.{no_pointers}
 use Rattle.mv_front.specs.Verdicts.{IsProgram}
 use Rattle.mv_front.specs.Verdicts as front
 use Rattle.mv_front.specs.declared.refusal.FrontError.{FrontError}
@@ -23,7 +24,7 @@ front_cause text (fronting.Memory e) h = tt
 
 module _ (text : List ℕ) (p : Program) (is : IsProgram text p) where
   pub sound : ProgramsOfTextsAreWellFormed → ProgramsHaveTableFacts → IsSound p
-  sound formed facts = record { formed = formed text p is; facts = facts text p is }
+  sound formed facts = record { formed = formed text p is; pointers = no_pointers is.unit p is.good; facts = facts text p is }
 
   of_compiled : (b : Built) → IsCompiled p b → IsBuiltFrom text b
   of_compiled b h = record {

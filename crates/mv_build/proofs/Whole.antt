@@ -32,8 +32,8 @@ module _ (can_be_linked : PartsCanBeLinked) (leads : RowsLeadToVariants) (tabled
     are_parts = are;
     linked = to.of.linked;
     leads = λ n f g variants number there table. leads p c.generics c.variants parts are image to.of.linked n f g variants (record { number = number; there = there; table = table });
-    behaves = λ bytes actions picks are_bytes of_words fit. (behave p image sound.formed sound.facts.words built bytes actions picks are_bytes of_words fit).0;
-    loads = λ bytes actions picks are_bytes of_words fit. let b = behave p image sound.formed sound.facts.words built bytes actions picks are_bytes of_words fit in (b.1, b.2);
-    fits = (tabled p sound.formed c.generics c.variants parts are image to.of.linked).fits;
+    behaves = λ bytes polls picks are_bytes of_words fit. (behave p image sound.formed sound.facts.words sound.pointers built bytes polls picks are_bytes of_words fit).0;
+    loads = λ bytes polls picks are_bytes of_words fit. let b = behave p image sound.formed sound.facts.words sound.pointers built bytes polls picks are_bytes of_words fit in (b.1, b.2);
+    fits = (tabled p sound.formed sound.pointers c.generics c.variants parts are image to.of.linked).fits;
     shows = show p sound.formed c.generics c.variants parts are image to.of.linked to.of.rules;
   }

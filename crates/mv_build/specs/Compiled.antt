@@ -26,9 +26,10 @@ use Rattle.mv_build.specs.declared.error.BuildError.TheVariants.{Refused, Memory
 use Rattle.mv_build.specs.Errors.{of_linking}
 use Rattle.mv_build.specs.Images.{IsImageOf}
 
--- a well-formed program, with what tables need to know of it
+-- a well-formed program without pointer switches, with what tables need to know of it
 pub record IsSound (p : Program) : Type 0 where
   pub formed : IsWellFormed p
+  pub pointers : p.pointers ≡ []
   pub facts : HasTableFacts p
 
 -- what a program is compiled to

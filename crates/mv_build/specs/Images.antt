@@ -13,26 +13,27 @@ use Rattle.mv_link_data.specs.FirstData.{data_words}
 use Rattle.mv_parts.specs.Codes.{FramesFit}
 use Rattle.mv_parts.specs.Numbers.{attributed_numbers}
 use Rattle.mv_parts.specs.Parts.{ArePartsOf}
-use Rattle.mv_ast.specs.Actions.{IsOfWord}
+use Rattle.mv_ast.specs.Actions.{IsActOfWord, act_fits}
 use Rattle.mv_machine.specs.Actions as machine
+use Rattle.mv_machine.specs.Acts.{PollActs}
 use Rattle.mv_refine_runs.specs.Behaves.{BehavesAlways, LoadsWhatIsOpen}
 use Rattle.mv_parts_tables.specs.Leads.{LeadsToVariants}
 use Rattle.mv_refine_images.specs.Closed.{closed}
 use Rattle.mv_refine_images.specs.Own.{LoadsNoOwnSwitch}
 use Rattle.mv_count_words.specs.Laws.{ShowsBindings}
 
--- On no input, with no actions whose values are words and that fit the program, and by no picks does an instruction load a data word that is closed to what
--- stands at its place; and none that is code of a function's variants, in their words or at a site, loads a switch of the function.
+-- On no input, in no hart, where its polls take what fits the program and whose values are words, and by no picks does an instruction load a data word that is
+-- closed to what stands at its place; and none that is code of a function's variants, in their words or at a site, loads a switch of the function.
 abbrev pub LoadsOpenly : Program → Parts → (sizing : List ℕ) → Fields → Type 0
 LoadsOpenly p parts sizing image =
-    (bytes : List ℕ) (actions : List Action) (picks : List ℕ) → All (λ b. b < 2 ^ 8) bytes → All IsOfWord actions → All (λ a. IsTrue (source.fits p a)) actions →
-    LoadsWhatIsOpen image (closed image parts sizing p) bytes actions picks × LoadsNoOwnSwitch image bytes actions picks
+    (bytes : List ℕ) (polls : PollActs) (picks : List ℕ) → All (λ b. b < 2 ^ 8) bytes → All IsActOfWord polls.acts → All (λ a. IsTrue (act_fits p polls.hart a)) polls.acts →
+    LoadsWhatIsOpen image (closed image parts sizing p) bytes polls picks × LoadsNoOwnSwitch image bytes polls picks
 
 -- The image of a program, of these bodies of its functions and these variants of its attributed ones: frames and data are within their limits; the image is
 -- linked of the code of the bodies and variants, of the first words of the globals, and of tables; the tables lead from each assignment of a function to
--- the variant that means what the function means under it. Its run does what the program means, on each input, with any actions that fit, also while commits
--- rewrite its text; no instruction loads what is closed to its place, as a variant's own switch; the same actions fit the image and the program; and the text
--- of the run's bindings differs from the image's in as many words as these bindings owe.
+-- the variant that means what the function means under it. Its run does what the program means, in each hart, on each input, whatever its polls take that fits,
+-- also while commits rewrite its text; no instruction loads what is closed to its place, as a variant's own switch; the same actions fit the image and the
+-- program; and the text of the bindings of the operator's run differs from the image's in as many words as these bindings owe.
 pub record IsImageOf (p : Program) (bodies : List Body) (tables : List (List Variant)) (image : Fields) : Type 0 where
   pub frames : FramesFit p (length p.functions)
   pub data_fits : data_words p ≤ data_limit

@@ -53,7 +53,7 @@ functions_same (Some f ∷ fs) = ap (λ (rest : List Function). f ∷ rest) (fun
 
 abbrev program_from : Declarations → ℕ → List program_global.Global → List Switch → List Function → Program
 program_from c main globals switches functions =
-    record { signatures = c.scope.signatures; globals = globals; functions = map (with_switches switches) functions; switches = switches; main = main }
+    record { signatures = c.scope.signatures; globals = globals; functions = map (with_switches switches) functions; switches = switches; pointers = []; main = main }
 
 pub program_same : (c : Declarations) (main : ℕ) → program_of (contents_of c) main ≡ program c main
 unfolding program_of

@@ -366,6 +366,7 @@ program c main =
       globals = map global_of c.globals;
       functions = map (with_switches switches) (those_there c.functions);
       switches = switches;
+      pointers = [];
       main = main;
     }
 

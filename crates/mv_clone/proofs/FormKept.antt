@@ -3,13 +3,15 @@ use Rattle.std.proofs.Common.{◌≡◌, ◌≤◌, ◌^◌, ℕ, ◌+◌, cond,
 use Rattle.std.specs.Prelude.{nat_lt, nat_eq}
 use Rattle.std.specs.List.{filter}
 use Rattle.mv_ir.specs.declared.stm.Array.{Array}
+use Rattle.mv_ir.specs.declared.stm.Callee.{Callee}
+use Rattle.mv_ir.specs.declared.stm.Callee.TheVariants as callee
 use Rattle.mv_ir.specs.declared.stm.Stm.TheOpen.{Stm-F}
 use Rattle.mv_ir.specs.declared.stm.Stm.TheOpen as stm
 use Rattle.mv_ir.specs.declared.body.Body.{Body}
 use Rattle.mv_ir.specs.Measures.{joined, statements, tree_nodes, scalars_read}
-use Rattle.mv_ir.specs.WellFormed.{all_true, all_around, layer_targets, stm_targets, layer_named, stm_named, named, has_room, is_there, known_arguments, layer_arguments, stm_arguments, IsWellFormed}
+use Rattle.mv_ir.specs.WellFormed.{all_true, all_around, layer_targets, stm_targets, callee_named, layer_named, stm_named, named, has_room, is_there, known_arguments, layer_arguments, stm_arguments, IsWellFormed}
 use Rattle.mv_ir.proofs.Rolls.{targets_roll, named_roll, arguments_roll}
-use Rattle.mv_clone.specs.Bind.{bound_tree, bound_layer, bound_code, is_free}
+use Rattle.mv_clone.specs.Bind.{bound_tree, bound_callee, bound_layer, bound_code, is_free}
 use Rattle.mv_clone.proofs.Kept.{blind_all}
 use Rattle.mv_clone.proofs.FlowsKept.{temps_kept}
 use Rattle.mv_num.proofs.Lists.{length_map}
@@ -49,6 +51,11 @@ module _ (ps : List (ℕ × ℕ)) where
   targets_blind (stm.Known r k args) = refl
   targets_blind (stm.Return v) = refl
 
+  callee_named_bound : (f : Callee) → callee_named (bound_callee ps f) ≡ callee_named f
+  callee_named_bound (callee.Direct f) = refl
+  callee_named_bound (callee.Through t) = refl
+  callee_named_bound (callee.Switched g) = refl
+
   named_blind : (x : Stm-F (List Array)) → layer_named (bound_layer ps x) ≡ layer_named x
   named_blind (stm.Set t v) = refl
   named_blind (stm.SetGlobal k v) = refl
@@ -62,7 +69,7 @@ module _ (ps : List (ℕ × ℕ)) where
   named_blind (stm.Block b) = refl
   named_blind (stm.Break n) = refl
   named_blind (stm.Back n) = refl
-  named_blind (stm.Call r f args) = refl
+  named_blind (stm.Call r f args) = callee_named_bound f
   named_blind (stm.Known r k args) = refl
   named_blind (stm.Return v) = refl
 

@@ -14,7 +14,7 @@ use Rattle.mv_ir.specs.declared.stm.Stm.TheOpen as stm
 use Rattle.mv_ir.specs.declared.stm.Stm.TheViews.{roll-Stm}
 use Rattle.mv_ir.specs.declared.stm.Stm.TheFolds.{map-Stm}
 use Rattle.mv_ir.specs.Trees.{unary, binary, divide, node_count, nodes, node_depth, depth}
-use Rattle.mv_ir.specs.Measures.{joined, callee_trees, layer_trees, stm_trees, trees, layer_reads, tree_reads, layer_arrays, stm_arrays, layer_size, stm_size, layer_calls, stm_calls}
+use Rattle.mv_ir.specs.Measures.{joined, callee_trees, layer_trees, stm_trees, trees, layer_reads, tree_reads, callee_read, layer_arrays, stm_arrays, layer_size, stm_size, layer_calls, stm_calls}
 use Rattle.mv_ir.proofs.Induction.{Each, TreeChildren, tree_ind, StmChildren}
 use Rattle.mv_ir.proofs.Rolls.{nodes_roll, depth_roll, reads_roll}
 use Rattle.mv_ir.proofs.Joining.{depth_positive}
@@ -122,6 +122,7 @@ many_less (t ∷ ts) = cons_less (simple_tree t) t (map simple_tree ts) ts (tree
 callee_less : (f : Callee) → TreesLess (callee_trees (simple_callee f)) (callee_trees f)
 callee_less (callee.Direct f) = less_refl _
 callee_less (callee.Through t) = one_less t
+callee_less (callee.Switched g) = less_refl _
 
 call_less : (f : Callee) (ts : List Tree) → TreesLess (callee_trees (simple_callee f) ++ map simple_tree ts) (callee_trees f ++ ts)
 call_less f ts =
@@ -220,6 +221,12 @@ choice_within None t a b ha hb = if_within t (simple_tree t) a (simple_code a) b
 choice_within (Some zero) t a b ha hb = side_within t a b (simple_code b) (less_trans (amount (simple_code b)) (amount b) (with (amount a) (amount b)) hb (less_right (amount a) (amount b)))
 choice_within (Some (suc n)) t a b ha hb = side_within t a b (simple_code a) (less_trans (amount (simple_code a)) (amount a) (with (amount a) (amount b)) ha (less_left (amount a) (amount b)))
 
+-- the same pointer switch is read
+callee_among : (f : Callee) → Among (callee_read (simple_callee f)) (callee_read f)
+callee_among (callee.Direct f) = none_among []
+callee_among (callee.Through t) = none_among []
+callee_among (callee.Switched g) = λ k c. c
+
 within_layer : (x : Stm-F Stm) → StmChildren IsWithin x → Within (roll-Stm x ∷ []) (simple_layer (map-Stm Stm (List Stm) simple_stm x))
 within_layer (stm.Set t v) h = leaf (stm.Set t v) (stm.Set t (simple_tree v)) (one_less v) (omega arith) (omega arith) (none_among [])
 within_layer (stm.SetGlobal g v) h = leaf (stm.SetGlobal g v) (stm.SetGlobal g (simple_tree v)) (one_less v) (omega arith) (omega arith) (none_among [])
@@ -233,7 +240,7 @@ within_layer (stm.Loop b) h = inside (stm.Loop b) (stm.Loop (simple_code b)) b (
 within_layer (stm.Block b) h = inside (stm.Block b) (stm.Block (simple_code b)) b (simple_code b) (block_amount b) (block_amount (simple_code b)) (code_within b h)
 within_layer (stm.Break n) h = less_refl _
 within_layer (stm.Back n) h = less_refl _
-within_layer (stm.Call r f args) h = leaf (stm.Call r f args) (stm.Call r (simple_callee f) (map simple_tree args)) (call_less f args) (omega arith) (omega arith) (none_among [])
+within_layer (stm.Call r f args) h = leaf (stm.Call r f args) (stm.Call r (simple_callee f) (map simple_tree args)) (call_less f args) (omega arith) (omega arith) (callee_among f)
 within_layer (stm.Known r k args) h = leaf (stm.Known r k args) (stm.Known r k (map simple_tree args)) (many_less args) (omega arith) (omega arith) (none_among [])
 within_layer (stm.Return v) h = leaf (stm.Return v) (stm.Return (simple_tree v)) (one_less v) (omega arith) (omega arith) (none_among [])
 

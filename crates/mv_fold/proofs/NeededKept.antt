@@ -119,6 +119,7 @@ module _ (setting : Setting) (frame : Frame) (needed : ℕ → Bool) where
   callee_in : (f : Callee) → Closed needed (trees_uses (callee_trees f)) → SameCalleeIn setting frame Agree q f f
   callee_in (callee.Direct f) h = refl
   callee_in (callee.Through t) h = same_in t (for_body needed t (left needed (tree_uses None t) [] h))
+  callee_in (callee.Switched g) h = refl
 
   puts : (r : Option ℕ) → Puts setting frame Agree q r r
   puts None = keeps

@@ -50,6 +50,7 @@ module _ (temps : ℕ) (setting : Setting) (frame : Frame) where
   callee_in : (f : Callee) → SameCalleeIn setting frame Long q f f
   callee_in (callee.Direct f) = refl
   callee_in (callee.Through t) = same_in t
+  callee_in (callee.Switched g) = refl
 
   keeps : (xs ys : List ℕ) → Long xs ys → Long xs ys
   keeps xs ys e = e

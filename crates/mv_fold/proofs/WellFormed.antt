@@ -2,6 +2,8 @@
 use Rattle.std.proofs.Common.{arith, ◌≡◌, ℕ, zero, suc, Bool, true, false, cond, ◌&&◌, List, [], ◌∷◌, ◌++◌, length, map, Option, Some, None, refl, sym, ◌∙◌, ap, subst, Contains, nat_lt, nat_eq}
 use Rattle.mv_ir.specs.declared.tree.Tree.{Tree}
 use Rattle.mv_ir.specs.declared.stm.Array.{Array}
+use Rattle.mv_ir.specs.declared.stm.Callee.{Callee}
+use Rattle.mv_ir.specs.declared.stm.Callee.TheVariants as callee
 use Rattle.mv_ir.specs.declared.stm.Stm.{Stm}
 use Rattle.mv_ir.specs.declared.stm.Stm.TheOpen.{Stm-F}
 use Rattle.mv_ir.specs.declared.stm.Stm.TheOpen as stm
@@ -10,7 +12,7 @@ use Rattle.mv_ir.specs.declared.stm.Stm.TheFolds.{map-Stm}
 use Rattle.mv_ir.specs.declared.body.Body.{Body}
 use Rattle.mv_ir.specs.Measures.{joined}
 use Rattle.mv_ir.specs.Live.{HasTemps}
-use Rattle.mv_ir.specs.WellFormed.{all_true, all_around, layer_targets, stm_targets, layer_named, stm_named, named, has_room, is_there, known_arguments, layer_arguments, stm_arguments, IsWellFormed}
+use Rattle.mv_ir.specs.WellFormed.{all_true, all_around, layer_targets, stm_targets, callee_named, layer_named, stm_named, named, has_room, is_there, known_arguments, layer_arguments, stm_arguments, IsWellFormed}
 use Rattle.mv_ir.proofs.Induction.{Each, StmChildren}
 use Rattle.mv_ir.proofs.Rolls.{targets_roll, named_roll, arguments_roll}
 use Rattle.mv_ir.proofs.Keeping.{map_append}
@@ -191,8 +193,17 @@ choice_kept (Some (suc n)) t a b ha hb = side_kept t a b (simple_code a) (keep_t
 same_length : (args : List Tree) → length args ≡ length (map simple_tree args)
 same_length args = sym (length_map simple_tree args)
 
-with_arguments : (x y : Stm-F Stm) (b : ℕ → Bool) (n m : ℕ) → layer_facts x ≡ record { targets = λ r. true; arguments = b n; named = λ p. true } → layer_facts y ≡ record { targets = λ r. true; arguments = b m; named = λ p. true } → n ≡ m → Kept (roll-Stm x ∷ []) (alone y)
-with_arguments x y b n m e f same = alike x y (e ∙ ap (λ k. record { targets = λ r. true; arguments = b k; named = λ p. true }) same ∙ sym f)
+abbrev asked : (ℕ → Bool) → ℕ → List Array → Facts
+asked b n arrays = record { targets = λ r. true; arguments = b n; named = λ p. all_true (map p arrays) }
+
+with_arguments : (x y : Stm-F Stm) (b : ℕ → Bool) (arrays : List Array) (n m : ℕ) → layer_facts x ≡ asked b n arrays → layer_facts y ≡ asked b m arrays → n ≡ m → Kept (roll-Stm x ∷ []) (alone y)
+with_arguments x y b arrays n m e f same = alike x y (e ∙ ap (λ k. asked b k arrays) same ∙ sym f)
+
+-- the same pointer switch is named
+callee_named_simple : (f : Callee) → callee_named (simple_callee f) ≡ callee_named f
+callee_named_simple (callee.Direct f) = refl
+callee_named_simple (callee.Through t) = refl
+callee_named_simple (callee.Switched g) = refl
 
 kept_layer : (x : Stm-F Stm) → StmChildren IsKept x → Kept (roll-Stm x ∷ []) (simple_layer (map-Stm Stm (List Stm) simple_stm x))
 kept_layer (stm.Set t v) h = alike (stm.Set t v) (stm.Set t (simple_tree v)) refl
@@ -207,8 +218,9 @@ kept_layer (stm.Loop b) h = loop_kept b (simple_code b) (code_kept b h)
 kept_layer (stm.Block b) h = block_kept b (simple_code b) (code_kept b h)
 kept_layer (stm.Break n) h = keep_refl _
 kept_layer (stm.Back n) h = keep_refl _
-kept_layer (stm.Call r f args) h = with_arguments (stm.Call r f args) (stm.Call r (simple_callee f) (map simple_tree args)) (λ n. nat_lt n 9) (length args) (length (map simple_tree args)) refl refl (same_length args)
-kept_layer (stm.Known r k args) h = with_arguments (stm.Known r k args) (stm.Known r k (map simple_tree args)) (λ n. nat_eq n (known_arguments k)) (length args) (length (map simple_tree args)) refl refl (same_length args)
+kept_layer (stm.Call r f args) h = with_arguments (stm.Call r f args) (stm.Call r (simple_callee f) (map simple_tree args)) (λ n. nat_lt n 9) (callee_named f) (length args) (length (map simple_tree args)) refl
+    (ap (asked (λ n. nat_lt n 9) (length (map simple_tree args))) (callee_named_simple f)) (same_length args)
+kept_layer (stm.Known r k args) h = with_arguments (stm.Known r k args) (stm.Known r k (map simple_tree args)) (λ n. nat_eq n (known_arguments k)) [] (length args) (length (map simple_tree args)) refl refl (same_length args)
 kept_layer (stm.Return v) h = alike (stm.Return v) (stm.Return (simple_tree v)) refl
 
 simple_kept : (code : List Stm) → Kept code (simple_code code)

@@ -44,6 +44,7 @@ fn copy_callee(alloc: Global, callee: &Callee) -> Result<Callee, AllocError>
     match callee {
         Callee::Direct(f) => Ok(Callee::Direct(*f)),
         Callee::Through(t) => Ok(Callee::Through(copy_tree(alloc, t)?)),
+        Callee::Switched(g) => Ok(Callee::Switched(*g)),
     }
 }
 

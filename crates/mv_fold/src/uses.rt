@@ -50,6 +50,7 @@ fn add_callee(callee: &Callee, uses: &mut List<Use>) -> Result<(), AllocError>
     match callee {
         Callee::Direct(_) => Ok(()),
         Callee::Through(t) => add_tree(None, t, uses),
+        Callee::Switched(_) => Ok(()),
     }
 }
 

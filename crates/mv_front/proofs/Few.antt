@@ -1,9 +1,15 @@
--- A program within the limits has few functions.
-use Rattle.std.proofs.Common.{◌≡◌, ℕ, ◌≤◌, Bool, true, false, List, ◌∷◌, length, refl, nat_lt, Option, Some, None, if◌then◌else◌}
+-- A program within the limits has few functions, and the program of a unit that keeps the rules no pointer switches.
+use Rattle.std.proofs.Common.{◌≡◌, ℕ, ◌≤◌, Bool, true, false, List, [], ◌∷◌, length, refl, sym, ap, nat_lt, unwrap_or, Option, Some, None, if◌then◌else◌}
+use Rattle.std.specs.Prelude.{codes}
 use Rattle.std.proofs.lemmas.Bool.{ltb-false}
+use Rattle.mv_ast.specs.declared.place.Place.{Place}
 use Rattle.mv_ast.specs.declared.program.Program.{Program}
+use Rattle.mv_ast.specs.declared.unit.Unit as tree
+use Rattle.mv_check_expressions.specs.Judged.{Judged, Good, Broken, and_then}
 use Rattle.mv_check_limits.specs.Limits.{excess, reported, first_some, functions_limit, first_exceeded}
 use Rattle.mv_check_limits.specs.declared.excess.Exceeded.{Exceeded}
+use Rattle.mv_check_rules.specs.Rules.{unless_broken}
+use Rattle.mv_check_rules.specs.Units.{Declarations, program, unit_end, judged_by_rules}
 
 pub first_none : (o : Option Exceeded) (os : List (Option Exceeded)) → first_some (o ∷ os) ≡ None → o ≡ None
 first_none None os h = refl
@@ -22,3 +28,18 @@ no_excess p h = at_most 1000 (length p.functions) h
 
 pub few_functions : (p : Program) → first_exceeded p ≡ None → length p.functions ≤ 1000
 few_functions p h = no_excess p (first_none (excess (functions_limit p)) _ h)
+
+at_end : (place : Place) (c : Declarations) (p : Program) → unit_end place c ≡ Good p → p.pointers ≡ []
+at_end place c p = by _
+  where
+    by : {main : ℕ} (broken : Option ℕ) → unless_broken place broken (program c main) ≡ Good p → p.pointers ≡ []
+    by {main = main} None h = let same : program c main ≡ p = cc in sym (ap (λ (q : Program). q.pointers) same)
+    by (Some rule) h = cc
+
+pub no_pointers : (u : tree.Unit) (p : Program) → judged_by_rules u ≡ Good p → p.pointers ≡ []
+unfolding judged_by_rules
+no_pointers u p = by _
+  where
+    by : (declared : Judged Declarations) → and_then declared (unit_end u.end) ≡ Good p → p.pointers ≡ []
+    by (Good c) h = at_end u.end c p h
+    by (Broken place rule) h = cc

@@ -81,6 +81,7 @@ program_with seed count = record {
   globals = globals;
   functions = marked_functions seed 0 count ++ main_function count ∷ [];
   switches = switches;
+  pointers = [];
   main = count;
 }
 
@@ -178,9 +179,9 @@ present_all (f ∷ fs) = ap (λ (gs : List Function). f ∷ gs) (present_all fs)
 program_made : (seed count : ℕ) → program_of (last_contents count (slots (drawn_functions seed 0 count ++ main_function count ∷ []) 0)) count ≡ program_with seed count
 unfolding program_of
 program_made seed count =
-    ap (λ (fs : List Function). record { signatures = function_signature ∷ main_signature ∷ []; globals = globals; functions = map (with_switches switches) fs; switches = switches; main = count })
+    ap (λ (fs : List Function). record { signatures = function_signature ∷ main_signature ∷ []; globals = globals; functions = map (with_switches switches) fs; switches = switches; pointers = []; main = count })
     (present_all (drawn_functions seed 0 count ++ main_function count ∷ []))
-    ∙ ap (λ (fs : List Function). record { signatures = function_signature ∷ main_signature ∷ []; globals = globals; functions = fs; switches = switches; main = count })
+    ∙ ap (λ (fs : List Function). record { signatures = function_signature ∷ main_signature ∷ []; globals = globals; functions = fs; switches = switches; pointers = []; main = count })
     (functions_switches seed 0 count (main_function count ∷ []))
 
 main_found : (seed count : ℕ) (end : Place) (fs : List (Option Function)) → program_judgement end (last_contents count fs) ≡ Good (program_of (last_contents count fs) count)

@@ -1,10 +1,10 @@
 -- From the run of `main` to the meaning of the program.
-use Rattle.std.proofs.Common.{◌≡◌, ℕ, ◌+◌, ◌-◌, ◌^◌, ◌≤◌, ◌%◌, List, [], arith, sym, ◌∙◌, ap, subst, Option, Some, None, Result, Ok, Err, slice_get}
+use Rattle.std.proofs.Common.{◌≡◌, ℕ, ◌+◌, ◌-◌, ◌^◌, ◌≤◌, ◌%◌, List, [], map, arith, sym, ◌∙◌, ap, subst, Option, Some, None, Result, Ok, Err, slice_get}
 use Rattle.mv_ast.specs.declared.program.Program.{Program}
 use Rattle.mv_ast.specs.declared.program.Function.{Function}
 use Rattle.mv_ast.specs.declared.world.Action.{Action}
 use Rattle.mv_ast.specs.declared.world.Stop.{Stop}
-use Rattle.mv_ast.specs.Worlds.{World, Outcome, Came, Stopped}
+use Rattle.mv_ast.specs.Worlds.{World, act_of, Outcome, Came, Stopped}
 use Rattle.mv_meaning.specs.declared.state.Frame.{Frame}
 use Rattle.mv_interpret.specs.declared.state.Here.{Here}
 use Rattle.mv_interpret.specs.declared.state.State.{State}
@@ -91,4 +91,4 @@ module _ (p : Program) (input : List ℕ) (actions : List Action) (bound plan_wo
   pub goes_on : (m : Meant) → m ≡ with_capped_work (mean p input actions bound) → (greater : ℕ) → bound ≤ greater →
       Extends m (with_capped_work (mean p input actions greater))
   goes_on m e greater le =
-      subst (λ x. Extends x (with_capped_work (mean p input actions greater))) (sym e) (bound_extends p input actions bound greater le)
+      subst (λ x. Extends x (with_capped_work (mean p input actions greater))) (sym e) (bound_extends p 0 input (map act_of actions) bound greater le)

@@ -6,6 +6,7 @@ use Rattle.mv_ast.specs.declared.program.Program.{Program}
 use Rattle.mv_ast.specs.declared.program.Known.{Known}
 use Rattle.mv_ast.specs.declared.program.Expr.{Expr}
 use Rattle.mv_ast.specs.declared.program.Target.{Target}
+use Rattle.mv_ast.specs.Numbering.{own_numbers}
 use Rattle.mv_ast.specs.Operators.{converted, binary_value}
 use Rattle.mv_ast.specs.Worlds.{Outcome, bind, give}
 use Rattle.mv_interpret.specs.declared.interpreter.Change.{Change}
@@ -13,7 +14,7 @@ use Rattle.mv_meaning.specs.declared.state.Frame.{Frame}
 use Rattle.mv_interpret.specs.declared.state.Here.{Here}
 use Rattle.mv_interpret.specs.declared.state.State.{State}
 use Rattle.mv_meaning.specs.declared.state.Lvalue.{Lvalue}
-use Rattle.mv_meaning.specs.Meaning.{Evaluation, read_lvalue, store_lvalue, value_or_trap, unless_zero, truth_of, known_value, call_at, call_through, value_of, values_of_all, lvalue_of}
+use Rattle.mv_meaning.specs.Meaning.{Evaluation, read_lvalue, store_lvalue, value_or_trap, unless_zero, truth_of, known_value, call_at, call_through, value_of, callee_of, values_of_all, lvalue_of}
 use Rattle.mv_interpret.specs.Runs.{world_of}
 use Rattle.mv_meaning.specs.Loops.{own_context}
 
@@ -65,7 +66,7 @@ module _ (p : Program) (here : Here) where
 
   abbrev pub through_outcome : CType → List Expr → Expr → Frame → State → Outcome Frame ℕ
   through_outcome type args callee f s =
-      bind (arguments_here args) (λ vs. bind (value_here callee) (λ v. call_through (own_context p here.bound) type v vs)) f (world_of here s)
+      bind (arguments_here args) (λ vs. bind (callee_of p (own_context p here.bound) callee) (λ v. call_through (own_context p here.bound) type v vs)) f (world_of here s)
 
   abbrev pub known_outcome : Known → List Expr → Frame → State → Outcome Frame ℕ
-  known_outcome k args f s = bind (arguments_here args) (known_value p k) f (world_of here s)
+  known_outcome k args f s = bind (arguments_here args) (known_value p (own_numbers p) k) f (world_of here s)

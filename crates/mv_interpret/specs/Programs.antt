@@ -1,8 +1,9 @@
 -- How the interpreter's own values show a whole program.
-use Rattle.std.specs.Prelude.{◌≡◌, ℕ, ◌%◌, List, [], Result, Ok, Err, slice_get}
+use Rattle.std.specs.Prelude.{◌≡◌, ℕ, ◌%◌, List, [], map, Result, Ok, Err, slice_get}
 use Rattle.mv_ast.specs.declared.program.Program.{Program}
 use Rattle.mv_ast.specs.declared.world.Action.{Action}
 use Rattle.mv_ast.specs.Starts.{first_world}
+use Rattle.mv_ast.specs.Worlds.{act_of}
 use Rattle.mv_meaning.specs.declared.state.Frame.{Frame}
 use Rattle.mv_interpret.specs.declared.state.Here.{Here}
 use Rattle.mv_interpret.specs.declared.state.State.{State}
@@ -17,7 +18,7 @@ use Rattle.mv_meaning.specs.Loops.{own_context}
 
 -- a state shows the world in which a program starts, without work
 pub record IsStart (p : Program) (input : List ℕ) (actions : List Action) (s : State) : Type 0 where
-  pub world : (bound plan_work : ℕ) → world_of (record { bound = bound; depth = 0; live = 0; plan_work = plan_work }) s ≡ first_world p input actions
+  pub world : (bound plan_work : ℕ) → world_of (record { bound = bound; depth = 0; live = 0; plan_work = plan_work }) s ≡ first_world p 0 input (map act_of actions)
   pub work : s.work ≡ 0
 
 -- the body of `main` came to a result, in some frame

@@ -5,7 +5,7 @@ use Rattle.mv_ast.specs.declared.program.Expr.{Expr}
 use Rattle.mv_ast.specs.declared.program.Target.{Target}
 use Rattle.mv_ast.specs.declared.program.Stmt.{Stmt}
 use Rattle.mv_ast.specs.declared.program.Arm.{Arm}
-use Rattle.mv_ast.specs.Worlds.{World, Outcome, Came, Stopped}
+use Rattle.mv_ast.specs.Worlds.{World, act_of, Outcome, Came, Stopped}
 use Rattle.mv_ast.specs.Plans.{with_word}
 use Rattle.mv_ast.specs.Counts.{patchable}
 use Rattle.mv_meaning.specs.declared.state.Frame.{Frame}
@@ -20,12 +20,12 @@ use Rattle.mv_meaning.specs.declared.state.Flow.TheVariants.{Goes, Breaks, Conti
 use Rattle.mv_ast.specs.Traps as traps
 use Rattle.mv_meaning.specs.Growth.{capped}
 use Rattle.mv_meaning.specs.Loops.{own_context, while_from, do_from, for_from, arms_from}
-use Rattle.mv_meaning.specs.Meaning.{value_of, values_of_all, lvalue_of, optional_value, call_at, flow_of, flow_of_all, put_values}
+use Rattle.mv_meaning.specs.Meaning.{value_of, callee_of, values_of_all, lvalue_of, optional_value, call_at, flow_of, flow_of_all, put_values}
 
--- what the evaluation of a program rests on: its functions have numbers of 32 bits, the counts of frames are in range, and the work
+-- what the evaluation of a program rests on: its functions and pointer switches have numbers of 32 bits, the counts of frames are in range, and the work
 -- of a commit or a revert is the one that this program's plans have
 pub record IsReady (p : Program) (depth live plan_work : ℕ) : Type 0 where
-  pub functions : length p.functions < 2 ^ 32
+  pub functions : length p.functions + length p.pointers < 2 ^ 32
   pub deep : depth ≤ traps.depth_limit
   pub lively : live ≤ depth
   pub plans : plan_work ≡ capped (1 + patchable p)
@@ -34,13 +34,14 @@ pub record IsReady (p : Program) (depth live plan_work : ℕ) : Type 0 where
 abbrev pub world_of : Here → State → World
 world_of here s = record {
   globals = s.globals;
+  hart = 0;
   depth = here.depth;
   live = here.live;
   input = drop s.taken s.input;
   taken = s.taken;
   output = s.output;
   bindings = s.bindings;
-  actions = drop s.acted s.actions;
+  actions = map act_of (drop s.acted s.actions);
   log = s.log;
 }
 
@@ -73,6 +74,10 @@ stored_locals (lvalue.Local l i) v objects = with_word objects l i v
 module _ (p : Program) (here : Here) where
   abbrev pub expr_outcome : Expr → Frame → State → Outcome Frame ℕ
   expr_outcome e f s = value_of p (own_context p here.bound) e f (world_of here s)
+
+  -- where it is what is called
+  abbrev pub callee_outcome : Expr → Frame → State → Outcome Frame ℕ
+  callee_outcome e f s = callee_of p (own_context p here.bound) e f (world_of here s)
 
   abbrev pub optional_outcome : ℕ → Option Expr → Frame → State → Outcome Frame ℕ
   optional_outcome v e f s = optional_value p (own_context p here.bound) v e f (world_of here s)

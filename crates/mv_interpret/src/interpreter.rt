@@ -1,23 +1,25 @@
 // The evaluation of expressions and statements. Each function of this cycle lowers the bound or goes down the tree.
 
-ghost use Rattle.std.specs.Prelude.{◌≡◌, if◌then◌else◌};
+ghost use Rattle.std.specs.Prelude.{◌≡◌, ◌+◌, ◌<◌, ◌^◌, if◌then◌else◌, length};
 ghost use Rattle.mv_num.specs.Words.{add, sub};
 ghost use Rattle.mv_ast.specs.declared.program.CType.{CType};
-ghost use Rattle.mv_interpret.specs.Runs.{IsReady, IsOutcome, expr_outcome, exprs_outcome, target_outcome, optional_outcome, call_outcome, stmt_outcome, stmts_outcome, while_outcome, do_outcome, for_outcome, arms_outcome, stores_outcome, world_of, goes_back, behind_loop, behind_switch};
+ghost use Rattle.mv_interpret.specs.Runs.{IsReady, IsOutcome, expr_outcome, callee_outcome, exprs_outcome, target_outcome, optional_outcome, call_outcome, stmt_outcome, stmts_outcome, while_outcome, do_outcome, for_outcome, arms_outcome, stores_outcome, world_of, goes_back, behind_loop, behind_switch};
 ghost use Rattle.mv_interpret.specs.Forms.{binary_outcome, both_outcome, either_outcome, choice_outcome, set_outcome, change_outcome, after_outcome, direct_outcome, through_outcome, known_outcome};
-ghost use Rattle.mv_meaning.specs.Meaning.{value_in, returned_value};
+ghost use Rattle.mv_ast.specs.Numbering.{own_numbers};
+ghost use Rattle.mv_meaning.specs.Meaning.{value_in, callee_in, returned_value};
 
 use crate::arms::{arms_from, first_arm};
 use crate::known::known_value;
 use crate::numbers::{function_of_number, number_of};
 use crate::objects::{clear_local, frame_of};
-use crate::reads::global_read;
+use crate::reads::{called_global, global_read};
 use crate::state::{Halt, Here, State, count, put_word, size_at, store_lvalue, word_at};
 use mv_ast::operators::{binary_value, converted, unary_value};
 use mv_ast::program::{Arm, CType, Expr, Form, Known, Program, Stmt, Target};
 use mv_ast::traps;
 use mv_ast::world::Stop;
 use mv_meaning::state::{Flow, Frame, Lvalue};
+use mv_num::boxed::Boxed;
 use mv_num::list::List;
 use mv_num::word::{add, sub};
 
@@ -27,6 +29,17 @@ fn read_lvalue(program: &Program, here: Here, lvalue: Lvalue, frame: &Frame, sta
 {
     match lvalue {
         Lvalue::Global(g, i) => global_read(program, here, state, frame.function, g, i),
+        Lvalue::Local(l, i) => word_at(&frame.locals, l, i),
+    }
+}
+
+// The number in an lvalue as a call through it sees it.
+fn read_callee(program: &Program, here: Here, lvalue: Lvalue, frame: &Frame, state: &State) -> u32
+    requires { length program.now.functions + length program.now.pointers < 2 ^ 32 }
+    ensures { result ≡ callee_in program.now (own_numbers program.now) lvalue frame.now (world_of here state.now) }
+{
+    match lvalue {
+        Lvalue::Global(g, i) => called_global(program, here, state, frame, g, i),
         Lvalue::Local(l, i) => word_at(&frame.locals, l, i),
     }
 }
@@ -124,10 +137,30 @@ fn value_of(
         }
         Form::Direct(f, args) => value_of_call(program, here, *f, args, frame, state),
         Form::Through(args, callee) => {
-            value_of_call_through(program, here, args, callee.get(), frame, state)
+            value_of_call_through(program, here, args, callee, frame, state)
         }
         Form::Known(known, args) => value_of_known(program, here, *known, args, frame, state),
     }
+}
+
+// The value of an expression that is what is called.
+#[cycle(evaluation)]
+fn callee_of(
+    program: &Program,
+    here: Here,
+    e: &Boxed<Expr>,
+    frame: &mut Frame,
+    state: &mut State,
+) -> Result<u32, Halt>
+    requires { IsReady program.now here.depth here.live here.plan_work }
+    ensures { IsOutcome state.old.work (callee_outcome program.now here e.now frame.old state.old) here result frame.new state.new }
+{
+    if let Form::Read(target) = &e.get().what {
+        count(state, 1);
+        let lvalue = lvalue_of(program, here, target, frame, state)?;
+        return Ok(read_callee(program, here, lvalue, frame, state));
+    }
+    value_of(program, here, e.get(), frame, state)
 }
 
 // The value of an operation on two values (C11 6.5.5).
@@ -314,7 +347,7 @@ fn value_of_call_through(
     program: &Program,
     here: Here,
     args: &List<Expr>,
-    callee: &Expr,
+    callee: &Boxed<Expr>,
     frame: &mut Frame,
     state: &mut State,
 ) -> Result<u32, Halt>
@@ -322,7 +355,7 @@ fn value_of_call_through(
     ensures { (t : CType) → IsOutcome state.old.work (through_outcome program.now here t args.now callee.now frame.old state.old) here result frame.new state.new }
 {
     let values = values_of(program, here, args, frame, state)?;
-    let v = value_of(program, here, callee, frame, state)?;
+    let v = callee_of(program, here, callee, frame, state)?;
     if v == 0 {
         return Err(Halt::Stopped(Stop::Trapped(traps::NULL_CALL)));
     }

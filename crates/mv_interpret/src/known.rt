@@ -1,5 +1,6 @@
 // The functions that are known without declaration.
 
+ghost use Rattle.mv_ast.specs.Numbering.{own_numbers};
 ghost use Rattle.mv_meaning.specs.Meaning.{get_byte, put_byte, known_value};
 ghost use Rattle.mv_interpret.specs.Runs.{IsReady, IsOutcome, world_of};
 
@@ -47,7 +48,7 @@ pub fn known_value(
     state: &mut State,
 ) -> Result<u32, Halt>
     requires { IsReady program.now here.depth here.live here.plan_work }
-    ensures { IsOutcome state.old.work (known_value program.now known values.now frame.now (world_of here state.old)) here result frame.now state.new }
+    ensures { IsOutcome state.old.work (known_value program.now (own_numbers program.now) known values.now frame.now (world_of here state.old)) here result frame.now state.new }
 {
     let _work = state.work;
     match known {

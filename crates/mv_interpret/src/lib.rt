@@ -3,7 +3,7 @@
 //! - `program::evaluate` answers exactly the meaning of a program at a bound (`mv_meaning`): output, bytes taken, end, bindings,
 //!   log, and the work, which stops at the greatest number of 64 bits; and at every greater bound the meaning begins
 //!   with the answer, and is the answer where that has ended. The one condition is that the program has fewer than 2^32
-//!   functions.
+//!   functions and pointer switches.
 //! - `specs/Runs.antt` says how its own values show the world of the meaning.
 //! - `mv_test_top` runs worked programs on it.
 #![tactic(auto)]

@@ -1,19 +1,23 @@
 // What a commit, a revert and a poll do.
 
-ghost use Rattle.std.specs.Prelude.{◌≡◌, ◌++◌, ◌<◌, ◌^◌, ◌&&◌, if◌then◌else◌, length, map, slice_index, OnOk, IfOk};
-ghost use Rattle.mv_ast.specs.Plans.{is_among, switch_domain, switch_words, all_in_domain, bound_to, committed, is_addressed, is_commit, free, attributed_functions, bindings_after, bound_from, events_from, ordered, polled};
+ghost use Rattle.std.specs.Prelude.{◌≡◌, ◌+◌, ◌++◌, ◌<◌, ◌≤◌, ◌^◌, ◌&&◌, if◌then◌else◌, length, map, slice_index, OnOk, IfOk};
+ghost use Rattle.mv_ast.specs.Numbering.{own_numbers};
+ghost use Rattle.mv_ast.specs.Plans.{is_among, switch_domain, switch_words, all_in_domain, bound_to, committed, pointed, is_addressed, is_pointer_addressed, is_commit, free, all_free, attributed_functions, pointer_bindings, ordered_from, ordered_function, ordered_pointer, bindings_after, bound_from, bound_after, events_from, ordered, polled};
 ghost use Rattle.mv_interpret.specs.Runs.{world_of};
-ghost use Rattle.mv_interpret.specs.Answers.{HasAnswered, CarriedOut, ordered_binding};
+ghost use Rattle.mv_interpret.specs.Answers.{HasAnswered, CarriedOut};
 
+use crate::numbers::function_of_number;
 use crate::reads::switch_global;
 use crate::state::{Here, State, put_word, word_at};
+use crate::work::count_attributed;
 use mv_ast::orders;
 use mv_ast::program::{Function, Program};
 use mv_ast::world::{Action, Binding, Event};
 use mv_num::list::List;
 use std::alloc::{AllocError, Global};
 
-fn is_among(n: u32, all: &[u32]) -> bool
+/// Whether a number is one of some numbers.
+pub fn is_among(n: u32, all: &[u32]) -> bool
     ensures { result ≡ is_among n all.now }
 {
     for m in all {
@@ -112,6 +116,17 @@ fn committed(
     })
 }
 
+// What a commit binds a pointer switch to: the function that has the number in memory.
+fn pointed(program: &Program, globals: &List<List<u32>>, global: u32) -> Binding
+    ensures { result ≡ pointed (own_numbers program.now) globals.now global }
+{
+    let number = word_at(globals, global, 0);
+    match function_of_number(program, number) {
+        None => Binding::free(),
+        Some(_) => bound_to(&[number]),
+    }
+}
+
 // A commit or a revert by its code, with the index of the function or the switch that it names.
 #[derive(Clone, Copy, Debug)]
 struct Order {
@@ -132,6 +147,22 @@ fn is_addressed(order: Order, number: usize, f: &Function) -> bool
     }
 }
 
+// Whether it addresses a pointer switch, given with its number among them.
+fn is_pointer_addressed(program: &Program, order: Order, number: usize, global: u32) -> bool
+    ensures { result ≡ is_pointer_addressed program.now order.code order.index number global }
+{
+    if order.code < orders::COMMIT_FUNCTION {
+        true
+    } else if order.code < orders::COMMIT_REFERENCES {
+        false
+    } else {
+        // an index below the number of switches is none of a pointer switch
+        let index = order.index as usize;
+        let switches = program.switches.len();
+        index >= switches && index - switches == number
+    }
+}
+
 fn is_commit(code: u8) -> bool
     ensures { result ≡ is_commit code }
 {
@@ -148,7 +179,7 @@ fn next_binding(
     f: &Function,
     old: Binding,
 ) -> Result<Binding, AllocError>
-    ensures { IfOk result (λ b. b ≡ (if is_addressed order.code order.index number f.now then ordered_binding program.now order.code globals.now f.now else old)) }
+    ensures { IfOk result (λ b. b ≡ (if is_addressed order.code order.index number f.now then ordered_function program.now order.code globals.now f.now else old)) }
 {
     if !is_addressed(order, number, f) {
         return Ok(old);
@@ -160,15 +191,15 @@ fn next_binding(
     }
 }
 
-// The bindings after an order on these globals.
-fn bindings_after(
+// The bindings of the attributed functions after an order on these globals.
+fn functions_after(
     alloc: Global,
     program: &Program,
     order: Order,
     globals: &List<List<u32>>,
     bindings: &[Binding],
 ) -> Result<List<Binding>, AllocError>
-    ensures { IfOk result (λ bs. bs ≡ bindings_after program.now order.code order.index globals.now bindings.now) }
+    ensures { IfOk result (λ bs. bs ≡ ordered_from (is_addressed order.code order.index) (ordered_function program.now order.code globals.now) 0 (attributed_functions program.now) bindings.now) }
 {
     let mut after = List::new(alloc);
     let mut number = 0;
@@ -186,6 +217,79 @@ fn bindings_after(
     Ok(after)
 }
 
+// What an order binds a pointer switch to that had a binding.
+fn next_pointer(
+    program: &Program,
+    order: Order,
+    number: usize,
+    globals: &List<List<u32>>,
+    global: u32,
+    old: Binding,
+) -> Binding
+    ensures { result ≡ (if is_pointer_addressed program.now order.code order.index number global then ordered_pointer (own_numbers program.now) order.code globals.now global else old) }
+{
+    if !is_pointer_addressed(program, order, number, global) {
+        return old;
+    }
+    if is_commit(order.code) {
+        pointed(program, globals, global)
+    } else {
+        Binding::free()
+    }
+}
+
+// Adds the bindings of the pointer switches after an order on these globals.
+fn add_pointers_after(
+    program: &Program,
+    order: Order,
+    globals: &List<List<u32>>,
+    bindings: &[Binding],
+    after: &mut List<Binding>,
+) -> Result<(), AllocError>
+    ensures { OnOk result (after.new ≡ after.old ++ ordered_from (is_pointer_addressed program.now order.code order.index) (ordered_pointer (own_numbers program.now) order.code globals.now) 0 program.now.pointers bindings.now) }
+{
+    for (number, global) in program.pointers.as_slice().iter().enumerate() {
+        if number >= bindings.len() {
+            return Ok(());
+        }
+        after.push(next_pointer(program, order, number, globals, *global, bindings[number]))?;
+    }
+    Ok(())
+}
+
+// The bindings of the pointer switches, behind those of the attributed functions.
+fn pointers_of<'a>(program: &Program, bindings: &'a [Binding]) -> &'a [Binding]
+    ensures { result.now ≡ pointer_bindings program.now bindings.now }
+{
+    let functions = count_attributed(program) as usize;
+    if functions < bindings.len() {
+        &bindings[functions..]
+    } else {
+        &[]
+    }
+}
+
+// The bindings after an order on these globals.
+fn bindings_after(
+    alloc: Global,
+    program: &Program,
+    order: Order,
+    globals: &List<List<u32>>,
+    bindings: &[Binding],
+) -> Result<List<Binding>, AllocError>
+    ensures { IfOk result (λ bs. bs ≡ bindings_after program.now (own_numbers program.now) order.code order.index globals.now bindings.now) }
+{
+    let mut after = functions_after(alloc, program, order, globals, bindings)?;
+    add_pointers_after(
+        program,
+        order,
+        globals,
+        pointers_of(program, bindings),
+        &mut after,
+    )?;
+    Ok(after)
+}
+
 // 1 for an addressed function that is bound.
 fn one_if_bound(order: Order, number: usize, f: &Function, binding: Binding) -> u32
     ensures { result ≡ (if is_addressed order.code order.index number f.now && binding.bound then 1 else 0) }
@@ -200,7 +304,8 @@ fn one_if_bound(order: Order, number: usize, f: &Function, binding: Binding) -> 
 // How many addressed functions are bound.
 fn count_bound(program: &Program, order: Order, bindings: &[Binding]) -> u32
     requires { length program.now.functions < 2 ^ 32 }
-    ensures { result ≡ bound_from (is_addressed order.code order.index) 0 (attributed_functions program.now) bindings.now }
+    ensures few { result ≤ length program.now.functions }
+    ensures count { result ≡ bound_from (is_addressed order.code order.index) 0 (attributed_functions program.now) bindings.now }
 {
     let mut bound = 0;
     let mut number = 0;
@@ -215,6 +320,48 @@ fn count_bound(program: &Program, order: Order, bindings: &[Binding]) -> u32
         number += 1;
     }
     bound
+}
+
+// 1 for an addressed pointer switch that is bound.
+fn one_if_pointer_bound(
+    program: &Program,
+    order: Order,
+    number: usize,
+    global: u32,
+    binding: Binding,
+) -> u32
+    ensures { result ≡ (if is_pointer_addressed program.now order.code order.index number global && binding.bound then 1 else 0) }
+{
+    if is_pointer_addressed(program, order, number, global) && binding.bound {
+        1
+    } else {
+        0
+    }
+}
+
+// How many addressed pointer switches are bound.
+fn count_pointers_bound(program: &Program, order: Order, bindings: &[Binding]) -> u32
+    requires { length program.now.pointers < 2 ^ 32 }
+    ensures few { result ≤ length program.now.pointers }
+    ensures count { result ≡ bound_from (is_pointer_addressed program.now order.code order.index) 0 program.now.pointers bindings.now }
+{
+    let mut bound = 0;
+    for (number, global) in program.pointers.as_slice().iter().enumerate() {
+        if number >= bindings.len() {
+            return bound;
+        }
+        bound += one_if_pointer_bound(program, order, number, *global, bindings[number]);
+    }
+    bound
+}
+
+// How many of what an order addresses are bound.
+fn bound_after(program: &Program, order: Order, bindings: &[Binding]) -> u32
+    requires { length program.now.functions + length program.now.pointers < 2 ^ 32 }
+    ensures { result ≡ bound_after program.now order.code order.index bindings.now }
+{
+    count_bound(program, order, bindings)
+        + count_pointers_bound(program, order, pointers_of(program, bindings))
 }
 
 // Adds one event for each binding that differs.
@@ -235,7 +382,7 @@ fn push_events(old: &[Binding], new: &[Binding], log: &mut List<Event>) -> Resul
 
 // Carries out an order, where no frame of an attributed function is live, and answers it.
 fn carry_out(program: &Program, order: Order, state: &mut State) -> Result<u32, AllocError>
-    requires { length program.now.functions < 2 ^ 32 }
+    requires { length program.now.functions + length program.now.pointers < 2 ^ 32 }
     ensures { IfOk result (CarriedOut program.now order.code order.index state.old state.new) }
 {
     let after = bindings_after(
@@ -247,7 +394,7 @@ fn carry_out(program: &Program, order: Order, state: &mut State) -> Result<u32, 
     )?;
     push_events(state.bindings.as_slice(), after.as_slice(), &mut state.log)?;
     let answer = if is_commit(order.code) {
-        count_bound(program, order, after.as_slice())
+        bound_after(program, order, after.as_slice())
     } else {
         0
     };
@@ -263,8 +410,8 @@ pub fn ordered(
     index: u32,
     state: &mut State,
 ) -> Result<u32, AllocError>
-    requires { length program.now.functions < 2 ^ 32 }
-    ensures { IfOk result (HasAnswered (ordered program.now code index (world_of here state.old)) here state.old state.new) }
+    requires { length program.now.functions + length program.now.pointers < 2 ^ 32 }
+    ensures { IfOk result (HasAnswered (ordered program.now (own_numbers program.now) code index (world_of here state.old)) here state.old state.new) }
 {
     if here.live == 0 {
         carry_out(program, Order { code, index }, state)
@@ -275,8 +422,8 @@ pub fn ordered(
 
 /// The point at which the operator acts: a poll takes the next action, but nothing while a frame of an attributed function is live.
 pub fn polled(program: &Program, here: Here, state: &mut State) -> Result<u32, AllocError>
-    requires { length program.now.functions < 2 ^ 32 }
-    ensures { IfOk result (HasAnswered (polled program.now (world_of here state.old)) here state.old state.new) }
+    requires { length program.now.functions + length program.now.pointers < 2 ^ 32 }
+    ensures { IfOk result (HasAnswered (polled program.now (own_numbers program.now) (world_of here state.old)) here state.old state.new) }
 {
     if here.live != 0 || state.acted >= state.actions.len() {
         return Ok(0);
@@ -294,8 +441,8 @@ pub fn polled(program: &Program, here: Here, state: &mut State) -> Result<u32, A
     }
 }
 
-/// The bindings at the start: all functions are free.
-pub fn all_free(alloc: Global, program: &Program) -> Result<List<Binding>, AllocError>
+// A free binding for each attributed function.
+fn free_functions(alloc: Global, program: &Program) -> Result<List<Binding>, AllocError>
     ensures { IfOk result (λ bs. bs ≡ map (λ f. free) (attributed_functions program.now)) }
 {
     let mut bindings = List::new(alloc);
@@ -304,5 +451,24 @@ pub fn all_free(alloc: Global, program: &Program) -> Result<List<Binding>, Alloc
             bindings.push(Binding::free())?;
         }
     }
+    Ok(bindings)
+}
+
+// Adds so many free bindings.
+fn add_free(globals: &[u32], bindings: &mut List<Binding>) -> Result<(), AllocError>
+    ensures { OnOk result (bindings.new ≡ bindings.old ++ map (λ g. free) globals.now) }
+{
+    for _global in globals {
+        bindings.push(Binding::free())?;
+    }
+    Ok(())
+}
+
+/// The bindings at the start: all functions and pointer switches are free.
+pub fn all_free(alloc: Global, program: &Program) -> Result<List<Binding>, AllocError>
+    ensures { IfOk result (λ bs. bs ≡ all_free program.now) }
+{
+    let mut bindings = free_functions(alloc, program)?;
+    add_free(program.pointers.as_slice(), &mut bindings)?;
     Ok(bindings)
 }

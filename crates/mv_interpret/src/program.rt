@@ -1,6 +1,6 @@
 // The interpretation of a whole program.
 
-ghost use Rattle.std.specs.Prelude.{◌≡◌, ℕ, ◌<◌, ◌≤◌, ◌^◌, length, IfOk};
+ghost use Rattle.std.specs.Prelude.{◌≡◌, ℕ, ◌+◌, ◌<◌, ◌≤◌, ◌^◌, length, IfOk};
 ghost use Rattle.mv_meaning.specs.Meaning.{mean};
 ghost use Rattle.mv_meaning.specs.Growth.{Extends, with_capped_work};
 ghost use Rattle.mv_interpret.specs.Runs.{IsReady};
@@ -79,8 +79,8 @@ fn end_of(flow: Result<Flow, Halt>) -> Result<End, AllocError>
 /// What a program means at a bound, on an input and with the operator's actions: the reference interpreter.
 /// A call of a defined function is evaluated at the bound below, and so is a loop that goes back to its start; where
 /// either is due at bound 0, the end is `More`. The first clause says that the answer is the meaning, its work stopping
-/// at the greatest number of 64 bits; the second that the meaning at each greater bound extends it. Each function must
-/// have a number of 32 bits above 0.
+/// at the greatest number of 64 bits; the second that the meaning at each greater bound extends it. Each function and
+/// pointer switch must have a number of 32 bits above 0.
 pub fn evaluate(
     alloc: Global,
     program: &Program,
@@ -88,7 +88,7 @@ pub fn evaluate(
     actions: &[Action],
     bound: u32,
 ) -> Result<Meant, AllocError>
-    requires { length program.now.functions < 2 ^ 32 }
+    requires { length program.now.functions + length program.now.pointers < 2 ^ 32 }
     ensures meaning { IfOk result (λ meant. meant ≡ with_capped_work (mean program.now input.now actions.now bound)) }
     ensures goes_on { IfOk result (λ meant. (greater : ℕ) → bound ≤ greater → Extends meant (with_capped_work (mean program.now input.now actions.now greater))) }
 {

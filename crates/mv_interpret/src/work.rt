@@ -2,9 +2,10 @@
 
 ghost use Rattle.std.specs.Prelude.{◌≡◌, ◌+◌, ◌*◌, if◌then◌else◌, map, sum, length, slice_get, option_to_list};
 ghost use Rattle.mv_ast.specs.Plans.{attributed_functions, switch_domain};
-ghost use Rattle.mv_ast.specs.Counts.{expr_calls, target_calls, stmt_calls, arm_calls, calls, assignments, patchable, product_of, is_attributed};
+ghost use Rattle.mv_ast.specs.Counts.{expr_calls, target_calls, is_pointer, expr_calling, lvalue_calling, expr_calls_through, expr_sites, stmt_sites, arm_sites, call_sites, assignments, patchable, product_of, is_attributed};
 ghost use Rattle.mv_meaning.specs.Growth.{capped};
 
+use crate::plans::is_among;
 use mv_ast::program::{Arm, Expr, Form, Function, Program, Stmt, Target};
 use mv_num::list::List;
 
@@ -91,65 +92,164 @@ fn exprs_calls(program: &Program, es: &List<Expr>) -> u64
     all
 }
 
+// Whether a global is a pointer switch.
+fn is_pointer(program: &Program, global: u32) -> bool
+    ensures { result ≡ is_pointer program.now global }
+{
+    is_among(global, program.pointers.as_slice())
+}
+
+// The calls through pointer switches in an expression, which is what is called or a value.
+#[cycle(calls_through)]
+fn expr_calls_through(program: &Program, e: &Expr, called: bool) -> u64
+    ensures { result ≡ capped (expr_calling (is_pointer program.now) e.now called) }
+{
+    match &e.what {
+        Form::Number(_) => 0,
+        Form::Read(target) => target_calls_through(program, target, called),
+        Form::Function(_) => 0,
+        Form::Unary(_, a) => expr_calls_through(program, a.get(), false),
+        Form::Binary(_, a, b) => both(
+            expr_calls_through(program, a.get(), false),
+            expr_calls_through(program, b.get(), false),
+        ),
+        Form::Both(a, b) => both(
+            expr_calls_through(program, a.get(), false),
+            expr_calls_through(program, b.get(), false),
+        ),
+        Form::Either(a, b) => both(
+            expr_calls_through(program, a.get(), false),
+            expr_calls_through(program, b.get(), false),
+        ),
+        Form::Choose(c, a, b) => both(
+            expr_calls_through(program, c.get(), false),
+            both(
+                expr_calls_through(program, a.get(), false),
+                expr_calls_through(program, b.get(), false),
+            ),
+        ),
+        Form::Convert(a) => expr_calls_through(program, a.get(), false),
+        Form::Set(target, a) => both(
+            target_calls_through(program, target, false),
+            expr_calls_through(program, a.get(), false),
+        ),
+        Form::Change(_, _, target, a) => both(
+            target_calls_through(program, target, false),
+            expr_calls_through(program, a.get(), false),
+        ),
+        Form::After(_, target) => target_calls_through(program, target, false),
+        Form::Direct(_, args) => exprs_calls_through(program, args),
+        Form::Through(args, callee) => both(
+            exprs_calls_through(program, args),
+            expr_calls_through(program, callee.get(), true),
+        ),
+        Form::Known(_, args) => exprs_calls_through(program, args),
+    }
+}
+
+// The same in an lvalue.
+#[cycle(calls_through)]
+fn target_calls_through(program: &Program, target: &Target, called: bool) -> u64
+    ensures { result ≡ capped (lvalue_calling (is_pointer program.now) target.now called) }
+{
+    match target {
+        Target::Global(g) => u64::from(called && is_pointer(program, *g)),
+        Target::Local(_) => 0,
+        Target::GlobalAt(_, e) => expr_calls_through(program, e.get(), false),
+        Target::LocalAt(_, e) => expr_calls_through(program, e.get(), false),
+    }
+}
+
+// The same in some expressions, which are values.
+#[cycle(calls_through)]
+fn exprs_calls_through(program: &Program, es: &List<Expr>) -> u64
+    ensures { result ≡ capped (sum (map (expr_calls_through (is_pointer program.now)) es.now)) }
+{
+    let mut all = 0;
+    for e in es.as_slice() {
+        all = both(all, expr_calls_through(program, e, false));
+    }
+    all
+}
+
+// The call sites of an expression, of which those of calls through pointer switches count twice.
+fn expr_sites(program: &Program, e: &Expr) -> u64
+    ensures { result ≡ capped (expr_sites program.now e.now) }
+{
+    let through = expr_calls_through(program, e, false);
+    both(expr_calls(program, e), both(through, through))
+}
+
+// The same in some expressions.
+fn exprs_sites(program: &Program, es: &List<Expr>) -> u64
+    ensures { result ≡ capped (sum (map (expr_sites program.now) es.now)) }
+{
+    let mut all = 0;
+    for e in es.as_slice() {
+        all = both(all, expr_sites(program, e));
+    }
+    all
+}
+
 // The same in an expression that may be left out.
-fn optional_calls(program: &Program, e: &Option<Expr>) -> u64
-    ensures { result ≡ capped (sum (map (expr_calls program.now) (option_to_list e.now))) }
+fn optional_sites(program: &Program, e: &Option<Expr>) -> u64
+    ensures { result ≡ capped (sum (map (expr_sites program.now) (option_to_list e.now))) }
 {
     match e {
         None => 0,
-        Some(e) => expr_calls(program, e),
+        Some(e) => expr_sites(program, e),
     }
 }
 
 // The same in a statement.
-#[cycle(statement_calls)]
-fn stmt_calls(program: &Program, s: &Stmt) -> u64
-    ensures { result ≡ capped (stmt_calls program.now s.now) }
+#[cycle(statement_sites)]
+fn stmt_sites(program: &Program, s: &Stmt) -> u64
+    ensures { result ≡ capped (stmt_sites program.now s.now) }
 {
     match s {
-        Stmt::Block(body) => stmts_calls(program, body),
-        Stmt::Clear(_, values) => exprs_calls(program, values),
-        Stmt::Express(e) => expr_calls(program, e),
+        Stmt::Block(body) => stmts_sites(program, body),
+        Stmt::Clear(_, values) => exprs_sites(program, values),
+        Stmt::Express(e) => expr_sites(program, e),
         Stmt::If(e, yes_part, no_part) => both(
-            expr_calls(program, e),
+            expr_sites(program, e),
             both(
-                stmts_calls(program, yes_part),
-                stmts_calls(program, no_part),
+                stmts_sites(program, yes_part),
+                stmts_sites(program, no_part),
             ),
         ),
-        Stmt::While(e, body) => both(expr_calls(program, e), stmts_calls(program, body)),
-        Stmt::Do(body, e) => both(expr_calls(program, e), stmts_calls(program, body)),
+        Stmt::While(e, body) => both(expr_sites(program, e), stmts_sites(program, body)),
+        Stmt::Do(body, e) => both(expr_sites(program, e), stmts_sites(program, body)),
         Stmt::For(first, test, step, body) => both(
-            both(optional_calls(program, test), optional_calls(program, step)),
-            both(stmts_calls(program, first), stmts_calls(program, body)),
+            both(optional_sites(program, test), optional_sites(program, step)),
+            both(stmts_sites(program, first), stmts_sites(program, body)),
         ),
-        Stmt::Switch(e, arms) => both(expr_calls(program, e), arms_calls(program, arms)),
+        Stmt::Switch(e, arms) => both(expr_sites(program, e), arms_sites(program, arms)),
         Stmt::Break => 0,
         Stmt::Continue => 0,
-        Stmt::Return(e) => optional_calls(program, e),
+        Stmt::Return(e) => optional_sites(program, e),
     }
 }
 
 // The same in some statements.
-#[cycle(statement_calls)]
-fn stmts_calls(program: &Program, body: &List<Stmt>) -> u64
-    ensures { result ≡ capped (sum (map (stmt_calls program.now) body.now)) }
+#[cycle(statement_sites)]
+fn stmts_sites(program: &Program, body: &List<Stmt>) -> u64
+    ensures { result ≡ capped (sum (map (stmt_sites program.now) body.now)) }
 {
     let mut all = 0;
     for s in body.as_slice() {
-        all = both(all, stmt_calls(program, s));
+        all = both(all, stmt_sites(program, s));
     }
     all
 }
 
 // The same in the arms of a `switch`.
-#[cycle(statement_calls)]
-fn arms_calls(program: &Program, arms: &List<Arm>) -> u64
-    ensures { result ≡ capped (sum (map (arm_calls program.now) arms.now)) }
+#[cycle(statement_sites)]
+fn arms_sites(program: &Program, arms: &List<Arm>) -> u64
+    ensures { result ≡ capped (sum (map (arm_sites program.now) arms.now)) }
 {
     let mut all = 0;
     for arm in arms.as_slice() {
-        all = both(all, stmts_calls(program, &arm.body));
+        all = both(all, stmts_sites(program, &arm.body));
     }
     all
 }
@@ -188,16 +288,16 @@ fn assignments(program: &Program, g: &Function) -> u64
 
 // What the calls in a function can patch.
 fn patchable_in(program: &Program, g: &Function) -> u64
-    ensures { result ≡ capped (calls program.now g.now * (1 + assignments program.now g.now)) }
+    ensures { result ≡ capped (call_sites program.now g.now * (1 + assignments program.now g.now)) }
 {
     times(
-        stmts_calls(program, &g.body),
+        stmts_sites(program, &g.body),
         both(1, assignments(program, g)),
     )
 }
 
-// The number of attributed functions.
-fn count_attributed(program: &Program) -> u64
+/// The number of attributed functions.
+pub fn count_attributed(program: &Program) -> u64
     ensures { result ≡ length (attributed_functions program.now) }
 {
     let mut number = 0;

@@ -36,9 +36,9 @@ module _ (setting : Setting) (depth live : ℕ) (bound bound' : List (ℕ × ℕ
 
   abbrev pub SameCallee : Callee → Callee → Type 0
   SameCallee (callee.Direct f) (callee.Direct f') = f ≡ f'
-  SameCallee (callee.Direct f) (callee.Through t') = ⊥
-  SameCallee (callee.Through t) (callee.Direct f') = ⊥
   SameCallee (callee.Through t) (callee.Through t') = Same t t'
+  SameCallee (callee.Switched g) (callee.Switched g') = g ≡ g'
+  SameCallee _ _ = ⊥
 
   abbrev F : Frame
   F = frame_of depth live bound
@@ -127,15 +127,15 @@ module _ (setting : Setting) (depth live : ℕ) (bound bound' : List (ℕ × ℕ
 
   same_goal : (f f' : Callee) (s : State) → SameCallee f f' → goal setting F f s ≡ goal setting F' f' s
   same_goal (callee.Direct f) (callee.Direct f') s h = ap At h
-  same_goal (callee.Direct f) (callee.Through t') s h = absurd h
-  same_goal (callee.Through t) (callee.Direct f') s h = absurd h
   same_goal (callee.Through t) (callee.Through t') s h = ap (λ v. goal_of setting.numbers (v s.temps s.world.globals)) h.value
+  same_goal (callee.Switched g) (callee.Switched g') s h = ap (λ k. goal_of setting.numbers (setting.switched k s.world)) h
+  same_goal _ _ s h = absurd h
 
   smaller_callee : (f f' : Callee) → SameCallee f f' → callee_nodes setting F' f' ≤ callee_nodes setting F f
   smaller_callee (callee.Direct f) (callee.Direct f') h = omega arith
-  smaller_callee (callee.Direct f) (callee.Through t') h = absurd h
-  smaller_callee (callee.Through t) (callee.Direct f') h = absurd h
   smaller_callee (callee.Through t) (callee.Through t') h = h.smaller
+  smaller_callee (callee.Switched g) (callee.Switched g') h = omega arith
+  smaller_callee _ _ h = absurd h
 
   pub call_alike : (r : Option ℕ) (f f' : Callee) (args args' : List Tree) → SameCallee f f' → SameTrees args args' → KeepsMeaning (act (stm.Call r f args)) (act' (stm.Call r f' args'))
   call_alike r f f' args args' hf h b s =

@@ -168,7 +168,7 @@ module _ (p : Program) (numbers : List ℕ) where
     layer (stm.Call r f args) h bound b s = goal_reaches (goal setting frame f s) frame.depth frame.live r (map (λ t. of_tree setting frame t s) args) bound b s
     layer (stm.Known r k args) h bound b s =
         let vs = map (λ t. of_tree setting frame t s) args in
-        let a = known_answer p k vs frame.live s.world in put_takes r a.value s a.world (known_takes p k vs frame.live s.world)
+        let a = known_answer p numbers k vs frame.live s.world in put_takes r a.value s a.world (known_takes p numbers k vs frame.live s.world)
     layer (stm.Return v) h bound b s = refl
 
     code_reaches : (code : List Stm) → MeaningReaches (code_meaning setting frame code)

@@ -184,21 +184,21 @@ module _ (setting : Setting) (frame : Frame) where
 
     abbrev pub SameCalleeIn : Callee → Callee → Type 0
     SameCalleeIn (callee.Direct f) (callee.Direct f') = f ≡ f'
-    SameCalleeIn (callee.Direct f) (callee.Through t') = ⊥
-    SameCalleeIn (callee.Through t) (callee.Direct f') = ⊥
     SameCalleeIn (callee.Through t) (callee.Through t') = SameIn p t t'
+    SameCalleeIn (callee.Switched g) (callee.Switched g') = g ≡ g'
+    SameCalleeIn _ _ = ⊥
 
     same_goal : (f f' : Callee) (xs ys : List ℕ) (arrays : List (List ℕ)) (w : World) → SameCalleeIn f f' → p xs ys → goal setting frame f (record { temps = xs; arrays = arrays; world = w }) ≡ goal setting frame f' (record { temps = ys; arrays = arrays; world = w })
     same_goal (callee.Direct f) (callee.Direct f') xs ys arrays w h e = ap At h
-    same_goal (callee.Direct f) (callee.Through t') xs ys arrays w h e = absurd h
-    same_goal (callee.Through t) (callee.Direct f') xs ys arrays w h e = absurd h
     same_goal (callee.Through t) (callee.Through t') xs ys arrays w h e = ap (goal_of setting.numbers) (h.value xs ys w.globals e)
+    same_goal (callee.Switched g) (callee.Switched g') xs ys arrays w h e = ap (λ k. goal_of setting.numbers (setting.switched k w)) h
+    same_goal _ _ xs ys arrays w h e = absurd h
 
     smaller_callee : (f f' : Callee) → SameCalleeIn f f' → callee_nodes setting frame f' ≤ callee_nodes setting frame f
     smaller_callee (callee.Direct f) (callee.Direct f') h = omega arith
-    smaller_callee (callee.Direct f) (callee.Through t') h = absurd h
-    smaller_callee (callee.Through t) (callee.Direct f') h = absurd h
     smaller_callee (callee.Through t) (callee.Through t') h = h.smaller
+    smaller_callee (callee.Switched g) (callee.Switched g') h = omega arith
+    smaller_callee _ _ h = absurd h
 
     -- what a callee's end gives
     end_rel : (r r' : Option ℕ) (xs ys : List ℕ) (arrays : List (List ℕ)) (w : World) (e : End) → Puts r r' → p xs ys → OutcomeRel q (call_end r (record { temps = xs; arrays = arrays; world = w }) e) (call_end r' (record { temps = ys; arrays = arrays; world = w }) e)

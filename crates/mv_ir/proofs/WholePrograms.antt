@@ -45,13 +45,13 @@ execution_keeps w c c' h =
 
 bodies_keep : (program : Program) (bs bs' : List Body) → KeepsBodies bs bs' →
     KeepsProgram (record { program = program; bodies = bs }) (record { program = program; bodies = bs' })
-bodies_keep program bs bs' h numbers input actions bound =
+bodies_keep program bs bs' h numbers hart input actions bound =
     let ir : IrProgram = record { program = program; bodies = bs } in
     let ir' : IrProgram = record { program = program; bodies = bs' } in
     let codes = codes_keep 0 program.functions bs bs' h in
-    execution_keeps (start numbers ir input actions) (run_of_main numbers ir input actions bound) (run_of_main numbers ir' input actions bound)
+    execution_keeps (start numbers ir hart input actions) (run_of_main numbers ir hart input actions bound) (run_of_main numbers ir' hart input actions bound)
     (main_keeps (setting_of numbers program) (code_of ir) (code_of ir') codes (slice_get (code_of ir) program.main) (slice_get (code_of ir') program.main)
-    (found_keeps (code_of ir) (code_of ir') program.main codes) bound (start numbers ir input actions))
+    (found_keeps (code_of ir) (code_of ir') program.main codes) bound (start numbers ir hart input actions))
 
 pub programs_keep : ProgramsKeep
 programs_keep ir ir' e h =

@@ -1,6 +1,6 @@
 -- To keep the meaning of a program: what its functions do at each bound, and what it does as a whole.
 use Rattle.std.specs.Prelude.{ℕ, ◌≤◌, ◌≡◌, List, [], ◌∷◌}
-use Rattle.mv_ast.specs.declared.world.Action.{Action}
+use Rattle.mv_ast.specs.Worlds.{Act}
 use Rattle.mv_ir.specs.declared.body.Body.{Body}
 use Rattle.mv_ir.specs.declared.body.IrProgram.{IrProgram}
 use Rattle.mv_ir.specs.World.{World, Setting}
@@ -58,11 +58,11 @@ pub record KeepsExecution (e e' : Execution) : Type 0 where
   pub log : e.log ≡ e'.log
   pub cheaper : e'.cost ≤ e.cost
 
--- of two programs: under each numbering, on each input and with any actions, at each bound
+-- of two programs: in each hart, under each numbering, on each input and with any actions, at each bound
 abbrev pub KeepsProgram : IrProgram → IrProgram → Type 0
 KeepsProgram ir ir' =
-    (numbers input : List ℕ) (actions : List Action) (bound : ℕ) →
-    KeepsExecution (ir_meaning numbers ir input actions bound) (ir_meaning numbers ir' input actions bound)
+    (numbers : List ℕ) (hart : ℕ) (input : List ℕ) (actions : List Act) (bound : ℕ) →
+    KeepsExecution (ir_meaning numbers ir hart input actions bound) (ir_meaning numbers ir' hart input actions bound)
 
 -- If each body of a program keeps its meaning, then so does the program.
 abbrev pub ProgramsKeep : Type 0

@@ -1,10 +1,10 @@
--- What the known functions do in code: the switch calls do what they do in the source, with the live frames of the caller.
-use Rattle.std.specs.Prelude.{ℕ, ◌+◌, ◌-◌, ◌*◌, ◌%◌, ◌^◌, List, [], ◌∷◌, ◌++◌, unwrap_or, slice_get, if◌then◌else◌, nat_eq}
+-- What the known functions do in code, and where calls through pointer switches go: what they do in the source, with the live frames of the caller.
+use Rattle.std.specs.Prelude.{ℕ, ◌+◌, ◌-◌, ◌*◌, ◌%◌, ◌^◌, List, [], ◌∷◌, ◌++◌, Option, Some, None, unwrap_or, slice_get, if◌then◌else◌, nat_eq}
 use Rattle.mv_ast.specs.declared.program.Program.{Program}
 use Rattle.mv_ast.specs.declared.program.Known.{Known}
 use Rattle.mv_ast.specs.declared.program.Known.TheVariants.{Getchar, Putchar, Poll, Plan}
 use Rattle.mv_ast.specs.Worlds as source
-use Rattle.mv_ast.specs.Plans.{Answered, ordered, polled}
+use Rattle.mv_ast.specs.Plans.{Answered, word_at, pointer_number, called_word, ordered, polled}
 use Rattle.mv_ast.specs.Counts.{patchable}
 use Rattle.mv_ir.specs.World.{World, Answer}
 
@@ -14,6 +14,7 @@ use Rattle.mv_ir.specs.World.{World, Answer}
 abbrev pub seen : source.World → World
 seen w = record {
   globals = w.globals;
+  hart = w.hart;
   input = w.input;
   taken = w.taken;
   output = w.output;
@@ -26,6 +27,7 @@ seen w = record {
 abbrev pub seen_from : (depth live : ℕ) → World → source.World
 seen_from depth live w = record {
   globals = w.globals;
+  hart = w.hart;
   depth = depth;
   live = live;
   input = w.input;
@@ -35,6 +37,16 @@ seen_from depth live w = record {
   actions = w.actions;
   log = w.log;
 }
+
+-- ---- calls through pointer switches
+
+abbrev pub switched_at : (numbers : List ℕ) → (binding : Option ℕ) → (global : ℕ) → World → ℕ
+switched_at numbers None g w = word_at w.globals g 0
+switched_at numbers (Some n) g w = called_word numbers w.bindings w.globals n g
+
+-- the number in a pointer switch as a call through it sees it
+abbrev pub switched_number : Program → (numbers : List ℕ) → (global : ℕ) → World → ℕ
+switched_number p numbers g w = switched_at numbers (pointer_number p g) g w
 
 -- ---- answers
 
@@ -54,13 +66,16 @@ patch_cost p = 30 * (1 + patchable p)
 abbrev pub at_cost : ℕ → Answered → Answer
 at_cost cost a = record { value = a.answer; world = seen a.world; cost = cost }
 
--- a poll answers 1 where it takes a flip
-abbrev pub poll_answer : Program → Answered → Answer
-poll_answer p a = at_cost (if nat_eq a.answer 1 then patch_cost p else 0) a
+-- a poll answers 1 where hart 0 takes a flip, which costs what a commit does, and where another hart adopts
+abbrev pub poll_cost : Program → (hart answer : ℕ) → ℕ
+poll_cost p hart answer = if nat_eq answer 1 then (if nat_eq hart 0 then patch_cost p else 30) else 0
 
--- what a known function gives, of its arguments and the number of live attributed frames
-abbrev pub known_answer : Program → Known → List ℕ → ℕ → World → Answer
-known_answer p Getchar vs live w = next_byte w.input w
-known_answer p Putchar vs live w = written (unwrap_or (slice_get vs 0) 0) w
-known_answer p Poll vs live w = poll_answer p (polled p (seen_from 0 live w))
-known_answer p (Plan code index) vs live w = at_cost (patch_cost p) (ordered p code index (seen_from 0 live w))
+abbrev pub poll_answer : Program → (hart : ℕ) → Answered → Answer
+poll_answer p hart a = at_cost (poll_cost p hart a.answer) a
+
+-- what a known function gives, of its arguments and the number of live attributed frames, under a numbering
+abbrev pub known_answer : Program → (numbers : List ℕ) → Known → List ℕ → ℕ → World → Answer
+known_answer p numbers Getchar vs live w = next_byte w.input w
+known_answer p numbers Putchar vs live w = written (unwrap_or (slice_get vs 0) 0) w
+known_answer p numbers Poll vs live w = poll_answer p w.hart (polled p numbers (seen_from 0 live w))
+known_answer p numbers (Plan code index) vs live w = at_cost (patch_cost p) (ordered p numbers code index (seen_from 0 live w))

@@ -95,10 +95,12 @@ module _ (setting : Setting) (frame : Frame) where
   abbrev pub goal : Callee → State → Goal
   goal (callee.Direct f) s = At f
   goal (callee.Through t) s = goal_of setting.numbers (of_tree t s)
+  goal (callee.Switched g) s = goal_of setting.numbers (setting.switched g s.world)
 
   abbrev pub callee_nodes : Callee → ℕ
   callee_nodes (callee.Direct f) = 0
   callee_nodes (callee.Through t) = nodes t
+  callee_nodes (callee.Switched g) = 0
 
   abbrev pub known_end : Option ℕ → State → Answer → Run
   known_end result s a = record { cost = a.cost; outcome = Next (put result a.value (with_world s a.world)) }

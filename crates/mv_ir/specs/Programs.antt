@@ -2,14 +2,14 @@
 use Rattle.std.specs.Prelude.{ℕ, suc, ◌%◌, Bool, true, false, List, [], ◌∷◌, Option, Some, None, slice_get}
 use Rattle.mv_ast.specs.declared.program.Program.{Program}
 use Rattle.mv_ast.specs.declared.program.Function.{Function}
-use Rattle.mv_ast.specs.declared.world.Action.{Action}
 use Rattle.mv_ast.specs.declared.world.Binding.{Binding}
 use Rattle.mv_ast.specs.declared.world.Event.{Event}
 use Rattle.mv_ast.specs.Starts.{first_world_under}
+use Rattle.mv_ast.specs.Worlds.{Act}
 use Rattle.mv_ir.specs.declared.body.Body.{Body}
 use Rattle.mv_ir.specs.declared.body.IrProgram.{IrProgram}
 use Rattle.mv_ir.specs.World.{World, Setting}
-use Rattle.mv_ir.specs.KnownFunctions.{seen, known_answer}
+use Rattle.mv_ir.specs.KnownFunctions.{seen, switched_number, known_answer}
 use Rattle.mv_ir.specs.Outcome as outcome
 use Rattle.mv_ir.specs.Outcome.{End, Call}
 use Rattle.mv_ir.specs.Levels.{Code, program_meaning}
@@ -18,7 +18,7 @@ use Rattle.mv_ir.specs.Levels.{Code, program_meaning}
 
 -- under this numbering of its functions
 abbrev pub setting_of : List ℕ → Program → Setting
-setting_of numbers p = record { numbers = numbers; known = known_answer p }
+setting_of numbers p = record { numbers = numbers; switched = switched_number p numbers; known = known_answer p numbers }
 
 -- the place of a function among the attributed ones, where so many of them stand before it
 abbrev pub place_if : Bool → ℕ → Option ℕ
@@ -84,15 +84,15 @@ abbrev pub call_of_main : Setting → List Code → Option Code → ℕ → Worl
 call_of_main setting codes None bound w = record { cost = 0; end = outcome.Stuck }
 call_of_main setting codes (Some main) bound w = program_meaning setting codes main bound w
 
--- the first world as the code sees it
-abbrev pub start : List ℕ → IrProgram → List ℕ → List Action → World
-start numbers ir input actions = seen (first_world_under ir.program numbers input actions)
+-- the first world of a hart as the code sees it
+abbrev pub start : List ℕ → IrProgram → (hart : ℕ) → List ℕ → List Act → World
+start numbers ir hart input actions = seen (first_world_under ir.program numbers hart input actions)
 
-abbrev pub run_of_main : List ℕ → IrProgram → List ℕ → List Action → ℕ → Call
-run_of_main numbers ir input actions bound =
-    call_of_main (setting_of numbers ir.program) (code_of ir) (slice_get (code_of ir) ir.program.main) bound (start numbers ir input actions)
+abbrev pub run_of_main : List ℕ → IrProgram → (hart : ℕ) → List ℕ → List Act → ℕ → Call
+run_of_main numbers ir hart input actions bound =
+    call_of_main (setting_of numbers ir.program) (code_of ir) (slice_get (code_of ir) ir.program.main) bound (start numbers ir hart input actions)
 
--- The meaning of a program under a numbering and at a bound, on an input and with the operator's actions.
-abbrev pub ir_meaning : (numbers : List ℕ) → IrProgram → (input : List ℕ) → (actions : List Action) → (bound : ℕ) → Execution
-ir_meaning numbers ir input actions bound =
-    let c = run_of_main numbers ir input actions bound in execution_of (start numbers ir input actions) c.cost c.end
+-- The meaning of a program in a hart under a numbering and at a bound, on an input and with what its polls take.
+abbrev pub ir_meaning : (numbers : List ℕ) → IrProgram → (hart : ℕ) → (input : List ℕ) → (actions : List Act) → (bound : ℕ) → Execution
+ir_meaning numbers ir hart input actions bound =
+    let c = run_of_main numbers ir hart input actions bound in execution_of (start numbers ir hart input actions) c.cost c.end

@@ -4,6 +4,8 @@ use Rattle.mv_ast.specs.declared.program.Known.{Known}
 use Rattle.mv_ast.specs.declared.program.Known.TheVariants.{Putchar}
 use Rattle.mv_ir.specs.declared.stm.Array.{Array}
 use Rattle.mv_ir.specs.declared.stm.Array.TheVariants as array
+use Rattle.mv_ir.specs.declared.stm.Callee.{Callee}
+use Rattle.mv_ir.specs.declared.stm.Callee.TheVariants as callee
 use Rattle.mv_ir.specs.declared.stm.Stm.{Stm}
 use Rattle.mv_ir.specs.declared.stm.Stm.TheOpen.{Stm-F}
 use Rattle.mv_ir.specs.declared.stm.Stm.TheOpen as stm
@@ -39,13 +41,19 @@ stm_targets = fold-Stm (List Bool → Bool) layer_targets
 
 -- ---- names
 
--- the arrays that a statement names, and the scalars that it stores to, as arrays of one element
+abbrev pub callee_named : Callee → List Array
+callee_named (callee.Direct f) = []
+callee_named (callee.Through t) = []
+callee_named (callee.Switched g) = array.Global g ∷ []
+
+-- the arrays that a statement names, and the scalars that it stores to and the pointer switches that it calls through, as arrays of one element
 abbrev pub layer_named : Stm-F (List Array) → List Array
 layer_named (stm.SetGlobal g v) = array.Global g ∷ []
 layer_named (stm.Check a i) = a ∷ []
 layer_named (stm.Read t a i) = a ∷ []
 layer_named (stm.Write a i v) = a ∷ []
 layer_named (stm.Zero l) = array.Local l ∷ []
+layer_named (stm.Call r f args) = callee_named f
 layer_named (stm.If t a b) = joined a ++ joined b
 layer_named (stm.Loop b) = joined b
 layer_named (stm.Block b) = joined b

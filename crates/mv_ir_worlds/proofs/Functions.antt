@@ -1,16 +1,19 @@
 -- What a call of an attributed function finds it bound to.
-use Rattle.std.proofs.Common.{◌≡◌, ◌⊎◌, inl, inr, ℕ, zero, suc, ◌+◌, ◌≤◌, Bool, true, false, cond, List, [], ◌∷◌, ◌++◌, map, length, take, replicate, filter, Option, Some, None, refl, ◌∙◌, ap, subst, arith}
+use Rattle.std.proofs.Common.{◌≡◌, ◌⊎◌, inl, inr, ℕ, zero, suc, ◌+◌, ◌<◌, ◌≤◌, Bool, true, false, cond, List, [], ◌∷◌, ◌++◌, map, length, take, replicate, filter, Option, Some, None, refl, ◌∙◌, ap, subst, arith}
 use Rattle.std.specs.Prelude.{slice_get}
 use Rattle.std.specs.List.{zip}
 use Rattle.std.proofs.lemmas.List.{length-map}
+use Rattle.std.proofs.lemmas.Option.{slice_get_within}
 use Rattle.std.proofs.lemmas.List.Sums.{sum_by-cons}
 use Rattle.mv_ast.specs.declared.program.Function.{Function}
 use Rattle.mv_ast.specs.declared.world.Binding.{Binding}
-use Rattle.mv_ast.specs.Plans.{attributed_functions, attributed_before, switch_domain}
+use Rattle.mv_num.proofs.Lists.{there_at}
+use Rattle.mv_ast.specs.Plans.{attributed_functions, attributed_before, switch_domain, bound_to}
 use Rattle.mv_ir.specs.Combinations.{IsCombination}
 use Rattle.mv_ir.specs.Levels.{read_under}
 use Rattle.mv_ir_worlds.specs.Functions.{IsFreeIn, IsBoundIn}
-use Rattle.mv_ir_worlds.specs.Laws.{FunctionsAreFreeOrBound, FramesOfFree, FramesOfBound}
+use Rattle.mv_ir_worlds.specs.Fit.{MayBind}
+use Rattle.mv_ir_worlds.specs.Laws.{FunctionsAreFreeOrBound, PointersAreFreeOrBound, FramesOfFree, FramesOfBound}
 
 -- ---- its number among the attributed functions
 
@@ -33,12 +36,6 @@ attributed_at (x ∷ fs) (suc f) g e is =
 
 -- ---- its binding
 
-there_is : (fs : List Function) (bs : List Binding) (n : ℕ) (g : Function) → length bs ≡ length fs → slice_get fs n ≡ Some g → (b : Binding) × (slice_get bs n ≡ Some b)
-there_is [] bs n g count e = absurd (cc)
-there_is (x ∷ fs) [] n g count e = absurd (omega (arith, count))
-there_is (x ∷ fs) (b ∷ bs) zero g count e = (b, refl)
-there_is (x ∷ fs) (b ∷ bs) (suc n) g count e = there_is fs bs n g (omega (arith, count)) e
-
 -- a combination has a value for each switch
 pub combination_length : (ds : List (List ℕ)) (vs : List ℕ) → IsCombination ds vs → length vs ≡ length ds
 combination_length [] [] h = refl
@@ -59,16 +56,53 @@ free_or_bound p bs f g are here is = by there.0.bound refl
     at = attributed_at p.functions f g here is
 
     there : (b : Binding) × (slice_get bs n ≡ Some b)
-    there = there_is (attributed_functions p) bs n g are.count at
+    there =
+        let within = slice_get_within (attributed_functions p) n g at in
+        let count = are.count in
+        there_at bs n (omega (arith, within, count))
+
+    -- it is none of the pointer switches, whose numbers are behind
+    of_function : (vs : List ℕ) → MayBind p n vs → IsCombination (map (switch_domain p) g.switches) vs
+    of_function vs (inl k) =
+        subst (λ (x : Function). IsCombination (map (switch_domain p) x.switches) vs) (same_one (slice_get (attributed_functions p) n) k.0 g k.1 at) k.2
+    of_function vs (inr k) =
+        let within = slice_get_within (attributed_functions p) n g at in
+        let e = k.2 in
+        absurd (omega (arith, within, e))
 
     by : (z : Bool) → there.0.bound ≡ z →
         IsFreeIn bs n ⊎ ((vs : List ℕ) × IsBoundIn bs n vs × IsCombination (map (switch_domain p) g.switches) vs × (length vs ≡ length g.switches))
     by false e = inl (λ b q. ap (λ (x : Binding). x.bound) (same_one (slice_get bs n) b there.0 q there.1) ∙ e)
     by true e =
         let k = are.bound n there.0 there.1 e in
-        let combination : IsCombination (map (switch_domain p) g.switches) k.0 =
-        subst (λ (x : Function). IsCombination (map (switch_domain p) x.switches) k.0) (same_one (slice_get (attributed_functions p) n) k.2.0 g k.2.1 at) k.2.2 in
+        let combination : IsCombination (map (switch_domain p) g.switches) k.0 = of_function k.0 k.2 in
         inr (k.0, there.1 ∙ ap Some k.1, combination, combination_length (map (switch_domain p) g.switches) k.0 combination ∙ length-map g.switches (switch_domain p))
+
+pub pointer_free_or_bound : PointersAreFreeOrBound
+pointer_free_or_bound p bs q g are here = by there.0.bound refl
+  where
+    n : ℕ
+    n = length (attributed_functions p) + q
+
+    there : (b : Binding) × (slice_get bs n ≡ Some b)
+    there =
+        let within = slice_get_within p.pointers q g here in
+        let count = are.count in
+        there_at bs n (omega (arith, within, count))
+
+    -- no attributed function has a number as high
+    of_pointer : (vs : List ℕ) → MayBind p n vs → (f : ℕ) × (f < length p.functions) × (vs ≡ suc f ∷ [])
+    of_pointer vs (inl k) =
+        let within = slice_get_within (attributed_functions p) n k.0 k.1 in
+        absurd (omega (arith, within))
+    of_pointer vs (inr k) = k.4
+
+    by : (z : Bool) → there.0.bound ≡ z → IsFreeIn bs n ⊎ ((f : ℕ) × IsBoundIn bs n (suc f ∷ []) × (f < length p.functions))
+    by false e = inl (λ b r. ap (λ (x : Binding). x.bound) (same_one (slice_get bs n) b there.0 r there.1) ∙ e)
+    by true e =
+        let k = are.bound n there.0 there.1 e in
+        let to = of_pointer k.0 k.2 in
+        inr (to.0, there.1 ∙ ap Some (k.1 ∙ ap bound_to to.2), to.1)
 
 -- ---- its frame
 

@@ -1,4 +1,4 @@
--- What one attributed function, by its number among them, is in a list of bindings.
+-- What one attributed function or pointer switch, by its number among what may be bound, is in a list of bindings.
 use Rattle.std.specs.Prelude.{◌≡◌, ℕ, false, List, Some, slice_get}
 use Rattle.mv_ast.specs.declared.world.Binding.{Binding}
 use Rattle.mv_ast.specs.Plans.{bound_to}

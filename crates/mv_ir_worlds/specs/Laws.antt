@@ -1,19 +1,20 @@
 -- What is proved of fit worlds.
-use Rattle.std.specs.Prelude.{◌≡◌, ◌↔◌, ◌⊎◌, ℕ, ◌+◌, ◌≤◌, All, IsTrue, true, List, [], map, length, Some, slice_get}
+use Rattle.std.specs.Prelude.{◌≡◌, ◌↔◌, ◌⊎◌, ℕ, suc, ◌+◌, ◌<◌, ◌≤◌, All, IsTrue, true, List, [], ◌∷◌, map, length, Some, slice_get}
 use Rattle.std.specs.List.{zip}
 use Rattle.mv_ast.specs.declared.program.Program.{Program}
 use Rattle.mv_ast.specs.declared.program.Function.{Function}
 use Rattle.mv_ast.specs.declared.program.Known.{Known}
-use Rattle.mv_ast.specs.declared.world.Action.{Action}
 use Rattle.mv_ast.specs.declared.world.Binding.{Binding}
-use Rattle.mv_ast.specs.Actions.{fits}
-use Rattle.mv_ast.specs.Plans.{attributed_before, switch_domain, switch_words, bound_to, free, committed, bindings_after}
+use Rattle.mv_ast.specs.Actions.{act_fits}
+use Rattle.mv_ast.specs.Bindings.{are_bindings}
+use Rattle.mv_ast.specs.Plans.{attributed_functions, attributed_before, switch_domain, switch_words, bound_to, free, committed, bindings_after}
 use Rattle.mv_ast.specs.Starts.{first_world_under}
+use Rattle.mv_ast.specs.Worlds.{Act}
 use Rattle.mv_ir.specs.Combinations.{IsCombination}
 use Rattle.mv_ir.specs.Levels.{frame_of_call}
 use Rattle.mv_ir.specs.World.{World}
 use Rattle.mv_ir.specs.KnownFunctions.{seen, known_answer}
-use Rattle.mv_ir_worlds.specs.Fit.{AreBindings, IsFit, are_bindings, is_fit}
+use Rattle.mv_ir_worlds.specs.Fit.{AreBindings, IsFit, is_fit}
 use Rattle.mv_ir_worlds.specs.Functions.{IsFreeIn, IsBoundIn}
 
 -- The tests hold exactly where the records do.
@@ -30,19 +31,23 @@ CommitsAreToWords =
     (IsCombination (map (switch_domain p) g.switches) (switch_words p globals g.switches) → committed p globals g ≡ bound_to (switch_words p globals g.switches))
     × ((IsCombination (map (switch_domain p) g.switches) (switch_words p globals g.switches) → ⊥) → committed p globals g ≡ free)
 
--- An order on any globals leaves bindings that may be.
+-- An order on any globals leaves bindings that may be, where there is one number for each function.
 abbrev pub OrdersKeepFit : Type 0
-OrdersKeepFit = (p : Program) (code index : ℕ) (globals : List (List ℕ)) (bs : List Binding) → AreBindings p bs → AreBindings p (bindings_after p code index globals bs)
+OrdersKeepFit =
+    (p : Program) (numbers : List ℕ) (code index : ℕ) (globals : List (List ℕ)) (bs : List Binding) → length numbers ≡ length p.functions →
+    AreBindings p bs → AreBindings p (bindings_after p numbers code index globals bs)
 
 -- A known function leaves a fit world.
 abbrev pub KnownsKeepFit : Type 0
-KnownsKeepFit = (p : Program) (k : Known) (args : List ℕ) (live : ℕ) (w : World) → IsFit p w → IsFit p (known_answer p k args live w).world
+KnownsKeepFit =
+    (p : Program) (numbers : List ℕ) (k : Known) (args : List ℕ) (live : ℕ) (w : World) → length numbers ≡ length p.functions →
+    IsFit p w → IsFit p (known_answer p numbers k args live w).world
 
 -- A program starts in a fit world.
 abbrev pub FirstIsFit : Type 0
 FirstIsFit =
-    (p : Program) (numbers : List ℕ) (input : List ℕ) (actions : List Action) → All (λ a. IsTrue (fits p a)) actions →
-    IsFit p (seen (first_world_under p numbers input actions))
+    (p : Program) (numbers : List ℕ) (hart : ℕ) (input : List ℕ) (actions : List Act) → All (λ a. IsTrue (act_fits p hart a)) actions →
+    IsFit p (seen (first_world_under p numbers hart input actions))
 
 -- Where bindings may be, each attributed function is free, or bound to one value of each of its switches' domains.
 abbrev pub FunctionsAreFreeOrBound : Type 0
@@ -51,7 +56,13 @@ FunctionsAreFreeOrBound =
     IsFreeIn bs (attributed_before p.functions f) ⊎
     ((vs : List ℕ) × IsBoundIn bs (attributed_before p.functions f) vs × IsCombination (map (switch_domain p) g.switches) vs × (length vs ≡ length g.switches))
 
--- The frame of one that is free reads nothing as bound.
+-- And each pointer switch is free, or bound to a function.
+abbrev pub PointersAreFreeOrBound : Type 0
+PointersAreFreeOrBound =
+    (p : Program) (bs : List Binding) (q g : ℕ) → AreBindings p bs → slice_get p.pointers q ≡ Some g →
+    IsFreeIn bs (length (attributed_functions p) + q) ⊎ ((f : ℕ) × IsBoundIn bs (length (attributed_functions p) + q) (suc f ∷ []) × (f < length p.functions))
+
+-- The frame of a function that is free reads nothing as bound.
 abbrev pub FramesOfFree : Type 0
 FramesOfFree =
     (n : ℕ) (switches : List ℕ) (depth live : ℕ) (w : World) → IsFreeIn w.bindings n →

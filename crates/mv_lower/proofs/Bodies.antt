@@ -27,12 +27,12 @@ use Rattle.mv_lower.proofs.Switching.{next_item}
 
 -- ---- code
 
-body_is : (g : Function) → stmts_at g g.body outermost ≡ lower_body g
+body_is : (ps : List ℕ) (g : Function) → stmts_at ps g g.body outermost ≡ lower_body ps g
 unfolding stmts_at stmt_at
-body_is g = refl
+body_is ps g = refl
 
-pub code_is : (g : Function) (body c : Code) (void : Bool) → c ≡ ended void body → void ≡ is_void g.result → body ≡ stmts_at g g.body outermost → c ≡ lower_function_code g
-code_is g body c void e v b = e ∙ (ap (λ z. ended z body) v ∙ ap (λ (x : Code). ended (is_void g.result) x) (b ∙ body_is g))
+pub code_is : (ps : List ℕ) (g : Function) (body c : Code) (void : Bool) → c ≡ ended void body → void ≡ is_void g.result → body ≡ stmts_at ps g g.body outermost → c ≡ lower_function_code ps g
+code_is ps g body c void e v b = e ∙ (ap (λ z. ended z body) v ∙ ap (λ (x : Code). ended (is_void g.result) x) (b ∙ body_is ps g))
 
 pub ended_void : (c : Code) → ended true c ≡ c
 ended_void c = ap (λ l. (let r : Code = record { code = l; top = c.top } in r)) (append-nil c.code)
@@ -152,7 +152,7 @@ body_parts : (n : ℕ) (code : List Stm) (temps temps' : ℕ) (arrays arrays' : 
 body_parts n code temps temps' arrays arrays' rooms rooms' marked marked' switches switches' a b d e f = cc
 
 pub body_of : (p : Program) (g : Function) (l : Code) (m : Marks) (temps : ℕ) (arrays : List ℕ) (rooms : List Room) (marked switches : List ℕ) →
-    l ≡ lower_function_code g → AreMarks p l.code m → temps ≡ max (length g.locals) l.top → arrays ≡ array_sizes g.locals → rooms ≡ rooms_from (is_named m) 0 0 p.globals →
+    l ≡ lower_function_code p.pointers g → AreMarks p l.code m → temps ≡ max (length g.locals) l.top → arrays ≡ array_sizes g.locals → rooms ≡ rooms_from (is_named m) 0 0 p.globals →
     marked ≡ marked_from (is_set m.called.items) 0 p.functions → switches ≡ map (switch_global p) g.switches →
     (let b : Body = record { params = g.params; temps = temps; arrays = arrays; code = l.code; rooms = rooms; marked = marked; switches = switches } in b) ≡ lower_function p g
 body_of p g l m temps arrays rooms marked switches e marks a b d f h =

@@ -19,7 +19,7 @@ use Rattle.mv_ir.specs.declared.stm.Stm.TheVariants.{rolls-Back}
 use Rattle.mv_ir.specs.declared.stm.Stm.TheFolds.{map-Stm}
 use Rattle.mv_ir.proofs.Lists.{joined_push}
 use Rattle.mv_ir.specs.Measures.{joined, layer_trees, tree_reads, stm_trees, array_read, callee_trees}
-use Rattle.mv_ir.specs.WellFormed.{stm_named, layer_named}
+use Rattle.mv_ir.specs.WellFormed.{callee_named, stm_named, layer_named}
 use Rattle.mv_ir.proofs.Rolls.{reads_roll, trees_roll, named_roll}
 use Rattle.mv_lower_spec.specs.Functions.{callee_called, layer_called, stm_called}
 use Rattle.mv_lower.specs.Naming.{Flags, Names, marked, tree_names, trees_names, global_names, function_names, array_names, callee_names, stm_names, code_names}
@@ -142,7 +142,7 @@ names_back n m = by_one _ (stm.Back n) (sym (rolls-Back n)) m (names_of [] [] []
 pub names_call : (r : Option ℕ) (f : Callee) (args : List Tree) (m : Flags) → marked (stm_names (at.Call r f args)) m ≡ marked (trees_names args) (marked (callee_names f) m)
 names_call r f args m =
     by_two _ (stm.Call r f args) (call_is r f args) m (callee_names f) (trees_names args)
-    (same_names _ _ _ _ _ _ (joined_both tree_reads (callee_trees f) args) refl (sym (append-nil (callee_called f))))
+    (same_names _ _ _ _ _ _ (joined_both tree_reads (callee_trees f) args) (sym (append-nil (joined (map array_read (callee_named f))))) (sym (append-nil (callee_called f))))
 
 pub names_known : (r : Option ℕ) (k : Known) (args : List Tree) (m : Flags) → marked (stm_names (at.Known r k args)) m ≡ marked (trees_names args) m
 names_known r k args m = by_one _ (stm.Known r k args) (known_is r k args) m (trees_names args) refl
@@ -158,7 +158,10 @@ names_direct f m = refl
 pub names_through : (t : Tree) (m : Flags) → marked (callee_names (callee.Through t)) m ≡ marked (tree_names t) m
 names_through t m = ap (λ l. marked (names_of l [] []) m) (one t)
 
-pub ruleset callees = (names_direct, names_through)
+pub names_switched : (g : ℕ) (m : Flags) → marked (callee_names (callee.Switched g)) m ≡ marked (global_names g) m
+names_switched g m = refl
+
+pub ruleset callees = (names_direct, names_through, names_switched)
 
 -- ---- lists, one item more
 

@@ -100,73 +100,73 @@ pub ruleset sizes = (size_block, size_clear, size_express, size_if, size_while, 
 
 -- ---- forms
 
-module _ (g : Function) where
+module _ (ps : List ℕ) (g : Function) where
   abbrev n : ℕ
   n = length g.locals
 
   abbrev lowering_of : Stmt-F Stmt Arm → Placed
   lowering_of x =
-      lower_stmt_layer n (size_in g.locals) (is_void g.result) (map-Stmt Stmt Arm Placed LoweredArm (lower_stmt n (size_in g.locals) (is_void g.result)) (lower_arm n (size_in g.locals) (is_void g.result)) x)
+      lower_stmt_layer ps n (size_in g.locals) (is_void g.result) (map-Stmt Stmt Arm Placed LoweredArm (lower_stmt ps n (size_in g.locals) (is_void g.result)) (lower_arm ps n (size_in g.locals) (is_void g.result)) x)
 
-  lowered : (s : Stmt) (x : Stmt-F Stmt Arm) (j : Jumps) → out-Stmt s ≡ x → stmt_at g s j ≡ lowering_of x j
+  lowered : (s : Stmt) (x : Stmt-F Stmt Arm) (j : Jumps) → out-Stmt s ≡ x → stmt_at ps g s j ≡ lowering_of x j
   unfolding stmt_at
   lowered s x j e =
-      ap (λ (f : Placed). f j) (fold_out-Stmt Placed LoweredArm (lower_stmt_layer n (size_in g.locals) (is_void g.result)) (lower_arm_layer n (size_in g.locals) (is_void g.result)) s ∙ ap lowering_of e)
+      ap (λ (f : Placed). f j) (fold_out-Stmt Placed LoweredArm (lower_stmt_layer ps n (size_in g.locals) (is_void g.result)) (lower_arm_layer ps n (size_in g.locals) (is_void g.result)) s ∙ ap lowering_of e)
 
-  pub stmt_block : (body : List Stmt) (j : Jumps) → stmt_at g (at.Block body) j ≡ stmts_at g body j
+  pub stmt_block : (body : List Stmt) (j : Jumps) → stmt_at ps g (at.Block body) j ≡ stmts_at ps g body j
   unfolding stmts_at stmt_at
   stmt_block body j = lowered _ _ j (outs-Block body)
 
-  pub stmt_express : (e : Expr) (j : Jumps) → stmt_at g (at.Express e) j ≡ express_of (expr_at e n)
+  pub stmt_express : (e : Expr) (j : Jumps) → stmt_at ps g (at.Express e) j ≡ express_of (expr_at ps e n)
   unfolding express_of expr_at
   stmt_express e j = lowered _ _ j (outs-Express e)
 
-  pub stmt_if : (e : Expr) (a b : List Stmt) (j : Jumps) → stmt_at g (at.If e a b) j ≡ if_of (expr_at e n) (stmts_at g a j) (stmts_at g b j)
+  pub stmt_if : (e : Expr) (a b : List Stmt) (j : Jumps) → stmt_at ps g (at.If e a b) j ≡ if_of (expr_at ps e n) (stmts_at ps g a j) (stmts_at ps g b j)
   unfolding if_of expr_at stmts_at stmt_at
   stmt_if e a b j = lowered _ _ j (outs-If e a b)
 
-  pub stmt_while : (e : Expr) (body : List Stmt) (j : Jumps) → stmt_at g (at.While e body) j ≡ while_of (expr_at e n) (stmts_at g body (in_body j))
+  pub stmt_while : (e : Expr) (body : List Stmt) (j : Jumps) → stmt_at ps g (at.While e body) j ≡ while_of (expr_at ps e n) (stmts_at ps g body (in_body j))
   unfolding while_of expr_at stmts_at stmt_at
   stmt_while e body j = lowered _ _ j (outs-While e body)
 
-  pub stmt_do : (body : List Stmt) (e : Expr) (j : Jumps) → stmt_at g (at.Do body e) j ≡ do_of (stmts_at g body (in_body j)) (expr_at e n)
+  pub stmt_do : (body : List Stmt) (e : Expr) (j : Jumps) → stmt_at ps g (at.Do body e) j ≡ do_of (stmts_at ps g body (in_body j)) (expr_at ps e n)
   unfolding do_of expr_at stmts_at stmt_at
   stmt_do body e j = lowered _ _ j (outs-Do body e)
 
   pub stmt_for : (first : List Stmt) (test step : Option Expr) (body : List Stmt) (j : Jumps) →
-      stmt_at g (at.For first test step body) j ≡ for_of (stmts_at g first j) (optional_at 1 test n) (optional_at 0 step n) (stmts_at g body (in_body j))
+      stmt_at ps g (at.For first test step body) j ≡ for_of (stmts_at ps g first j) (optional_at ps 1 test n) (optional_at ps 0 step n) (stmts_at ps g body (in_body j))
   unfolding for_of stmts_at stmt_at optional_at
   stmt_for first test step body j = lowered _ _ j (outs-For first test step body)
 
-  pub stmt_break : (j : Jumps) → stmt_at g at.Break j ≡ break_at j n
+  pub stmt_break : (j : Jumps) → stmt_at ps g at.Break j ≡ break_at j n
   unfolding break_at
   stmt_break j = lowered _ _ j outs-Break
 
-  pub stmt_continue : (j : Jumps) → stmt_at g at.Continue j ≡ continue_at j n
+  pub stmt_continue : (j : Jumps) → stmt_at ps g at.Continue j ≡ continue_at j n
   unfolding continue_at
   stmt_continue j = lowered _ _ j outs-Continue
 
-  return_same : (e : Option Expr) (j : Jumps) → lowering_of (stmt.Return e) j ≡ return_at e j n
+  return_same : (e : Option Expr) (j : Jumps) → lowering_of (stmt.Return e) j ≡ return_at ps e j n
   unfolding end_at return_of expr_at
   return_same None j = refl
   return_same (Some e) j = refl
 
-  pub stmt_return : (e : Option Expr) (j : Jumps) → stmt_at g (at.Return e) j ≡ return_at e j n
+  pub stmt_return : (e : Option Expr) (j : Jumps) → stmt_at ps g (at.Return e) j ≡ return_at ps e j n
   stmt_return e j = lowered _ _ j (outs-Return e) ∙ return_same e j
 
   -- ---- declarations
 
-  stored_same : (size : Option ℕ) (l i : ℕ) (es : List Expr) → store_values n size l i (map lower_expr es) ≡ values_stored size l i (each_at es n)
+  stored_same : (size : Option ℕ) (l i : ℕ) (es : List Expr) → store_values n size l i (map (lower_expr ps) es) ≡ values_stored size l i (each_at ps es n)
   unfolding values_stored expr_at
   stored_same size l i [] = refl
-  stored_same size l i (e ∷ es) = ap (λ rest. (lower_expr e n).code ++ (store_word size l i (lower_expr e n).tree ∷ rest)) (stored_same size l (suc i) es)
+  stored_same size l i (e ∷ es) = ap (λ rest. (lower_expr ps e n).code ++ (store_word size l i (lower_expr ps e n).tree ∷ rest)) (stored_same size l (suc i) es)
 
-  top_same : (es : List Expr) → values_top n (map lower_expr es) ≡ values_top_of (each_at es n) n
+  top_same : (es : List Expr) → values_top n (map (lower_expr ps) es) ≡ values_top_of (each_at ps es n) n
   unfolding values_top_of expr_at
   top_same [] = refl
-  top_same (e ∷ es) = ap (λ m. max (lower_expr e n).top m) (top_same es)
+  top_same (e ∷ es) = ap (λ m. max (lower_expr ps e n).top m) (top_same es)
 
-  length_same : (es : List Expr) → length (map lower_expr es) ≡ length (each_at es n)
+  length_same : (es : List Expr) → length (map (lower_expr ps) es) ≡ length (each_at ps es n)
   length_same [] = refl
   length_same (e ∷ es) = ap suc (length_same es)
 
@@ -189,50 +189,50 @@ clear_is size l names_itself vs n =
     ap (λ k. cleared size l names_itself k (store_values n size l 0 (map given vs)) (values_top n (map given vs))) (length_map given vs) ∙
     ap (λ c. cleared size l names_itself (length vs) c (values_top n (map given vs))) (stored_given n 0 size l 0 vs)
 
-pub stmt_clear : (g : Function) (l : ℕ) (values : List Expr) (j : Jumps) →
-    stmt_at g (at.Clear l values) j ≡ clear_of (size_in g.locals l) l (any_of (map (names_local l) values)) (each_at values (length g.locals)) (length g.locals)
-stmt_clear g l values j =
+pub stmt_clear : (ps : List ℕ) (g : Function) (l : ℕ) (values : List Expr) (j : Jumps) →
+    stmt_at ps g (at.Clear l values) j ≡ clear_of (size_in g.locals l) l (any_of (map (names_local l) values)) (each_at ps values (length g.locals)) (length g.locals)
+stmt_clear ps g l values j =
     let size = size_in g.locals l in
     let names = any_of (map (names_local l) values) in
     let m = length g.locals in
-    lowered g _ _ j (outs-Clear l values) ∙
-    (ap (λ k. cleared size l names k (store_values m size l 0 (map lower_expr values)) (values_top m (map lower_expr values))) (length_same g values) ∙
-    (ap (λ c. cleared size l names (length (each_at values m)) c (values_top m (map lower_expr values))) (stored_same g size l 0 values) ∙
-    (ap (λ top. cleared size l names (length (each_at values m)) (values_stored size l 0 (each_at values m)) top) (top_same g values) ∙
-    sym (clear_is size l names (each_at values m) m))))
+    lowered ps g _ _ j (outs-Clear l values) ∙
+    (ap (λ k. cleared size l names k (store_values m size l 0 (map (lower_expr ps) values)) (values_top m (map (lower_expr ps) values))) (length_same ps g values) ∙
+    (ap (λ c. cleared size l names (length (each_at ps values m)) c (values_top m (map (lower_expr ps) values))) (stored_same ps g size l 0 values) ∙
+    (ap (λ top. cleared size l names (length (each_at ps values m)) (values_stored size l 0 (each_at ps values m)) top) (top_same ps g values) ∙
+    sym (clear_is size l names (each_at ps values m) m))))
 
 -- ---- `switch`
 
-pub arm_is : (g : Function) (a : Arm) → arm_at g a ≡ record { labels = a.labels; other = a.other; body = stmts_at g a.body }
+pub arm_is : (ps : List ℕ) (g : Function) (a : Arm) → arm_at ps g a ≡ record { labels = a.labels; other = a.other; body = stmts_at ps g a.body }
 unfolding arm_at stmts_at stmt_at
-arm_is g a = fold_out-Arm Placed LoweredArm (lower_stmt_layer (length g.locals) (size_in g.locals) (is_void g.result)) (lower_arm_layer (length g.locals) (size_in g.locals) (is_void g.result)) a
+arm_is ps g a = fold_out-Arm Placed LoweredArm (lower_stmt_layer ps (length g.locals) (size_in g.locals) (is_void g.result)) (lower_arm_layer ps (length g.locals) (size_in g.locals) (is_void g.result)) a
 
-tests_same : (g : Function) (n i : ℕ) (arms : List Arm) → test_arms n i (map (arm_at g) arms) ≡ tests_from n i arms
-tests_same g n i [] = refl
-tests_same g n i (a ∷ arms) =
-    ap (λ (x : LoweredArm). test_labels n i x.labels ++ test_arms n (suc i) (map (arm_at g) arms)) (arm_is g a) ∙ ap (λ rest. test_labels n i a.labels ++ rest) (tests_same g n (suc i) arms)
+tests_same : (ps : List ℕ) (g : Function) (n i : ℕ) (arms : List Arm) → test_arms n i (map (arm_at ps g) arms) ≡ tests_from n i arms
+tests_same ps g n i [] = refl
+tests_same ps g n i (a ∷ arms) =
+    ap (λ (x : LoweredArm). test_labels n i x.labels ++ test_arms n (suc i) (map (arm_at ps g) arms)) (arm_is ps g a) ∙ ap (λ rest. test_labels n i a.labels ++ rest) (tests_same ps g n (suc i) arms)
 
-place_same : (g : Function) (i : ℕ) (arms : List Arm) → arm_place (λ a. a.other) i (map (arm_at g) arms) ≡ default_place i arms
-place_same g i [] = refl
-place_same g i (a ∷ arms) =
-    ap (λ (x : LoweredArm). cond x.other i (arm_place (λ b. b.other) (suc i) (map (arm_at g) arms))) (arm_is g a) ∙ ap (λ rest. cond a.other i rest) (place_same g (suc i) arms)
+place_same : (ps : List ℕ) (g : Function) (i : ℕ) (arms : List Arm) → arm_place (λ a. a.other) i (map (arm_at ps g) arms) ≡ default_place i arms
+place_same ps g i [] = refl
+place_same ps g i (a ∷ arms) =
+    ap (λ (x : LoweredArm). cond x.other i (arm_place (λ b. b.other) (suc i) (map (arm_at ps g) arms))) (arm_is ps g a) ∙ ap (λ rest. cond a.other i rest) (place_same ps g (suc i) arms)
 
-all_tests_same : (g : Function) (n : ℕ) (arms : List Arm) → lowered_tests n (map (arm_at g) arms) ≡ all_tests n arms
+all_tests_same : (ps : List ℕ) (g : Function) (n : ℕ) (arms : List Arm) → lowered_tests n (map (arm_at ps g) arms) ≡ all_tests n arms
 unfolding all_tests
-all_tests_same g n arms =
-    ap (λ c. c ++ set n (number (arm_place (λ a. a.other) 0 (map (arm_at g) arms))) ∷ []) (tests_same g n 0 arms) ∙ ap (λ k. tests_from n 0 arms ++ set n (number k) ∷ []) (place_same g 0 arms)
+all_tests_same ps g n arms =
+    ap (λ c. c ++ set n (number (arm_place (λ a. a.other) 0 (map (arm_at ps g) arms))) ∷ []) (tests_same ps g n 0 arms) ∙ ap (λ k. tests_from n 0 arms ++ set n (number k) ∷ []) (place_same ps g 0 arms)
 
-pub stmt_switch : (g : Function) (e : Expr) (arms : List Arm) (j : Jumps) →
-    stmt_at g (at.Switch e arms) j ≡ switch_of (expr_at e (length g.locals)) (all_tests (length g.locals) arms) (arms_of g arms j) (length g.locals)
+pub stmt_switch : (ps : List ℕ) (g : Function) (e : Expr) (arms : List Arm) (j : Jumps) →
+    stmt_at ps g (at.Switch e arms) j ≡ switch_of (expr_at ps e (length g.locals)) (all_tests (length g.locals) arms) (arms_of ps g arms j) (length g.locals)
 unfolding expr_at arms_of arm_at
-stmt_switch g e arms j =
+stmt_switch ps g e arms j =
     let m = length g.locals in
-    let x = lower_expr e m in
-    let lowered_arms = arms_code m 0 (map (arm_at g) arms) j in
-    let top = max (m + 1) (max x.top (arms_top m (map (arm_at g) arms) j)) in
+    let x = lower_expr ps e m in
+    let lowered_arms = arms_code m 0 (map (arm_at ps g) arms) j in
+    let top = max (m + 1) (max x.top (arms_top m (map (arm_at ps g) arms) j)) in
     let of_tests : List Stm → Code = λ tests. record { code = x.code ++ set m x.tree ∷ enclosed (enclosed tests ∷ lowered_arms) ∷ []; top = top } in
     let grouped = λ (tests : List Stm).
     ap (λ (c : List Stm). (let r : Code = record { code = c; top = top } in r)) (sym (append_assoc x.code (set m x.tree ∷ []) (enclosed (enclosed tests ∷ lowered_arms) ∷ []))) in
-    lowered g _ _ j (outs-Switch e arms) ∙ (ap of_tests (all_tests_same g m arms) ∙ grouped (all_tests m arms))
+    lowered ps g _ _ j (outs-Switch e arms) ∙ (ap of_tests (all_tests_same ps g m arms) ∙ grouped (all_tests m arms))
 
 pub ruleset forms = (stmt_block, stmt_clear, stmt_express, stmt_if, stmt_while, stmt_do, stmt_for, stmt_switch, stmt_break, stmt_continue, stmt_return)

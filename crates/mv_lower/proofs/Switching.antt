@@ -27,18 +27,18 @@ arm_some n i (x ∷ xs) e = refl
 
 pub ruleset arm_forms = (arm_none, arm_some)
 
-module _ (g : Function) (j : Jumps) where
+module _ (ps : List ℕ) (g : Function) (j : Jumps) where
   abbrev codes : ℕ → List Arm → List Stm
-  codes i arms = arms_code (length g.locals) i (map (arm_at g) arms) j
+  codes i arms = arms_code (length g.locals) i (map (arm_at ps g) arms) j
 
   abbrev tops : List Arm → ℕ
-  tops arms = arms_top (length g.locals) (map (arm_at g) arms) j
+  tops arms = arms_top (length g.locals) (map (arm_at ps g) arms) j
 
-  pub code_step : (i : ℕ) (a : Arm) (rest : List Arm) → codes i (a ∷ rest) ≡ arm_code (length g.locals) i (stmts_at g a.body (in_arm j)).code ++ codes (suc i) rest
-  code_step i a rest = ap (λ (x : LoweredArm). arm_code (length g.locals) i (x.body (in_arm j)).code ++ codes (suc i) rest) (arm_is g a)
+  pub code_step : (i : ℕ) (a : Arm) (rest : List Arm) → codes i (a ∷ rest) ≡ arm_code (length g.locals) i (stmts_at ps g a.body (in_arm j)).code ++ codes (suc i) rest
+  code_step i a rest = ap (λ (x : LoweredArm). arm_code (length g.locals) i (x.body (in_arm j)).code ++ codes (suc i) rest) (arm_is ps g a)
 
-  pub top_step : (a : Arm) (rest : List Arm) → tops (a ∷ rest) ≡ max (stmts_at g a.body (in_arm j)).top (tops rest)
-  top_step a rest = ap (λ (x : LoweredArm). max (x.body (in_arm j)).top (tops rest)) (arm_is g a)
+  pub top_step : (a : Arm) (rest : List Arm) → tops (a ∷ rest) ≡ max (stmts_at ps g a.body (in_arm j)).top (tops rest)
+  top_step a rest = ap (λ (x : LoweredArm). max (x.body (in_arm j)).top (tops rest)) (arm_is ps g a)
 
   pub arms_least : (arms : List Arm) → length g.locals ≤ tops arms
   arms_least [] = omega arith
@@ -46,7 +46,7 @@ module _ (g : Function) (j : Jumps) where
 
   -- behind the last arm
   pub arms_end : (code : List Stm) (arms : List Arm) (i top : ℕ) → length arms ≤ i → length g.locals ≤ top → code ++ codes i (drop i arms) ≡ codes 0 arms → max top (tops (drop i arms)) ≡ tops arms →
-      (let c : Code = record { code = code; top = top } in c) ≡ arms_of g arms j
+      (let c : Code = record { code = code; top = top } in c) ≡ arms_of ps g arms j
   unfolding arms_of
   arms_end code arms i top h low e f =
       let none : drop i arms ≡ [] = drop_all i arms h in

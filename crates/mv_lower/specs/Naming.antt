@@ -5,7 +5,7 @@ use Rattle.mv_ir.specs.declared.stm.Array.{Array}
 use Rattle.mv_ir.specs.declared.stm.Callee.{Callee}
 use Rattle.mv_ir.specs.declared.stm.Stm.{Stm}
 use Rattle.mv_ir.specs.Measures.{joined, tree_reads, stm_trees, array_read, callee_trees}
-use Rattle.mv_ir.specs.WellFormed.{stm_named}
+use Rattle.mv_ir.specs.WellFormed.{callee_named, stm_named}
 use Rattle.mv_lower_spec.specs.Functions.{callee_called, stm_called}
 use Rattle.mv_lower.specs.declared.names.Marks.{Marks}
 use Rattle.mv_ast.specs.Flags.{flagged}
@@ -46,7 +46,7 @@ abbrev pub array_names : Array → Names
 array_names a = record { read = []; stored = array_read a; called = [] }
 
 abbrev pub callee_names : Callee → Names
-callee_names f = record { read = joined (map tree_reads (callee_trees f)); stored = []; called = callee_called f }
+callee_names f = record { read = joined (map tree_reads (callee_trees f)); stored = joined (map array_read (callee_named f)); called = callee_called f }
 
 abbrev pub stm_names : Stm → Names
 stm_names s = record { read = joined (map tree_reads (stm_trees s)); stored = joined (map array_read (stm_named s)); called = stm_called s }

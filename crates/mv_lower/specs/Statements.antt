@@ -28,16 +28,16 @@ seen_jumps j = record { leave = j.leave; again = j.again; around = j.around }
 abbrev pub standing : Code → Placed
 standing c j = c
 
--- ---- statements of a function
+-- ---- statements of a function, in a program with these pointer switches
 
-unfoldable pub stmt_at : Function → Stmt → Jumps → Code
-stmt_at g s j = lower_stmt (length g.locals) (size_in g.locals) (is_void g.result) s j
+unfoldable pub stmt_at : (pointers : List ℕ) → Function → Stmt → Jumps → Code
+stmt_at pointers g s j = lower_stmt pointers (length g.locals) (size_in g.locals) (is_void g.result) s j
 
-unfoldable pub arm_at : Function → Arm → LoweredArm
-arm_at g a = lower_arm (length g.locals) (size_in g.locals) (is_void g.result) a
+unfoldable pub arm_at : (pointers : List ℕ) → Function → Arm → LoweredArm
+arm_at pointers g a = lower_arm pointers (length g.locals) (size_in g.locals) (is_void g.result) a
 
-unfoldable pub stmts_at : Function → List Stmt → Jumps → Code
-stmts_at g body j = in_sequence (length g.locals) (map (stmt_at g) body) j
+unfoldable pub stmts_at : (pointers : List ℕ) → Function → List Stmt → Jumps → Code
+stmts_at pointers g body j = in_sequence (length g.locals) (map (stmt_at pointers g) body) j
 
 -- ---- from their parts: a value that is given is the same at each number of locals, so 0 stands for any
 
@@ -72,9 +72,9 @@ unfoldable pub end_at : Jumps → ℕ → Code
 end_at j n = lower_end n j
 
 -- `return`, with or without a value
-abbrev pub return_at : Option Expr → Jumps → ℕ → Code
-return_at None j n = end_at j n
-return_at (Some e) j n = return_of (expr_at e n)
+abbrev pub return_at : (pointers : List ℕ) → Option Expr → Jumps → ℕ → Code
+return_at pointers None j n = end_at j n
+return_at pointers (Some e) j n = return_of (expr_at pointers e n)
 
 -- ---- sizes, which bound the numbers of temporaries, of blocks and of arms
 

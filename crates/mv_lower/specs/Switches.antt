@@ -20,8 +20,8 @@ unfoldable pub all_tests : ℕ → List Arm → List Stm
 all_tests n arms = tests_from n 0 arms ++ set n (number (default_place 0 arms)) ∷ []
 
 -- the arms, and above the temporaries that they write
-unfoldable pub arms_of : Function → List Arm → Jumps → Code
-arms_of g arms j = record { code = arms_code (length g.locals) 0 (map (arm_at g) arms) j; top = arms_top (length g.locals) (map (arm_at g) arms) j }
+unfoldable pub arms_of : (pointers : List ℕ) → Function → List Arm → Jumps → Code
+arms_of pointers g arms j = record { code = arms_code (length g.locals) 0 (map (arm_at pointers g) arms) j; top = arms_top (length g.locals) (map (arm_at pointers g) arms) j }
 
 abbrev pub switch_of : Lowered → List Stm → Code → ℕ → Code
 switch_of x tests arms n = record { code = (x.code ++ set n x.tree ∷ []) ++ enclosed (enclosed tests ∷ arms.code) ∷ []; top = max (n + 1) (max x.top arms.top) }

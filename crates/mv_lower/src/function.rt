@@ -55,16 +55,16 @@ fn ended(code: Code, void: bool) -> Result<Code, AllocError>
     Ok(Code { code, top })
 }
 
-fn lower_code(alloc: Global, function: &Function) -> Result<Code, AllocError>
+fn lower_code(alloc: Global, pointers: &[u32], function: &Function) -> Result<Code, AllocError>
     requires { HasRoom function.now }
-    ensures { IfOk result (λ c. seen_code c ≡ lower_function_code function.now) }
+    ensures { IfOk result (λ c. seen_code c ≡ lower_function_code pointers.now function.now) }
 {
     let outermost = Jumps {
         leave: 0,
         again: 0,
         around: 0,
     };
-    let body = lower_stmts(alloc, function, &function.body, outermost)?;
+    let body = lower_stmts(alloc, pointers, function, &function.body, outermost)?;
     let void = is_void(function.result);
     let code = ended(body, void)?;
     Ok(code)
@@ -190,7 +190,7 @@ pub fn lower_function(
     requires functions { length program.now.functions < 2 ^ 32 }
     ensures { IfOk result (λ body. body ≡ lower_function program.now function.now) }
 {
-    let lowered = lower_code(alloc, function)?;
+    let lowered = lower_code(alloc, program.pointers.as_slice(), function)?;
     let marks = marks_of(alloc, program, &lowered.code)?;
     let arrays = array_sizes(alloc, &function.locals)?;
     let rooms = rooms(alloc, &program.globals, &marks)?;

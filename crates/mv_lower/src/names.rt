@@ -8,7 +8,8 @@ use mv_ir::stm::{Array, Callee, Stm};
 use mv_ir::tree::Tree;
 use mv_num::list::List;
 
-/// Flags of the globals that are read as scalars, of those that are stored to or named as arrays, and of the functions that are called.
+/// Flags of the globals that are read as scalars, of those that are stored to, named as arrays or called through as pointer switches, and of the
+/// functions that are called.
 #[derive(Drop)]
 pub struct Marks {
     pub read: Vec<bool>,
@@ -83,6 +84,7 @@ fn mark_callee(callee: &Callee, marks: &mut Marks)
     match callee {
         Callee::Direct(f) => mark_function(*f, marks),
         Callee::Through(tree) => mark_tree(tree, marks),
+        Callee::Switched(g) => mark_global(*g, marks),
     }
 }
 

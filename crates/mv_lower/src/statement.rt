@@ -17,22 +17,23 @@ use mv_num::list::List;
 use mv_source_forms::names::any_names;
 use std::alloc::{AllocError, Global};
 
-/// Statements in order, of a function (C11 6.8).
+/// Statements in order, of a function (C11 6.8), in a program with these pointer switches.
 #[cycle(statement)]
 #[tactic(auto, using(crate::proofs::Sequences::sequences))]
 pub fn lower_stmts(
     alloc: Global,
+    pointers: &[u32],
     function: &Function,
     body: &List<Stmt>,
     jumps: Jumps,
 ) -> Result<Code, AllocError>
     requires { used function.now (seen_jumps jumps) + 2 * stmts_size body.now < 2 ^ 32 }
-    ensures { IfOk result (λ c. seen_code c ≡ stmts_at function.now body.now (seen_jumps jumps)) }
+    ensures { IfOk result (λ c. seen_code c ≡ stmts_at pointers.now function.now body.now (seen_jumps jumps)) }
 {
     let mut code = List::new(alloc);
     let mut top = function.locals.len() as u32;
     for s in body.as_slice() {
-        let part = lower_stmt(alloc, function, s, jumps)?;
+        let part = lower_stmt(alloc, pointers, function, s, jumps)?;
         code.append(part.code)?;
         top = top.max(part.top);
     }
@@ -43,66 +44,73 @@ pub fn lower_stmts(
 #[tactic(auto, using(crate::proofs::StatementForms::forms))]
 fn lower_stmt(
     alloc: Global,
+    pointers: &[u32],
     function: &Function,
     s: &Stmt,
     jumps: Jumps,
 ) -> Result<Code, AllocError>
     requires { used function.now (seen_jumps jumps) + 2 * stmt_size s.now < 2 ^ 32 }
-    ensures { IfOk result (λ c. seen_code c ≡ stmt_at function.now s.now (seen_jumps jumps)) }
+    ensures { IfOk result (λ c. seen_code c ≡ stmt_at pointers.now function.now s.now (seen_jumps jumps)) }
 {
     let n = function.locals.len() as u32;
     match s {
-        Stmt::Block(body) => Ok(lower_stmts(alloc, function, body, jumps)?),
+        Stmt::Block(body) => Ok(lower_stmts(alloc, pointers, function, body, jumps)?),
         Stmt::Clear(l, values) => {
-            let given = lower_each(alloc, values, n)?;
+            let given = lower_each(alloc, pointers, values, n)?;
             let size = size_of(&function.locals, *l);
             Ok(declare(alloc, size, *l, any_names(values, *l), given, n)?)
         }
-        Stmt::Express(e) => Ok(express(lower_expr(alloc, e, n)?)),
+        Stmt::Express(e) => Ok(express(lower_expr(alloc, pointers, e, n)?)),
         Stmt::If(e, a, b) => {
-            let test = lower_expr(alloc, e, n)?;
-            let a = lower_stmts(alloc, function, a, jumps)?;
-            let b = lower_stmts(alloc, function, b, jumps)?;
+            let test = lower_expr(alloc, pointers, e, n)?;
+            let a = lower_stmts(alloc, pointers, function, a, jumps)?;
+            let b = lower_stmts(alloc, pointers, function, b, jumps)?;
             Ok(choose(test, a, b)?)
         }
         Stmt::While(e, body) => {
-            let test = lower_expr(alloc, e, n)?;
-            let body = lower_stmts(alloc, function, body, in_body(jumps))?;
+            let test = lower_expr(alloc, pointers, e, n)?;
+            let body = lower_stmts(alloc, pointers, function, body, in_body(jumps))?;
             Ok(while_loop(alloc, test, body)?)
         }
         Stmt::Do(body, e) => {
-            let body = lower_stmts(alloc, function, body, in_body(jumps))?;
-            let test = lower_expr(alloc, e, n)?;
+            let body = lower_stmts(alloc, pointers, function, body, in_body(jumps))?;
+            let test = lower_expr(alloc, pointers, e, n)?;
             Ok(do_loop(alloc, body, test)?)
         }
         Stmt::For(first, test, step, body) => {
-            let first = lower_stmts(alloc, function, first, jumps)?;
-            let test = lower_optional(alloc, 1, test, n)?;
-            let step = lower_optional(alloc, 0, step, n)?;
-            let body = lower_stmts(alloc, function, body, in_body(jumps))?;
+            let first = lower_stmts(alloc, pointers, function, first, jumps)?;
+            let test = lower_optional(alloc, pointers, 1, test, n)?;
+            let step = lower_optional(alloc, pointers, 0, step, n)?;
+            let body = lower_stmts(alloc, pointers, function, body, in_body(jumps))?;
             Ok(for_loop(alloc, first, test, step, body)?)
         }
         Stmt::Switch(e, arms) => {
-            let value = lower_expr(alloc, e, n)?;
+            let value = lower_expr(alloc, pointers, e, n)?;
             let tests = tests(alloc, arms, n)?;
-            let arms = lower_arms(alloc, function, arms, jumps)?;
+            let arms = lower_arms(alloc, pointers, function, arms, jumps)?;
             Ok(switch(alloc, value, tests, arms, n)?)
         }
         Stmt::Break => Ok(leave(alloc, jumps, n)?),
         Stmt::Continue => Ok(go_on(alloc, jumps, n)?),
-        Stmt::Return(e) => Ok(lower_return(alloc, e, jumps, n)?),
+        Stmt::Return(e) => Ok(lower_return(alloc, pointers, e, jumps, n)?),
     }
 }
 
 // `return` with or without a value.
-fn lower_return(alloc: Global, e: &Option<Expr>, jumps: Jumps, n: u32) -> Result<Code, AllocError>
+fn lower_return(
+    alloc: Global,
+    pointers: &[u32],
+    e: &Option<Expr>,
+    jumps: Jumps,
+    n: u32,
+) -> Result<Code, AllocError>
     requires { n + 1 + optional_size e.now < 2 ^ 32 }
-    ensures { IfOk result (λ c. seen_code c ≡ return_at e.now (seen_jumps jumps) n) }
+    ensures { IfOk result (λ c. seen_code c ≡ return_at pointers.now e.now (seen_jumps jumps) n) }
 {
     match e {
         None => Ok(end(alloc, jumps, n)?),
         Some(e) => {
-            let value = lower_expr(alloc, e, n)?;
+            let value = lower_expr(alloc, pointers, e, n)?;
             Ok(return_value(value)?)
         }
     }
@@ -112,12 +120,13 @@ fn lower_return(alloc: Global, e: &Option<Expr>, jumps: Jumps, n: u32) -> Result
 #[cycle(statement)]
 fn lower_arms(
     alloc: Global,
+    pointers: &[u32],
     function: &Function,
     arms: &List<Arm>,
     jumps: Jumps,
 ) -> Result<Code, AllocError>
     requires { used function.now (seen_jumps jumps) + 2 * arms_size arms.now < 2 ^ 32 }
-    ensures { IfOk result (λ c. seen_code c ≡ arms_of function.now arms.now (seen_jumps jumps)) }
+    ensures { IfOk result (λ c. seen_code c ≡ arms_of pointers.now function.now arms.now (seen_jumps jumps)) }
 {
     let n = function.locals.len() as u32;
     let inside = in_arm(jumps);
@@ -125,7 +134,7 @@ fn lower_arms(
     let mut top = n;
     let mut place = 0;
     for arm in arms.as_slice() {
-        let body = lower_stmts(alloc, function, &arm.body, inside)?;
+        let body = lower_stmts(alloc, pointers, function, &arm.body, inside)?;
         code.append(arm_code(alloc, n, place, body.code)?)?;
         top = top.max(body.top);
         place += 1;

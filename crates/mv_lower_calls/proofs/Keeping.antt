@@ -1,17 +1,18 @@
 -- Evaluations that leave the bindings and the number of live attributed frames as they are, where such a frame is live, and what is put together of them.
 use Rattle.std.proofs.Common.{◌≡◌, ℕ, ◌<◌, Bool, true, false, List, [], ◌∷◌, length, refl, ◌∙◌, ap, subst, sym, arith, Option, Some, None, if◌then◌else◌, nat_eq, nat_lt, slice_get}
+use Rattle.std.specs.Prelude.{◌&&◌}
 use Rattle.std.proofs.lemmas.Bool.{ne_eqb}
 use Rattle.mv_ast.specs.declared.program.Program.{Program}
 use Rattle.mv_ast.specs.declared.program.Known.{Known}
 use Rattle.mv_ast.specs.declared.program.Known.TheVariants.{Getchar, Putchar, Poll, Plan}
 use Rattle.mv_ast.specs.declared.world.Stop.{Stop}
 use Rattle.mv_ast.specs.declared.world.Stop.TheVariants.{Trapped}
-use Rattle.mv_ast.specs.Plans.{Answered, words_or_none, ordered, polled}
+use Rattle.mv_ast.specs.Plans.{Answered, words_or_none, may_commit, ordered, polled}
 use Rattle.mv_ast.specs.Worlds.{World, Outcome, Came, Stopped, after, and_then, bind, give, stop, counted}
 use Rattle.mv_meaning.specs.declared.state.Frame.{Frame}
 use Rattle.mv_meaning.specs.declared.state.Lvalue.{Lvalue}
 use Rattle.mv_meaning.specs.declared.state.Lvalue.TheVariants as lvalue
-use Rattle.mv_meaning.specs.Meaning.{Evaluation, read_lvalue, store_lvalue, element_below, global_element, local_element, value_or_trap, unless_zero, byte_of, known_value}
+use Rattle.mv_meaning.specs.Meaning.{Evaluation, read_as, read_lvalue, store_lvalue, element_below, global_element, local_element, value_or_trap, unless_zero, byte_of, known_value}
 use Rattle.mv_meaning.specs.Growth.{world_left}
 
 -- the bindings and the number of live attributed frames are the same
@@ -66,6 +67,9 @@ module _ {A B : Type 0} where
 pub keeps_read : (p : Program) (l : Lvalue) → Keeps (read_lvalue p l)
 keeps_read p l = record { kept = λ f w lives. record { live = refl; bindings = refl } }
 
+pub keeps_read_as : (p : Program) (numbers : List ℕ) (called : Bool) (l : Lvalue) → Keeps (read_as p numbers called l)
+keeps_read_as p numbers called l = record { kept = λ f w lives. record { live = refl; bindings = refl } }
+
 pub keeps_store : (l : Lvalue) (v : ℕ) → Keeps (store_lvalue l v)
 keeps_store (lvalue.Global g i) v = record { kept = λ f w lives. record { live = refl; bindings = refl } }
 keeps_store (lvalue.Local l i) v = record { kept = λ f w lives. record { live = refl; bindings = refl } }
@@ -97,14 +101,21 @@ refused w false x y e same = same
 is_live : (n : ℕ) → 0 < n → nat_eq n 0 ≡ false
 is_live n lives = ne_eqb n 0 (λ (e : n ≡ 0). omega (arith, e))
 
-order_refused : (p : Program) (code index : ℕ) (w : World) → 0 < w.live → (ordered p code index w).world ≡ w
-order_refused p code index w lives = refused w (nat_eq w.live 0) _ _ (is_live w.live lives) refl
+no_commit : (w : World) → 0 < w.live → may_commit w ≡ false
+no_commit w lives = by (nat_eq w.hart 0)
+  where
+    by : (z : Bool) → (z && nat_eq w.live 0) ≡ false
+    by true = is_live w.live lives
+    by false = refl
 
-poll_refused : (p : Program) (w : World) → 0 < w.live → (polled p w).world ≡ w
-poll_refused p w lives = refused w (nat_eq w.live 0) _ _ (is_live w.live lives) refl
+order_refused : (p : Program) (numbers : List ℕ) (code index : ℕ) (w : World) → 0 < w.live → (ordered p numbers code index w).world ≡ w
+order_refused p numbers code index w lives = refused w (may_commit w) _ _ (no_commit w lives) refl
 
-pub keeps_known : (p : Program) (k : Known) (vs : List ℕ) → Keeps (known_value p k vs)
-keeps_known p Getchar vs = record { kept = λ f w lives. (keeps_byte w.input).kept f w lives }
-keeps_known p Putchar vs = record { kept = λ f w lives. record { live = refl; bindings = refl } }
-keeps_known p Poll vs = record { kept = λ f w lives. kept_same w _ (poll_refused p w lives) }
-keeps_known p (Plan code index) vs = record { kept = λ f w lives. kept_same w _ (order_refused p code index w lives) }
+poll_refused : (p : Program) (numbers : List ℕ) (w : World) → 0 < w.live → (polled p numbers w).world ≡ w
+poll_refused p numbers w lives = refused w (nat_eq w.live 0) _ _ (is_live w.live lives) refl
+
+pub keeps_known : (p : Program) (numbers : List ℕ) (k : Known) (vs : List ℕ) → Keeps (known_value p numbers k vs)
+keeps_known p numbers Getchar vs = record { kept = λ f w lives. (keeps_byte w.input).kept f w lives }
+keeps_known p numbers Putchar vs = record { kept = λ f w lives. record { live = refl; bindings = refl } }
+keeps_known p numbers Poll vs = record { kept = λ f w lives. kept_same w _ (poll_refused p numbers w lives) }
+keeps_known p numbers (Plan code index) vs = record { kept = λ f w lives. kept_same w _ (order_refused p numbers code index w lives) }

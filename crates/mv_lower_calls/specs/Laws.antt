@@ -2,10 +2,10 @@
 use Rattle.std.specs.Prelude.{◌≡◌, ℕ, true, All, IsTrue, List, [], length, Option, Some, None, slice_get}
 use Rattle.mv_ast.specs.declared.program.Program.{Program}
 use Rattle.mv_ast.specs.declared.program.Function.{Function}
-use Rattle.mv_ast.specs.declared.world.Action.{Action}
-use Rattle.mv_ast.specs.Actions.{fits}
+use Rattle.mv_ast.specs.Actions.{act_fits}
 use Rattle.mv_ast.specs.Starts.{first_world_under}
-use Rattle.mv_meaning.specs.Meaning.{mean}
+use Rattle.mv_ast.specs.Worlds.{Act}
+use Rattle.mv_meaning.specs.Meaning.{hart_mean}
 use Rattle.mv_meaning_numbering.specs.Numberings.{IsNumbering}
 use Rattle.mv_ir.specs.World.{World}
 use Rattle.mv_ir.specs.KnownFunctions.{seen_from, seen}
@@ -42,20 +42,20 @@ CallsKeepBindings =
     (args : List ℕ) (depth live : ℕ) (w : World) → EndsIn (λ left. left.bindings ≡ w.bindings) (source_call p numbers bound f args depth live w).end
 
 -- Whatever its frame holds when it begins, the lowered body of `main` of a well-formed program does what the program means, if its callees do what they do by
--- the source's meaning: under each numbering, on each input, with all actions that fit, at each bound.
+-- the source's meaning: in each hart, under each numbering, on each input, with all actions that fit, at each bound.
 abbrev pub MainIsRight : Type 0
 MainIsRight =
-    (p : Program) (numbers : List ℕ) → IsWellFormed p → IsNumbering p numbers → (input : List ℕ) (actions : List Action) (bound : ℕ) → All (λ a. IsTrue (fits p a)) actions →
+    (p : Program) (numbers : List ℕ) → IsWellFormed p → IsNumbering p numbers → (hart : ℕ) (input : List ℕ) (actions : List Act) (bound : ℕ) → All (λ a. IsTrue (act_fits p hart a)) actions →
     (contents : Contents) (main : Function) → slice_get p.functions p.main ≡ Some main →
-    let first = seen (first_world_under p numbers input actions) in
+    let first = seen (first_world_under p numbers hart input actions) in
     let c = body_from (setting_of numbers p) (record { depth = 0; live = 0; bound = [] }) contents (lower_function p main) [] (source_levels p numbers bound) first in
-    IsExecution (mean p input actions bound) (execution_of first c.cost c.end)
+    IsExecution (hart_mean p hart input actions bound) (execution_of first c.cost c.end)
 
 -- And whatever its frame holds when it begins, it ends as the lowered program does; and where it returns, it returns a value.
 abbrev pub MainEndsAlike : Type 0
 MainEndsAlike =
-    (p : Program) (numbers : List ℕ) → IsWellFormed p → IsNumbering p numbers → (input : List ℕ) (actions : List Action) (bound : ℕ) → All (λ a. IsTrue (fits p a)) actions →
+    (p : Program) (numbers : List ℕ) → IsWellFormed p → IsNumbering p numbers → (hart : ℕ) (input : List ℕ) (actions : List Act) (bound : ℕ) → All (λ a. IsTrue (act_fits p hart a)) actions →
     (contents : Contents) (main : Function) → slice_get p.functions p.main ≡ Some main →
-    let first = seen (first_world_under p numbers input actions) in
+    let first = seen (first_world_under p numbers hart input actions) in
     let c = body_from (setting_of numbers p) (record { depth = 0; live = 0; bound = [] }) contents (lower_function p main) [] (source_levels p numbers bound) first in
-    (c.end ≡ (run_of_main numbers (lower_program p) input actions bound).end) × ((w : World) → c.end ≡ Returned None w → ⊥)
+    (c.end ≡ (run_of_main numbers (lower_program p) hart input actions bound).end) × ((w : World) → c.end ≡ Returned None w → ⊥)

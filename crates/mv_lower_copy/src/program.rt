@@ -15,11 +15,13 @@ pub fn copy_program(alloc: Global, program: &Program) -> Result<Program, AllocEr
     let globals = copy_globals(alloc, &program.globals)?;
     let functions = copy_functions(alloc, &program.functions)?;
     let switches = copy_switches(alloc, &program.switches)?;
+    let pointers = program.pointers.copied(alloc)?;
     Ok(Program {
         signatures,
         globals,
         functions,
         switches,
+        pointers,
         main: program.main,
     })
 }

@@ -40,7 +40,7 @@ use Rattle.mv_lower_correct.proofs.Leaves as leaves
 use Rattle.mv_lower_correct.proofs.AgreedStatements.{Leads}
 use Rattle.mv_lower_correct.proofs.Contexts.{function_flows}
 use Rattle.mv_lower_correct.proofs.Pairs.{Nothing, steady_same}
-use Rattle.mv_lower_correct.proofs.KnownAgree.{OwnIsLive, same_reads, known_agrees}
+use Rattle.mv_lower_correct.proofs.KnownAgree.{OwnIsLive, same_reads, known_agrees, switched_agrees}
 use Rattle.mv_lower_correct.proofs.Entry.{entry_frame, ground_of, frame_for, code_for, code_is, shows_entry, agrees}
 use Rattle.mv_num.proofs.Booleans.{and_cases, from_falsity}
 
@@ -179,10 +179,10 @@ module _ (p : Program) (numbers : List ℕ) (formed : (f : ℕ) (g : Function) �
       let alike =
       function_flows p formed Nothing Any any_trap tt (λ z. strict_context p numbers j) (steady_same p formed Any any_trap tt numbers (fits_call p) (stop astray) strays_keep j) f g h from (frame_of f g vs) w same in
       let shown =
-      body_correct (ground_of p numbers inner began f g) void j calls (strict_context p numbers) (omega arith) strict (λ s. refl) (λ k s. refl) (λ i up. ih i up inner f lively) (known_agrees p numbers inner f lively)
+      body_correct (ground_of p numbers inner began f g) void j calls (strict_context p numbers) (omega arith) strict (λ s. refl) (λ k s. refl) (λ i up. ih i up inner f lively) (known_agrees p numbers inner f lively) (switched_agrees p numbers)
       g.body h.named h.labels outermost (omega arith) j (omega arith) from w start shows in
       same_body p void inner.live began _ (parameters g) (parameters g) false false (body from w) (body (frame_of f g vs) w) alike
-      (ended p numbers inner began f g void (statements.levels calls j) (lower_body g).code start (body from w) (stays (parameters g) (parameters g) (body from w) (body (frame_of f g vs) w) alike) shown)
+      (ended p numbers inner began f g void (statements.levels calls j) (lower_body p.pointers g).code start (body from w) (stays (parameters g) (parameters g) (body from w) (body (frame_of f g vs) w) alike) shown)
 
   -- ---- calls of lowered functions
 

@@ -9,12 +9,12 @@ use Rattle.mv_ast.specs.declared.program.Known.TheVariants.{Getchar, Putchar, Po
 use Rattle.mv_ast.specs.declared.world.Stop.{Stop}
 use Rattle.mv_ast.specs.declared.world.Stop.TheVariants.{Trapped}
 use Rattle.mv_ast.specs.Numbering.{function_of_number}
-use Rattle.mv_ast.specs.Plans.{bound_value, word_at, with_word, words_or_none}
+use Rattle.mv_ast.specs.Plans.{bound_value, word_at, with_word, words_or_none, pointer_number}
 use Rattle.mv_ast.specs.Worlds.{World, give, stop}
 use Rattle.mv_meaning.specs.declared.state.Frame.{Frame}
 use Rattle.mv_meaning.specs.declared.state.Lvalue.{Lvalue}
 use Rattle.mv_meaning.specs.declared.state.Lvalue.TheVariants as lvalue
-use Rattle.mv_meaning.specs.Meaning.{Evaluation, Context, value_in, read_lvalue, store_lvalue, element_below, global_element, local_element, byte_of, known_value, value_or_trap, call_at, call_numbered, call_through}
+use Rattle.mv_meaning.specs.Meaning.{Evaluation, Context, value_in, called_global, callee_in, read_as, read_lvalue, store_lvalue, element_below, global_element, local_element, byte_of, known_value, value_or_trap, call_at, call_numbered, call_through}
 use Rattle.mv_lower_spec.proofs.Forms.{word_is, with_word_is}
 use Rattle.mv_source_forms.specs.Scopes.{Scope}
 use Rattle.mv_lower_correct.proofs.Agreement.{Agree, Post, Alike, AlikeOutcome, alike_give, alike_stop, alike_either, alike_by}
@@ -94,6 +94,19 @@ module _ (p : Program) (lost fine : Stop → Type 0) (traps : (n : ℕ) → n < 
   pub keeps_read : (s : Lvalue) → InScope s → Keeps (λ z. read_lvalue p s)
   keeps_read s k f g w h = record { value = same_value s f g w k h; world = refl; work = refl; frames = h }
 
+  same_callee : (numbers : List ℕ) (s : Lvalue) (f g : Frame) (w : World) → InScope s → Agree scope f g → callee_in p numbers s f w ≡ callee_in p numbers s g w
+  same_callee numbers (lvalue.Global n i) f g w k h = by (pointer_number p n)
+    where
+      by : (o : Option ℕ) → called_global p numbers n i o f w ≡ called_global p numbers n i o g w
+      by None = same_value (lvalue.Global n i) f g w k h
+      by (Some m) = refl
+  same_callee numbers (lvalue.Local l i) f g w k h = same_value (lvalue.Local l i) f g w k h
+
+  -- as what is called, or as a value
+  pub keeps_read_as : (numbers : List ℕ) (called : Bool) (s : Lvalue) → InScope s → Keeps (λ z. read_as p numbers called s)
+  keeps_read_as numbers true s k f g w h = record { value = same_callee numbers s f g w k h; world = refl; work = refl; frames = h }
+  keeps_read_as numbers false s k f g w h = record { value = same_value s f g w k h; world = refl; work = refl; frames = h }
+
   pub keeps_store : (s : Lvalue) (v : ℕ) → InScope s → Keeps (λ z. store_lvalue s v)
   keeps_store (lvalue.Global n i) v k f g w h = record { value = refl; world = refl; work = refl; frames = h }
   keeps_store (lvalue.Local l i) v k f g w h = record { value = refl; world = refl; work = refl; frames = stored scope l i v f g k h }
@@ -122,11 +135,11 @@ module _ (p : Program) (lost fine : Stop → Type 0) (traps : (n : ℕ) → n < 
   byte_keeps [] f g w h = record { value = refl; world = refl; work = refl; frames = h }
   byte_keeps (c ∷ rest) f g w h = record { value = refl; world = refl; work = refl; frames = h }
 
-  pub keeps_known : (k : Known) (vs : List ℕ) → Keeps (λ z. known_value p k vs)
-  keeps_known Getchar vs f g w h = byte_keeps w.input f g w h
-  keeps_known Putchar vs f g w h = record { value = refl; world = refl; work = refl; frames = h }
-  keeps_known Poll vs f g w h = record { value = refl; world = refl; work = refl; frames = h }
-  keeps_known (Plan code index) vs f g w h = record { value = refl; world = refl; work = refl; frames = h }
+  pub keeps_known : (numbers : List ℕ) (k : Known) (vs : List ℕ) → Keeps (λ z. known_value p numbers k vs)
+  keeps_known numbers Getchar vs f g w h = byte_keeps w.input f g w h
+  keeps_known numbers Putchar vs f g w h = record { value = refl; world = refl; work = refl; frames = h }
+  keeps_known numbers Poll vs f g w h = record { value = refl; world = refl; work = refl; frames = h }
+  keeps_known numbers (Plan code index) vs f g w h = record { value = refl; world = refl; work = refl; frames = h }
 
   -- ---- calls
 

@@ -10,19 +10,18 @@ use Rattle.mv_ast.specs.declared.program.Global.{Global}
 use Rattle.mv_ast.specs.declared.program.Local.{Local}
 use Rattle.mv_ast.specs.declared.program.Function.{Function}
 use Rattle.mv_ast.specs.declared.program.Signature.{Signature}
-use Rattle.mv_ast.specs.declared.world.Action.{Action}
 use Rattle.mv_ast.specs.declared.world.Stop.{Stop}
 use Rattle.mv_ast.specs.declared.world.Stop.TheVariants as stops
-use Rattle.mv_ast.specs.Actions.{fits}
+use Rattle.mv_ast.specs.Actions.{act_fits}
 use Rattle.mv_ast.specs.Counts.{words_of_size}
 use Rattle.mv_ast.specs.Plans.{attributed_before, same_truth, binding_value, bound_value}
 use Rattle.mv_ast.specs.Starts.{first_words, renumbered_at, first_words_under, first_world_under}
-use Rattle.mv_ast.specs.Worlds.{World, Outcome, Came, Stopped, give, stop}
+use Rattle.mv_ast.specs.Worlds.{World, Act, Outcome, Came, Stopped, give, stop}
 use Rattle.mv_meaning.specs.declared.state.Frame.{Frame}
 use Rattle.mv_meaning.specs.declared.state.Flow.{Flow}
 use Rattle.mv_meaning.specs.declared.meant.Meant.{Meant}
 use Rattle.mv_meaning.specs.declared.meant.End.TheVariants.{Trap}
-use Rattle.mv_meaning.specs.Meaning.{Context, flow_of_all, frame_of, context_at, meaning_of, run_of_main, returned_value, mean}
+use Rattle.mv_meaning.specs.Meaning.{Context, flow_of_all, frame_of, context_at, meaning_of, run_of_main, returned_value, hart_mean}
 use Rattle.mv_source_forms.specs.Typing.{IsInteger}
 use Rattle.mv_meaning_numbering.specs.Numberings.{IsNumbering, Admits, meaning_in}
 use Rattle.mv_meaning_numbering.specs.Laws.{AnyNumberingServes, StraysDoNotShow}
@@ -140,8 +139,8 @@ ends_alike p void before x z (Stopped stops.Unfinished w work) q scope inner b c
     let end = λ (y : Call) (d : BodyDoes p void 0 before y (Stopped stops.Unfinished w work)). ap (λ (u : Call). u.end) (d.ends refl) in
     record { same = end x h ∙ sym (end z g); valued = λ u none. let bad = sym (end x h) ∙ none in cc }
 
-module _ (p : Program) (numbers : List ℕ) (formed : IsWellFormed p) (numbering : IsNumbering p numbers) (input : List ℕ) (actions : List Action) (bound : ℕ)
-    (any : AnyNumberingServes) (strays : StraysDoNotShow) (fit : All (λ a. IsTrue (fits p a)) actions) where
+module _ (p : Program) (numbers : List ℕ) (formed : IsWellFormed p) (numbering : IsNumbering p numbers) (hart : ℕ) (input : List ℕ) (actions : List Act) (bound : ℕ)
+    (any : AnyNumberingServes) (strays : StraysDoNotShow) (fit : All (λ a. IsTrue (act_fits p hart a)) actions) where
   abbrev main : Function
   main = formed.typed.entry.main
 
@@ -149,7 +148,7 @@ module _ (p : Program) (numbers : List ℕ) (formed : IsWellFormed p) (numbering
   here = formed.typed.entry.defined
 
   abbrev first : World
-  first = first_world_under p numbers input actions
+  first = first_world_under p numbers hart input actions
 
   abbrev frame : code_world.Frame
   frame = record { depth = 0; live = 0; bound = [] }
@@ -198,14 +197,14 @@ module _ (p : Program) (numbers : List ℕ) (formed : IsWellFormed p) (numbering
   abbrev begun : Frame
   begun = record { function = p.main; locals = [] }
 
-  in_context : (context : Context) → meaning_in p context numbers input actions ≡ meaning_of (came context)
+  in_context : (context : Context) → meaning_in p context numbers hart input actions ≡ meaning_of (came context)
   in_context context = ap (λ o. meaning_of (run_of_main p context o begun first)) here
 
-  strict_mean : meaning_of (came (strict_context p numbers bound)) ≡ mean p input actions bound
-  strict_mean = sym (in_context (strict_context p numbers bound)) ∙ strays p numbers (fits_call p) (stop astray) formed.typed numbering (admitted p formed) input actions bound fit
+  strict_mean : meaning_of (came (strict_context p numbers bound)) ≡ hart_mean p hart input actions bound
+  strict_mean = sym (in_context (strict_context p numbers bound)) ∙ strays p numbers (fits_call p) (stop astray) formed.typed numbering (admitted p formed) hart input actions bound fit
 
-  plain_mean : meaning_of (came (context_at p numbers bound)) ≡ mean p input actions bound
-  plain_mean = sym (in_context (context_at p numbers bound)) ∙ any p numbers formed.typed numbering input actions bound fit
+  plain_mean : meaning_of (came (context_at p numbers bound)) ≡ hart_mean p hart input actions bound
+  plain_mean = sym (in_context (context_at p numbers bound)) ∙ any p numbers formed.typed numbering hart input actions bound fit
 
   zero_keeps : (scope : Scope) → leaves.Keeps p Nothing NotAstray trap_not_astray scope {A = ℕ} (λ z. give 0)
   zero_keeps scope = leaves.keeps_give p Nothing NotAstray trap_not_astray scope {A = ℕ} 0
@@ -217,17 +216,17 @@ module _ (p : Program) (numbers : List ℕ) (formed : IsWellFormed p) (numbering
 
   -- so `main` does what the program means
   pub main_is_right : (calls : ℕ → Calls) → ((i : ℕ) → i ≤ bound → Agreed p numbers formed.functions calls i) → (contents : Contents) →
-      IsExecution (mean p input actions bound) (execution_of (seen first) (main_from calls contents).cost (main_from calls contents).end)
+      IsExecution (hart_mean p hart input actions bound) (execution_of (seen first) (main_from calls contents).cost (main_from calls contents).end)
   main_is_right calls agreed contents =
       subst (λ (m : Meant). IsExecution m (execution_of (seen first) (main_from calls contents).cost (main_from calls contents).end)) strict_mean
       (executed_is p (seen first) (is_void main.result) first (main_from calls contents) (came (strict_context p numbers bound)) (came (context_at p numbers bound)) (parameters main) (parameters main) false false
       (integer_result main.result formed.typed.entry.result) plain_stops (strict_mean ∙ sym plain_mean) (main_does calls agreed contents))
 
-  pub program_is_right : IsExecution (mean p input actions bound) (ir_meaning numbers (lower_program p) input actions bound)
+  pub program_is_right : IsExecution (hart_mean p hart input actions bound) (ir_meaning numbers (lower_program p) hart input actions bound)
   program_is_right =
-      subst (λ (o : Option Code). IsExecution (mean p input actions bound) (let x = call_of_main (setting_of numbers p) (code_of (lower_program p)) o bound (seen first) in execution_of (seen first) x.cost x.end))
+      subst (λ (o : Option Code). IsExecution (hart_mean p hart input actions bound) (let x = call_of_main (setting_of numbers p) (code_of (lower_program p)) o bound (seen first) in execution_of (seen first) x.cost x.end))
       (sym (code_is p p.main main here))
-      (subst (λ (l : Bound). IsExecution (mean p input actions bound) (let x = body_from (setting_of numbers p) frame cleared (lower_function p main) [] l (seen first) in execution_of (seen first) x.cost x.end))
+      (subst (λ (l : Bound). IsExecution (hart_mean p hart input actions bound) (let x = body_from (setting_of numbers p) frame cleared (lower_function p main) [] l (seen first) in execution_of (seen first) x.cost x.end))
       (same_levels p numbers formed.functions bound)
       (main_is_right (lowered_calls p numbers formed.functions) (λ i up. all_agreed p numbers formed.functions i) cleared))
 

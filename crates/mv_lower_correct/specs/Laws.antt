@@ -2,15 +2,14 @@
 use Rattle.std.specs.Prelude.{◌≡◌, ℕ, ◌+◌, ◌*◌, ◌≤◌, false, All, IsTrue, List, [], length, Some, slice_get, slice_index_or, Bool}
 use Rattle.mv_ast.specs.declared.program.Program.{Program}
 use Rattle.mv_ast.specs.declared.program.Function.{Function}
-use Rattle.mv_ast.specs.declared.world.Action.{Action}
-use Rattle.mv_ast.specs.Actions.{fits}
+use Rattle.mv_ast.specs.Actions.{act_fits}
 use Rattle.mv_ast.specs.Plans.{attributed_before}
-use Rattle.mv_ast.specs.Worlds.{World, Outcome, Came, Stopped}
+use Rattle.mv_ast.specs.Worlds.{World, Act, Outcome, Came, Stopped}
 use Rattle.mv_meaning.specs.declared.state.Frame.{Frame}
 use Rattle.mv_meaning.specs.declared.meant.Meant.{Meant}
 use Rattle.mv_meaning.specs.declared.meant.End.{End}
 use Rattle.mv_meaning.specs.declared.meant.End.TheVariants.{Exit, Trap, More}
-use Rattle.mv_meaning.specs.Meaning.{call_of, context_at, mean}
+use Rattle.mv_meaning.specs.Meaning.{call_of, context_at, hart_mean}
 use Rattle.mv_meaning_numbering.specs.Numberings.{IsNumbering}
 use Rattle.mv_ir.specs.World as code_world
 use Rattle.mv_ir.specs.Outcome.{Returned, Call}
@@ -73,8 +72,9 @@ pub record IsExecution (m : Meant) (e : Execution) : Type 0 where
   pub log : e.log ≡ m.log
   pub paid : e.cost ≤ 20 + 100 * m.work
 
--- The lowering of a well-formed program means what the program means: under each numbering, on each input, with all actions that fit, at each bound.
+-- The lowering of a well-formed program means what the program means: in each hart, under each numbering, on each input, with all actions
+-- that fit, at each bound.
 abbrev pub ProgramsAreRight : Type 0
 ProgramsAreRight =
-    (p : Program) (numbers : List ℕ) → IsWellFormed p → IsNumbering p numbers → (input : List ℕ) (actions : List Action) (bound : ℕ) → All (λ a. IsTrue (fits p a)) actions →
-    IsExecution (mean p input actions bound) (ir_meaning numbers (lower_program p) input actions bound)
+    (p : Program) (numbers : List ℕ) → IsWellFormed p → IsNumbering p numbers → (hart : ℕ) (input : List ℕ) (actions : List Act) (bound : ℕ) → All (λ a. IsTrue (act_fits p hart a)) actions →
+    IsExecution (hart_mean p hart input actions bound) (ir_meaning numbers (lower_program p) hart input actions bound)

@@ -7,9 +7,9 @@
 //!   calls: at each bound, under each numbering, in each world, and whatever its temporaries and arrays hold when it
 //!   begins, the same result, output, input taken, globals, bindings, log and trap, at a cost of at most 20 + 100 × work.
 //!   The condition is that no call through a pointer goes to a function that doesn't fit.
-//! - `programs_are_right`: a lowered program means what the program means: under each numbering, on each input, with all
-//!   actions that fit, at each bound, at a cost of at most 20 + 100 × work. It has no condition on calls, since a
-//!   well-typed program makes none that doesn't fit.
+//! - `programs_are_right`: a lowered program means what the program means: in each hart, under each numbering, on each
+//!   input, with all that polls take and that fits there, at each bound, at a cost of at most 20 + 100 × work. It has no
+//!   condition on calls, since a well-typed program makes none that doesn't fit.
 //! - A crate of laws, without a test.
 #![tactic(auto)]
 

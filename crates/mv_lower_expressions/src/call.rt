@@ -3,7 +3,7 @@ ghost use Rattle.std.specs.Prelude.{◌≡◌, ◌+◌, ◌<◌, ◌^◌, ◌∷
 ghost use Rattle.mv_source_forms.specs.Names.{is_void};
 ghost use Rattle.mv_lower_spec.specs.Lowered.{lower_call_to, last_of, but_last};
 ghost use Rattle.mv_lower_expressions.specs.Values.{seen};
-ghost use Rattle.mv_lower_expressions.specs.Calls.{seen_arguments, arguments_of, prepended, direct_of, through_of, known_of};
+ghost use Rattle.mv_lower_expressions.specs.Calls.{seen_arguments, arguments_of, prepended, direct_of, through_of, switched_of, known_of};
 
 use crate::value::{Value, followed_by, followed_by_all, is_empty, kept_if};
 use mv_ast::program::{CType, Known};
@@ -128,6 +128,22 @@ pub fn through(alloc: Global, void: bool, values: List<Value>, n: u32) -> Result
         top,
     };
     call_to(void, Callee::Through(callee), all, n)
+}
+
+/// A call through a pointer switch.
+#[tactic(auto, unfolding(crate::specs::Calls::switched_of, crate::specs::Calls::arguments_of))]
+pub fn switched(
+    alloc: Global,
+    void: bool,
+    global: u32,
+    values: List<Value>,
+    n: u32,
+) -> Result<Value, AllocError>
+    requires { n + 1 + length values < 2 ^ 32 }
+    ensures { IfOk result (λ v. seen v ≡ switched_of void global (map seen values) n) }
+{
+    let all = all_arguments(alloc, values, n)?;
+    call_to(void, Callee::Switched(global), all, n)
 }
 
 // Takes the last tree off.

@@ -1,5 +1,5 @@
 -- The code and the tree of a lowered expression name what the expression names, and the constants that lowering needs.
-use Rattle.std.proofs.Common.{ℕ, ◌+◌, Bool, true, false, cond, List, [], ◌∷◌, ◌++◌}
+use Rattle.std.proofs.Common.{ℕ, ◌+◌, Bool, true, false, cond, List, [], ◌∷◌, ◌++◌, Option, Some, None}
 use Rattle.std.specs.Prelude.{◌&&◌, nat_lt, nat_eq}
 use Rattle.mv_ast.specs.declared.program.CType.{CType}
 use Rattle.mv_ast.specs.declared.program.CType.TheVariants.{Void, Scalar, Pointer}
@@ -12,13 +12,13 @@ use Rattle.mv_ast.specs.Operators.{is_unsigned}
 use Rattle.mv_ir.specs.declared.tree.Tree.{Tree}
 use Rattle.mv_ir.specs.declared.stm.Array.{Array}
 use Rattle.mv_ir.proofs.Induction.{Each, each_append}
-use Rattle.mv_lower_spec.specs.Lowered.{Lowered, Lowering, is_low, is_empty, kept_if, number, temp, global, unary, binary, set, set_global, truth, truth_in, first, second, lower_local, lower_global, lower_one, lower_two, lower_division, lower_both, lower_either, lower_choice, lower_set_local, lower_set_global, lower_all, lower_call, lower_through, lower_known, result_tree, last_of, but_last, index_in, lower_element, lower_read_element, lower_set_element, unless_void}
-use Rattle.mv_lower_spec.specs.Lower.{Place, InLocal, InGlobal, Element, quotient_number, remainder_number, unary_tree, converted_tree, less_tree, bit_tree, lower_operator, lower_product, lower_binary, lower_changed, lower_change, lower_after, next_tree, lower_read, lower_set, form_lowering, place_of, part_of, lower_expr}
+use Rattle.mv_lower_spec.specs.Lowered.{Lowered, Lowering, is_low, is_empty, kept_if, number, temp, global, unary, binary, set, set_global, truth, truth_in, first, second, lower_local, lower_global, lower_one, lower_two, lower_division, lower_both, lower_either, lower_choice, lower_set_local, lower_set_global, lower_all, lower_call, lower_through, lower_switched, lower_known, result_tree, last_of, but_last, index_in, lower_element, lower_read_element, lower_set_element, unless_void}
+use Rattle.mv_lower_spec.specs.Lower.{Place, InLocal, InGlobal, Element, quotient_number, remainder_number, unary_tree, converted_tree, less_tree, bit_tree, lower_operator, lower_product, lower_binary, lower_changed, lower_change, lower_after, next_tree, lower_read, lower_set, switched_by, lower_called, form_lowering, place_of, part_of, lower_expr}
 use Rattle.mv_source_forms.specs.Names.{is_void}
 use Rattle.mv_source_forms.proofs.ExpressionFolds.{along_exprs}
 use Rattle.mv_source_forms.proofs.ExpressionInduction.{FormChildren, TargetChildren}
 use Rattle.mv_lower_shape.proofs.Folds.{lowered_exprs, lowers}
-use Rattle.mv_lower_names.proofs.Naming.{then, number_names, temp_names, global_names, function_names, unary_names, binary_names, narrowed_names, set_names, set_global_names, divide_names, check_names, read_names, write_names, choose_names, known_names, direct_names, through_names, naming}
+use Rattle.mv_lower_names.proofs.Naming.{then, number_names, temp_names, global_names, function_names, unary_names, binary_names, narrowed_names, set_names, set_global_names, divide_names, check_names, read_names, write_names, choose_names, known_names, direct_names, through_names, switched_names, naming}
 use Rattle.mv_lower_names.proofs.Premises.{OwnNames, KnownOf}
 
 module _ (F : ℕ → Type 0) (K : Known → Type 0) (C : ℕ → Type 0) (zero_is : C 0) (one_is : C 1) (greatest_is : C 4294967295) where
@@ -212,6 +212,16 @@ module _ (F : ℕ → Type 0) (K : Known → Type 0) (C : ℕ → Type 0) (zero_
       let l = all_fine (ls ++ f ∷ []) (each_append FineLowering ls (f ∷ []) h (k, tt)) n in
       (then F K C all.code _ l.0 (through_names F K C (unless_void void n) (last_of all.trees) (but_last all.trees) (last_fine all.trees l.1) (others_fine all.trees l.1)), result_fine void n)
 
+  switched_fine : (void : Bool) (g : ℕ) (ls : List Lowering) → Each FineLowering ls → FineLowering (lower_switched void ls g)
+  switched_fine void g ls h n =
+      let all = lower_all ls n in
+      let k = all_fine ls h n in
+      (then F K C all.code _ k.0 (switched_names F K C (unless_void void n) g all.trees k.1), result_fine void n)
+
+  called_fine : (o : Option ℕ) (void : Bool) (ls : List Lowering) (f : Lowering) → Each FineLowering ls → FineLowering f → FineLowering (lower_called o void ls f)
+  called_fine (Some g) void ls f h k = switched_fine void g ls h
+  called_fine None void ls f h k = through_fine void ls f h k
+
   known_fine : (k : Known) (ls : List Lowering) → K k → Each FineLowering ls → FineLowering (lower_known k ls)
   known_fine k ls o h n =
       let all = lower_all ls n in
@@ -259,44 +269,44 @@ module _ (F : ℕ → Type 0) (K : Known → Type 0) (C : ℕ → Type 0) (zero_
 
   -- ---- the fold
 
-  module _ (PF : Form → Type 0) (PT : Target → Type 0) (PE : Expr → Type 0) (source : KnownOf F K C PF PT PE) where
+  module _ (pointers : List ℕ) (PF : Form → Type 0) (PT : Target → Type 0) (PE : Expr → Type 0) (source : KnownOf F K C PF PT PE) where
     abbrev P : Form → Type 0
-    P f = PF f → (c : CType) → FineLowering (form_lowering f c)
+    P f = PF f → (c : CType) → FineLowering (form_lowering pointers f c)
 
     abbrev Q : Target → Type 0
-    Q x = PT x → FinePlace (place_of x)
+    Q x = PT x → FinePlace (place_of pointers x)
 
     abbrev S : Expr → Type 0
-    S e = PE e → FineLowering (lower_expr e)
+    S e = PE e → FineLowering (lower_expr pointers e)
 
-    each_fine : (es : List Expr) → Each S es → Each PE es → Each FineLowering (lowers es)
+    each_fine : (es : List Expr) → Each S es → Each PE es → Each FineLowering (lowers pointers es)
     each_fine [] h k = tt
     each_fine (e ∷ es) h k = (h.0 k.0, each_fine es h.1 k.1)
 
-    layer : (x : Form-F Form Target Expr) → FormChildren P Q S x → OwnNames F K C x → FormChildren PF PT PE x → (c : CType) → FineLowering (lowered_exprs.form_layer x c)
+    layer : (x : Form-F Form Target Expr) → FormChildren P Q S x → OwnNames F K C x → FormChildren PF PT PE x → (c : CType) → FineLowering (((lowered_exprs pointers).form_layer x).lower c)
     layer (form.Number m) h o k c n = (tt, number_names F K C m o)
-    layer (form.Read target) h o k c n = read_fine (place_of target) (h k) n
+    layer (form.Read target) h o k c n = read_fine (place_of pointers target) (h k) n
     layer (form.Function f) h o k c n = (tt, function_names F K C f o)
-    layer (form.Unary op e) h o k c n = one_fine (unary_tree op) (lower_expr e) (unary_fine op) (h k) n
-    layer (form.Binary op x y) h o k c n = binary_fine false op (part_of x).ctype (lower_expr x) (lower_expr y) (h.0 k.0) (h.1 k.1) n
-    layer (form.Both x y) h o k c n = both_fine (lower_expr x) (lower_expr y) (h.0 k.0) (h.1 k.1) n
-    layer (form.Either x y) h o k c n = either_fine (lower_expr x) (lower_expr y) (h.0 k.0) (h.1 k.1) n
-    layer (form.Choose z x y) h o k c n = choice_fine (lower_expr z) (lower_expr x) (lower_expr y) (h.0 k.0) (h.1 k.1) (h.2 k.2) n
-    layer (form.Convert e) h o k c n = one_fine (converted_tree c) (lower_expr e) (converted_fine c) (h k) n
-    layer (form.Set target e) h o k c n = set_fine (place_of target) (lower_expr e) (h.0 k.0) (h.1 k.1) n
-    layer (form.Change op kind target e) h o k c n = change_fine op kind c (place_of target) (lower_expr e) (h.0 k.0) (h.1 k.1) n
-    layer (form.After up target) h o k c n = after_fine up c (place_of target) (h k) n
-    layer (form.Direct f args) h o k c n = call_fine (is_void c) f (lowers args) o (each_fine args h k) n
-    layer (form.Through args e) h o k c n = through_fine (is_void c) (lowers args) (lower_expr e) (each_fine args h.0 k.0) (h.1 k.1) n
-    layer (form.Known f args) h o k c n = known_fine f (lowers args) o (each_fine args h k) n
+    layer (form.Unary op e) h o k c n = one_fine (unary_tree op) (lower_expr pointers e) (unary_fine op) (h k) n
+    layer (form.Binary op x y) h o k c n = binary_fine false op (part_of pointers x).ctype (lower_expr pointers x) (lower_expr pointers y) (h.0 k.0) (h.1 k.1) n
+    layer (form.Both x y) h o k c n = both_fine (lower_expr pointers x) (lower_expr pointers y) (h.0 k.0) (h.1 k.1) n
+    layer (form.Either x y) h o k c n = either_fine (lower_expr pointers x) (lower_expr pointers y) (h.0 k.0) (h.1 k.1) n
+    layer (form.Choose z x y) h o k c n = choice_fine (lower_expr pointers z) (lower_expr pointers x) (lower_expr pointers y) (h.0 k.0) (h.1 k.1) (h.2 k.2) n
+    layer (form.Convert e) h o k c n = one_fine (converted_tree c) (lower_expr pointers e) (converted_fine c) (h k) n
+    layer (form.Set target e) h o k c n = set_fine (place_of pointers target) (lower_expr pointers e) (h.0 k.0) (h.1 k.1) n
+    layer (form.Change op kind target e) h o k c n = change_fine op kind c (place_of pointers target) (lower_expr pointers e) (h.0 k.0) (h.1 k.1) n
+    layer (form.After up target) h o k c n = after_fine up c (place_of pointers target) (h k) n
+    layer (form.Direct f args) h o k c n = call_fine (is_void c) f (lowers pointers args) o (each_fine args h k) n
+    layer (form.Through args e) h o k c n = called_fine (switched_by pointers (part_of pointers e).reads) (is_void c) (lowers pointers args) (lower_expr pointers e) (each_fine args h.0 k.0) (h.1 k.1) n
+    layer (form.Known f args) h o k c n = known_fine f (lowers pointers args) o (each_fine args h k) n
 
-    target_layer : (x : Target-F Form Target Expr) → TargetChildren P Q S x → TargetChildren PF PT PE x → FinePlace (lowered_exprs.target_layer x)
+    target_layer : (x : Target-F Form Target Expr) → TargetChildren P Q S x → TargetChildren PF PT PE x → FinePlace ((lowered_exprs pointers).target_layer x)
     target_layer (form.Global g) h k = tt
     target_layer (form.Local l) h k = tt
     target_layer (form.GlobalAt g e) h k = h k
     target_layer (form.LocalAt l e) h k = h k
 
-    pub expr_fine : (e : Expr) → PE e → FineLowering (lower_expr e)
+    pub expr_fine : (e : Expr) → PE e → FineLowering (lower_expr pointers e)
     expr_fine =
-        along_exprs lowered_exprs (λ f l. PF f → (c : CType) → FineLowering (l c)) (λ x l. PT x → FinePlace l) (λ e l. PE e → FineLowering l.lower)
+        along_exprs (lowered_exprs pointers) (λ f l. PF f → (c : CType) → FineLowering (l.lower c)) (λ x l. PT x → FinePlace l) (λ e l. PE e → FineLowering l.lower)
         (λ x h b. layer x h (source.own x b) (source.form_parts x b)) (λ x h b. target_layer x h (source.target_parts x b)) (λ x h b. h (source.what x b) x.ctype)

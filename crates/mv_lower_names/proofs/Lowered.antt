@@ -42,16 +42,16 @@ use Rattle.mv_ir.proofs.Common.{each_is_all}
 
 -- ---- a function
 
-module _ (F : ℕ → Type 0) (K : Known → Type 0) (C : ℕ → Type 0) (zero_is : C 0) (one_is : C 1) (greatest_is : C 4294967295) (g : Function) where
+module _ (F : ℕ → Type 0) (K : Known → Type 0) (C : ℕ → Type 0) (zero_is : C 0) (one_is : C 1) (greatest_is : C 4294967295) (pointers : List ℕ) (g : Function) where
   ending_names : (void : Bool) → CodeNames F K C (ending void)
   ending_names true = tt
   ending_names false = (return_names F K C _ (number_names F K C 0 zero_is), tt)
 
   function_names : (PF : Form → Type 0) (PT : Target → Type 0) (PE : Expr → Type 0) (PS : Stmt → Type 0) (PA : Arm → Type 0) → KnownOf F K C PF PT PE → StmtsKnown F K C (size_in g.locals) PE PS PA →
-      Each PS g.body → CodeNames F K C (lower_function_code g).code
+      Each PS g.body → CodeNames F K C (lower_function_code pointers g).code
   function_names PF PT PE PS PA source known h =
-      both F K C (lower_body g).code (ending (is_void g.result))
-      (body_names F K C zero_is one_is greatest_is (length g.locals) (size_in g.locals) (is_void g.result) PF PT PE PS PA source known g.body h outermost)
+      both F K C (lower_body pointers g).code (ending (is_void g.result))
+      (body_names F K C zero_is one_is greatest_is (length g.locals) pointers (size_in g.locals) (is_void g.result) PF PT PE PS PA source known g.body h outermost)
       (ending_names (is_void g.result))
 
 -- ---- functions
@@ -61,8 +61,8 @@ functions_there p f g h =
     let sizes = size_in g.locals in
     let typed = (at_index (IsTypedFunction p) p.functions f g h.formed.typed.functions h.there).body in
     each_is_all (λ k. k < length p.functions) (functions (lower_function p g).code)
-    (code_functions (types.IsThere p g sizes) (types.AnyKnown p g sizes) AnyNumber (lower_function_code g).code
-    (function_names (types.IsThere p g sizes) (types.AnyKnown p g sizes) AnyNumber tt tt tt g (types.PF p g sizes) (types.PT p g sizes) (types.PE p g sizes) (types.PS p g sizes) (types.PA p g sizes)
+    (code_functions (types.IsThere p g sizes) (types.AnyKnown p g sizes) AnyNumber (lower_function_code p.pointers g).code
+    (function_names (types.IsThere p g sizes) (types.AnyKnown p g sizes) AnyNumber tt tt tt p.pointers g (types.PF p g sizes) (types.PT p g sizes) (types.PE p g sizes) (types.PS p g sizes) (types.PA p g sizes)
     (types.typed_known p g sizes) (types.typed_stmts_known p g sizes) (types.body_known p g sizes g.body typed)))
 
 -- ---- known functions
@@ -89,14 +89,14 @@ module _ (K : Known → Type 0) (test : Form-F Bool Bool Bool → Bool) (g : Fun
   stmt_tells stmt.Continue q = record { counts = tt; parts = q }
   stmt_tells (stmt.Return e) q = record { counts = tt; parts = q }
 
-  knowns_there : ((x : Form-F Form Target Expr) → test (tests.tested AnyNumber K AnyNumber test x) ≡ true → Tells x) →
-      all_of (map (tests.stmt_holds AnyNumber K AnyNumber test (size_in g.locals) (all_layer holds) all_arm_layer) g.body) ≡ true → All K (knowns (lower_function_code g).code)
-  knowns_there tells q =
+  knowns_there : (pointers : List ℕ) → ((x : Form-F Form Target Expr) → test (tests.tested AnyNumber K AnyNumber test x) ≡ true → Tells x) →
+      all_of (map (tests.stmt_holds AnyNumber K AnyNumber test (size_in g.locals) (all_layer holds) all_arm_layer) g.body) ≡ true → All K (knowns (lower_function_code pointers g).code)
+  knowns_there pointers tells q =
       let sizes = size_in g.locals in
       let layers = all_layer holds in
-      each_is_all K (knowns (lower_function_code g).code)
-      (code_knowns AnyNumber K AnyNumber (lower_function_code g).code
-      (function_names AnyNumber K AnyNumber tt tt tt g (tests.PF AnyNumber K AnyNumber test) (tests.PT AnyNumber K AnyNumber test) (tests.PE AnyNumber K AnyNumber test)
+      each_is_all K (knowns (lower_function_code pointers g).code)
+      (code_knowns AnyNumber K AnyNumber (lower_function_code pointers g).code
+      (function_names AnyNumber K AnyNumber tt tt tt pointers g (tests.PF AnyNumber K AnyNumber test) (tests.PT AnyNumber K AnyNumber test) (tests.PE AnyNumber K AnyNumber test)
       (tests.PS AnyNumber K AnyNumber test sizes layers all_arm_layer) (tests.PA AnyNumber K AnyNumber test sizes layers all_arm_layer) (tests.test_known AnyNumber K AnyNumber test tells)
       (tests.test_stmts_known AnyNumber K AnyNumber test sizes layers all_arm_layer stmt_tells (λ x r. record { labels = each_any x.labels; body = r }))
       (tests.each_true (tests.stmt_holds AnyNumber K AnyNumber test sizes layers all_arm_layer) g.body q)))
@@ -126,7 +126,7 @@ calls_tell p g (form.Known k args) q =
     record { own = s.0; parts = (and_cases count all s.1).1 }
 
 pub orders_there : (p : Program) (f : ℕ) (g : Function) → IsFunctionOf p f g → All (λ k. known_is_there p k ≡ true) (knowns (lower_function p g).code)
-orders_there p f g h = knowns_there (IsKnownThere p) (form_calls_known p) g (calls_tell p g) (h.formed.functions f g h.there).known
+orders_there p f g h = knowns_there (IsKnownThere p) (form_calls_known p) g p.pointers (calls_tell p g) (h.formed.functions f g h.there).known
 
 direct : (k : Known) → keeps_bindings k ≡ true → IsDirect k
 direct Getchar q = tt
@@ -152,7 +152,7 @@ bindings_tell g (form.Through args e) q = record { own = tt; parts = q }
 bindings_tell g (form.Known k args) q = let s = and_cases (keeps_bindings k) (all_of (map never_rebinds args)) q in record { own = direct k s.0; parts = s.1 }
 
 pub only_direct : (p : Program) (f : ℕ) (g : Function) → slice_get p.functions f ≡ Some g → NeverRebinds p → All IsDirect (knowns (lower_function p g).code)
-only_direct p f g there never = knowns_there IsDirect form_never_rebinds g (bindings_tell g) (never f g there)
+only_direct p f g there never = knowns_there IsDirect form_never_rebinds g p.pointers (bindings_tell g) (never f g there)
 
 -- ---- marks
 
@@ -244,13 +244,13 @@ pub words_there : (p : Program) (f : ℕ) (g : Function) → IsFunctionOf p f g 
 words_there p f g h numbers =
     let sizes = size_in g.locals in
     let small = small_sizes g.locals (at_index (λ (x : Function). All (λ (l : Local). words_of_size l.size ≤ 262144) x.locals) p.functions f g h.formed.limits.local_elements h.there) in
-    let code : CodeNames AnyNumber IsOrder IsWord (lower_function_code g).code =
-    function_names AnyNumber IsOrder IsWord (omega arith) (omega arith) (omega arith) g (tests.PF AnyNumber IsOrder IsWord form_has_words) (tests.PT AnyNumber IsOrder IsWord form_has_words)
+    let code : CodeNames AnyNumber IsOrder IsWord (lower_function_code p.pointers g).code =
+    function_names AnyNumber IsOrder IsWord (omega arith) (omega arith) (omega arith) p.pointers g (tests.PF AnyNumber IsOrder IsWord form_has_words) (tests.PT AnyNumber IsOrder IsWord form_has_words)
     (tests.PE AnyNumber IsOrder IsWord form_has_words) (tests.PS AnyNumber IsOrder IsWord form_has_words sizes layer_has_words arm_has_words)
     (tests.PA AnyNumber IsOrder IsWord form_has_words sizes layer_has_words arm_has_words) (tests.test_known AnyNumber IsOrder IsWord form_has_words words_tell)
     (tests.test_stmts_known AnyNumber IsOrder IsWord form_has_words sizes layer_has_words arm_has_words (stmt_words sizes small) (arm_words sizes small))
     (tests.each_true (tests.stmt_holds AnyNumber IsOrder IsWord form_has_words sizes layer_has_words arm_has_words) g.body (numbers f g h.there)) in
     record {
-      constants = each_is_all IsWord (constants (lower_function_code g).code) (code_constants AnyNumber IsOrder IsWord (lower_function_code g).code code);
-      orders = each_is_all IsOrder (knowns (lower_function_code g).code) (code_knowns AnyNumber IsOrder IsWord (lower_function_code g).code code);
+      constants = each_is_all IsWord (constants (lower_function_code p.pointers g).code) (code_constants AnyNumber IsOrder IsWord (lower_function_code p.pointers g).code code);
+      orders = each_is_all IsOrder (knowns (lower_function_code p.pointers g).code) (code_knowns AnyNumber IsOrder IsWord (lower_function_code p.pointers g).code code);
     }

@@ -93,6 +93,9 @@ module _ (F : ℕ → Type 0) (K : Known → Type 0) (C : ℕ → Type 0) where
   pub through_names : (r : Option ℕ) (t : Tree) (args : List Tree) → TreeNames F K C t → Each (TreeNames F K C) args → StmNames F K C (call r (callee.Through t) args)
   through_names r t args h l = stm_in F K C (stm.Call r (callee.Through t) args) (h, l)
 
+  pub switched_names : (r : Option ℕ) (g : ℕ) (args : List Tree) → Each (TreeNames F K C) args → StmNames F K C (call r (callee.Switched g) args)
+  switched_names r g args h = stm_in F K C (stm.Call r (callee.Switched g) args) (tt, h)
+
 -- these by short names
 pub record Naming : Type 1 where
   pub T : Tree → Type 0

@@ -85,6 +85,7 @@ module _ (c : ℕ → ℕ) where
   callee_same : (f : Callee) → callee_functions (renamed_callee c f) ≡ callee_functions f
   callee_same (callee.Direct f) = refl
   callee_same (callee.Through t) = functions_same t
+  callee_same (callee.Switched g) = refl
 
   pair_same : (a b : Tree) → tree_functions (renamed_tree c a) ++ tree_functions (renamed_tree c b) ≡ tree_functions a ++ tree_functions b
   pair_same a b = two_same (tree_functions (renamed_tree c a)) (tree_functions a) (tree_functions (renamed_tree c b)) (tree_functions b) (functions_same a) (functions_same b)
@@ -142,6 +143,7 @@ module _ (c : ℕ → ℕ) where
   callee_constants : (f : Callee) (ts : List Tree) → constants_of_all (callee_trees (renamed_callee c f) ++ map (renamed_tree c) ts) ≡ constants_of_all (callee_trees f ++ ts)
   callee_constants (callee.Direct f) ts = all_constants_same ts
   callee_constants (callee.Through t) ts = all_constants_same (t ∷ ts)
+  callee_constants (callee.Switched g) ts = all_constants_same ts
 
   constants_layer_same : (x : Stm-F Stm) → StmChildren (Same stm_constants) x →
       constants_of_all (layer_trees (map-Stm Stm (List Tree) stm_trees (again x))) ≡ constants_of_all (layer_trees (map-Stm Stm (List Tree) stm_trees x))

@@ -150,23 +150,23 @@ module _ (F : ℕ → Type 0) (K : Known → Type 0) (C : ℕ → Type 0) (zero_
 
     -- ---- the fold
 
-    module _ (sizes : ℕ → Option ℕ) (void : Bool) (PF : Form → Type 0) (PT : Target → Type 0) (PE : Expr → Type 0) (PS : Stmt → Type 0) (PA : Arm → Type 0) (source : KnownOf F K C PF PT PE) (known : StmtsKnown F K C sizes PE PS PA) where
-      open sequences locals sizes void use {lowered, arms_lowered}
+    module _ (pointers : List ℕ) (sizes : ℕ → Option ℕ) (void : Bool) (PF : Form → Type 0) (PT : Target → Type 0) (PE : Expr → Type 0) (PS : Stmt → Type 0) (PA : Arm → Type 0) (source : KnownOf F K C PF PT PE) (known : StmtsKnown F K C sizes PE PS PA) where
+      open sequences pointers locals sizes void use {lowered, arms_lowered}
 
-      value_fine : (e : Expr) → PE e → FL (lower_expr e)
-      value_fine = expr_fine F K C zero_is one_is greatest_is PF PT PE source
+      value_fine : (e : Expr) → PE e → FL (lower_expr pointers e)
+      value_fine = expr_fine F K C zero_is one_is greatest_is pointers PF PT PE source
 
       abbrev S : Stmt → Type 0
-      S s = PS s → FinePlaced (lower_stmt locals sizes void s)
+      S s = PS s → FinePlaced (lower_stmt pointers locals sizes void s)
 
       abbrev A : Arm → Type 0
-      A a = PA a → FineArm (lower_arm locals sizes void a)
+      A a = PA a → FineArm (lower_arm pointers locals sizes void a)
 
       sequence_fine : (body : List Stmt) → Each S body → Each PS body → FinePlaced (lowered body)
       sequence_fine [] h k j = tt
-      sequence_fine (s ∷ body) h k j = join (lower_stmt locals sizes void s j).code (lowered body j).code (h.0 k.0 j) (sequence_fine body h.1 k.1 j)
+      sequence_fine (s ∷ body) h k j = join (lower_stmt pointers locals sizes void s j).code (lowered body j).code (h.0 k.0 j) (sequence_fine body h.1 k.1 j)
 
-      all_values_fine : (es : List Expr) → Each PE es → Each FL (map lower_expr es)
+      all_values_fine : (es : List Expr) → Each PE es → Each FL (map (lower_expr pointers) es)
       all_values_fine [] k = tt
       all_values_fine (e ∷ es) k = (value_fine e k.0, all_values_fine es k.1)
 
@@ -174,29 +174,29 @@ module _ (F : ℕ → Type 0) (K : Known → Type 0) (C : ℕ → Type 0) (zero_
       all_arms_fine [] h k = tt
       all_arms_fine (a ∷ arms) h k = (h.0 k.0, all_arms_fine arms h.1 k.1)
 
-      optional_fine : (v : ℕ) (e : Option Expr) → C v → Optional F K C sizes PE PS PA e → FL (lower_optional v e)
+      optional_fine : (v : ℕ) (e : Option Expr) → C v → Optional F K C sizes PE PS PA e → FL (lower_optional pointers v e)
       optional_fine v None c k n = (tt, number_names F K C v c)
       optional_fine v (Some e) c k n = value_fine e k n
 
-      layer : (x : Stmt-F Stmt Arm) → StmtChildren S A x → StmtKnown F K C sizes PE PS PA x → FinePlaced ((lowered_stmts locals sizes void).stmt_layer x)
+      layer : (x : Stmt-F Stmt Arm) → StmtChildren S A x → StmtKnown F K C sizes PE PS PA x → FinePlaced ((lowered_stmts pointers locals sizes void).stmt_layer x)
       layer (stmt.Block body) h k j = sequence_fine body h k j
       layer (stmt.Clear l values) h k j =
-          declared_fine (sizes l) l (any_of (map (names_local l) values)) (map lower_expr values) (λ i lt. k.0 i (omega (arith, lt, length-map values lower_expr))) (all_values_fine values k.1) j
+          declared_fine (sizes l) l (any_of (map (names_local l) values)) (map (lower_expr pointers) values) (λ i lt. k.0 i (omega (arith, lt, length-map values (lower_expr pointers)))) (all_values_fine values k.1) j
       layer (stmt.Express e) h k j = (value_fine e k locals).0
-      layer (stmt.If e a b) h k j = if_fine (lower_expr e) (lowered a) (lowered b) (value_fine e k.0) (sequence_fine a h.0 k.1) (sequence_fine b h.1 k.2) j
-      layer (stmt.While e body) h k j = while_fine (lower_expr e) (lowered body) (value_fine e k.0) (sequence_fine body h k.1) j
-      layer (stmt.Do body e) h k j = do_fine (lowered body) (lower_expr e) (sequence_fine body h k.1) (value_fine e k.0) j
+      layer (stmt.If e a b) h k j = if_fine (lower_expr pointers e) (lowered a) (lowered b) (value_fine e k.0) (sequence_fine a h.0 k.1) (sequence_fine b h.1 k.2) j
+      layer (stmt.While e body) h k j = while_fine (lower_expr pointers e) (lowered body) (value_fine e k.0) (sequence_fine body h k.1) j
+      layer (stmt.Do body e) h k j = do_fine (lowered body) (lower_expr pointers e) (sequence_fine body h k.1) (value_fine e k.0) j
       layer (stmt.For first test step body) h k j =
-          for_fine (lowered first) (lower_optional 1 test) (lower_optional 0 step) (lowered body) (sequence_fine first h.0 k.0.0) (optional_fine 1 test one_is k.1) (optional_fine 0 step zero_is k.2) (sequence_fine body h.1 k.0.1) j
+          for_fine (lowered first) (lower_optional pointers 1 test) (lower_optional pointers 0 step) (lowered body) (sequence_fine first h.0 k.0.0) (optional_fine 1 test one_is k.1) (optional_fine 0 step zero_is k.2) (sequence_fine body h.1 k.0.1) j
       layer (stmt.Switch e arms) h k j =
-          switch_fine (lower_expr e) (arms_lowered arms) (value_fine e k.0) (λ i lt. k.1 i (omega (arith, lt, length-map arms (lower_arm locals sizes void)))) (all_arms_fine arms h k.2) j
+          switch_fine (lower_expr pointers e) (arms_lowered arms) (value_fine e k.0) (λ i lt. k.1 i (omega (arith, lt, length-map arms (lower_arm pointers locals sizes void)))) (all_arms_fine arms h k.2) j
       layer stmt.Break h k j = (break_names F K C j.leave, tt)
       layer stmt.Continue h k j = (break_names F K C j.again, tt)
       layer (stmt.Return None) h k j = (break_names F K C j.around, tt)
-      layer (stmt.Return (Some e)) h k j = then F K C (lower_expr e locals).code _ (value_fine e k locals).0 (return_names F K C (lower_expr e locals).tree (value_fine e k locals).1)
+      layer (stmt.Return (Some e)) h k j = then F K C (lower_expr pointers e locals).code _ (value_fine e k locals).0 (return_names F K C (lower_expr pointers e locals).tree (value_fine e k locals).1)
 
       pub body_names : (body : List Stmt) → Each PS body → FinePlaced (lowered body)
       body_names body =
           sequence_fine body
-          (along_stmts (lowered_stmts locals sizes void) (λ s l. PS s → FinePlaced l) (λ a l. PA a → FineArm l) (λ x h b. layer x h (known.parts x b))
+          (along_stmts (lowered_stmts pointers locals sizes void) (λ s l. PS s → FinePlaced l) (λ a l. PA a → FineArm l) (λ x h b. layer x h (known.parts x b))
           (λ x h b. record { labels = known.labels x b; body = sequence_fine x.body h (known.body x b) }) body)

@@ -10,6 +10,7 @@ use Rattle.mv_ast.specs.declared.program.Target.{Target, Target-F, fold-Target}
 use Rattle.mv_ast.specs.declared.program.Stmt.{Stmt, Stmt-F, fold-Stmt}
 use Rattle.mv_ast.specs.declared.program.Stmt.TheOpen as stmt
 use Rattle.mv_ast.specs.declared.program.Arm.{Arm, Arm-F, fold-Arm}
+use Rattle.mv_ast.specs.Plans.{is_among}
 use Rattle.mv_ast.specs.Names.{any_of, names_local}
 use Rattle.mv_ir.specs.WellFormed.{known_arguments}
 use Rattle.mv_source_forms.specs.Lists.{all_of}
@@ -19,11 +20,14 @@ use Rattle.mv_source_forms.specs.Scopes.{with_local}
 
 -- ---- globals
 
--- sets of globals: those that are there, and of these the scalars and the arrays that may be read
+-- Sets of globals: those that are there, and of these the scalars and the arrays that may be read. A pointer switch that may be read may be called through,
+-- which reads it as an array of one element.
 pub record Globals : Type 0 where
   pub there : ℕ → Bool
   pub scalars : ℕ → Bool
   pub arrays : ℕ → Bool
+  pub pointers : List ℕ
+  pub called : (g : ℕ) → is_among g pointers ≡ true → scalars g ≡ true → (there g ≡ true) × (arrays g ≡ true)
 
 -- ---- expressions
 

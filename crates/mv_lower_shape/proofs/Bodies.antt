@@ -49,11 +49,12 @@ shallow_ending false = shallow_return (number 0) (omega (arith, depth_roll (tree
 pub lowered_shallow : (p : Program) (g : Function) → deepest (lower_function p g).code ≤ 4
 lowered_shallow p g =
     deepest_up (trees (lower_function p g).code)
-    (both_parts (lower_body g).code (ending (is_void g.result)) (body_shallow (length g.locals) (size_in g.locals) (is_void g.result) g.body outermost) (shallow_ending (is_void g.result)))
+    (both_parts (lower_body p.pointers g).code (ending (is_void g.result)) (body_shallow p.pointers (length g.locals) (size_in g.locals) (is_void g.result) g.body outermost) (shallow_ending (is_void g.result)))
 
 module _ (p : Program) (globals : Globals) (g : Function) (asked : IsAsked p globals g) where
+  -- the function's body, where these are the pointer switches
   abbrev b : Body
-  b = lower_function p g
+  b = lower_function (record p { pointers = globals.pointers }) g
 
   abbrev locals : ℕ
   locals = length g.locals
@@ -62,7 +63,7 @@ module _ (p : Program) (globals : Globals) (g : Function) (asked : IsAsked p glo
   sizes = size_in g.locals
 
   abbrev used : ℕ → Bool
-  used = is_used locals sizes (room_of g)
+  used = is_used locals sizes (room_of globals.pointers g)
 
   abbrev params : ℕ → Bool
   params l = nat_lt l g.params
@@ -77,12 +78,12 @@ module _ (p : Program) (globals : Globals) (g : Function) (asked : IsAsked p glo
 
   unused : (u : ℕ) → used u ≡ false → (live_at_start u b.code ≡ false) × (any_of (marks_at u b.code nowhere) ≡ false)
   unused u e =
-      let f = function_paid globals g none 0 (Unused u) (λ declared. unused_rules u (allowed globals locals sizes (room_of g) none 0 declared) e) (unused_blocks u) asked.within in
+      let f = function_paid globals g none 0 (Unused u) (λ declared. unused_rules u (allowed globals locals sizes (room_of globals.pointers g) none 0 declared) e) (unused_blocks u) asked.within in
       (f.made.dead refl nowhere quiet, f.made.bare refl nowhere quiet)
 
   -- a parameter is a scalar local, so its temporary is used
   params_used : (u : ℕ) → u < g.params → used u ≡ true
-  params_used u lt = limits.local_used locals sizes (room_of g) u (lt-ltb u locals (omega (arith, lt, asked.params_are_locals))) (asked.params_are_scalars u lt)
+  params_used u lt = limits.local_used locals sizes (room_of globals.pointers g) u (lt-ltb u locals (omega (arith, lt, asked.params_are_locals))) (asked.params_are_scalars u lt)
 
   unmarked : (u : ℕ) → used u ≡ false → any_of (all_marks b u) ≡ false
   unmarked u e =
@@ -94,18 +95,18 @@ module _ (p : Program) (globals : Globals) (g : Function) (asked : IsAsked p glo
       no_param false q = q
 
   -- a temporary that isn't below the number of temporaries isn't used
-  beyond : (u : ℕ) → room_of g ≤ u → used u ≡ false
-  beyond u le = by (nat_lt u locals) (nat_lt u (room_of g)) refl refl
+  beyond : (u : ℕ) → room_of globals.pointers g ≤ u → used u ≡ false
+  beyond u le = by (nat_lt u locals) (nat_lt u (room_of globals.pointers g)) refl refl
     where
-      by : (x y : Bool) → nat_lt u locals ≡ x → nat_lt u (room_of g) ≡ y → ((x && is_scalar (sizes u)) || (not x && y)) ≡ false
+      by : (x y : Bool) → nat_lt u locals ≡ x → nat_lt u (room_of globals.pointers g) ≡ y → ((x && is_scalar (sizes u)) || (not x && y)) ≡ false
       by true y e f = let lt = ltb-true u locals e in absurd (omega (arith, lt, le))
-      by false true e f = let lt = ltb-true u (room_of g) f in absurd (omega (arith, lt, le))
+      by false true e f = let lt = ltb-true u (room_of globals.pointers g) f in absurd (omega (arith, lt, le))
       by false false e f = refl
 
   pub lowered_temps : HasTemps b
-  lowered_temps i t h = by (cases_lt t (room_of g))
+  lowered_temps i t h = by (cases_lt t (room_of globals.pointers g))
     where
-      by : (t < room_of g) ⊎ (room_of g ≤ t) → t < room_of g
+      by : (t < room_of globals.pointers g) ⊎ (room_of globals.pointers g ≤ t) → t < room_of globals.pointers g
       by (inl lt) = lt
       by (inr le) = from_falsity (sym (marked_none (all_marks b t) i (unmarked t (beyond t le))) ∙ h)
 
@@ -120,14 +121,14 @@ module _ (p : Program) (globals : Globals) (g : Function) (asked : IsAsked p glo
   dead_at_start : (u : ℕ) → nat_lt u g.params ≡ false → (nat_lt u locals ≡ true → is_scalar (sizes u) ≡ true) → live_at_start u b.code ≡ false
   dead_at_start u undeclared scalar =
       let last = ending (is_void g.result) in
-      live_append u (lower_body g).code last nowhere ∙
-      body_dead globals locals sizes (is_void g.result) (room_of g) u scalar g.body params asked.within undeclared outermost (omega arith) (with_after nowhere (live_at u last nowhere))
+      live_append u (lower_body globals.pointers g).code last nowhere ∙
+      body_dead globals locals sizes (is_void g.result) (room_of globals.pointers g) u scalar g.body params asked.within undeclared outermost (omega arith) (with_after nowhere (live_at u last nowhere))
       (record { leave = refl; again = refl; around = refl }) (ending_dead u (is_void g.result))
 
   array_dead : (u : ℕ) → nat_lt u locals ≡ true → is_scalar (sizes u) ≡ false → live_at_start u b.code ≡ false
   array_dead u h k = (unused u (by (nat_lt u locals) (is_scalar (sizes u)) h k)).0
     where
-      by : (x y : Bool) → x ≡ true → y ≡ false → ((x && y) || (not x && nat_lt u (room_of g))) ≡ false
+      by : (x y : Bool) → x ≡ true → y ≡ false → ((x && y) || (not x && nat_lt u (room_of globals.pointers g))) ≡ false
       by true y e f = or_from y false f refl
       by false y e f = from_falsity e
 
@@ -142,8 +143,8 @@ module _ (p : Program) (globals : Globals) (g : Function) (asked : IsAsked p glo
 
   -- ---- names
 
-  names : FunctionPaid globals g none 0 (Named globals.scalars globals.arrays (limits.is_there globals locals)) (λ declared. named_rules (allowed globals locals sizes (room_of g) none 0 declared)) (named_blocks globals.scalars globals.arrays (limits.is_there globals locals))
-  names = function_paid globals g none 0 (Named globals.scalars globals.arrays (limits.is_there globals locals)) (λ declared. named_rules (allowed globals locals sizes (room_of g) none 0 declared)) (named_blocks globals.scalars globals.arrays (limits.is_there globals locals)) asked.within
+  names : FunctionPaid globals g none 0 (Named globals.scalars globals.arrays (limits.is_there globals locals)) (λ declared. named_rules (allowed globals locals sizes (room_of globals.pointers g) none 0 declared)) (named_blocks globals.scalars globals.arrays (limits.is_there globals locals))
+  names = function_paid globals g none 0 (Named globals.scalars globals.arrays (limits.is_there globals locals)) (λ declared. named_rules (allowed globals locals sizes (room_of globals.pointers g) none 0 declared)) (named_blocks globals.scalars globals.arrays (limits.is_there globals locals)) asked.within
 
   pub scalars_within : Each (λ k. globals.scalars k ≡ true) (scalars_read b.code)
   scalars_within = names.made.scalars tt
@@ -153,8 +154,8 @@ module _ (p : Program) (globals : Globals) (g : Function) (asked : IsAsked p glo
 
   -- ---- calls and counts
 
-  abbrev counting : (direct : ℕ → ℕ) (through : ℕ) → FunctionPaid globals g direct through (Counted direct through) (λ declared. counted_rules direct through (allowed globals locals sizes (room_of g) direct through declared) refl refl) (counted_blocks direct through)
-  counting direct through = function_paid globals g direct through (Counted direct through) (λ declared. counted_rules direct through (allowed globals locals sizes (room_of g) direct through declared) refl refl) (counted_blocks direct through) asked.within
+  abbrev counting : (direct : ℕ → ℕ) (through : ℕ) → FunctionPaid globals g direct through (Counted direct through) (λ declared. counted_rules direct through (allowed globals locals sizes (room_of globals.pointers g) direct through declared) refl refl) (counted_blocks direct through)
+  counting direct through = function_paid globals g direct through (Counted direct through) (λ declared. counted_rules direct through (allowed globals locals sizes (room_of globals.pointers g) direct through declared) refl refl) (counted_blocks direct through) asked.within
 
   pub lowered_calls : CallsAsOften p g b
   lowered_calls = record {
@@ -172,13 +173,13 @@ module _ (p : Program) (globals : Globals) (g : Function) (asked : IsAsked p glo
   few_words : allowance b.code + 2 * tree_nodes b.code ≤ 40 * body_nodes g + 7
   few_words = let c = counting none 0 in omega (arith, c.made.words, c.made.nodes, c.few_words)
 
-  top_within : (lower_body g).top ≤ locals + 8 * depth g
+  top_within : (lower_body globals.pointers g).top ≤ locals + 8 * depth g
   top_within = body_top globals locals sizes (is_void g.result) g.body params asked.within outermost
 
   pub lowered_small : IsSmall g b
   lowered_small = record {
     temps = omega (arith, top_within);
-    frame = omega (arith, few_intervals g.locals (room_of g) b refl (omega arith) unmarked, total_is (array_sizes g.locals), top_within);
+    frame = omega (arith, few_intervals g.locals (room_of globals.pointers g) b refl (omega arith) unmarked, total_is (array_sizes g.locals), top_within);
     statements = omega (arith, few_statements);
     tree_nodes = omega (arith, few_nodes);
     words = omega (arith, few_words);
@@ -188,7 +189,7 @@ module _ (p : Program) (globals : Globals) (g : Function) (asked : IsAsked p glo
 
   has_targets : HasTargets (false ∷ []) b.code
   has_targets =
-      targets_append (false ∷ []) (lower_body g).code (ending (is_void g.result))
+      targets_append (false ∷ []) (lower_body globals.pointers g).code (ending (is_void g.result))
       (code_targets globals locals sizes (is_void g.result) g.body params asked.within false false asked.jumps outermost (false ∷ []) (record { leave = λ e. from_falsity e; again = λ e. from_falsity e; around = omega arith })) (last (is_void g.result))
     where
       last : (void : Bool) → HasTargets (false ∷ []) (ending void)

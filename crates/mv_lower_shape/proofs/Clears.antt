@@ -24,7 +24,7 @@ module _ (globals : Globals) (locals : ℕ) (sizes : ℕ → Option ℕ) (room :
     (B : ℕ → ℕ → ℕ → ℕ → List Tree → List Stm → List Tree → Type 0) (r : Rules (allowed globals locals sizes room direct through declared) B) where
   open paying locals direct through B use {weight, ValuePaid, CodePaid, StmtPaid}
 
-  pub value : (e : Expr) → is_within globals locals sizes declared e ≡ true → (lower_expr e locals).top ≤ room → ValuePaid (expr_nodes e) (weight e) (lower_expr e)
+  pub value : (e : Expr) → is_within globals locals sizes declared e ≡ true → (lower_expr globals.pointers e locals).top ≤ room → ValuePaid (expr_nodes e) (weight e) (lower_expr globals.pointers e)
   value e b top =
       let p = expr_paid globals locals sizes room direct through declared B r e b in
       record { units = p.units; words = p.words; nodes = p.nodes; made = p.gives locals (omega arith) top; few_units = p.few_units; few_nodes = p.few_nodes; few_words = p.few_words }
@@ -49,8 +49,8 @@ module _ (globals : Globals) (locals : ℕ) (sizes : ℕ → Option ℕ) (room :
     zeros_paid i (suc n) =
         r.weaken (omega arith) (omega arith) (omega arith) (omega arith) (r.chain (r.retree (covers_number 0)) (r.chain (word_paid i (number 0)) (zeros_paid (suc i) n)))
 
-    stores_paid : (i : ℕ) (es : List Expr) → all_exprs_within globals locals sizes es declared ≡ true → values_top locals (map lower_expr es) ≤ room →
-        CodePaid (sum (map expr_nodes es)) (sum (map weight es)) (store_values locals size l i (map lower_expr es))
+    stores_paid : (i : ℕ) (es : List Expr) → all_exprs_within globals locals sizes es declared ≡ true → values_top locals (map (lower_expr globals.pointers) es) ≤ room →
+        CodePaid (sum (map expr_nodes es)) (sum (map weight es)) (store_values locals size l i (map (lower_expr globals.pointers) es))
     stores_paid i [] b top = paid 0 0 0 (r.retree (covers_none [])) (omega arith) (omega arith) (omega arith)
     stores_paid i (e ∷ es) b top =
         let bs = and_cases (is_within globals locals sizes declared e) (all_exprs_within globals locals sizes es declared) b in
@@ -62,29 +62,29 @@ module _ (globals : Globals) (locals : ℕ) (sizes : ℕ → Option ℕ) (room :
           units = p.units + (1 + q.units);
           words = p.words + (8 + q.words);
           nodes = p.nodes + (1 + q.nodes);
-          made = r.weaken (omega arith) (omega arith) (omega arith) (omega (arith, k)) (r.chain p.made (r.chain (word_paid i (lower_expr e locals).tree) q.made));
+          made = r.weaken (omega arith) (omega arith) (omega arith) (omega (arith, k)) (r.chain p.made (r.chain (word_paid i (lower_expr globals.pointers e locals).tree) q.made));
           few_units = omega (arith, p.few_units, q.few_units, n);
           few_nodes = omega (arith, p.few_nodes, q.few_nodes, n);
           few_words = omega (arith, p.few_words, q.few_words, n);
         }
 
     -- where zeros are stored one by one, they are fewer than the values
-    pub cleared : (itself : Bool) (es : List Expr) (j : Jumps) → all_exprs_within globals locals sizes es declared ≡ true → values_top locals (map lower_expr es) ≤ room →
-        StmtPaid (1 + length es + sum (map expr_nodes es)) (sum (map weight es)) (lower_clear locals size l itself (map lower_expr es) j).code
-    cleared itself es j b top = by (itself || nat_le (8 * words_of_size size) (92 * (words_of_size size - length (map lower_expr es)))) refl
+    pub cleared : (itself : Bool) (es : List Expr) (j : Jumps) → all_exprs_within globals locals sizes es declared ≡ true → values_top locals (map (lower_expr globals.pointers) es) ≤ room →
+        StmtPaid (1 + length es + sum (map expr_nodes es)) (sum (map weight es)) (lower_clear locals size l itself (map (lower_expr globals.pointers) es) j).code
+    cleared itself es j b top = by (itself || nat_le (8 * words_of_size size) (92 * (words_of_size size - length (map (lower_expr globals.pointers) es)))) refl
       where
-        by : (z : Bool) → (itself || nat_le (8 * words_of_size size) (92 * (words_of_size size - length (map lower_expr es)))) ≡ z →
+        by : (z : Bool) → (itself || nat_le (8 * words_of_size size) (92 * (words_of_size size - length (map (lower_expr globals.pointers) es)))) ≡ z →
             StmtPaid (1 + length es + sum (map expr_nodes es)) (sum (map weight es))
-            (cond z (clear_words size l ∷ store_values locals size l 0 (map lower_expr es))
-            (store_values locals size l 0 (map lower_expr es) ++ store_zeros size l (length (map lower_expr es)) (words_of_size size - length (map lower_expr es))))
+            (cond z (clear_words size l ∷ store_values locals size l 0 (map (lower_expr globals.pointers) es))
+            (store_values locals size l 0 (map (lower_expr globals.pointers) es) ++ store_zeros size l (length (map (lower_expr globals.pointers) es)) (words_of_size size - length (map (lower_expr globals.pointers) es))))
         by true e =
             let p = stores_paid 0 es b top in
             stmt_paid (1 + p.units) (7 + p.words) (2 + p.nodes) (r.weaken (omega arith) (omega arith) (omega arith) (omega arith) (r.chain clear_paid p.made)) (omega (arith, p.few_units)) (omega (arith, p.few_nodes)) (omega (arith, p.few_words))
         by false e =
             let p = stores_paid 0 es b top in
             let words = words_of_size size in
-            let long = length-map es lower_expr in
-            let d = words - length (map lower_expr es) in
+            let long = length-map es (lower_expr globals.pointers) in
+            let d = words - length (map (lower_expr globals.pointers) es) in
             let few = leb-false (8 * words) (92 * d) (or_parts itself (nat_le (8 * words) (92 * d)) e).1 in
-            stmt_paid (p.units + d) (p.words + 8 * d) (p.nodes + 2 * d) (r.weaken (omega arith) (omega arith) (omega arith) (omega arith) (r.chain p.made (zeros_paid (length (map lower_expr es)) d)))
+            stmt_paid (p.units + d) (p.words + 8 * d) (p.nodes + 2 * d) (r.weaken (omega arith) (omega arith) (omega arith) (omega arith) (r.chain p.made (zeros_paid (length (map (lower_expr globals.pointers) es)) d)))
             (omega (arith, p.few_units, few, long)) (omega (arith, p.few_nodes, few, long)) (omega (arith, p.few_words, few, long))

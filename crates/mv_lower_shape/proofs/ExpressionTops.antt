@@ -1,5 +1,5 @@
 -- From the first free temporary on, an expression's code takes at most eight for each level of its depth.
-use Rattle.std.proofs.Common.{◌≡◌, ℕ, ◌+◌, ◌*◌, ◌≤◌, Bool, true, false, cond, List, [], ◌∷◌, ◌++◌, map, length, max, Option, sym, ◌∙◌, arith}
+use Rattle.std.proofs.Common.{◌≡◌, ℕ, ◌+◌, ◌*◌, ◌<◌, ◌≤◌, Bool, true, false, cond, List, [], ◌∷◌, ◌++◌, map, length, max, Option, Some, None, sym, ◌∙◌, arith}
 use Rattle.std.specs.Prelude.{◌&&◌, nat_lt, nat_eq}
 use Rattle.std.proofs.lemmas.Bool.{ltb-true, eqb-true}
 use Rattle.std.proofs.lemmas.List.{length-map, length-append}
@@ -15,12 +15,13 @@ use Rattle.mv_ast.specs.declared.program.Form.TheOpen as form
 use Rattle.mv_ast.specs.declared.program.Target.{Target, Target-F, fold-Target}
 use Rattle.mv_ast.specs.Counts.{greatest, form_greatest, target_greatest, one_more_than, expr_depth}
 use Rattle.mv_lower_spec.specs.Lowered.{Lowered, Lowering, is_low, is_empty, kept_if, binary, first, second, lower_local, lower_global, lower_one, lower_two, lower_division, lower_all, lower_element}
-use Rattle.mv_lower_spec.specs.Lower.{Part, Place, InLocal, InGlobal, Element, quotient_number, remainder_number, bit_tree, lower_operator, lower_product, lower_binary, lower_changed, lower_change, lower_after, lower_read, lower_set, unary_tree, converted_tree, place_of, part_of, lower_expr}
+use Rattle.mv_lower_spec.specs.Lower.{FormPart, Part, Place, switched_by, lower_called, InLocal, InGlobal, Element, quotient_number, remainder_number, bit_tree, lower_operator, lower_product, lower_binary, lower_changed, lower_change, lower_after, lower_read, lower_set, unary_tree, converted_tree, place_of, part_of, lower_expr}
 use Rattle.mv_source_forms.proofs.ExpressionFolds.{ExprFolds, expr_fold, expr_folds, along_exprs}
 use Rattle.mv_source_forms.proofs.ExpressionInduction.{FormChildren, TargetChildren}
 use Rattle.mv_lower_shape.proofs.Folds.{limited_exprs, lowers}
 use Rattle.mv_lower_shape.proofs.Asked.{Globals, Access, asking}
 use Rattle.mv_source_forms.specs.Lists.{all_of}
+use Rattle.mv_source_forms.specs.Names.{is_void}
 use Rattle.mv_num.proofs.Booleans.{and_cases}
 
 -- ---- tops at one place
@@ -124,11 +125,11 @@ greatest_append (m ∷ ms) ns = let e = greatest_append ms ns in omega (arith, e
 module _ (globals : Globals) (locals : ℕ) (sizes : ℕ → Option ℕ) (declared : ℕ → Bool) where
   open asking globals locals sizes declared use {within, place}
 
-  abbrev measured : ExprFolds (((CType → Lowering) × Bool) × ℕ) ((Place × Access) × ℕ) ((Part × Bool) × ℕ)
+  abbrev measured : ExprFolds ((FormPart × Bool) × ℕ) ((Place × Access) × ℕ) ((Part × Bool) × ℕ)
   measured = expr_folds (limited_exprs globals locals sizes declared) (expr_fold form_greatest target_greatest one_more_than)
 
-  abbrev FormTop : ((CType → Lowering) × Bool) × ℕ → Type 0
-  FormTop v = v.0.1 ≡ true → (c : CType) → Top (1 + v.1) (v.0.0 c)
+  abbrev FormTop : (FormPart × Bool) × ℕ → Type 0
+  FormTop v = v.0.1 ≡ true → (c : CType) → Top (1 + v.1) (v.0.0.lower c)
 
   -- the index of a place, where this may be read or stored to
   abbrev TargetTop : (Place × Access) × ℕ → Type 0
@@ -151,45 +152,45 @@ module _ (globals : Globals) (locals : ℕ) (sizes : ℕ → Option ℕ) (declar
   higher d e l le h n = let k = h n in omega (arith, le, k)
 
   -- several, each of which takes no more than the deepest
-  each_top : (es : List Expr) → Each S es → all_of (map within es) ≡ true → (d : ℕ) → greatest (map expr_depth es) ≤ d → Each (Top d) (lowers es)
+  each_top : (es : List Expr) → Each S es → all_of (map within es) ≡ true → (d : ℕ) → greatest (map expr_depth es) ≤ d → Each (Top d) (lowers globals.pointers es)
   each_top [] h b d le = tt
   each_top (e ∷ es) h b d le =
       let bs = and_cases (within e) (all_of (map within es)) b in
-      (higher (expr_depth e) d (lower_expr e) (omega (arith, le)) (h.0.top bs.0), each_top es h.1 bs.1 d (omega (arith, le)))
+      (higher (expr_depth e) d (lower_expr globals.pointers e) (omega (arith, le)) (h.0.top bs.0), each_top es h.1 bs.1 d (omega (arith, le)))
 
-  lowers_length : (es : List Expr) → length (lowers es) ≡ length (map within es)
-  lowers_length es = length-map (map part_of es) (λ (x : Part). x.lower) ∙ length-map es part_of ∙ sym (length-map es within)
+  lowers_length : (es : List Expr) → length (lowers globals.pointers es) ≡ length (map within es)
+  lowers_length es = length-map (map (part_of globals.pointers) es) (λ (x : Part). x.lower) ∙ length-map es (part_of globals.pointers) ∙ sym (length-map es within)
 
   -- the arguments of a call
-  some_top : (es : List Expr) → Each S es → all_of (map within es) ≡ true → length (map within es) ≤ 8 → (n : ℕ) → max (n + 1) (lower_all (lowers es) n).top ≤ n + 8 * (1 + greatest (map expr_depth es))
+  some_top : (es : List Expr) → Each S es → all_of (map within es) ≡ true → length (map within es) ≤ 8 → (n : ℕ) → max (n + 1) (lower_all (lowers globals.pointers es) n).top ≤ n + 8 * (1 + greatest (map expr_depth es))
   some_top [] h b few n = omega arith
   some_top (e ∷ es) h b few n =
       let d = greatest (map expr_depth (e ∷ es)) in
-      let k = all_top d (lowers (e ∷ es)) (omega (arith, h.0.deep)) (each_top (e ∷ es) h b d (omega arith)) n in
+      let k = all_top d (lowers globals.pointers (e ∷ es)) (omega (arith, h.0.deep)) (each_top (e ∷ es) h b d (omega arith)) n in
       omega (arith, k, few, lowers_length (e ∷ es))
 
   layer : (x : Form-F Form Target Expr) → FormChildren P Q S x → FormTop (measured.form_layer x)
   layer (form.Number m) h b c n = omega arith
-  layer (form.Read target) h b c n = let k = read_top (place_of target) (target_depth target) (h.0 b) n in omega (arith, k)
+  layer (form.Read target) h b c n = let k = read_top (place_of globals.pointers target) (target_depth target) (h.0 b) n in omega (arith, k)
   layer (form.Function f) h b c n = omega arith
-  layer (form.Unary op e) h b c n = let k = h.top b n in let w = one_within (unary_tree op) (lower_expr e) n in omega (arith, k, w)
+  layer (form.Unary op e) h b c n = let k = h.top b n in let w = one_within (unary_tree op) (lower_expr globals.pointers e) n in omega (arith, k, w)
   layer (form.Binary op x y) h b c n =
       let bs = and_cases (within x) (within y) b in
       let k = h.0.top bs.0 n in
       let l = h.1.top bs.1 (n + 1) in
-      let w = binary_within false op (part_of x).ctype (lower_expr x) (lower_expr y) n in
+      let w = binary_within false op (part_of globals.pointers x).ctype (lower_expr globals.pointers x) (lower_expr globals.pointers y) n in
       omega (arith, k, l, w)
   layer (form.Both x y) h b c n =
       let bs = and_cases (within x) (within y) b in
       let k = h.0.top bs.0 n in
       let l = h.1.top bs.1 n in
-      let w = kept_within (is_low (lower_expr y n).tree) n (lower_expr y n) in
+      let w = kept_within (is_low (lower_expr globals.pointers y n).tree) n (lower_expr globals.pointers y n) in
       omega (arith, k, l, w)
   layer (form.Either x y) h b c n =
       let bs = and_cases (within x) (within y) b in
       let k = h.0.top bs.0 n in
       let l = h.1.top bs.1 n in
-      let w = kept_within (is_low (lower_expr y n).tree) n (lower_expr y n) in
+      let w = kept_within (is_low (lower_expr globals.pointers y n).tree) n (lower_expr globals.pointers y n) in
       omega (arith, k, l, w)
   layer (form.Choose z x y) h b c n =
       let bs = and_cases (within z) (within x && within y) b in
@@ -198,22 +199,22 @@ module _ (globals : Globals) (locals : ℕ) (sizes : ℕ → Option ℕ) (declar
       let l = h.1.top cs.0 n in
       let m = h.2.top cs.1 n in
       omega (arith, k, l, m)
-  layer (form.Convert e) h b c n = let k = h.top b n in let w = one_within (converted_tree c) (lower_expr e) n in omega (arith, k, w)
+  layer (form.Convert e) h b c n = let k = h.top b n in let w = one_within (converted_tree c) (lower_expr globals.pointers e) n in omega (arith, k, w)
   layer (form.Set target e) h b c n =
       let access = place target in
       let bs = and_cases access.stored (within e) b in
-      let k = set_top (place_of target) (target_depth target) (expr_depth e) (lower_expr e) (h.0.1 bs.0) (h.1.top bs.1) n in
+      let k = set_top (place_of globals.pointers target) (target_depth target) (expr_depth e) (lower_expr globals.pointers e) (h.0.1 bs.0) (h.1.top bs.1) n in
       omega (arith, k)
   layer (form.Change op kind target e) h b c n =
       let access = place target in
       let bs = and_cases access.read (access.stored && within e) b in
       let cs = and_cases access.stored (within e) bs.1 in
-      let k = change_top op kind c (place_of target) (target_depth target) (expr_depth e) (lower_expr e) (h.0.0 bs.0) (h.1.top cs.1) n in
+      let k = change_top op kind c (place_of globals.pointers target) (target_depth target) (expr_depth e) (lower_expr globals.pointers e) (h.0.0 bs.0) (h.1.top cs.1) n in
       omega (arith, k)
   layer (form.After up target) h b c n =
       let access = place target in
       let bs = and_cases access.read access.stored b in
-      let k = after_top up c (place_of target) (target_depth target) (h.0 bs.0) n in
+      let k = after_top up c (place_of globals.pointers target) (target_depth target) (h.0 bs.0) n in
       omega (arith, k)
   layer (form.Direct f args) h b c n =
       let bs = and_cases (nat_lt (length (map within args)) 9) (all_of (map within args)) b in
@@ -223,19 +224,26 @@ module _ (globals : Globals) (locals : ℕ) (sizes : ℕ → Option ℕ) (declar
   layer (form.Through args e) h b c n =
       let bs = and_cases (nat_lt (length (map within args)) 9) (all_of (map within args) && within e) b in
       let cs = and_cases (all_of (map within args)) (within e) bs.1 in
-      let few = ltb-true (length (map within args)) 9 bs.0 in
-      let d = max (greatest (map expr_depth args)) (expr_depth e) in
-      let k = all_top d (lowers args ++ lower_expr e ∷ []) (omega (arith, h.1.deep))
-      (each_append (Top d) (lowers args) (lower_expr e ∷ []) (each_top args h.0 cs.0 d (omega arith)) (higher (expr_depth e) d (lower_expr e) (omega arith) (h.1.top cs.1), tt)) n in
-      omega (arith, k, few, lowers_length args, length-append (lowers args) (lower_expr e ∷ []), greatest_append (map expr_depth args) (expr_depth e ∷ []))
+      by (switched_by globals.pointers (part_of globals.pointers e).reads) (ltb-true (length (map within args)) 9 bs.0) cs.0 cs.1
+    where
+      by : (o : Option ℕ) → length (map within args) < 9 → all_of (map within args) ≡ true → within e ≡ true →
+          (lower_called o (is_void c) (lowers globals.pointers args) (lower_expr globals.pointers e) n).top ≤ n + 8 * (1 + greatest (map expr_depth args ++ expr_depth e ∷ []))
+      by None few bs k =
+          let d = max (greatest (map expr_depth args)) (expr_depth e) in
+          let k = all_top d (lowers globals.pointers args ++ lower_expr globals.pointers e ∷ []) (omega (arith, h.1.deep))
+          (each_append (Top d) (lowers globals.pointers args) (lower_expr globals.pointers e ∷ []) (each_top args h.0 bs d (omega arith)) (higher (expr_depth e) d (lower_expr globals.pointers e) (omega arith) (h.1.top k), tt)) n in
+          omega (arith, k, few, lowers_length args, length-append (lowers globals.pointers args) (lower_expr globals.pointers e ∷ []), greatest_append (map expr_depth args) (expr_depth e ∷ []))
+      by (Some g) few bs k =
+          let top = some_top args h.0 bs (omega (arith, few)) n in
+          omega (arith, top, greatest_append (map expr_depth args) (expr_depth e ∷ []))
   layer (form.Known f args) h b c n =
       let bs = and_cases (nat_eq (length (map within args)) (known_arguments f)) (all_of (map within args)) b in
       let few = eqb-true (length (map within args)) (known_arguments f) bs.0 in
       let k = some_top args h bs.1 (omega (arith, few, known_few f)) n in
       omega (arith, k)
 
-  index_top : (e : Expr) → S e → within e ≡ true → Top (greatest (expr_depth e ∷ [])) (lower_expr e)
-  index_top e h b = higher (expr_depth e) (greatest (expr_depth e ∷ [])) (lower_expr e) (omega arith) (h.top b)
+  index_top : (e : Expr) → S e → within e ≡ true → Top (greatest (expr_depth e ∷ [])) (lower_expr globals.pointers e)
+  index_top e h b = higher (expr_depth e) (greatest (expr_depth e ∷ [])) (lower_expr globals.pointers e) (omega arith) (h.top b)
 
   target_layer : (x : Target-F Form Target Expr) → TargetChildren P Q S x → TargetTop (measured.target_layer x)
   target_layer (form.Global g) h = (λ e. tt, λ e. tt)

@@ -1,5 +1,5 @@
 -- Lowered expressions are made of code that obeys the rules, with bounds on units and tree nodes for each node of the source.
-use Rattle.std.proofs.Common.{◌≡◌, ℕ, ◌+◌, ◌*◌, ◌<◌, ◌≤◌, Bool, true, false, List, [], ◌∷◌, ◌++◌, map, length, Option, refl, sym, ◌∙◌, ap, subst, arith}
+use Rattle.std.proofs.Common.{◌≡◌, ℕ, ◌+◌, ◌*◌, ◌<◌, ◌≤◌, Bool, true, false, List, [], ◌∷◌, ◌++◌, map, length, Option, Some, None, refl, sym, ◌∙◌, ap, subst, arith}
 use Rattle.std.specs.Prelude.{◌&&◌, ◌||◌, not, nat_lt, nat_eq, sum}
 use Rattle.std.proofs.lemmas.Bool.{ltb-true, lt-ltb, and_from, or_left, or_right}
 use Rattle.std.proofs.lemmas.List.{length-map}
@@ -16,9 +16,10 @@ use Rattle.mv_ast.specs.declared.program.Expr.{Expr}
 use Rattle.mv_ast.specs.declared.program.Form.{Form, Form-F}
 use Rattle.mv_ast.specs.declared.program.Form.TheOpen as form
 use Rattle.mv_ast.specs.declared.program.Target.{Target, Target-F}
+use Rattle.mv_ast.specs.Plans.{is_among}
 use Rattle.mv_ast.specs.Counts.{form_sum, target_sum, one_more_than, inner_calls, expr_nodes}
-use Rattle.mv_lower_spec.specs.Lowered.{Lowering, lower_number, lower_function, lower_one, lower_through, lower_both, lower_either, lower_choice, lower_local, lower_global, lower_element, temp}
-use Rattle.mv_lower_spec.specs.Lower.{Part, Place, InLocal, InGlobal, Element, lower_read, lower_set, lower_binary, lower_changed, lower_change, next_tree, lower_after, place_of, part_of, lower_expr, unary_tree, converted_tree}
+use Rattle.mv_lower_spec.specs.Lowered.{Lowering, lower_number, lower_function, lower_one, lower_through, lower_switched, lower_both, lower_either, lower_choice, lower_local, lower_global, lower_element, temp}
+use Rattle.mv_lower_spec.specs.Lower.{FormPart, Part, Place, global_at, switched_if, switched_by, lower_called, InLocal, InGlobal, Element, lower_read, lower_set, lower_binary, lower_changed, lower_change, next_tree, lower_after, place_of, part_of, lower_expr, unary_tree, converted_tree}
 use Rattle.mv_source_forms.specs.Lists.{all_of}
 use Rattle.mv_source_forms.specs.Names.{is_scalar, is_void}
 use Rattle.mv_source_forms.proofs.ExpressionFolds.{ExprFolds, expr_fold, expr_folds, along_exprs}
@@ -33,7 +34,7 @@ use Rattle.mv_lower_shape.proofs.Given as given
 use Rattle.mv_lower_shape.proofs.Operators as operators
 use Rattle.mv_lower_shape.proofs.Operators.{on_unary, on_converted, on_next, temp_low, global_low}
 use Rattle.mv_num.proofs.Booleans.{and_cases}
-use Rattle.mv_num.proofs.Lists.{sum_cons}
+use Rattle.mv_num.proofs.Lists.{sum_cons, sum_append}
 
 -- ---- what is allowed
 
@@ -273,17 +274,21 @@ module _ (globals : Globals) (locals : ℕ) (sizes : ℕ → Option ℕ) (room :
   -- ---- the fold
 
   -- what each is lowered to, whether it is within the limits, and how many nodes and calls it has
-  abbrev counted : ExprFolds (((CType → Lowering) × Bool) × (ℕ × ℕ)) ((Place × Access) × (ℕ × ℕ)) ((Part × Bool) × (ℕ × ℕ))
+  abbrev counted : ExprFolds ((FormPart × Bool) × (ℕ × ℕ)) ((Place × Access) × (ℕ × ℕ)) ((Part × Bool) × (ℕ × ℕ))
   counted = expr_folds (limited_exprs globals locals sizes declared) (expr_folds (expr_fold form_sum target_sum one_more_than) (expr_fold (form_weights direct through) target_sum inner_calls))
 
-  abbrev FormPays : ((CType → Lowering) × Bool) × (ℕ × ℕ) → Type 0
-  FormPays v = v.0.1 ≡ true → (c : CType) → Paid (1 + v.1.0) v.1.1 (v.0.0 c)
+  -- where it is the read of a global scalar, that may be read, and it has no calls
+  abbrev ReadsScalar : Option ℕ → ℕ → Type 0
+  ReadsScalar o k = (g : ℕ) → o ≡ Some g → (globals.scalars g ≡ true) × (k ≡ 0)
+
+  abbrev FormPays : (FormPart × Bool) × (ℕ × ℕ) → Type 0
+  FormPays v = v.0.1 ≡ true → ((c : CType) → Paid (1 + v.1.0) v.1.1 (v.0.0.lower c)) × ReadsScalar v.0.0.reads v.1.1
 
   abbrev PlacePays : (Place × Access) × (ℕ × ℕ) → Type 0
   PlacePays v = PlacePaid v.0.0 v.0.1 v.1.0 v.1.1
 
   abbrev Pays : (Part × Bool) × (ℕ × ℕ) → Type 0
-  Pays v = v.0.1 ≡ true → Paid v.1.0 v.1.1 v.0.0.lower
+  Pays v = v.0.1 ≡ true → Paid v.1.0 v.1.1 v.0.0.lower × ReadsScalar v.0.0.reads v.1.1
 
   abbrev P : Form → Type 0
   P f = FormPays (counted.form f)
@@ -291,22 +296,22 @@ module _ (globals : Globals) (locals : ℕ) (sizes : ℕ → Option ℕ) (room :
   abbrev Q : Target → Type 0
   Q x = PlacePays (counted.target x)
 
-  abbrev pub S : Expr → Type 0
+  abbrev S : Expr → Type 0
   S e = Pays (counted.expr e)
 
-  all_paid : (es : List Expr) → Each S es → all_of (map within es) ≡ true → AllPaid (sum (map expr_nodes es)) (sum (map weight es)) (map (λ (x : Part). x.lower) (map part_of es))
+  all_paid : (es : List Expr) → Each S es → all_of (map within es) ≡ true → AllPaid (sum (map expr_nodes es)) (sum (map weight es)) (map (λ (x : Part). x.lower) (map (part_of globals.pointers) es))
   all_paid [] h b = record { units = 0; words = 0; nodes = 0; give = given.none_give a B rules locals room scratch; few_units = omega arith; few_nodes = omega arith; few_words = omega arith }
   all_paid (e ∷ es) h b =
       let bs = and_cases (within e) (all_of (map within es)) b in
-      let x = h.0 bs.0 in
+      let x = (h.0 bs.0).0 in
       let xs = all_paid es h.1 bs.1 in
       let n = sum_cons (expr_nodes e) (map expr_nodes es) in
       record {
         units = x.units + 1 + xs.units;
         words = x.words + 1 + xs.words;
         nodes = x.nodes + 1 + xs.nodes;
-        give = subst (λ m. given.AllGive a B rules locals room scratch (x.units + 1 + xs.units) (x.words + 1 + xs.words) (x.nodes + 1 + xs.nodes) m (map (λ (x : Part). x.lower) (map part_of (e ∷ es)))) (sym (sum_cons (weight e) (map weight es)))
-            (given.more_give a B rules locals room scratch (lower_expr e) (map (λ (x : Part). x.lower) (map part_of es)) x.gives xs.give);
+        give = subst (λ m. given.AllGive a B rules locals room scratch (x.units + 1 + xs.units) (x.words + 1 + xs.words) (x.nodes + 1 + xs.nodes) m (map (λ (x : Part). x.lower) (map (part_of globals.pointers) (e ∷ es)))) (sym (sum_cons (weight e) (map weight es)))
+            (given.more_give a B rules locals room scratch (lower_expr globals.pointers e) (map (λ (x : Part). x.lower) (map (part_of globals.pointers) es)) x.gives xs.give);
         few_units = omega (arith, x.few_units, xs.few_units, n);
         few_nodes = omega (arith, x.few_nodes, xs.few_nodes, n);
         few_words = omega (arith, x.few_words, xs.few_words, n);
@@ -386,12 +391,12 @@ module _ (globals : Globals) (locals : ℕ) (sizes : ℕ → Option ℕ) (room :
     few_words = omega (arith, p.few_words);
   }
 
-  lowers_length : (es : List Expr) (f : ℕ → Bool) → f (length (map within es)) ≡ true → f (length (lowers es)) ≡ true
-  lowers_length es f h = subst (λ n. f n ≡ true) (length-map es within ∙ sym (length-map (map part_of es) (λ (x : Part). x.lower) ∙ length-map es part_of)) h
+  lowers_length : (es : List Expr) (f : ℕ → Bool) → f (length (map within es)) ≡ true → f (length (lowers globals.pointers es)) ≡ true
+  lowers_length es f h = subst (λ n. f n ≡ true) (length-map es within ∙ sym (length-map (map (part_of globals.pointers) es) (λ (x : Part). x.lower) ∙ length-map es (part_of globals.pointers))) h
 
-  lowers_append : (xs ys : List Expr) → lowers (xs ++ ys) ≡ lowers xs ++ lowers ys
+  lowers_append : (xs ys : List Expr) → lowers globals.pointers (xs ++ ys) ≡ lowers globals.pointers xs ++ lowers globals.pointers ys
   lowers_append [] ys = refl
-  lowers_append (x ∷ xs) ys = ap (λ ls. lower_expr x ∷ ls) (lowers_append xs ys)
+  lowers_append (x ∷ xs) ys = ap (λ ls. lower_expr globals.pointers x ∷ ls) (lowers_append xs ys)
 
   all_within : (xs : List Expr) (e : Expr) → all_of (map within xs) ≡ true → within e ≡ true → all_of (map within (xs ++ e ∷ [])) ≡ true
   all_within [] e b k = and_from (within e) true k refl
@@ -399,54 +404,106 @@ module _ (globals : Globals) (locals : ℕ) (sizes : ℕ → Option ℕ) (room :
       let bs = and_cases (within x) (all_of (map within xs)) b in
       and_from (within x) (all_of (map within (xs ++ e ∷ []))) bs.0 (all_within xs e bs.1 k)
 
-  layer : (x : Form-F Form Target Expr) → FormChildren P Q S x → FormPays (counted.form_layer x)
+  layer : (x : Form-F Form Target Expr) → FormChildren P Q S x → (let v = counted.form_layer x in v.0.1 ≡ true → (c : CType) → Paid (1 + v.1.0) v.1.1 (v.0.0.lower c))
   layer (form.Number n) h b c = paid_as _ (omega arith) (omega arith) (leaf_paid (lower_number n) (given.gives_number a B rules locals room scratch n))
-  layer (form.Read target) h b c = paid_as _ (omega arith) (omega arith) (read_paid (place_of target) (place target) _ _ h b)
+  layer (form.Read target) h b c = paid_as _ (omega arith) (omega arith) (read_paid (place_of globals.pointers target) (place target) _ _ h b)
   layer (form.Function f) h b c = paid_as _ (omega arith) (omega arith) (leaf_paid (lower_function f) (given.gives_function a B rules locals room scratch f))
-  layer (form.Unary op e) h b c = paid_as _ (omega arith) (omega arith) (one_paid (unary_tree op) (lower_expr e) (on_unary op) (h b))
+  layer (form.Unary op e) h b c = paid_as _ (omega arith) (omega arith) (one_paid (unary_tree op) (lower_expr globals.pointers e) (on_unary op) (h b).0)
   layer (form.Binary op x y) h b c =
       let bs = and_cases (within x) (within y) b in
-      paid_as _ (omega arith) (omega arith) (binary_paid op (part_of x).ctype (lower_expr x) (lower_expr y) (h.0 bs.0) (h.1 bs.1))
+      paid_as _ (omega arith) (omega arith) (binary_paid op (part_of globals.pointers x).ctype (lower_expr globals.pointers x) (lower_expr globals.pointers y) (h.0 bs.0).0 (h.1 bs.1).0)
   layer (form.Both x y) h b c =
       let bs = and_cases (within x) (within y) b in
-      paid_as _ (omega arith) (omega arith) (both_paid (lower_expr x) (lower_expr y) (h.0 bs.0) (h.1 bs.1))
+      paid_as _ (omega arith) (omega arith) (both_paid (lower_expr globals.pointers x) (lower_expr globals.pointers y) (h.0 bs.0).0 (h.1 bs.1).0)
   layer (form.Either x y) h b c =
       let bs = and_cases (within x) (within y) b in
-      paid_as _ (omega arith) (omega arith) (either_paid (lower_expr x) (lower_expr y) (h.0 bs.0) (h.1 bs.1))
+      paid_as _ (omega arith) (omega arith) (either_paid (lower_expr globals.pointers x) (lower_expr globals.pointers y) (h.0 bs.0).0 (h.1 bs.1).0)
   layer (form.Choose z x y) h b c =
       let bs = and_cases (within z) (within x && within y) b in
       let cs = and_cases (within x) (within y) bs.1 in
-      paid_as _ (omega arith) (omega arith) (choice_paid (lower_expr z) (lower_expr x) (lower_expr y) (h.0 bs.0) (h.1 cs.0) (h.2 cs.1))
-  layer (form.Convert e) h b c = paid_as _ (omega arith) (omega arith) (one_paid (converted_tree c) (lower_expr e) (on_converted c) (h b))
+      paid_as _ (omega arith) (omega arith) (choice_paid (lower_expr globals.pointers z) (lower_expr globals.pointers x) (lower_expr globals.pointers y) (h.0 bs.0).0 (h.1 cs.0).0 (h.2 cs.1).0)
+  layer (form.Convert e) h b c = paid_as _ (omega arith) (omega arith) (one_paid (converted_tree c) (lower_expr globals.pointers e) (on_converted c) (h b).0)
   layer (form.Set target e) h b c =
       let access = place target in
       let bs = and_cases access.stored (within e) b in
-      paid_as _ (omega arith) (omega arith) (set_paid (place_of target) access _ _ _ _ (lower_expr e) h.0 bs.0 (h.1 bs.1))
+      paid_as _ (omega arith) (omega arith) (set_paid (place_of globals.pointers target) access _ _ _ _ (lower_expr globals.pointers e) h.0 bs.0 (h.1 bs.1).0)
   layer (form.Change op kind target e) h b c =
       let access = place target in
       let bs = and_cases access.read (access.stored && within e) b in
       let cs = and_cases access.stored (within e) bs.1 in
-      paid_as _ (omega arith) (omega arith) (change_paid op kind c (place_of target) access _ _ _ _ (lower_expr e) h.0 bs.0 cs.0 (h.1 cs.1))
+      paid_as _ (omega arith) (omega arith) (change_paid op kind c (place_of globals.pointers target) access _ _ _ _ (lower_expr globals.pointers e) h.0 bs.0 cs.0 (h.1 cs.1).0)
   layer (form.After up target) h b c =
       let access = place target in
       let bs = and_cases access.read access.stored b in
-      paid_as _ (omega arith) (omega arith) (after_paid up c (place_of target) access _ _ h bs.0 bs.1)
+      paid_as _ (omega arith) (omega arith) (after_paid up c (place_of globals.pointers target) access _ _ h bs.0 bs.1)
   layer (form.Direct f args) h b c =
       let bs = and_cases (nat_lt (length (map within args)) 9) (all_of (map within args)) b in
       let all = all_paid args h bs.1 in
-      call_paid (direct f) _ (lowers args) all (given.gives_call a B rules locals room scratch (is_void c) f (lowers args) (lowers_length args (λ m. nat_lt m 9) bs.0) all.give)
+      call_paid (direct f) _ (lowers globals.pointers args) all (given.gives_call a B rules locals room scratch (is_void c) f (lowers globals.pointers args) (lowers_length args (λ m. nat_lt m 9) bs.0) all.give)
   layer (form.Through args e) h b c =
       let bs = and_cases (nat_lt (length (map within args)) 9) (all_of (map within args) && within e) b in
       let cs = and_cases (all_of (map within args)) (within e) bs.1 in
-      let all = all_paid (args ++ e ∷ []) (each_append S args (e ∷ []) h.0 (h.1, tt)) (all_within args e cs.0 cs.1) in
-      paid_as _ (omega (arith, ap sum (map_append expr_nodes args (e ∷ [])))) (omega (arith, ap sum (map_append weight args (e ∷ []))))
-      (call_paid through (lower_through (is_void c) (lowers args) (lower_expr e)) (lowers (args ++ e ∷ [])) all
-      (given.gives_through a B rules locals room scratch (is_void c) (lowers args) (lower_expr e) (lowers_length args (λ m. nat_lt m 9) bs.0)
-      (subst (λ ls. given.AllGive a B rules locals room scratch all.units all.words all.nodes (sum (map weight (args ++ e ∷ []))) ls) (lowers_append args (e ∷ [])) all.give)))
+      by (part_of globals.pointers e).reads (h.1 cs.1).1 bs.0 cs.0 cs.1
+    where
+      Made : Option ℕ → Type 0
+      Made o = Paid (1 + sum (map expr_nodes args ++ expr_nodes e ∷ [])) (through + sum (map weight args ++ weight e ∷ [])) (lower_called o (is_void c) (lowers globals.pointers args) (lower_expr globals.pointers e))
+
+      as_value : nat_lt (length (map within args)) 9 ≡ true → all_of (map within args) ≡ true → within e ≡ true → Made None
+      as_value few bs k =
+          let all = all_paid (args ++ e ∷ []) (each_append S args (e ∷ []) h.0 (h.1, tt)) (all_within args e bs k) in
+          paid_as _ (omega (arith, ap sum (map_append expr_nodes args (e ∷ [])))) (omega (arith, ap sum (map_append weight args (e ∷ []))))
+          (call_paid through (lower_through (is_void c) (lowers globals.pointers args) (lower_expr globals.pointers e)) (lowers globals.pointers (args ++ e ∷ [])) all
+          (given.gives_through a B rules locals room scratch (is_void c) (lowers globals.pointers args) (lower_expr globals.pointers e) (lowers_length args (λ m. nat_lt m 9) few)
+          (subst (λ ls. given.AllGive a B rules locals room scratch all.units all.words all.nodes (sum (map weight (args ++ e ∷ []))) ls) (lowers_append args (e ∷ [])) all.give)))
+
+      as_switch : (g : ℕ) → is_among g globals.pointers ≡ true → (globals.scalars g ≡ true) × (weight e ≡ 0) → nat_lt (length (map within args)) 9 ≡ true → all_of (map within args) ≡ true → Made (Some g)
+      as_switch g among read few bs =
+          let all = all_paid args h.0 bs in
+          let may = globals.called g among read.0 in
+          let none = read.1 in
+          paid_as _ (omega (arith, sum_append (map expr_nodes args) (expr_nodes e ∷ []))) (omega (arith, sum_append (map weight args) (weight e ∷ []), none))
+          (call_paid through (lower_switched (is_void c) (lowers globals.pointers args) g) (lowers globals.pointers args) all
+          (given.gives_switched a B rules locals room scratch (is_void c) g (lowers globals.pointers args) (lowers_length args (λ m. nat_lt m 9) few) may.0 may.1 all.give))
+
+      by : (o : Option ℕ) → ReadsScalar o (weight e) → nat_lt (length (map within args)) 9 ≡ true → all_of (map within args) ≡ true → within e ≡ true → Made (switched_by globals.pointers o)
+      by None reads few bs k = as_value few bs k
+      by (Some g) reads few bs k = tested (is_among g globals.pointers) refl
+        where
+          tested : (z : Bool) → is_among g globals.pointers ≡ z → Made (switched_if z g)
+          tested true among = as_switch g among (reads g refl) few bs
+          tested false among = as_value few bs k
   layer (form.Known k args) h b c =
       let bs = and_cases (nat_eq (length (map within args)) (known_arguments k)) (all_of (map within args)) b in
       let all = all_paid args h bs.1 in
-      call_paid 0 _ (lowers args) all (same_weight _ (omega arith) (given.gives_known a B rules locals room scratch k (lowers args) (lowers_length args (λ m. nat_eq m (known_arguments k)) bs.0) all.give))
+      call_paid 0 _ (lowers globals.pointers args) all (same_weight _ (omega arith) (given.gives_known a B rules locals room scratch k (lowers globals.pointers args) (lowers_length args (λ m. nat_eq m (known_arguments k)) bs.0) all.give))
+
+  -- of a place, the global scalar that it is
+  scalar_read : (x : Place) (access : Access) (n k : ℕ) → PlacePaid x access n k → access.read ≡ true → ReadsScalar (global_at x) k
+  scalar_read (InLocal l) access n k h e g q = absurd (cc)
+  scalar_read (InGlobal m) access n k h e g q =
+      let same : m ≡ g = cc in
+      (subst (λ i. globals.scalars i ≡ true) same (h.read e), h.free)
+  scalar_read (Element r i) access n k h e g q = absurd (cc)
+
+  form_read : (x : Form-F Form Target Expr) → FormChildren P Q S x → (let v = counted.form_layer x in v.0.1 ≡ true → ReadsScalar v.0.0.reads v.1.1)
+  form_read (form.Number n) h b g q = absurd (cc)
+  form_read (form.Read target) h b g q =
+      let r = scalar_read (place_of globals.pointers target) (place target) _ _ h b g q in
+      let none = r.1 in
+      (r.0, omega (arith, none))
+  form_read (form.Function f) h b g q = absurd (cc)
+  form_read (form.Unary op e) h b g q = absurd (cc)
+  form_read (form.Binary op x y) h b g q = absurd (cc)
+  form_read (form.Both x y) h b g q = absurd (cc)
+  form_read (form.Either x y) h b g q = absurd (cc)
+  form_read (form.Choose z x y) h b g q = absurd (cc)
+  form_read (form.Convert e) h b g q = absurd (cc)
+  form_read (form.Set target e) h b g q = absurd (cc)
+  form_read (form.Change op kind target e) h b g q = absurd (cc)
+  form_read (form.After up target) h b g q = absurd (cc)
+  form_read (form.Direct f args) h b g q = absurd (cc)
+  form_read (form.Through args e) h b g q = absurd (cc)
+  form_read (form.Known k args) h b g q = absurd (cc)
 
   target_layer : (x : Target-F Form Target Expr) → TargetChildren P Q S x → PlacePays (counted.target_layer x)
   target_layer (form.Global g) h = record { free = refl; read = λ e. e; stored = λ e. e }
@@ -465,21 +522,23 @@ module _ (globals : Globals) (locals : ℕ) (sizes : ℕ → Option ℕ) (room :
     read = λ b.
         let bs = and_cases (globals.there g) (globals.arrays g && within e) b in
         let cs = and_cases (globals.arrays g) (within e) bs.1 in
-        record { named = bs.0; read = (cs.0, tt); index = paid_as (lower_expr e) (omega arith) (omega arith) (h cs.1) };
+        record { named = bs.0; read = (cs.0, tt); index = paid_as (lower_expr globals.pointers e) (omega arith) (omega arith) (h cs.1).0 };
     stored = λ b.
         let bs = and_cases (globals.there g) (within e) b in
-        record { named = bs.0; index = paid_as (lower_expr e) (omega arith) (omega arith) (h bs.1) };
+        record { named = bs.0; index = paid_as (lower_expr globals.pointers e) (omega arith) (omega arith) (h bs.1).0 };
   }
   target_layer (form.LocalAt l e) h = record {
     read = λ b. let k = known b in record { named = k.0; read = tt; index = k.1 };
     stored = λ b. let k = known b in record { named = k.0; index = k.1 };
   }
     where
-      known : (local_access globals locals sizes declared (not (is_scalar (sizes l))) l && within e) ≡ true → (nat_lt l locals ≡ true) × Paid (sum (expr_nodes e ∷ [])) (sum (weight e ∷ [])) (lower_expr e)
+      known : (local_access globals locals sizes declared (not (is_scalar (sizes l))) l && within e) ≡ true → (nat_lt l locals ≡ true) × Paid (sum (expr_nodes e ∷ [])) (sum (weight e ∷ [])) (lower_expr globals.pointers e)
       known b =
           let bs = and_cases (local_access globals locals sizes declared (not (is_scalar (sizes l))) l) (within e) b in
-          ((and_cases (nat_lt l locals) (declared l && not (is_scalar (sizes l))) bs.0).0, paid_as (lower_expr e) (omega arith) (omega arith) (h bs.1))
+          ((and_cases (nat_lt l locals) (declared l && not (is_scalar (sizes l))) bs.0).0, paid_as (lower_expr globals.pointers e) (omega arith) (omega arith) (h bs.1).0)
 
   -- what an expression that is within the limits is lowered to
-  pub expr_paid : (e : Expr) → S e
-  expr_paid = along_exprs counted (λ f. FormPays) (λ x. PlacePays) (λ e. Pays) layer target_layer (λ x h b. h b x.ctype)
+  pub expr_paid : (e : Expr) → within e ≡ true → Paid (expr_nodes e) (weight e) (lower_expr globals.pointers e)
+  expr_paid e b =
+      (along_exprs counted (λ f. FormPays) (λ x. PlacePays) (λ e. Pays) (λ x h b. (layer x h b, form_read x h b)) target_layer
+      (λ x h b. let made = h b in (made.0 x.ctype, made.1)) e b).0

@@ -17,19 +17,19 @@ use Rattle.mv_lower_shape.proofs.Expressions.{allowed}
 use Rattle.mv_lower_shape.proofs.Statements as statements
 
 -- the number of temporaries
-abbrev pub room_of : Function → ℕ
-room_of g = max (length g.locals) (lower_body g).top
+abbrev pub room_of : (pointers : List ℕ) → Function → ℕ
+room_of pointers g = max (length g.locals) (lower_body pointers g).top
 
 abbrev pub body_nodes : Function → ℕ
 body_nodes g = sum (map stmt_nodes g.body)
 
 module _ (globals : Globals) (g : Function) (direct : ℕ → ℕ) (through : ℕ) (B : ℕ → ℕ → ℕ → ℕ → List Tree → List Stm → List Tree → Type 0)
-    (rules : (declared : ℕ → Bool) → Rules (allowed globals (length g.locals) (size_in g.locals) (room_of g) direct through declared) B) (blocks : BlockRules B) where
+    (rules : (declared : ℕ → Bool) → Rules (allowed globals (length g.locals) (size_in g.locals) (room_of globals.pointers g) direct through declared) B) (blocks : BlockRules B) where
   pub record FunctionPaid : Type 0 where
     pub units : ℕ
     pub words : ℕ
     pub nodes : ℕ
-    pub made : B units words nodes (function_weight direct through g) [] (lower_function_code g).code []
+    pub made : B units words nodes (function_weight direct through g) [] (lower_function_code globals.pointers g).code []
     pub few_units : units ≤ 6 * body_nodes g + 1
     pub few_nodes : nodes ≤ 9 * body_nodes g + 1
     pub few_words : words + 2 * nodes ≤ 40 * body_nodes g + 7
@@ -40,7 +40,7 @@ module _ (globals : Globals) (g : Function) (direct : ℕ → ℕ) (through : �
 
   pub function_paid : all_within (scopes_of globals g) (λ l. nat_lt l g.params) ≡ true → FunctionPaid
   function_paid b =
-      let p = statements.body_paid globals (length g.locals) (size_in g.locals) (is_void g.result) (room_of g) direct through B rules blocks g.body (λ l. nat_lt l g.params) b outermost (omega arith) in
+      let p = statements.body_paid globals (length g.locals) (size_in g.locals) (is_void g.result) (room_of globals.pointers g) direct through B rules blocks g.body (λ l. nat_lt l g.params) b outermost (omega arith) in
       record {
         units = p.units + 1;
         words = p.words + 1;

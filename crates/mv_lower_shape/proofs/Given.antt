@@ -15,10 +15,10 @@ use Rattle.mv_ir.specs.declared.stm.Callee.TheVariants as callee
 use Rattle.mv_ir.specs.Levels.{one_if}
 use Rattle.mv_ir.specs.Measures.{array_read}
 use Rattle.mv_ir.specs.WellFormed.{known_arguments}
-use Rattle.mv_lower_spec.specs.Lowered.{Lowered, Lowering, Arguments, number, temp, unary, global, set, set_global, divide, choose, read, write, truth, truth_in, is_empty, is_low, kept_if, first, second, lower_number, lower_local, lower_global, lower_function, lower_one, lower_two, lower_division, lower_both, lower_either, lower_choice, lower_set_local, lower_set_global, lower_all, lower_call_to, lower_call, but_last, last_of, lower_through, lower_known, index_in, lower_element, lower_read_element, lower_set_element}
+use Rattle.mv_lower_spec.specs.Lowered.{Lowered, Lowering, Arguments, number, temp, unary, global, set, set_global, divide, choose, read, write, truth, truth_in, is_empty, is_low, kept_if, first, second, lower_number, lower_local, lower_global, lower_function, lower_one, lower_two, lower_division, lower_both, lower_either, lower_choice, lower_set_local, lower_set_global, lower_all, lower_call_to, lower_call, but_last, last_of, lower_through, lower_switched, lower_known, index_in, lower_element, lower_read_element, lower_set_element}
 use Rattle.mv_lower_spec.proofs.Arguments.{trees_length}
 use Rattle.mv_lower_shape.proofs.Rules.{Allowed, Rules, Covers, IsPlain, IsAllowed, AllMay, result}
-use Rattle.mv_lower_shape.proofs.Plain.{plain_set, plain_set_global, plain_divide, plain_check, plain_read, plain_write, plain_call, plain_through, plain_known, covers_unary, covers_number, covers_function, covers_self, covers_then, covers_before, covers_swap, covers_twice}
+use Rattle.mv_lower_shape.proofs.Plain.{plain_set, plain_set_global, plain_divide, plain_check, plain_read, plain_write, plain_call, plain_through, plain_switched, plain_known, covers_unary, covers_number, covers_function, covers_self, covers_then, covers_before, covers_swap, covers_twice}
 use Rattle.mv_num.proofs.Booleans.{from_falsity}
 
 -- operators on one and on two trees
@@ -231,6 +231,13 @@ module _ (a : Allowed) (B : ℕ → ℕ → ℕ → ℕ → List Tree → List S
       let all = lower_all ls n in
       called void (callee.Direct f) all all.trees all.trees n le (omega (arith, top))
       (λ w may. plain_call a w f all.trees may (subst (λ m. nat_lt m 9 ≡ true) (sym (trees_length ls n)) few)) (h n le (omega (arith, top)))
+
+  pub gives_switched : {s w t k : ℕ} (void : Bool) (g : ℕ) (ls : List Lowering) → nat_lt (length ls) 9 ≡ true → a.named (array.Global g) ≡ true → a.arrays g ≡ true → AllGive s w t k ls →
+      Gives (s + 4) (w + 16) (t + 1) (k + a.through) (lower_switched void ls g)
+  gives_switched void g ls few may reads h n le top =
+      let all = lower_all ls n in
+      called void (callee.Switched g) all all.trees all.trees n le (omega (arith, top))
+      (λ w ok. plain_switched a w g all.trees ok may reads (subst (λ m. nat_lt m 9 ≡ true) (sym (trees_length ls n)) few)) (h n le (omega (arith, top)))
 
   pub gives_through : {s w t k : ℕ} (void : Bool) (ls : List Lowering) (l : Lowering) → nat_lt (length ls) 9 ≡ true → AllGive s w t k (ls ++ l ∷ []) → Gives (s + 4) (w + 16) (t + 1) (k + a.through) (lower_through void ls l)
   gives_through {s} {w} {t} {k} void ls l few h n le top =

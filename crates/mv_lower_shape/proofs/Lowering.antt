@@ -38,7 +38,7 @@ module _ (functions : FunctionsAreRight) (programs : ProgramsAreRight) (shallow 
   pub lowering_right : IsLowering p (lower_program p)
   lowering_right = record {
     program = refl;
-    means = λ numbers numbering input actions bound fit. programs p numbers formed numbering input actions bound fit;
+    means = λ numbers numbering hart input actions bound fit. programs p numbers formed numbering hart input actions bound fit;
     as_many = length-map p.functions (lower_function p);
     functions = λ f g b there here. subst (IsLoweredFunction p (lower_program p) f g) (body_is p f g b there here) (function_right f g there);
   }

@@ -58,6 +58,9 @@ module _ (a : Allowed) where
   pub plain_through : (t : Option ℕ) (f : Tree) (args : List Tree) → IsAllowed a t → nat_lt (length args) 9 ≡ true → IsPlain a (stm.Call t (callee.Through f) args) (f ∷ args) t a.through 4 16
   plain_through t f args h k = record { flows = λ u. refl; trees = refl; units = omega arith; allowed = omega arith; calls = refl; arguments = k; targets = λ r. refl; named = tt; arrays = tt; written = h }
 
+  pub plain_switched : (t : Option ℕ) (g : ℕ) (args : List Tree) → IsAllowed a t → MayName (array.Global g) → a.arrays g ≡ true → nat_lt (length args) 9 ≡ true → IsPlain a (stm.Call t (callee.Switched g) args) args t a.through 4 16
+  plain_switched t g args h k m few = record { flows = λ u. refl; trees = refl; units = omega arith; allowed = omega arith; calls = refl; arguments = few; targets = λ r. refl; named = (k, tt); arrays = (m, tt); written = h }
+
   pub plain_known : (t : ℕ) (f : Known) (args : List Tree) → a.temps t ≡ true → nat_eq (length args) (known_arguments f) ≡ true → IsPlain a (stm.Known (Some t) f args) args (Some t) 0 4 7
   plain_known t f args h k = record { flows = λ u. refl; trees = refl; units = omega arith; allowed = omega arith; calls = refl; arguments = k; targets = λ r. refl; named = tt; arrays = tt; written = h }
 

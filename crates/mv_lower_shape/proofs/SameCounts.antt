@@ -32,6 +32,7 @@ same_layers (stm.Break n) = refl
 same_layers (stm.Back n) = refl
 same_layers (stm.Call r (callee.Direct f) args) = refl
 same_layers (stm.Call r (callee.Through t) args) = refl
+same_layers (stm.Call r (callee.Switched g) args) = refl
 same_layers (stm.Known r k args) = refl
 same_layers (stm.Return v) = refl
 

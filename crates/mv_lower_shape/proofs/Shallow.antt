@@ -61,25 +61,25 @@ shallow_zeros : (size : Option ℕ) (l i n : ℕ) → ShallowCode (store_zeros s
 shallow_zeros size l i zero = tt
 shallow_zeros size l i (suc n) = both_parts (store_word size l i (number 0) ∷ []) (store_zeros size l (suc i) n) (shallow_word size l i (number 0) (small_number 0)) (shallow_zeros size l (suc i) n)
 
-module _ (locals : ℕ) where
-  shallow_values : (size : Option ℕ) (l i : ℕ) (es : List Expr) → ShallowCode (store_values locals size l i (map lower_expr es))
+module _ (pointers : List ℕ) (locals : ℕ) where
+  shallow_values : (size : Option ℕ) (l i : ℕ) (es : List Expr) → ShallowCode (store_values locals size l i (map (lower_expr pointers) es))
   shallow_values size l i [] = tt
   shallow_values size l i (e ∷ es) =
-      let h = expr_shallow e locals in
-      let word = store_word size l i (lower_expr e locals).tree in
-      let more = store_values locals size l (suc i) (map lower_expr es) in
-      both_parts (lower_expr e locals).code (word ∷ more) h.code (both_parts (word ∷ []) more (shallow_word size l i (lower_expr e locals).tree h.tree) (shallow_values size l (suc i) es))
+      let h = expr_shallow pointers e locals in
+      let word = store_word size l i (lower_expr pointers e locals).tree in
+      let more = store_values locals size l (suc i) (map (lower_expr pointers) es) in
+      both_parts (lower_expr pointers e locals).code (word ∷ more) h.code (both_parts (word ∷ []) more (shallow_word size l i (lower_expr pointers e locals).tree h.tree) (shallow_values size l (suc i) es))
 
-  shallow_clear : (size : Option ℕ) (l : ℕ) (itself : Bool) (es : List Expr) (j : Jumps) → ShallowCode (lower_clear locals size l itself (map lower_expr es) j).code
+  shallow_clear : (size : Option ℕ) (l : ℕ) (itself : Bool) (es : List Expr) (j : Jumps) → ShallowCode (lower_clear locals size l itself (map (lower_expr pointers) es) j).code
   shallow_clear size l itself es j =
-      by (itself || nat_le (8 * words_of_size size) (92 * (words_of_size size - length (map lower_expr es))))
-      (both_parts (clear_words size l ∷ []) stores (shallow_cleared size l) (shallow_values size l 0 es)) (both_parts stores zeros (shallow_values size l 0 es) (shallow_zeros size l (length (map lower_expr es)) (words_of_size size - length (map lower_expr es))))
+      by (itself || nat_le (8 * words_of_size size) (92 * (words_of_size size - length (map (lower_expr pointers) es))))
+      (both_parts (clear_words size l ∷ []) stores (shallow_cleared size l) (shallow_values size l 0 es)) (both_parts stores zeros (shallow_values size l 0 es) (shallow_zeros size l (length (map (lower_expr pointers) es)) (words_of_size size - length (map (lower_expr pointers) es))))
     where
       stores : List Stm
-      stores = store_values locals size l 0 (map lower_expr es)
+      stores = store_values locals size l 0 (map (lower_expr pointers) es)
 
       zeros : List Stm
-      zeros = store_zeros size l (length (map lower_expr es)) (words_of_size size - length (map lower_expr es))
+      zeros = store_zeros size l (length (map (lower_expr pointers) es)) (words_of_size size - length (map (lower_expr pointers) es))
 
       by : (z : Bool) → ShallowCode (clear_words size l ∷ stores) → ShallowCode (stores ++ zeros) → ShallowCode (cond z (clear_words size l ∷ stores) (stores ++ zeros))
       by true h k = h
@@ -123,66 +123,66 @@ module _ (locals : ℕ) where
 
   module _ (sizes : ℕ → Option ℕ) (void : Bool) where
     abbrev S : Stmt → Type 0
-    S s = (j : Jumps) → ShallowCode (lower_stmt locals sizes void s j).code
+    S s = (j : Jumps) → ShallowCode (lower_stmt pointers locals sizes void s j).code
 
     abbrev A : Arm → Type 0
-    A a = (j : Jumps) → ShallowCode ((lower_arm locals sizes void a).body j).code
+    A a = (j : Jumps) → ShallowCode ((lower_arm pointers locals sizes void a).body j).code
 
-    open sequences locals sizes void use {lowered, arms_lowered}
+    open sequences pointers locals sizes void use {lowered, arms_lowered}
 
     all_shallow : (body : List Stmt) → Each S body → (j : Jumps) → ShallowCode (lowered body j).code
     all_shallow [] h j = tt
-    all_shallow (s ∷ body) h j = both_parts (lower_stmt locals sizes void s j).code (lowered body j).code (h.0 j) (all_shallow body h.1 j)
+    all_shallow (s ∷ body) h j = both_parts (lower_stmt pointers locals sizes void s j).code (lowered body j).code (h.0 j) (all_shallow body h.1 j)
 
     each_arm : (arms : List Arm) → Each A arms → Each (λ (a : LoweredArm). (k : Jumps) → ShallowCode (a.body k).code) (arms_lowered arms)
     each_arm [] h = tt
     each_arm (a ∷ arms) h = (h.0, each_arm arms h.1)
 
-    optional : (v : ℕ) (e : Option Expr) → ShallowLowered (lower_optional v e locals)
+    optional : (v : ℕ) (e : Option Expr) → ShallowLowered (lower_optional pointers v e locals)
     optional v None = record { code = tt; tree = small_number v }
-    optional v (Some e) = expr_shallow e locals
+    optional v (Some e) = expr_shallow pointers e locals
 
     test_and : (l : Lowering) (body : List Stm) → ShallowLowered (l locals) → ShallowCode body → ShallowCode (test_and_body locals l body)
     test_and l body h k =
         both_parts (l locals).code (choose (l locals).tree body (break 0 ∷ []) ∷ []) h.code (shallow_choose (l locals).tree body (break 0 ∷ []) h.tree k (shallow_break 0))
 
-    layer : (x : Stmt-F Stmt Arm) → StmtChildren S A x → (j : Jumps) → ShallowCode ((lowered_stmts locals sizes void).stmt_layer x j).code
+    layer : (x : Stmt-F Stmt Arm) → StmtChildren S A x → (j : Jumps) → ShallowCode ((lowered_stmts pointers locals sizes void).stmt_layer x j).code
     layer (stmt.Block body) h j = all_shallow body h j
     layer (stmt.Clear l values) h j = shallow_clear (sizes l) l (any_of (map (names_local l) values)) values j
-    layer (stmt.Express e) h j = (expr_shallow e locals).code
+    layer (stmt.Express e) h j = (expr_shallow pointers e locals).code
     layer (stmt.If e yes_part no_part) h j =
-        let x = expr_shallow e locals in
+        let x = expr_shallow pointers e locals in
         let yes = (lowered yes_part j).code in
         let other = (lowered no_part j).code in
-        both_parts (lower_expr e locals).code (choose (lower_expr e locals).tree yes other ∷ []) x.code (shallow_choose (lower_expr e locals).tree yes other x.tree (all_shallow yes_part h.0 j) (all_shallow no_part h.1 j))
+        both_parts (lower_expr pointers e locals).code (choose (lower_expr pointers e locals).tree yes other ∷ []) x.code (shallow_choose (lower_expr pointers e locals).tree yes other x.tree (all_shallow yes_part h.0 j) (all_shallow no_part h.1 j))
     layer (stmt.While e body) h j =
         let code = (lowered body (in_body j)).code in
-        shallow_loop (test_and_body locals (lower_expr e) (enclosed code ∷ [])) (test_and (lower_expr e) (enclosed code ∷ []) (expr_shallow e locals) (shallow_block code (all_shallow body h (in_body j))))
+        shallow_loop (test_and_body locals (lower_expr pointers e) (enclosed code ∷ [])) (test_and (lower_expr pointers e) (enclosed code ∷ []) (expr_shallow pointers e locals) (shallow_block code (all_shallow body h (in_body j))))
     layer (stmt.Do body e) h j =
         let code = (lowered body (in_body j)).code in
-        let test = test_and_body locals (lower_expr e) [] in
-        shallow_loop (enclosed code ∷ test) (both_parts (enclosed code ∷ []) test (shallow_block code (all_shallow body h (in_body j))) (test_and (lower_expr e) [] (expr_shallow e locals) tt))
+        let test = test_and_body locals (lower_expr pointers e) [] in
+        shallow_loop (enclosed code ∷ test) (both_parts (enclosed code ∷ []) test (shallow_block code (all_shallow body h (in_body j))) (test_and (lower_expr pointers e) [] (expr_shallow pointers e locals) tt))
     layer (stmt.For first test step body) h j =
         let code = (lowered body (in_body j)).code in
-        let tested = test_and_body locals (lower_optional 1 test) (enclosed code ∷ []) in
-        let stepped = (lower_optional 0 step locals).code in
+        let tested = test_and_body locals (lower_optional pointers 1 test) (enclosed code ∷ []) in
+        let stepped = (lower_optional pointers 0 step locals).code in
         both_parts (lowered first j).code (repeat (tested ++ stepped) ∷ []) (all_shallow first h.0 j)
-        (shallow_loop (tested ++ stepped) (both_parts tested stepped (test_and (lower_optional 1 test) (enclosed code ∷ []) (optional 1 test) (shallow_block code (all_shallow body h.1 (in_body j)))) (optional 0 step).code))
+        (shallow_loop (tested ++ stepped) (both_parts tested stepped (test_and (lower_optional pointers 1 test) (enclosed code ∷ []) (optional 1 test) (shallow_block code (all_shallow body h.1 (in_body j)))) (optional 0 step).code))
     layer (stmt.Switch e arms) h j =
-        let x = expr_shallow e locals in
-        let t = (lower_expr e locals).tree in
+        let x = expr_shallow pointers e locals in
+        let t = (lower_expr pointers e locals).tree in
         let ls = arms_lowered arms in
         let whole = enclosed (all_tests locals ls) ∷ arms_code locals 0 ls j in
-        both_parts (lower_expr e locals).code (set locals t ∷ enclosed whole ∷ []) x.code
+        both_parts (lower_expr pointers e locals).code (set locals t ∷ enclosed whole ∷ []) x.code
         (both_parts (set locals t ∷ []) (enclosed whole ∷ []) (shallow_set locals t x.tree)
         (shallow_block whole (both_parts (enclosed (all_tests locals ls) ∷ []) (arms_code locals 0 ls j) (shallow_block (all_tests locals ls) (tests_shallow ls)) (all_arms_shallow 0 ls j (each_arm arms h)))))
     layer stmt.Break h j = shallow_break j.leave
     layer stmt.Continue h j = shallow_break j.again
     layer (stmt.Return None) h j = shallow_break j.around
     layer (stmt.Return (Some e)) h j =
-        let x = expr_shallow e locals in
-        both_parts (lower_expr e locals).code (return_with (lower_expr e locals).tree ∷ []) x.code (shallow_return (lower_expr e locals).tree x.tree)
+        let x = expr_shallow pointers e locals in
+        both_parts (lower_expr pointers e locals).code (return_with (lower_expr pointers e locals).tree ∷ []) x.code (shallow_return (lower_expr pointers e locals).tree x.tree)
 
     pub body_shallow : (body : List Stmt) (j : Jumps) → ShallowCode (lowered body j).code
     body_shallow body =
-        all_shallow body (along_stmts (lowered_stmts locals sizes void) (λ s l. (j : Jumps) → ShallowCode (l j).code) (λ a l. (j : Jumps) → ShallowCode (l.body j).code) layer (λ x h. all_shallow x.body h) body)
+        all_shallow body (along_stmts (lowered_stmts pointers locals sizes void) (λ s l. (j : Jumps) → ShallowCode (l j).code) (λ a l. (j : Jumps) → ShallowCode (l.body j).code) layer (λ x h. all_shallow x.body h) body)

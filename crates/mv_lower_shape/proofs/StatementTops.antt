@@ -24,10 +24,10 @@ abbrev arm_depth : Arm → ℕ
 arm_depth = fold-Arm ℕ ℕ depth_layer arm_depth_layer
 
 module _ (globals : Globals) (locals : ℕ) (sizes : ℕ → Option ℕ) (void : Bool) where
-  open sequences locals sizes void use {lowered, arms_lowered}
+  open sequences globals.pointers locals sizes void use {lowered, arms_lowered}
   open limits_of globals locals sizes use {scopes, within}
 
-  value_top : (declared : ℕ → Bool) (e : Expr) → within declared e ≡ true → (lower_expr e locals).top ≤ locals + 8 * expr_depth e
+  value_top : (declared : ℕ → Bool) (e : Expr) → within declared e ≡ true → (lower_expr globals.pointers e locals).top ≤ locals + 8 * expr_depth e
   value_top declared e b = (expr_top globals locals sizes declared e).top b locals
 
   deep : (e : Expr) → 1 ≤ expr_depth e
@@ -57,7 +57,7 @@ module _ (globals : Globals) (locals : ℕ) (sizes : ℕ → Option ℕ) (void :
       let l = all_top body h.1 (scope.behind declared) bs.1 j in
       omega (arith, k, l)
 
-  all_values_top : (declared : ℕ → Bool) (es : List Expr) → all_exprs_within globals locals sizes es declared ≡ true → values_top locals (map lower_expr es) ≤ locals + 8 * greatest (map expr_depth es)
+  all_values_top : (declared : ℕ → Bool) (es : List Expr) → all_exprs_within globals locals sizes es declared ≡ true → values_top locals (map (lower_expr globals.pointers) es) ≤ locals + 8 * greatest (map expr_depth es)
   all_values_top declared [] b = omega arith
   all_values_top declared (e ∷ es) b =
       let bs = and_cases (within declared e) (all_exprs_within globals locals sizes es declared) b in
@@ -74,7 +74,7 @@ module _ (globals : Globals) (locals : ℕ) (sizes : ℕ → Option ℕ) (void :
       let l = all_arms_top arms h.1 declared bs.1 j in
       omega (arith, k, l)
 
-  optional_top : (v : ℕ) (e : Option Expr) (declared : ℕ → Bool) → optional_within globals locals sizes e declared ≡ true → (lower_optional v e locals).top ≤ locals + 8 * greatest (map expr_depth (option_to_list e))
+  optional_top : (v : ℕ) (e : Option Expr) (declared : ℕ → Bool) → optional_within globals locals sizes e declared ≡ true → (lower_optional globals.pointers v e locals).top ≤ locals + 8 * greatest (map expr_depth (option_to_list e))
   optional_top v None declared b = omega arith
   optional_top v (Some e) declared b = let k = value_top declared e b in omega (arith, k)
 

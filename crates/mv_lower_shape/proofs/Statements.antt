@@ -42,10 +42,10 @@ module _ (globals : Globals) (locals : ℕ) (sizes : ℕ → Option ℕ) (void :
   r = rules all
 
   open paying locals direct through B use {weight, ValuePaid, CodePaid, StmtPaid}
-  open sequences locals sizes void use {lowered, arms_lowered}
+  open sequences globals.pointers locals sizes void use {lowered, arms_lowered}
   open limits_of globals locals sizes use {scopes}
 
-  value : (declared : ℕ → Bool) (e : Expr) → is_within globals locals sizes declared e ≡ true → (lower_expr e locals).top ≤ room → ValuePaid (expr_nodes e) (weight e) (lower_expr e)
+  value : (declared : ℕ → Bool) (e : Expr) → is_within globals locals sizes declared e ≡ true → (lower_expr globals.pointers e locals).top ≤ room → ValuePaid (expr_nodes e) (weight e) (lower_expr globals.pointers e)
   value declared = clears.value globals locals sizes room direct through declared B (rules declared)
 
   code_as : {n k n' k' : ℕ} {xs : List Stm} → n ≤ n' → k ≡ k' → CodePaid n k xs → CodePaid n' k' xs
@@ -207,8 +207,8 @@ module _ (globals : Globals) (locals : ℕ) (sizes : ℕ → Option ℕ) (void :
       }
 
   switch_paid : (e : Expr) (arms : List Arm) → Each A arms → (declared : ℕ → Bool) → is_within globals locals sizes declared e ≡ true →
-      arms_within (map (arm_scope globals locals sizes) arms) declared ≡ true → (j : Jumps) → (lower_switch locals (lower_expr e) (arms_lowered arms) j).top ≤ room →
-      StmtPaid (1 + (expr_nodes e + sum (map arm_nodes arms))) (weight e + sum (map (arm_weight direct through) arms)) (lower_switch locals (lower_expr e) (arms_lowered arms) j).code
+      arms_within (map (arm_scope globals locals sizes) arms) declared ≡ true → (j : Jumps) → (lower_switch locals (lower_expr globals.pointers e) (arms_lowered arms) j).top ≤ room →
+      StmtPaid (1 + (expr_nodes e + sum (map arm_nodes arms))) (weight e + sum (map (arm_weight direct through) arms)) (lower_switch locals (lower_expr globals.pointers e) (arms_lowered arms) j).code
   switch_paid e arms h declared be b j top =
       let there : locals < room = omega (arith, top) in
       let p = value declared e be (omega (arith, top)) in
@@ -216,7 +216,7 @@ module _ (globals : Globals) (locals : ℕ) (sizes : ℕ → Option ℕ) (void :
       let q = arms_paid there 0 arms h declared b j (omega (arith, top)) in
       let whole = blocks.block (r.chain (blocks.block (all_tests_paid there ls)) q.made) in
       stmt_paid (p.units + (1 + (3 * labels_of ls + 1 + 1 + q.units + 1))) (p.words + (1 + (5 * labels_of ls + 1 + q.words))) (p.nodes + (4 * labels_of ls + 1 + q.nodes))
-      (r.weaken (omega arith) (omega arith) (omega arith) (omega arith) (r.chain p.made (r.chain (r.drops (plain_set a locals (lower_expr e locals).tree (scratch_used locals sizes room locals (omega arith) there))) whole)))
+      (r.weaken (omega arith) (omega arith) (omega arith) (omega arith) (r.chain p.made (r.chain (r.drops (plain_set a locals (lower_expr globals.pointers e locals).tree (scratch_used locals sizes room locals (omega arith) there))) whole)))
       (omega (arith, p.few_units, q.few_units)) (omega (arith, p.few_nodes, q.few_nodes)) (omega (arith, p.few_words, q.few_words))
 
   -- ---- each form
@@ -231,15 +231,15 @@ module _ (globals : Globals) (locals : ℕ) (sizes : ℕ → Option ℕ) (void :
     few_nodes : nodes ≤ 9 * sum (map expr_nodes (option_to_list e)) + 1
     few_words : words + 2 * nodes ≤ 40 * sum (map expr_nodes (option_to_list e)) + 2
 
-  optional_paid : (v : ℕ) (e : Option Expr) (declared : ℕ → Bool) → optional_within globals locals sizes e declared ≡ true → (lower_optional v e locals).top ≤ room → OptionalPaid e (lower_optional v e)
+  optional_paid : (v : ℕ) (e : Option Expr) (declared : ℕ → Bool) → optional_within globals locals sizes e declared ≡ true → (lower_optional globals.pointers v e locals).top ≤ room → OptionalPaid e (lower_optional globals.pointers v e)
   optional_paid v None declared b top = record { units = 0; words = 0; nodes = 1; made = r.retree (covers_number v); few_units = omega arith; few_nodes = omega arith; few_words = omega arith }
   optional_paid v (Some e) declared b top =
       let p = value declared e b top in
       record { units = p.units; words = p.words; nodes = p.nodes; made = r.weaken (omega arith) (omega arith) (omega arith) (omega arith) p.made; few_units = omega (arith, p.few_units); few_nodes = omega (arith, p.few_nodes); few_words = omega (arith, p.few_words) }
 
   -- one that is evaluated for its effect
-  effect_paid : (v : ℕ) (e : Option Expr) (declared : ℕ → Bool) → optional_within globals locals sizes e declared ≡ true → (lower_optional v e locals).top ≤ room →
-      CodePaid (sum (map expr_nodes (option_to_list e))) (sum (map weight (option_to_list e))) (lower_optional v e locals).code
+  effect_paid : (v : ℕ) (e : Option Expr) (declared : ℕ → Bool) → optional_within globals locals sizes e declared ≡ true → (lower_optional globals.pointers v e locals).top ≤ room →
+      CodePaid (sum (map expr_nodes (option_to_list e))) (sum (map weight (option_to_list e))) (lower_optional globals.pointers v e locals).code
   effect_paid v None declared b top = nothing
   effect_paid v (Some e) declared b top =
       let p = value declared e b top in
@@ -270,21 +270,21 @@ module _ (globals : Globals) (locals : ℕ) (sizes : ℕ → Option ℕ) (void :
       let n = sum_append (map stmt_nodes yes_part) (map stmt_nodes no_part) in
       let w = sum_append (map (stmt_weight direct through) yes_part) (map (stmt_weight direct through) no_part) in
       stmt_paid (p.units + (yes.units + other.units + 1)) (p.words + (yes.words + other.words + 3)) (p.nodes + (yes.nodes + other.nodes))
-      (r.weaken (omega arith) (omega arith) (omega arith) (omega (arith, w)) (r.chain p.made (r.choose (lower_expr e locals).tree yes.made other.made)))
+      (r.weaken (omega arith) (omega arith) (omega arith) (omega (arith, w)) (r.chain p.made (r.choose (lower_expr globals.pointers e locals).tree yes.made other.made)))
       (omega (arith, p.few_units, yes.few_units, other.few_units, n)) (omega (arith, p.few_nodes, yes.few_nodes, other.few_nodes, n)) (omega (arith, p.few_words, yes.few_words, other.few_words, n))
   layer (stmt.While e body) h declared b j top =
       let bs = and_cases (is_within globals locals sizes declared e) (all_within (scopes body) declared) b in
       let p = value declared e bs.0 (omega (arith, top)) in
       let q = all_paid body h declared bs.1 (in_body j) (omega (arith, top)) in
       stmt_paid (p.units + (q.units + 1 + 1 + 1) + 1) (p.words + (q.words + 1 + 3) + 1) (p.nodes + q.nodes)
-      (r.weaken (omega arith) (omega arith) (omega arith) (omega arith) (blocks.turns (test_paid (lower_expr e) p.made (blocks.block q.made))))
+      (r.weaken (omega arith) (omega arith) (omega arith) (omega arith) (blocks.turns (test_paid (lower_expr globals.pointers e) p.made (blocks.block q.made))))
       (omega (arith, p.few_units, q.few_units)) (omega (arith, p.few_nodes, q.few_nodes)) (omega (arith, p.few_words, q.few_words))
   layer (stmt.Do body e) h declared b j top =
       let bs = and_cases (is_within globals locals sizes declared e) (all_within (scopes body) declared) b in
       let p = value declared e bs.0 (omega (arith, top)) in
       let q = all_paid body h declared bs.1 (in_body j) (omega (arith, top)) in
       stmt_paid (q.units + 1 + (p.units + (0 + 1 + 1)) + 1) (q.words + (p.words + (0 + 1 + 3)) + 1) (q.nodes + (p.nodes + 0))
-      (r.weaken (omega arith) (omega arith) (omega arith) (omega arith) (blocks.turns (r.chain (blocks.block q.made) (test_paid (lower_expr e) p.made (r.retree (covers_none []))))))
+      (r.weaken (omega arith) (omega arith) (omega arith) (omega arith) (blocks.turns (r.chain (blocks.block q.made) (test_paid (lower_expr globals.pointers e) p.made (r.retree (covers_none []))))))
       (omega (arith, p.few_units, q.few_units)) (omega (arith, p.few_nodes, q.few_nodes)) (omega (arith, p.few_words, q.few_words))
   layer (stmt.For first test step body) h declared b j top =
       let inside = all_behind (scopes first) declared in
@@ -303,7 +303,7 @@ module _ (globals : Globals) (locals : ℕ) (sizes : ℕ → Option ℕ) (void :
       let w' = ap sum (map_append weight (option_to_list test) (option_to_list step)) ∙ sum_append (map weight (option_to_list test)) (map weight (option_to_list step)) in
       stmt_paid (begun.units + (tested.units + (turn.units + 1 + 1 + 1) + stepped.units + 1)) (begun.words + (tested.words + (turn.words + 1 + 3) + stepped.words + 1)) (begun.nodes + (tested.nodes + turn.nodes + stepped.nodes))
       (r.weaken (omega arith) (omega arith) (omega arith) (omega (arith, w, w'))
-      (r.chain begun.made (blocks.turns (r.chain (test_paid (lower_optional 1 test) tested.made (blocks.block turn.made)) stepped.made))))
+      (r.chain begun.made (blocks.turns (r.chain (test_paid (lower_optional globals.pointers 1 test) tested.made (blocks.block turn.made)) stepped.made))))
       (omega (arith, begun.few_units, tested.few_units, stepped.few_units, turn.few_units, n, n'))
       (omega (arith, begun.few_nodes, tested.few_nodes, stepped.few_nodes, turn.few_nodes, n, n')) (omega (arith, begun.few_words, tested.few_words, stepped.few_words, turn.few_words, n, n'))
   layer (stmt.Switch e arms) h declared b j top =
@@ -314,7 +314,7 @@ module _ (globals : Globals) (locals : ℕ) (sizes : ℕ → Option ℕ) (void :
   layer (stmt.Return None) h declared b j top = stmt_paid 1 1 0 (r.weaken (omega arith) (omega arith) (omega arith) (omega arith) (blocks.leaves j.around)) (omega arith) (omega arith) (omega arith)
   layer (stmt.Return (Some e)) h declared b j top =
       let p = value declared e b top in
-      stmt_paid (p.units + 1) (p.words + 1) (p.nodes + 0) (r.weaken (omega arith) (omega arith) (omega arith) (omega arith) (r.chain p.made (blocks.returns (lower_expr e locals).tree)))
+      stmt_paid (p.units + 1) (p.words + 1) (p.nodes + 0) (r.weaken (omega arith) (omega arith) (omega arith) (omega arith) (r.chain p.made (blocks.returns (lower_expr globals.pointers e locals).tree)))
       (omega (arith, p.few_units)) (omega (arith, p.few_nodes)) (omega (arith, p.few_words))
 
   -- statements that are within the limits

@@ -86,18 +86,18 @@ leads_in_arm : (u v : Bool) (j : Jumps) (r : List Bool) → Leads u v j r → Le
 leads_in_arm u v j r h = record { leave = λ e. omega arith; again = λ e. (let k = h.again e in omega (arith, k)); around = let k = h.around in omega (arith, k) }
 
 module _ (globals : Globals) (locals : ℕ) (sizes : ℕ → Option ℕ) (void : Bool) where
-  open sequences locals sizes void use {lowered, arms_lowered}
+  open sequences globals.pointers locals sizes void use {lowered, arms_lowered}
   open limits_of globals locals sizes use {scopes}
 
   abbrev none : ℕ → ℕ
   none f = 0
 
-  value : (declared : ℕ → Bool) (e : Expr) → is_within globals locals sizes declared e ≡ true → (r : List Bool) → HasTargets r (lower_expr e locals).code
+  value : (declared : ℕ → Bool) (e : Expr) → is_within globals locals sizes declared e ≡ true → (r : List Bool) → HasTargets r (lower_expr globals.pointers e locals).code
   value declared e b =
-      let room = (lower_expr e locals).top in
+      let room = (lower_expr globals.pointers e locals).top in
       (clears.value globals locals sizes room none 0 declared Jumpless (jumpless_rules (allowed globals locals sizes room none 0 declared)) e b (omega arith)).made.targets
 
-  optional : (v : ℕ) (declared : ℕ → Bool) (e : Option Expr) → optional_within globals locals sizes e declared ≡ true → (r : List Bool) → HasTargets r (lower_optional v e locals).code
+  optional : (v : ℕ) (declared : ℕ → Bool) (e : Option Expr) → optional_within globals locals sizes e declared ≡ true → (r : List Bool) → HasTargets r (lower_optional globals.pointers v e locals).code
   optional v declared None b r = refl
   optional v declared (Some e) b r = value declared e b r
 
@@ -125,7 +125,7 @@ module _ (globals : Globals) (locals : ℕ) (sizes : ℕ → Option ℕ) (void :
       let scope = stmt_scope globals locals sizes s in
       let bs = and_cases (scope.within declared) (all_within (scopes body) (scope.behind declared)) b in
       let ls = and_cases (stmt_jumps s u v) (leading body u v) l in
-      targets_append r (lower_stmt locals sizes void s j).code (lowered body j).code (h.0 declared bs.0 u v ls.0 j r k) (all_targets body h.1 (scope.behind declared) bs.1 u v ls.1 j r k)
+      targets_append r (lower_stmt globals.pointers locals sizes void s j).code (lowered body j).code (h.0 declared bs.0 u v ls.0 j r k) (all_targets body h.1 (scope.behind declared) bs.1 u v ls.1 j r k)
 
   -- ---- `switch`
 
@@ -155,7 +155,7 @@ module _ (globals : Globals) (locals : ℕ) (sizes : ℕ → Option ℕ) (void :
   arms_targets i (arm ∷ arms) h declared b u v l j r k =
       let bs = and_cases (arm_scope globals locals sizes arm declared) (arms_within (map (arm_scope globals locals sizes) arms) declared) b in
       let ls = and_cases (arm_jumps arm true v) (all_jump (map arm_jumps arms) true v) l in
-      let body = ((lower_arm locals sizes void arm).body (in_arm j)).code in
+      let body = ((lower_arm globals.pointers locals sizes void arm).body (in_arm j)).code in
       targets_append (false ∷ r) (arm_code locals i body) (arms_code locals (suc i) (arms_lowered arms) j)
       (arm_targets i body (false ∷ r) (h.0 declared bs.0 true v ls.0 (in_arm j) (false ∷ r) (leads_in_arm u v j r k))) (arms_targets (suc i) arms h.1 declared bs.1 u v ls.1 j r k)
 
@@ -176,7 +176,7 @@ module _ (globals : Globals) (locals : ℕ) (sizes : ℕ → Option ℕ) (void :
       let itself = any_of (map (names_local m) values) in
       let known = cond itself (with_local m declared) declared in
       let bs = and_cases (nat_lt m locals) (all_exprs_within globals locals sizes values known) b in
-      let room = values_top locals (map lower_expr values) in
+      let room = values_top locals (map (lower_expr globals.pointers) values) in
       (clears.cleared globals locals sizes room none 0 known Jumpless (jumpless_rules (allowed globals locals sizes room none 0 known)) m bs.0 (sizes m) refl itself values j bs.1 (omega arith)).made.targets r
   layer (stmt.Express e) h declared b u v l j r k = value declared e b r
   layer (stmt.If e yes_part no_part) h declared b u v l j r k =
@@ -185,18 +185,18 @@ module _ (globals : Globals) (locals : ℕ) (sizes : ℕ → Option ℕ) (void :
       let ls = and_cases (leading yes_part u v) (leading no_part u v) l in
       let yes = (lowered yes_part j).code in
       let other = (lowered no_part j).code in
-      targets_append r (lower_expr e locals).code (choose (lower_expr e locals).tree yes other ∷ []) (value declared e bs.0 r)
-      (choose_targets r (lower_expr e locals).tree yes other (all_targets yes_part h.0 declared cs.0 u v ls.0 j r k) (all_targets no_part h.1 declared cs.1 u v ls.1 j r k))
+      targets_append r (lower_expr globals.pointers e locals).code (choose (lower_expr globals.pointers e locals).tree yes other ∷ []) (value declared e bs.0 r)
+      (choose_targets r (lower_expr globals.pointers e locals).tree yes other (all_targets yes_part h.0 declared cs.0 u v ls.0 j r k) (all_targets no_part h.1 declared cs.1 u v ls.1 j r k))
   layer (stmt.While e body) h declared b u v l j r k =
       let bs = and_cases (is_within globals locals sizes declared e) (all_within (scopes body) declared) b in
-      targets_one r (stm.Loop (test_and_body locals (lower_expr e) (enclosed (lowered body (in_body j)).code ∷ [])))
-      (test_targets (lower_expr e) (enclosed (lowered body (in_body j)).code ∷ []) (true ∷ r) (omega arith) (value declared e bs.0 (true ∷ r)) (body_targets body h declared bs.1 u v l j r k))
+      targets_one r (stm.Loop (test_and_body locals (lower_expr globals.pointers e) (enclosed (lowered body (in_body j)).code ∷ [])))
+      (test_targets (lower_expr globals.pointers e) (enclosed (lowered body (in_body j)).code ∷ []) (true ∷ r) (omega arith) (value declared e bs.0 (true ∷ r)) (body_targets body h declared bs.1 u v l j r k))
   layer (stmt.Do body e) h declared b u v l j r k =
       let bs = and_cases (is_within globals locals sizes declared e) (all_within (scopes body) declared) b in
       let code = (lowered body (in_body j)).code in
-      let test = test_and_body locals (lower_expr e) [] in
+      let test = test_and_body locals (lower_expr globals.pointers e) [] in
       targets_one r (stm.Loop (enclosed code ∷ test))
-      (targets_append (true ∷ r) (enclosed code ∷ []) test (body_targets body h declared bs.1 u v l j r k) (test_targets (lower_expr e) [] (true ∷ r) (omega arith) (value declared e bs.0 (true ∷ r)) refl))
+      (targets_append (true ∷ r) (enclosed code ∷ []) test (body_targets body h declared bs.1 u v l j r k) (test_targets (lower_expr globals.pointers e) [] (true ∷ r) (omega arith) (value declared e bs.0 (true ∷ r)) refl))
   layer (stmt.For first test step body) h declared b u v l j r k =
       let inside = all_behind (scopes first) declared in
       let may_test = optional_within globals locals sizes test inside in
@@ -206,12 +206,12 @@ module _ (globals : Globals) (locals : ℕ) (sizes : ℕ → Option ℕ) (void :
       let b2 = and_cases may_step (all_within (scopes body) inside) b1.1 in
       let ls = and_cases (leading first u v) (leading body true true) l in
       let code = (lowered body (in_body j)).code in
-      let tested = test_and_body locals (lower_optional 1 test) (enclosed code ∷ []) in
-      let stepped = (lower_optional 0 step locals).code in
+      let tested = test_and_body locals (lower_optional globals.pointers 1 test) (enclosed code ∷ []) in
+      let stepped = (lower_optional globals.pointers 0 step locals).code in
       targets_append r (lowered first j).code (repeat (tested ++ stepped) ∷ []) (all_targets first h.0 declared b0.0 u v ls.0 j r k)
       (targets_one r (stm.Loop (tested ++ stepped))
       (targets_append (true ∷ r) tested stepped
-      (test_targets (lower_optional 1 test) (enclosed code ∷ []) (true ∷ r) (omega arith) (optional 1 inside test b1.0 (true ∷ r)) (body_targets body h.1 inside b2.1 u v ls.1 j r k)) (optional 0 inside step b2.0 (true ∷ r))))
+      (test_targets (lower_optional globals.pointers 1 test) (enclosed code ∷ []) (true ∷ r) (omega arith) (optional 1 inside test b1.0 (true ∷ r)) (body_targets body h.1 inside b2.1 u v ls.1 j r k)) (optional 0 inside step b2.0 (true ∷ r))))
   layer (stmt.Switch e arms) h declared b u v l j r k =
       let scoped = map (arm_scope globals locals sizes) arms in
       let bs = and_cases (is_within globals locals sizes declared e) (arms_within scoped declared) b in
@@ -219,8 +219,8 @@ module _ (globals : Globals) (locals : ℕ) (sizes : ℕ → Option ℕ) (void :
       let place = arm_place (λ (a : LoweredArm). a.other) 0 ls in
       let tested = all_tests locals ls in
       let whole = enclosed tested ∷ arms_code locals 0 ls j in
-      let t = (lower_expr e locals).tree in
-      targets_append r (lower_expr e locals).code (set locals t ∷ enclosed whole ∷ []) (value declared e bs.0 r)
+      let t = (lower_expr globals.pointers e locals).tree in
+      targets_append r (lower_expr globals.pointers e locals).code (set locals t ∷ enclosed whole ∷ []) (value declared e bs.0 r)
       (targets_append r (set locals t ∷ []) (enclosed whole ∷ []) (targets_one r (stm.Set locals t) refl)
       (targets_one r (stm.Block whole)
       (targets_append (false ∷ r) (enclosed tested ∷ []) (arms_code locals 0 ls j)
@@ -230,7 +230,7 @@ module _ (globals : Globals) (locals : ℕ) (sizes : ℕ → Option ℕ) (void :
   layer stmt.Continue h declared b u v l j r k = break_target r j.again (k.again l)
   layer (stmt.Return None) h declared b u v l j r k = break_target r j.around k.around
   layer (stmt.Return (Some e)) h declared b u v l j r k =
-      targets_append r (lower_expr e locals).code (return_with (lower_expr e locals).tree ∷ []) (value declared e b r) (targets_one r (stm.Return (lower_expr e locals).tree) refl)
+      targets_append r (lower_expr globals.pointers e locals).code (return_with (lower_expr globals.pointers e locals).tree ∷ []) (value declared e b r) (targets_one r (stm.Return (lower_expr globals.pointers e locals).tree) refl)
 
   pub code_targets : (body : List Stmt) (declared : ℕ → Bool) → all_within (scopes body) declared ≡ true → (u v : Bool) → leading body u v ≡ true → (j : Jumps) (r : List Bool) → Leads u v j r → HasTargets r (lowered body j).code
   code_targets body = all_targets body (along_stmts leading_on (λ s. Leading) (λ a. ArmLeading) layer (λ x h. all_targets x.body h) body)

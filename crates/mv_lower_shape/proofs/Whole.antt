@@ -45,7 +45,7 @@ pub shut_after : (j : Jumps) (r : Around) (b : Bool) → IsShut j r → IsShut j
 shut_after j r b q = record { leave = q.leave; again = q.again; around = q.around }
 
 module _ (globals : Globals) (locals : ℕ) (sizes : ℕ → Option ℕ) (void : Bool) (room u : ℕ) (scalar : nat_lt u locals ≡ true → is_scalar (sizes u) ≡ true) where
-  open sequences locals sizes void use {lowered, arms_lowered}
+  open sequences globals.pointers locals sizes void use {lowered, arms_lowered}
   open limits_of globals locals sizes use {scopes}
 
   abbrev none : ℕ → ℕ
@@ -64,10 +64,10 @@ module _ (globals : Globals) (locals : ℕ) (sizes : ℕ → Option ℕ) (void :
     pub passes : (r : Around) → r.next ≡ false → live_at u xs r ≡ false
     pub writes : reads_temp u t ≡ true → (r : Around) → live_at u xs r ≡ false
 
-  value : (declared : ℕ → Bool) (e : Expr) → is_within globals locals sizes declared e ≡ true → declared u ≡ false → (lower_expr e locals).top ≤ room → Valued (lower_expr e locals).code (lower_expr e locals).tree
+  value : (declared : ℕ → Bool) (e : Expr) → is_within globals locals sizes declared e ≡ true → declared u ≡ false → (lower_expr globals.pointers e locals).top ≤ room → Valued (lower_expr globals.pointers e locals).code (lower_expr globals.pointers e locals).tree
   value declared e b h top =
       let p = clears.value globals locals sizes room none 0 declared (P declared) (passing.passing_rules (a declared) u h) e b top in
-      record { passes = p.made.passes refl; writes = λ v. p.made.writes refl (reads_one u (lower_expr e locals).tree ∙ v) }
+      record { passes = p.made.passes refl; writes = λ v. p.made.writes refl (reads_one u (lower_expr globals.pointers e locals).tree ∙ v) }
 
   -- a value, and code that isn't live but where it reads it
   then_dead : (xs ys : List Stm) (t : Tree) → Valued xs t → (r : Around) → (reads_temp u t ≡ false → live_at u ys r ≡ false) → live_at u (xs ++ ys) r ≡ false
@@ -119,7 +119,7 @@ module _ (globals : Globals) (locals : ℕ) (sizes : ℕ → Option ℕ) (void :
   all_dead (s ∷ body) h declared b k j top r q n =
       let scope = stmt_scope globals locals sizes s in
       let bs = and_cases (scope.within declared) (all_within (scopes body) (scope.behind declared)) b in
-      let xs = (lower_stmt locals sizes void s j).code in
+      let xs = (lower_stmt globals.pointers locals sizes void s j).code in
       let ys = (lowered body j).code in
       live_append u xs ys r ∙
       h.0 declared bs.0 k j (omega (arith, top)) (with_after r (live_at u ys r)) (shut_after j r (live_at u ys r) q)
@@ -129,7 +129,7 @@ module _ (globals : Globals) (locals : ℕ) (sizes : ℕ → Option ℕ) (void :
 
   -- of another local
   other_cleared : (l : ℕ) → nat_lt l locals ≡ true → (itself : Bool) (known : ℕ → Bool) (es : List Expr) (j : Jumps) → all_exprs_within globals locals sizes es known ≡ true → known u ≡ false →
-      values_top locals (map lower_expr es) ≤ room → (r : Around) → r.next ≡ false → live_at u (lower_clear locals (sizes l) l itself (map lower_expr es) j).code r ≡ false
+      values_top locals (map (lower_expr globals.pointers) es) ≤ room → (r : Around) → r.next ≡ false → live_at u (lower_clear locals (sizes l) l itself (map (lower_expr globals.pointers) es) j).code r ≡ false
   other_cleared l h itself known es j b k top r n =
       let p = clears.cleared globals locals sizes room none 0 known (P known) (passing.passing_rules (a known) u k) l h (sizes l) refl itself es j b top in
       p.made.passes refl r n
@@ -145,34 +145,34 @@ module _ (globals : Globals) (locals : ℕ) (sizes : ℕ → Option ℕ) (void :
 
   -- a scalar's own declaration
   own_cleared : (itself : Bool) (known : ℕ → Bool) (es : List Expr) (j : Jumps) → all_exprs_within globals locals sizes es known ≡ true → (itself ≡ false → known u ≡ false) →
-      values_top locals (map lower_expr es) ≤ room → (r : Around) → live_at u (lower_clear locals None u itself (map lower_expr es) j).code r ≡ false
-  own_cleared true known es j b k top r = set_dead (number 0) (store_values locals None u 0 (map lower_expr es)) r (number_reads 0)
+      values_top locals (map (lower_expr globals.pointers) es) ≤ room → (r : Around) → live_at u (lower_clear locals None u itself (map (lower_expr globals.pointers) es) j).code r ≡ false
+  own_cleared true known es j b k top r = set_dead (number 0) (store_values locals None u 0 (map (lower_expr globals.pointers) es)) r (number_reads 0)
   own_cleared false known [] j b k top r = set_dead (number 0) [] r (number_reads 0)
   own_cleared false known (e ∷ es) j b k top r =
       let bs = and_cases (is_within globals locals sizes known e) (all_exprs_within globals locals sizes es known) b in
-      by (nat_le (8 * 1) (92 * (1 - suc (length (map lower_expr es))))) (value known e bs.0 (k refl) (omega (arith, top)))
+      by (nat_le (8 * 1) (92 * (1 - suc (length (map (lower_expr globals.pointers) es))))) (value known e bs.0 (k refl) (omega (arith, top)))
     where
-      by : (z : Bool) → Valued (lower_expr e locals).code (lower_expr e locals).tree →
-          live_at u (cond z (set u (number 0) ∷ store_values locals None u 0 (map lower_expr (e ∷ es)))
-          (store_values locals None u 0 (map lower_expr (e ∷ es)) ++ store_zeros None u (suc (length (map lower_expr es))) (1 - suc (length (map lower_expr es))))) r ≡ false
-      by true p = set_dead (number 0) (store_values locals None u 0 (map lower_expr (e ∷ es))) r (number_reads 0)
+      by : (z : Bool) → Valued (lower_expr globals.pointers e locals).code (lower_expr globals.pointers e locals).tree →
+          live_at u (cond z (set u (number 0) ∷ store_values locals None u 0 (map (lower_expr globals.pointers) (e ∷ es)))
+          (store_values locals None u 0 (map (lower_expr globals.pointers) (e ∷ es)) ++ store_zeros None u (suc (length (map (lower_expr globals.pointers) es))) (1 - suc (length (map (lower_expr globals.pointers) es))))) r ≡ false
+      by true p = set_dead (number 0) (store_values locals None u 0 (map (lower_expr globals.pointers) (e ∷ es))) r (number_reads 0)
       by false p =
-          let t = (lower_expr e locals).tree in
-          let more = store_values locals None u 1 (map lower_expr es) in
-          let zeros = store_zeros None u (suc (length (map lower_expr es))) (1 - suc (length (map lower_expr es))) in
-          subst (λ c. live_at u c r ≡ false) (sym (append_assoc (lower_expr e locals).code (set u t ∷ more) zeros))
-          (then_dead (lower_expr e locals).code (set u t ∷ (more ++ zeros)) t p r (λ h. set_dead t (more ++ zeros) r h))
+          let t = (lower_expr globals.pointers e locals).tree in
+          let more = store_values locals None u 1 (map (lower_expr globals.pointers) es) in
+          let zeros = store_zeros None u (suc (length (map (lower_expr globals.pointers) es))) (1 - suc (length (map (lower_expr globals.pointers) es))) in
+          subst (λ c. live_at u c r ≡ false) (sym (append_assoc (lower_expr globals.pointers e locals).code (set u t ∷ more) zeros))
+          (then_dead (lower_expr globals.pointers e locals).code (set u t ∷ (more ++ zeros)) t p r (λ h. set_dead t (more ++ zeros) r h))
 
   clear_dead : (l : ℕ) (values : List Expr) (declared : ℕ → Bool) → nat_lt l locals ≡ true → (itself : Bool) → all_exprs_within globals locals sizes values (cond itself (with_local l declared) declared) ≡ true → declared u ≡ false →
-      (j : Jumps) → values_top locals (map lower_expr values) ≤ room → (r : Around) → (with_local l declared u ≡ false → r.next ≡ false) → live_at u (lower_clear locals (sizes l) l itself (map lower_expr values) j).code r ≡ false
+      (j : Jumps) → values_top locals (map (lower_expr globals.pointers) values) ≤ room → (r : Around) → (with_local l declared u ≡ false → r.next ≡ false) → live_at u (lower_clear locals (sizes l) l itself (map (lower_expr globals.pointers) values) j).code r ≡ false
   clear_dead l values declared h itself b k j top r n = by (nat_eq u l) refl
     where
-      by : (z : Bool) → nat_eq u l ≡ z → live_at u (lower_clear locals (sizes l) l itself (map lower_expr values) j).code r ≡ false
+      by : (z : Bool) → nat_eq u l ≡ z → live_at u (lower_clear locals (sizes l) l itself (map (lower_expr globals.pointers) values) j).code r ≡ false
       by true e =
           let same = eqb-true u l e in
           let size = scalar_is_none (sizes u) (scalar (subst (λ m. nat_lt m locals ≡ true) (sym same) h)) in
-          subst (λ m. live_at u (lower_clear locals (sizes m) m itself (map lower_expr values) j).code r ≡ false) same
-          (subst (λ z. live_at u (lower_clear locals z u itself (map lower_expr values) j).code r ≡ false) (sym size)
+          subst (λ m. live_at u (lower_clear locals (sizes m) m itself (map (lower_expr globals.pointers) values) j).code r ≡ false) same
+          (subst (λ z. live_at u (lower_clear locals z u itself (map (lower_expr globals.pointers) values) j).code r ≡ false) (sym size)
           (own_cleared itself (cond itself (with_local l declared) declared) values j b (λ f. ap (λ z. cond z (with_local l declared) declared u) f ∙ k) top r))
       by false e =
           let behind = or_from (nat_eq u l) (declared u) e k in
@@ -239,16 +239,16 @@ module _ (globals : Globals) (locals : ℕ) (sizes : ℕ → Option ℕ) (void :
     arms_dead i [] h declared b k j top r q n = n
     arms_dead i (arm ∷ arms) h declared b k j top r q n =
         let bs = and_cases (arm_scope globals locals sizes arm declared) (arms_within (map (arm_scope globals locals sizes) arms) declared) b in
-        let body = ((lower_arm locals sizes void arm).body (in_arm j)).code in
+        let body = ((lower_arm globals.pointers locals sizes void arm).body (in_arm j)).code in
         both_dead (arm_code locals i body) (arms_code locals (suc i) (arms_lowered arms) j) r (arms_dead (suc i) arms h.1 declared bs.1 k j (omega (arith, top)) r q n)
         (λ r1 e1 n1. arm_dead i body r1 n1
         (λ r2 e2 n2. h.0 declared bs.0 k (in_arm j) (omega (arith, top)) r2 (shut_as (in_arm j) r r2 (e2 ∙ e1) q) n2))
 
   switch_dead : (e : Expr) (arms : List Arm) → Each A arms → (declared : ℕ → Bool) → is_within globals locals sizes declared e ≡ true → arms_within (map (arm_scope globals locals sizes) arms) declared ≡ true → declared u ≡ false →
-      (j : Jumps) → (lower_switch locals (lower_expr e) (arms_lowered arms) j).top ≤ room → (r : Around) → IsShut j r → r.next ≡ false → live_at u (lower_switch locals (lower_expr e) (arms_lowered arms) j).code r ≡ false
+      (j : Jumps) → (lower_switch locals (lower_expr globals.pointers e) (arms_lowered arms) j).top ≤ room → (r : Around) → IsShut j r → r.next ≡ false → live_at u (lower_switch locals (lower_expr globals.pointers e) (arms_lowered arms) j).code r ≡ false
   switch_dead e arms h declared be b k j top r q n =
-      let t = (lower_expr e locals).tree in
-      then_dead (lower_expr e locals).code (set locals t ∷ enclosed whole ∷ []) t (value declared e be k (omega (arith, top))) r
+      let t = (lower_expr globals.pointers e locals).tree in
+      then_dead (lower_expr globals.pointers e locals).code (set locals t ∷ enclosed whole ∷ []) t (value declared e be k (omega (arith, top))) r
       (λ reads.
       live_append u (set locals t ∷ []) (enclosed whole ∷ []) r ∙
       live_one u (stm.Set locals t) (plain u (t ∷ []) (Some locals) (λ r. r.next)) (with_after r (live_at u (enclosed whole ∷ []) r)) (flow_roll u (stm.Set locals t)) ∙
@@ -280,8 +280,8 @@ module _ (globals : Globals) (locals : ℕ) (sizes : ℕ → Option ℕ) (void :
       let t = (l locals).tree in
       then_dead (l locals).code (choose t body (break 0 ∷ []) ∷ []) t p r (λ reads. choose_dead t body (break 0 ∷ []) r reads k (break_dead 0 r h))
 
-  optional : (v : ℕ) (e : Option Expr) (declared : ℕ → Bool) → optional_within globals locals sizes e declared ≡ true → declared u ≡ false → (lower_optional v e locals).top ≤ room →
-      Valued (lower_optional v e locals).code (lower_optional v e locals).tree
+  optional : (v : ℕ) (e : Option Expr) (declared : ℕ → Bool) → optional_within globals locals sizes e declared ≡ true → declared u ≡ false → (lower_optional globals.pointers v e locals).top ≤ room →
+      Valued (lower_optional globals.pointers v e locals).code (lower_optional globals.pointers v e locals).tree
   optional v None declared b k top = record { passes = λ r n. n; writes = λ e. from_falsity (sym (number_reads v) ∙ e) }
   optional v (Some e) declared b k top = value declared e b k top
 
@@ -301,24 +301,24 @@ module _ (globals : Globals) (locals : ℕ) (sizes : ℕ → Option ℕ) (void :
   layer (stmt.If e yes_part no_part) h declared b k j top r q n =
       let bs = and_cases (is_within globals locals sizes declared e) (all_within (scopes yes_part) declared && all_within (scopes no_part) declared) b in
       let cs = and_cases (all_within (scopes yes_part) declared) (all_within (scopes no_part) declared) bs.1 in
-      let t = (lower_expr e locals).tree in
+      let t = (lower_expr globals.pointers e locals).tree in
       let yes = (lowered yes_part j).code in
       let other = (lowered no_part j).code in
-      then_dead (lower_expr e locals).code (choose t yes other ∷ []) t (value declared e bs.0 k (omega (arith, top))) r
+      then_dead (lower_expr globals.pointers e locals).code (choose t yes other ∷ []) t (value declared e bs.0 k (omega (arith, top))) r
       (λ reads. choose_dead t yes other r reads (within_dead yes_part h.0 declared cs.0 k j (omega (arith, top)) r q (n k)) (within_dead no_part h.1 declared cs.1 k j (omega (arith, top)) r q (n k)))
   layer (stmt.While e body) h declared b k j top r q n =
       let bs = and_cases (is_within globals locals sizes declared e) (all_within (scopes body) declared) b in
       let code = (lowered body (in_body j)).code in
       let r1 = around_loop r false in
-      loop_dead (test_and_body locals (lower_expr e) (enclosed code ∷ [])) r
-      (test_dead (lower_expr e) (enclosed code ∷ []) r1 (value declared e bs.0 k (omega (arith, top))) (n k)
+      loop_dead (test_and_body locals (lower_expr globals.pointers e) (enclosed code ∷ [])) r
+      (test_dead (lower_expr globals.pointers e) (enclosed code ∷ []) r1 (value declared e bs.0 k (omega (arith, top))) (n k)
       (block_dead code r1 (within_dead body h declared bs.1 k (in_body j) (omega (arith, top)) (around_block r1) (in_turn j r q (n k)) refl)))
   layer (stmt.Do body e) h declared b k j top r q n =
       let bs = and_cases (is_within globals locals sizes declared e) (all_within (scopes body) declared) b in
       let code = (lowered body (in_body j)).code in
       let r1 = around_loop r false in
-      loop_dead (enclosed code ∷ test_and_body locals (lower_expr e) []) r
-      (front_dead (enclosed code) (test_and_body locals (lower_expr e) []) r1 (test_dead (lower_expr e) [] r1 (value declared e bs.0 k (omega (arith, top))) (n k) refl)
+      loop_dead (enclosed code ∷ test_and_body locals (lower_expr globals.pointers e) []) r
+      (front_dead (enclosed code) (test_and_body locals (lower_expr globals.pointers e) []) r1 (test_dead (lower_expr globals.pointers e) [] r1 (value declared e bs.0 k (omega (arith, top))) (n k) refl)
       (block_dead code r1 (within_dead body h declared bs.1 k (in_body j) (omega (arith, top)) (around_block r1) (in_turn j r q (n k)) refl)))
   layer (stmt.For first test step body) h declared b k j top r q n =
       let b0 = and_cases (all_within (scopes first) declared) (may_test && (may_step && all_within (scopes body) inside)) b in
@@ -328,8 +328,8 @@ module _ (globals : Globals) (locals : ℕ) (sizes : ℕ → Option ℕ) (void :
       all_dead first h.0 declared b0.0 k j (omega (arith, top)) (with_after r (live_at u (repeat turn ∷ []) r)) (shut_after j r (live_at u (repeat turn ∷ []) r) q)
       (λ out.
       loop_dead turn r
-      (both_dead (test_and_body locals (lower_optional 1 test) (enclosed code ∷ [])) (lower_optional 0 step locals).code r1 ((optional 0 step inside b2.0 out (omega (arith, top))).passes r1 refl)
-      (λ r' same n'. test_dead (lower_optional 1 test) (enclosed code ∷ []) r' (optional 1 test inside b1.0 out (omega (arith, top))) (ap (λ (f : ℕ → Bool). f 0) same ∙ n k)
+      (both_dead (test_and_body locals (lower_optional globals.pointers 1 test) (enclosed code ∷ [])) (lower_optional globals.pointers 0 step locals).code r1 ((optional 0 step inside b2.0 out (omega (arith, top))).passes r1 refl)
+      (λ r' same n'. test_dead (lower_optional globals.pointers 1 test) (enclosed code ∷ []) r' (optional 1 test inside b1.0 out (omega (arith, top))) (ap (λ (f : ℕ → Bool). f 0) same ∙ n k)
       (block_dead code r' (within_dead body h.1 inside b2.1 out (in_body j) (omega (arith, top)) (around_block r')
       (record { leave = ap (λ (f : ℕ → Bool). f 0) same ∙ n k; again = n'; around = ap (λ (f : ℕ → Bool). f (suc j.around)) same ∙ q.around }) n')))))
     where
@@ -346,7 +346,7 @@ module _ (globals : Globals) (locals : ℕ) (sizes : ℕ → Option ℕ) (void :
       code = (lowered body (in_body j)).code
 
       turn : List Stm
-      turn = test_and_body locals (lower_optional 1 test) (enclosed code ∷ []) ++ (lower_optional 0 step locals).code
+      turn = test_and_body locals (lower_optional globals.pointers 1 test) (enclosed code ∷ []) ++ (lower_optional globals.pointers 0 step locals).code
 
       r1 : Around
       r1 = around_loop r false
@@ -358,8 +358,8 @@ module _ (globals : Globals) (locals : ℕ) (sizes : ℕ → Option ℕ) (void :
   layer stmt.Continue h declared b k j top r q n = break_dead j.again r q.again
   layer (stmt.Return None) h declared b k j top r q n = break_dead j.around r q.around
   layer (stmt.Return (Some e)) h declared b k j top r q n =
-      let t = (lower_expr e locals).tree in
-      then_dead (lower_expr e locals).code (return_with t ∷ []) t (value declared e b k top) r
+      let t = (lower_expr globals.pointers e locals).tree in
+      then_dead (lower_expr globals.pointers e locals).code (return_with t ∷ []) t (value declared e b k top) r
       (λ reads. live_one u (stm.Return t) (plain u (t ∷ []) None (λ r. false)) r (flow_roll u (stm.Return t)) ∙ or_from (any_reads u (t ∷ [])) false (reads_one u t ∙ reads) refl)
 
   pub body_dead : (body : List Stmt) (declared : ℕ → Bool) → all_within (scopes body) declared ≡ true → declared u ≡ false → (j : Jumps) → (lowered body j).top ≤ room → (r : Around) → IsShut j r → r.next ≡ false → live_at u (lowered body j).code r ≡ false

@@ -15,6 +15,7 @@ use Rattle.mv_ast.specs.declared.program.Expr.{Expr, Expr-F, roll-Expr, out-roll
 use Rattle.mv_ast.specs.declared.program.Form.{Form, Form-F, roll-Form, out-Form, out-roll-Form}
 use Rattle.mv_ast.specs.declared.program.Form.TheOpen as form
 use Rattle.mv_ast.specs.declared.program.Target.{Target, Target-F, roll-Target, out-Target, out-roll-Target}
+use Rattle.mv_ast.specs.Plans.{is_among}
 use Rattle.mv_ir.specs.WellFormed.{known_arguments}
 use Rattle.mv_ir.proofs.Induction.{Each}
 use Rattle.mv_source_forms.specs.Typing.{HasType, LvalueHasType, global_types, parameter_types, types_of}
@@ -212,8 +213,8 @@ module _ (p : Program) (own : ℕ) (fn : Function) (globals : Globals) (locals :
       let b = and_from (nat_lt l locals) (inner l && is_scalar (sizes l)) ns.0 (and_from (inner l) (is_scalar (sizes l)) (narrow l ms.0 d) ms.1) in
       record { read = λ held. b; stored = b }
   target_layer (form.GlobalAt g e) h t type parts n d k r =
-      let ns = and_cases (not (is_own_switch p (slice_get p.functions own) g)) (N e) n in
-      let i = h (record { typed = parts; named = ns.1; declared = d; known = one_holds (K e) k; held = r }) in
+      let ns = and_cases (not (is_own_switch p (slice_get p.functions own) g)) (not (is_among g p.pointers) && N e) n in
+      let i = h (record { typed = parts; named = (and_cases (not (is_among g p.pointers)) (N e) ns.1).1; declared = d; known = one_holds (K e) k; held = r }) in
       let b = there g (below g t type.0) in
       record {
         read = λ held. and_from (globals.there g) (globals.arrays g && I e) b (and_from (globals.arrays g) (I e) (held.arrays g (below g t type.0) ns.0 (eq-eqb g g refl)) i);

@@ -1,4 +1,5 @@
--- Counts of calls, in code and in the source, where each direct call of a function and each call through a pointer has a weight.
+-- Counts of calls, in code and in the source, where each direct call of a function and each call through a pointer has a weight, which is that of a call
+-- through a pointer switch too.
 use Rattle.std.specs.Prelude.{ℕ, ◌+◌, List, map, sum, if◌then◌else◌, slice_get}
 use Rattle.mv_ir.specs.declared.stm.Callee.{Callee}
 use Rattle.mv_ir.specs.declared.stm.Callee.TheVariants as callee
@@ -22,6 +23,7 @@ module _ (direct : ℕ → ℕ) (through : ℕ) where
   abbrev pub callee_weight : Callee → ℕ
   callee_weight (callee.Direct f) = direct f
   callee_weight (callee.Through t) = through
+  callee_weight (callee.Switched g) = through
 
   abbrev pub layer_weight : Stm-F ℕ → ℕ
   layer_weight (stm.If t a b) = total a + total b

@@ -1,5 +1,5 @@
 -- What is proved of the form of lowered functions.
-use Rattle.std.specs.Prelude.{◌≡◌, ℕ, ◌+◌, ◌*◌, ◌≤◌, true, false, length, All, Some, slice_get}
+use Rattle.std.specs.Prelude.{◌≡◌, ℕ, ◌+◌, ◌*◌, ◌≤◌, true, false, ◌||◌, length, All, Some, slice_get}
 use Rattle.mv_ir.specs.declared.body.Body.{Body}
 use Rattle.mv_ir.specs.Measures.{total, scalars_read, arrays_read, statements, calls, tree_nodes, deepest}
 use Rattle.mv_ir.specs.Live.{IsWhole, most_intervals}
@@ -41,10 +41,10 @@ pub record CallsAsOften (p : Program) (g : Function) (b : Body) : Type 0 where
 abbrev pub LoweredCallAsOften : Type 0
 LoweredCallAsOften = (p : Program) (f : ℕ) (g : Function) → IsFunctionOf p f g → CallsAsOften p g (lower_function p g)
 
--- each global that the code reads is one that the function reads, and none that it reads as an array is a switch of the function
+-- each global that the code reads is one that the function reads, and none that it reads as an array, or calls through, is a switch of the function
 pub record ReadsNoMore (g : Function) (b : Body) : Type 0 where
   pub scalars : All (λ k. reads_scalar g k ≡ true) (scalars_read b.code)
-  pub arrays : All (λ k. reads_array g k ≡ true) (arrays_read b.code)
+  pub arrays : All (λ k. (reads_array g k || reads_scalar g k) ≡ true) (arrays_read b.code)
   pub switches : All (λ k. is_among k b.switches ≡ false) (arrays_read b.code)
 
 abbrev pub LoweredReadNoMore : Type 0

@@ -2,12 +2,11 @@
 use Rattle.std.specs.Prelude.{◌≡◌, ℕ, ◌≤◌, false, All, IsTrue, List, map, length, Some, slice_get}
 use Rattle.mv_ast.specs.declared.program.Program.{Program}
 use Rattle.mv_ast.specs.declared.program.Function.{Function}
-use Rattle.mv_ast.specs.declared.world.Action.{Action}
-use Rattle.mv_ast.specs.Actions.{fits}
+use Rattle.mv_ast.specs.Actions.{act_fits}
 use Rattle.mv_ast.specs.Plans.{attributed_before, switch_global}
-use Rattle.mv_ast.specs.Worlds.{World}
+use Rattle.mv_ast.specs.Worlds.{World, Act}
 use Rattle.mv_meaning.specs.declared.state.Frame.{Frame}
-use Rattle.mv_meaning.specs.Meaning.{call_of, context_at, mean}
+use Rattle.mv_meaning.specs.Meaning.{call_of, context_at, hart_mean}
 use Rattle.mv_meaning_numbering.specs.Numberings.{IsNumbering}
 use Rattle.mv_ir.specs.declared.body.Body.{Body}
 use Rattle.mv_ir.specs.declared.body.IrProgram.{IrProgram}
@@ -53,11 +52,11 @@ pub record IsLoweredFunction (p : Program) (ir : IrProgram) (f : ℕ) (g : Funct
 
 -- ---- programs
 
--- Under each numbering, on each input, with all actions that fit, at each bound, the code means what the program means, at a cost of at most 20 and 100 for one of work.
+-- In each hart, under each numbering, on each input, with all actions that fit, at each bound, the code means what the program means, at a cost of at most 20 and 100 for one of work.
 abbrev pub MeansProgram : Program → IrProgram → Type 0
 MeansProgram p ir =
-    (numbers : List ℕ) → IsNumbering p numbers → (input : List ℕ) (actions : List Action) (bound : ℕ) → All (λ a. IsTrue (fits p a)) actions →
-    IsExecution (mean p input actions bound) (ir_meaning numbers ir input actions bound)
+    (numbers : List ℕ) → IsNumbering p numbers → (hart : ℕ) (input : List ℕ) (actions : List Act) (bound : ℕ) → All (λ a. IsTrue (act_fits p hart a)) actions →
+    IsExecution (hart_mean p hart input actions bound) (ir_meaning numbers ir hart input actions bound)
 
 -- A program and its lowering, which has a body for each function, in their order.
 pub record IsLowering (p : Program) (ir : IrProgram) : Type 0 where

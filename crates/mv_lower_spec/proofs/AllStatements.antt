@@ -49,7 +49,7 @@ module _ (ground : Ground) (void : Bool)
     (first_loop : (s : Stmt) → (context zero).loop s ≡ stop Unfinished)
     (next_loop : (k : ℕ) (s : Stmt) → (context (suc k)).loop s ≡ flow_of ground.p (context k) s)
     (agree : (k : ℕ) → k ≤ limit → c.CallsAgree ground.p ground.frame ground.own (levels calls k) (context k))
-    (knows : (known : Known) → c.KnownAgrees ground.p ground.frame ground.own ground.setting known) where
+    (knows : (known : Known) → c.KnownAgrees ground.p ground.frame ground.own ground.setting known) (switched : c.SwitchedAgrees ground.p ground.setting) where
   abbrev at : ℕ → Bound
   at k = levels calls k
 
@@ -59,18 +59,18 @@ module _ (ground : Ground) (void : Bool)
   -- ---- expressions
 
   value_at : (held : Held) (free : ℕ → Bool) → ((l : ℕ) → free l ≡ true → held l ≡ None) → (k : ℕ) → k ≤ limit → (e : Expr) → is_well_named ground.p ground.own ground.locals ground.sizes free e ≡ true →
-      Correct (declaring ground held) (at k) (value_of ground.p (context k) e) (lower_expr e)
-  value_at held free frees k up e b = expr_correct ground held (at k) free frees (context k) fits (strict k) (agree k up) knows e b ground.locals (λ k. 0)
+      Correct (declaring ground held) (at k) (value_of ground.p (context k) e) (lower_expr ground.p.pointers e)
+  value_at held free frees k up e b = expr_correct ground held (at k) free frees (context k) fits (strict k) (agree k up) knows switched e b ground.locals (λ k. 0)
 
-  value : (k : ℕ) → k ≤ limit → (e : Expr) → named ground.p ground.own ground.locals ground.sizes void e ≡ true → CorrectFor (resting ground) (at k) 0 (value_of ground.p (context k) e) (lower_expr e)
+  value : (k : ℕ) → k ≤ limit → (e : Expr) → named ground.p ground.own ground.locals ground.sizes void e ≡ true → CorrectFor (resting ground) (at k) 0 (value_of ground.p (context k) e) (lower_expr ground.p.pointers e)
   value k up e b = value_at none (λ l. true) (λ l q. refl) k up e b
 
-  optional : (k : ℕ) → k ≤ limit → (v : ℕ) (e : Option Expr) → named_option ground.p ground.own ground.locals ground.sizes void e ≡ true → CorrectFor (resting ground) (at k) 14 (optional_value ground.p (context k) v e) (lower_optional v e)
+  optional : (k : ℕ) → k ≤ limit → (v : ℕ) (e : Option Expr) → named_option ground.p ground.own ground.locals ground.sizes void e ≡ true → CorrectFor (resting ground) (at k) 14 (optional_value ground.p (context k) v e) (lower_optional ground.p.pointers v e)
   optional k up v None b = forms.correct_number (resting ground) (at k) v
-  optional k up v (Some e) b = show.with_more (resting ground) (at k) 0 14 (value_of ground.p (context k) e) (lower_expr e) (omega arith) (value k up e b)
+  optional k up v (Some e) b = show.with_more (resting ground) (at k) 0 14 (value_of ground.p (context k) e) (lower_expr ground.p.pointers e) (omega arith) (value k up e b)
 
   values_at : (held : Held) (free : ℕ → Bool) → ((l : ℕ) → free l ≡ true → held l ≡ None) → (k : ℕ) → k ≤ limit → (es : List Expr) → all_of (map (is_well_named ground.p ground.own ground.locals ground.sizes free) es) ≡ true →
-      clears.AllAt ground void held (at k) (map (value_of ground.p (context k)) es) (map lower_expr es)
+      clears.AllAt ground void held (at k) (map (value_of ground.p (context k)) es) (map (lower_expr ground.p.pointers) es)
   values_at held free frees k up [] b = tt
   values_at held free frees k up (e ∷ es) b =
       let bs = and_cases (is_well_named ground.p ground.own ground.locals ground.sizes free e) (all_of (map (is_well_named ground.p ground.own ground.locals ground.sizes free) es)) b in
@@ -89,8 +89,8 @@ module _ (ground : Ground) (void : Bool)
 
   abbrev S : Stmt → Type 0
   S s =
-      stmt_is_well_formed ground.p ground.own ground.locals ground.sizes void s ≡ true → stmt_labelled s ≡ true → (j : Jumps) → (lower_stmt ground.locals ground.sizes void s j).top ≤ ground.room → (k : ℕ) → k ≤ limit →
-      Counts j k (flow_of ground.p (context k) s) (lower_stmt ground.locals ground.sizes void s j).code
+      stmt_is_well_formed ground.p ground.own ground.locals ground.sizes void s ≡ true → stmt_labelled s ≡ true → (j : Jumps) → (lower_stmt ground.p.pointers ground.locals ground.sizes void s j).top ≤ ground.room → (k : ℕ) → k ≤ limit →
+      Counts j k (flow_of ground.p (context k) s) (lower_stmt ground.p.pointers ground.locals ground.sizes void s j).code
 
   -- an arm, with what it was lowered to
   pub record ArmShown (a : Arm) (l : LoweredArm) : Type 0 where
@@ -100,10 +100,10 @@ module _ (ground : Ground) (void : Bool)
         switches.Pays ground void (at k) j (in_order (arm_of ground.p (context k) a).body) (l.body (in_arm j)).code
 
   abbrev A : Arm → Type 0
-  A a = ArmShown a (lower_arm ground.locals ground.sizes void a)
+  A a = ArmShown a (lower_arm ground.p.pointers ground.locals ground.sizes void a)
 
   abbrev lowered : List Stmt → Placed
-  lowered body = in_sequence ground.locals (map (lower_stmt ground.locals ground.sizes void) body)
+  lowered body = in_sequence ground.locals (map (lower_stmt ground.p.pointers ground.locals ground.sizes void) body)
 
   abbrev formed : List Stmt → Bool
   formed body = all_of (map (stmt_is_well_formed ground.p ground.own ground.locals ground.sizes void) body)
@@ -120,8 +120,8 @@ module _ (ground : Ground) (void : Bool)
       let bs = and_cases (stmt_is_well_formed ground.p ground.own ground.locals ground.sizes void s) (formed body) b in
       let ls = and_cases (stmt_labelled s) (labelled body) l in
       (λ f w st sh. flows.more ground void (out_of void j) (0 + 0) 0 (code ground (lowered (s ∷ body) j).code (at k) st) (flow_of_all ground.p (context k) (s ∷ body) f w) (omega arith)
-      (flows.in_turn ground void j (at k) 0 0 (flow_of ground.p (context k) s) (flow_of_all ground.p (context k) body) (lower_stmt ground.locals ground.sizes void s j).code (lowered body j).code
-      (once j k (flow_of ground.p (context k) s) (lower_stmt ground.locals ground.sizes void s j).code (h.0 bs.0 ls.0 j (omega (arith, le)) k up)) (all_correct body h.1 bs.1 ls.1 j (omega (arith, le)) k up) f w st sh))
+      (flows.in_turn ground void j (at k) 0 0 (flow_of ground.p (context k) s) (flow_of_all ground.p (context k) body) (lower_stmt ground.p.pointers ground.locals ground.sizes void s j).code (lowered body j).code
+      (once j k (flow_of ground.p (context k) s) (lower_stmt ground.p.pointers ground.locals ground.sizes void s j).code (h.0 bs.0 ls.0 j (omega (arith, le)) k up)) (all_correct body h.1 bs.1 ls.1 j (omega (arith, le)) k up) f w st sh))
 
   abbrev entry : List Stm → ℕ
   entry = switches.entry ground void
@@ -150,7 +150,7 @@ module _ (ground : Ground) (void : Bool)
       (flows.paid_by ground void (out_of void (in_arm j)) 0 1 (spend (entry xs) r) o
       (flows.more ground void (out_of void (in_arm j)) ((0 + 72) + entry xs) 100 (spend (entry xs) r) o (omega (arith, entry_is_paid xs))
       (flows.priced ground void (out_of void (in_arm j)) (0 + 72) (entry xs) r (spend (entry xs) r) o refl
-      (flows.in_turn ground void (in_arm j) (at k) 72 0 first.rest others (lower_stmt ground.locals ground.sizes void s (in_arm j)).code (lowered body (in_arm j)).code first.right
+      (flows.in_turn ground void (in_arm j) (at k) 72 0 first.rest others (lower_stmt ground.p.pointers ground.locals ground.sizes void s (in_arm j)).code (lowered body (in_arm j)).code first.right
       (all_correct body h.1 bs.1 ls.1 (in_arm j) (omega (arith, le)) k up) f w st sh)))))
 
   -- ---- loops
@@ -172,7 +172,7 @@ module _ (ground : Ground) (void : Bool)
   -- ---- each form
 
   abbrev blocks : Stmt-F Stmt Arm → Stmt-F Placed LoweredArm
-  blocks = map-Stmt Stmt Arm Placed LoweredArm (lower_stmt ground.locals ground.sizes void) (lower_arm ground.locals ground.sizes void)
+  blocks = map-Stmt Stmt Arm Placed LoweredArm (lower_stmt ground.p.pointers ground.locals ground.sizes void) (lower_arm ground.p.pointers ground.locals ground.sizes void)
 
   abbrev tests : Stmt-F Stmt Arm → Stmt-F Bool Bool
   tests = map-Stmt Stmt Arm Bool Bool (stmt_is_well_formed ground.p ground.own ground.locals ground.sizes void) (arm_is_well_formed ground.p ground.own ground.locals ground.sizes void)
@@ -188,25 +188,25 @@ module _ (ground : Ground) (void : Bool)
   raise j credit credit' b m xs le h f w s sh = flows.more ground void (out_of void j) credit credit' (code ground xs b s) (m f w) le (h f w s sh)
 
   arms_correct : (arms : List Arm) → Each A arms → all_of (map (arm_is_well_formed ground.p ground.own ground.locals ground.sizes void) arms) ≡ true → all_of (map (λ (z : ArmLabels). z.holds) (map arm_labels arms)) ≡ true →
-      (j : Jumps) → arms_top ground.locals (map (lower_arm ground.locals ground.sizes void) arms) j ≤ ground.room → (k : ℕ) → k ≤ limit →
-      switches.ArmsCorrect ground void (at k) j (map (arm_of ground.p (context k)) arms) (map (lower_arm ground.locals ground.sizes void) arms)
+      (j : Jumps) → arms_top ground.locals (map (lower_arm ground.p.pointers ground.locals ground.sizes void) arms) j ≤ ground.room → (k : ℕ) → k ≤ limit →
+      switches.ArmsCorrect ground void (at k) j (map (arm_of ground.p (context k)) arms) (map (lower_arm ground.p.pointers ground.locals ground.sizes void) arms)
   arms_correct [] h b l j le k up = tt
   arms_correct (a ∷ arms) h b l j le k up =
       let bs = and_cases (arm_is_well_formed ground.p ground.own ground.locals ground.sizes void a) (all_of (map (arm_is_well_formed ground.p ground.own ground.locals ground.sizes void) arms)) b in
       let ls = and_cases (arm_labels a).holds (all_of (map (λ (z : ArmLabels). z.holds) (map arm_labels arms))) l in
       (h.0.labels k, h.0.other k, h.0.body bs.0 ls.0 j (omega (arith, le)) k up, arms_correct arms h.1 bs.1 ls.1 j (omega (arith, le)) k up)
 
-  as_bare : (arms : List Arm) → switches.bare_arms (map (lower_arm ground.locals ground.sizes void) arms) ≡ bare_arms arms
+  as_bare : (arms : List Arm) → switches.bare_arms (map (lower_arm ground.p.pointers ground.locals ground.sizes void) arms) ≡ bare_arms arms
   as_bare [] = refl
   as_bare (a ∷ arms) =
-      let others = switches.bare_arms (map (lower_arm ground.locals ground.sizes void) arms) in
-      ap (λ (l : LoweredArm). bare_of l.labels + others) (fold_out-Arm Placed LoweredArm (lower_stmt_layer ground.locals ground.sizes void) (lower_arm_layer ground.locals ground.sizes void) a) ∙ ap (λ n. bare a + n) (as_bare arms)
+      let others = switches.bare_arms (map (lower_arm ground.p.pointers ground.locals ground.sizes void) arms) in
+      ap (λ (l : LoweredArm). bare_of l.labels + others) (fold_out-Arm Placed LoweredArm (lower_stmt_layer ground.p.pointers ground.locals ground.sizes void) (lower_arm_layer ground.p.pointers ground.locals ground.sizes void) a) ∙ ap (λ n. bare a + n) (as_bare arms)
 
-  layer : (x : Stmt-F Stmt Arm) → StmtChildren S A x → stmt_named_layer ground.p ground.own ground.locals ground.sizes void (tests x) ≡ true → labels_layer (labels x) ≡ true → (j : Jumps) → (lower_stmt_layer ground.locals ground.sizes void (blocks x) j).top ≤ ground.room → (k : ℕ) → k ≤ limit →
-      Counts j k (flow_of ground.p (context k) (roll-Stmt x)) (lower_stmt_layer ground.locals ground.sizes void (blocks x) j).code
+  layer : (x : Stmt-F Stmt Arm) → StmtChildren S A x → stmt_named_layer ground.p ground.own ground.locals ground.sizes void (tests x) ≡ true → labels_layer (labels x) ≡ true → (j : Jumps) → (lower_stmt_layer ground.p.pointers ground.locals ground.sizes void (blocks x) j).top ≤ ground.room → (k : ℕ) → k ≤ limit →
+      Counts j k (flow_of ground.p (context k) (roll-Stmt x)) (lower_stmt_layer ground.p.pointers ground.locals ground.sizes void (blocks x) j).code
   layer (stmt.Block body) h b l j le k up =
       let x : Stmt-F Stmt Arm = stmt.Block body in
-      counts j k (roll-Stmt x) (flow_of_all ground.p (context k) body) (lower_stmt_layer ground.locals ground.sizes void (blocks x) j).code (flow_of-Block ground.p (context k) (roll-Stmt x) body (out-roll-Stmt x))
+      counts j k (roll-Stmt x) (flow_of_all ground.p (context k) body) (lower_stmt_layer ground.p.pointers ground.locals ground.sizes void (blocks x) j).code (flow_of-Block ground.p (context k) (roll-Stmt x) body (out-roll-Stmt x))
       (raise j 0 72 (at k) (flow_of_all ground.p (context k) body) (lowered body j).code (omega arith) (all_correct body h b l j le k up))
   layer (stmt.Clear l values) h b q j le k up =
       let x : Stmt-F Stmt Arm = stmt.Clear l values in
@@ -216,10 +216,10 @@ module _ (ground : Ground) (void : Bool)
       let b0 = and_cases (nat_lt l ground.locals) (nat_le (length values) (words_of_size (ground.sizes l)) && (all && (itself || others))) b in
       let b1 = and_cases (nat_le (length values) (words_of_size (ground.sizes l))) (all && (itself || others)) b0.1 in
       let b2 = and_cases all (itself || others) b1.1 in
-      counts j k (roll-Stmt x) (clear_local l itself (map (value_of ground.p (context k)) values)) (lower_stmt_layer ground.locals ground.sizes void (blocks x) j).code (flow_of-Clear ground.p (context k) (roll-Stmt x) l values (out-roll-Stmt x))
-      (clears.clear_correct ground void j (at k) l itself (map (value_of ground.p (context k)) values) (map lower_expr values) (ltb-true l ground.locals b0.0) fits
-      (length-map values (value_of ground.p (context k)) ∙ sym (length-map values lower_expr))
-      (subst (λ n. n ≤ words_of_size (ground.sizes l)) (sym (length-map values lower_expr)) (leb-true (length values) (words_of_size (ground.sizes l)) b1.0)) le
+      counts j k (roll-Stmt x) (clear_local l itself (map (value_of ground.p (context k)) values)) (lower_stmt_layer ground.p.pointers ground.locals ground.sizes void (blocks x) j).code (flow_of-Clear ground.p (context k) (roll-Stmt x) l values (out-roll-Stmt x))
+      (clears.clear_correct ground void j (at k) l itself (map (value_of ground.p (context k)) values) (map (lower_expr ground.p.pointers) values) (ltb-true l ground.locals b0.0) fits
+      (length-map values (value_of ground.p (context k)) ∙ sym (length-map values (lower_expr ground.p.pointers)))
+      (subst (λ n. n ≤ words_of_size (ground.sizes l)) (sym (length-map values (lower_expr ground.p.pointers))) (leb-true (length values) (words_of_size (ground.sizes l)) b1.0)) le
       (values_at none (λ l. true) (λ l q. refl) k up values b2.0)
       (λ e both. values_at (only l both) (but_for l) (but_for_free l both) k up values (left_over itself others b2.1 e)))
     where
@@ -228,28 +228,28 @@ module _ (ground : Ground) (void : Bool)
       left_over false c e q = e
   layer (stmt.Express e) h b l j le k up =
       let x : Stmt-F Stmt Arm = stmt.Express e in
-      counts j k (roll-Stmt x) (bind (value_of ground.p (context k) e) (λ v. give Goes)) (lower_stmt_layer ground.locals ground.sizes void (blocks x) j).code (flow_of-Express ground.p (context k) (roll-Stmt x) e (out-roll-Stmt x))
-      (flows.effect ground void (out_of void j) Goes (at k) 72 0 (value_of ground.p (context k) e) (lower_expr e) (λ s. refl) (λ q. refl) (omega arith) le (value k up e b))
+      counts j k (roll-Stmt x) (bind (value_of ground.p (context k) e) (λ v. give Goes)) (lower_stmt_layer ground.p.pointers ground.locals ground.sizes void (blocks x) j).code (flow_of-Express ground.p (context k) (roll-Stmt x) e (out-roll-Stmt x))
+      (flows.effect ground void (out_of void j) Goes (at k) 72 0 (value_of ground.p (context k) e) (lower_expr ground.p.pointers e) (λ s. refl) (λ q. refl) (omega arith) le (value k up e b))
   layer (stmt.If e yes_part no_part) h b l j le k up =
       let x : Stmt-F Stmt Arm = stmt.If e yes_part no_part in
       let bs = and_cases (named ground.p ground.own ground.locals ground.sizes void e) (formed yes_part && formed no_part) b in
       let cs = and_cases (formed yes_part) (formed no_part) bs.1 in
       let ls = and_cases (labelled yes_part) (labelled no_part) l in
-      counts j k (roll-Stmt x) (bind (value_of ground.p (context k) e) (λ v. unless_zero v (flow_of_all ground.p (context k) no_part) (flow_of_all ground.p (context k) yes_part))) (lower_stmt_layer ground.locals ground.sizes void (blocks x) j).code (flow_of-If ground.p (context k) (roll-Stmt x) e yes_part no_part (out-roll-Stmt x))
-      (raise j (0 + 0) 72 (at k) (bind (value_of ground.p (context k) e) (λ v. unless_zero v (flow_of_all ground.p (context k) no_part) (flow_of_all ground.p (context k) yes_part))) (lower_stmt_layer ground.locals ground.sizes void (blocks x) j).code (omega arith)
-      (flows.tested ground void (out_of void j) (at k) 0 0 (value_of ground.p (context k) e) (flow_of_all ground.p (context k) yes_part) (flow_of_all ground.p (context k) no_part) (lower_expr e) (lowered yes_part j).code (lowered no_part j).code (omega (arith, le)) (value k up e bs.0)
+      counts j k (roll-Stmt x) (bind (value_of ground.p (context k) e) (λ v. unless_zero v (flow_of_all ground.p (context k) no_part) (flow_of_all ground.p (context k) yes_part))) (lower_stmt_layer ground.p.pointers ground.locals ground.sizes void (blocks x) j).code (flow_of-If ground.p (context k) (roll-Stmt x) e yes_part no_part (out-roll-Stmt x))
+      (raise j (0 + 0) 72 (at k) (bind (value_of ground.p (context k) e) (λ v. unless_zero v (flow_of_all ground.p (context k) no_part) (flow_of_all ground.p (context k) yes_part))) (lower_stmt_layer ground.p.pointers ground.locals ground.sizes void (blocks x) j).code (omega arith)
+      (flows.tested ground void (out_of void j) (at k) 0 0 (value_of ground.p (context k) e) (flow_of_all ground.p (context k) yes_part) (flow_of_all ground.p (context k) no_part) (lower_expr ground.p.pointers e) (lowered yes_part j).code (lowered no_part j).code (omega (arith, le)) (value k up e bs.0)
       (all_correct yes_part h.0 cs.0 ls.0 j (omega (arith, le)) k up) (all_correct no_part h.1 cs.1 ls.1 j (omega (arith, le)) k up)))
   layer (stmt.While e body) h b l j le k up =
       let x : Stmt-F Stmt Arm = stmt.While e body in
       let bs = and_cases (named ground.p ground.own ground.locals ground.sizes void e) (formed body) b in
       let me : ℕ → Evaluation ℕ = λ i. value_of ground.p (context i) e in
       let mb : ℕ → Evaluation Flow = λ i. flow_of_all ground.p (context i) body in
-      let turn = test_and_body ground.locals (lower_expr e) (enclosed (lowered body (in_body j)).code ∷ []) in
+      let turn = test_and_body ground.locals (lower_expr ground.p.pointers e) (enclosed (lowered body (in_body j)).code ∷ []) in
       let rest : ℕ → Evaluation Flow = λ i. bind (me i) (λ v. unless_zero v (give Goes) (bind (mb i) (λ flow. after_body flow (loop_of i (roll-Stmt x))))) in
-      counts j k (roll-Stmt x) (rest k) (lower_stmt_layer ground.locals ground.sizes void (blocks x) j).code (flow_of-While ground.p (context k) (roll-Stmt x) e body (out-roll-Stmt x))
+      counts j k (roll-Stmt x) (rest k) (lower_stmt_layer ground.p.pointers ground.locals ground.sizes void (blocks x) j).code (flow_of-While ground.p (context k) (roll-Stmt x) e body (out-roll-Stmt x))
       (looped j (roll-Stmt x) turn (λ i. while_turn (me i) (mb i)) rest
       (λ i lim f w s sh. flows.more ground void (turn_out void j) (8 + 0) 64 (code ground turn (at i) s) (while_turn (me i) (mb i) f w) (omega arith)
-      (loops.while_correct ground void j (at i) 0 (me i) (mb i) (lower_expr e) (lowered body (in_body j)).code (omega (arith, le)) (value i lim e bs.0) (all_correct body h bs.1 l (in_body j) (omega (arith, le)) i lim) f w s sh))
+      (loops.while_correct ground void j (at i) 0 (me i) (mb i) (lower_expr ground.p.pointers e) (lowered body (in_body j)).code (omega (arith, le)) (value i lim e bs.0) (all_correct body h bs.1 l (in_body j) (omega (arith, le)) i lim) f w s sh))
       (λ i f w. sym (while_same (me i) (mb i) (loop_of i (roll-Stmt x)) f w))
       (λ i f w. ap (λ (m : Evaluation Flow). m f w) (flow_of-While ground.p (context i) (roll-Stmt x) e body (out-roll-Stmt x))) k up)
   layer (stmt.Do body e) h b l j le k up =
@@ -258,15 +258,15 @@ module _ (ground : Ground) (void : Bool)
       let me : ℕ → Evaluation ℕ = λ i. value_of ground.p (context i) e in
       let mb : ℕ → Evaluation Flow = λ i. flow_of_all ground.p (context i) body in
       let rest : ℕ → Evaluation Flow = λ i. bind (mb i) (λ flow. after_body flow (bind (me i) (λ v. unless_zero v (give Goes) (loop_of i (roll-Stmt x))))) in
-      counts j k (roll-Stmt x) (rest k) (lower_stmt_layer ground.locals ground.sizes void (blocks x) j).code (flow_of-Do ground.p (context k) (roll-Stmt x) body e (out-roll-Stmt x))
-      (looped j (roll-Stmt x) (enclosed (lowered body (in_body j)).code ∷ test_and_body ground.locals (lower_expr e) []) (λ i. do_turn (mb i) (me i)) rest
-      (λ i lim. loops.do_correct ground void j (at i) (me i) (mb i) (lower_expr e) (lowered body (in_body j)).code (omega (arith, le)) (value i lim e bs.0) (all_correct body h bs.1 l (in_body j) (omega (arith, le)) i lim))
+      counts j k (roll-Stmt x) (rest k) (lower_stmt_layer ground.p.pointers ground.locals ground.sizes void (blocks x) j).code (flow_of-Do ground.p (context k) (roll-Stmt x) body e (out-roll-Stmt x))
+      (looped j (roll-Stmt x) (enclosed (lowered body (in_body j)).code ∷ test_and_body ground.locals (lower_expr ground.p.pointers e) []) (λ i. do_turn (mb i) (me i)) rest
+      (λ i lim. loops.do_correct ground void j (at i) (me i) (mb i) (lower_expr ground.p.pointers e) (lowered body (in_body j)).code (omega (arith, le)) (value i lim e bs.0) (all_correct body h bs.1 l (in_body j) (omega (arith, le)) i lim))
       (λ i f w. sym (do_same (mb i) (me i) (loop_of i (roll-Stmt x)) f w))
       (λ i f w. ap (λ (m : Evaluation Flow). m f w) (flow_of-Do ground.p (context i) (roll-Stmt x) body e (out-roll-Stmt x))) k up)
   layer (stmt.For first test step body) h b l j le k up =
       let x : Stmt-F Stmt Arm = stmt.For first test step body in
       let again : Stmt-F Stmt Arm = stmt.For [] test step body in
-      let turn = test_and_body ground.locals (lower_optional 1 test) (enclosed (lowered body (in_body j)).code ∷ []) ++ (lower_optional 0 step ground.locals).code in
+      let turn = test_and_body ground.locals (lower_optional ground.p.pointers 1 test) (enclosed (lowered body (in_body j)).code ∷ []) ++ (lower_optional ground.p.pointers 0 step ground.locals).code in
       let b0 = and_cases (formed first) (named_option ground.p ground.own ground.locals ground.sizes void test && (named_option ground.p ground.own ground.locals ground.sizes void step && formed body)) b in
       let b1 = and_cases (named_option ground.p ground.own ground.locals ground.sizes void test) (named_option ground.p ground.own ground.locals ground.sizes void step && formed body) b0.1 in
       let b2 = and_cases (named_option ground.p ground.own ground.locals ground.sizes void step) (formed body) b1.1 in
@@ -275,11 +275,11 @@ module _ (ground : Ground) (void : Bool)
       let ms : ℕ → Evaluation ℕ = λ i. optional_value ground.p (context i) 0 step in
       let mb : ℕ → Evaluation Flow = λ i. flow_of_all ground.p (context i) body in
       let rest : ℕ → Evaluation Flow = λ i. bind (me i) (λ v. unless_zero v (give Goes) (bind (mb i) (λ flow. after_body flow (bind (ms i) (λ _. loop_of i (roll-Stmt again)))))) in
-      counts j k (roll-Stmt x) (bind (flow_of_all ground.p (context k) first) (λ begun. then_on begun (rest k))) (lower_stmt_layer ground.locals ground.sizes void (blocks x) j).code (flow_of-For ground.p (context k) (roll-Stmt x) first test step body (out-roll-Stmt x))
-      (raise j (72 + 0) 72 (at k) (bind (flow_of_all ground.p (context k) first) (λ begun. then_on begun (rest k))) (lower_stmt_layer ground.locals ground.sizes void (blocks x) j).code (omega arith)
+      counts j k (roll-Stmt x) (bind (flow_of_all ground.p (context k) first) (λ begun. then_on begun (rest k))) (lower_stmt_layer ground.p.pointers ground.locals ground.sizes void (blocks x) j).code (flow_of-For ground.p (context k) (roll-Stmt x) first test step body (out-roll-Stmt x))
+      (raise j (72 + 0) 72 (at k) (bind (flow_of_all ground.p (context k) first) (λ begun. then_on begun (rest k))) (lower_stmt_layer ground.p.pointers ground.locals ground.sizes void (blocks x) j).code (omega arith)
       (flows.in_turn ground void j (at k) 0 72 (flow_of_all ground.p (context k) first) (rest k) (lowered first j).code (repeat turn ∷ []) (all_correct first h.0 b0.0 ls.0 j (omega (arith, le)) k up)
       (looped j (roll-Stmt again) turn (λ i. for_turn (me i) (mb i) (ms i)) rest
-      (λ i lim. loops.for_correct ground void j (at i) (me i) (ms i) (mb i) (lower_optional 1 test) (lower_optional 0 step) (lowered body (in_body j)).code (omega (arith, le)) (omega (arith, le)) (optional i lim 1 test b1.0) (optional i lim 0 step b2.0) (all_correct body h.1 b2.1 ls.1 (in_body j) (omega (arith, le)) i lim))
+      (λ i lim. loops.for_correct ground void j (at i) (me i) (ms i) (mb i) (lower_optional ground.p.pointers 1 test) (lower_optional ground.p.pointers 0 step) (lowered body (in_body j)).code (omega (arith, le)) (omega (arith, le)) (optional i lim 1 test b1.0) (optional i lim 0 step b2.0) (all_correct body h.1 b2.1 ls.1 (in_body j) (omega (arith, le)) i lim))
       (λ i f w. sym (for_same (me i) (mb i) (ms i) (loop_of i (roll-Stmt again)) f w))
       (λ i f w. ap (λ (m : Evaluation Flow). m f w) (flow_of-For ground.p (context i) (roll-Stmt again) [] test step body (out-roll-Stmt again)) ∙ counted_given (rest i) f w) k up)))
     where
@@ -289,36 +289,36 @@ module _ (ground : Ground) (void : Bool)
       let x : Stmt-F Stmt Arm = stmt.Switch e arms in
       let bs = and_cases (named ground.p ground.own ground.locals ground.sizes void e) (all_of (map (arm_is_well_formed ground.p ground.own ground.locals ground.sizes void) arms)) b in
       let ls = labelled_switch arms l in
-      counts j k (roll-Stmt x) (bind (value_of ground.p (context k) e) (λ v. switch_flow v (map (arm_of ground.p (context k)) arms))) (lower_stmt_layer ground.locals ground.sizes void (blocks x) j).code (flow_of-Switch ground.p (context k) (roll-Stmt x) e arms (out-roll-Stmt x))
-      (switches.switch_correct ground void j (at k) (value_of ground.p (context k) e) (lower_expr e) (map (arm_of ground.p (context k)) arms) (map (lower_arm ground.locals ground.sizes void) arms) (omega (arith, le)) (omega (arith, le)) (omega (arith, as_bare arms, ls.few))
+      counts j k (roll-Stmt x) (bind (value_of ground.p (context k) e) (λ v. switch_flow v (map (arm_of ground.p (context k)) arms))) (lower_stmt_layer ground.p.pointers ground.locals ground.sizes void (blocks x) j).code (flow_of-Switch ground.p (context k) (roll-Stmt x) e arms (out-roll-Stmt x))
+      (switches.switch_correct ground void j (at k) (value_of ground.p (context k) e) (lower_expr ground.p.pointers e) (map (arm_of ground.p (context k)) arms) (map (lower_arm ground.p.pointers ground.locals ground.sizes void) arms) (omega (arith, le)) (omega (arith, le)) (omega (arith, as_bare arms, ls.few))
       (value k up e bs.0) (arms_correct arms h bs.1 ls.inside j (omega (arith, le)) k up))
   layer stmt.Break h b l j le k up =
       let x : Stmt-F Stmt Arm = stmt.Break in
-      counts j k (roll-Stmt x) (give Breaks) (lower_stmt_layer ground.locals ground.sizes void (blocks x) j).code (flow_of-Break ground.p (context k) (roll-Stmt x) (out-roll-Stmt x)) (flows.leaves ground void j (at k) j.leave Breaks (λ s. refl) refl)
+      counts j k (roll-Stmt x) (give Breaks) (lower_stmt_layer ground.p.pointers ground.locals ground.sizes void (blocks x) j).code (flow_of-Break ground.p (context k) (roll-Stmt x) (out-roll-Stmt x)) (flows.leaves ground void j (at k) j.leave Breaks (λ s. refl) refl)
   layer stmt.Continue h b l j le k up =
       let x : Stmt-F Stmt Arm = stmt.Continue in
-      counts j k (roll-Stmt x) (give Continues) (lower_stmt_layer ground.locals ground.sizes void (blocks x) j).code (flow_of-Continue ground.p (context k) (roll-Stmt x) (out-roll-Stmt x)) (flows.leaves ground void j (at k) j.again Continues (λ s. refl) refl)
+      counts j k (roll-Stmt x) (give Continues) (lower_stmt_layer ground.p.pointers ground.locals ground.sizes void (blocks x) j).code (flow_of-Continue ground.p (context k) (roll-Stmt x) (out-roll-Stmt x)) (flows.leaves ground void j (at k) j.again Continues (λ s. refl) refl)
   layer (stmt.Return None) h b l j le k up =
       let x : Stmt-F Stmt Arm = stmt.Return None in
-      counts j k (roll-Stmt x) (bind (give 0) (λ v. give (Returns v))) (lower_stmt_layer ground.locals ground.sizes void (blocks x) j).code (flow_of-Return ground.p (context k) (roll-Stmt x) None (out-roll-Stmt x))
-      (flows.comes_to ground void (out_of void j) 72 (at k) (give (Returns 0)) (bind (give 0) (λ v. give (Returns v))) (lower_stmt_layer ground.locals ground.sizes void (blocks x) j).code (λ f w. sym (given 0 (λ v. give (Returns v)) f w))
+      counts j k (roll-Stmt x) (bind (give 0) (λ v. give (Returns v))) (lower_stmt_layer ground.p.pointers ground.locals ground.sizes void (blocks x) j).code (flow_of-Return ground.p (context k) (roll-Stmt x) None (out-roll-Stmt x))
+      (flows.comes_to ground void (out_of void j) 72 (at k) (give (Returns 0)) (bind (give 0) (λ v. give (Returns v))) (lower_stmt_layer ground.p.pointers ground.locals ground.sizes void (blocks x) j).code (λ f w. sym (given 0 (λ v. give (Returns v)) f w))
       (flows.leaves ground void j (at k) j.around (Returns 0) (λ s. ap (λ z. cond z (Leaves j.around s) (Ends (Returned (Some 0) s.world))) b) refl))
   layer (stmt.Return (Some e)) h b l j le k up =
       let x : Stmt-F Stmt Arm = stmt.Return (Some e) in
       let bs = and_cases (not void) (named ground.p ground.own ground.locals ground.sizes void e) b in
-      counts j k (roll-Stmt x) (bind (value_of ground.p (context k) e) (λ v. give (Returns v))) (lower_stmt_layer ground.locals ground.sizes void (blocks x) j).code (flow_of-Return ground.p (context k) (roll-Stmt x) (Some e) (out-roll-Stmt x))
-      (flows.returns ground void j (at k) (value_of ground.p (context k) e) (lower_expr e) (not-true void bs.0) le (value k up e bs.1))
+      counts j k (roll-Stmt x) (bind (value_of ground.p (context k) e) (λ v. give (Returns v))) (lower_stmt_layer ground.p.pointers ground.locals ground.sizes void (blocks x) j).code (flow_of-Return ground.p (context k) (roll-Stmt x) (Some e) (out-roll-Stmt x))
+      (flows.returns ground void j (at k) (value_of ground.p (context k) e) (lower_expr ground.p.pointers e) (not-true void bs.0) le (value k up e bs.1))
 
   stmt_step : (x : Stmt-F Stmt Arm) → StmtChildren S A x → S (roll-Stmt x)
   stmt_step x h b l j =
-      subst (λ (l : Placed). (l j).top ≤ ground.room → (k : ℕ) → k ≤ limit → Counts j k (flow_of ground.p (context k) (roll-Stmt x)) (l j).code) (sym (fold-roll-Stmt Placed LoweredArm (lower_stmt_layer ground.locals ground.sizes void) (lower_arm_layer ground.locals ground.sizes void) x))
+      subst (λ (l : Placed). (l j).top ≤ ground.room → (k : ℕ) → k ≤ limit → Counts j k (flow_of ground.p (context k) (roll-Stmt x)) (l j).code) (sym (fold-roll-Stmt Placed LoweredArm (lower_stmt_layer ground.p.pointers ground.locals ground.sizes void) (lower_arm_layer ground.p.pointers ground.locals ground.sizes void) x))
       (layer x h (sym (fold-roll-Stmt Bool Bool (stmt_named_layer ground.p ground.own ground.locals ground.sizes void) (arm_named_layer ground.p ground.own ground.locals ground.sizes void) x) ∙ b) (sym (fold-roll-Stmt Bool ArmLabels labels_layer arm_labels_layer x) ∙ l) j)
 
   arm_step : (x : Arm-F Stmt Arm) → Each S x.body → A (roll-Arm x)
   arm_step x h =
       let a : Arm = roll-Arm x in
       let labels_as = fold-roll-Arm Bool ArmLabels labels_layer arm_labels_layer x in
-      subst (λ (l : LoweredArm). ArmShown a l) (sym (fold-roll-Arm Placed LoweredArm (lower_stmt_layer ground.locals ground.sizes void) (lower_arm_layer ground.locals ground.sizes void) x))
+      subst (λ (l : LoweredArm). ArmShown a l) (sym (fold-roll-Arm Placed LoweredArm (lower_stmt_layer ground.p.pointers ground.locals ground.sizes void) (lower_arm_layer ground.p.pointers ground.locals ground.sizes void) x))
       (record {
         labels = λ k. sym (ap (λ (d : ArmDenotation). d.labels) (arm_of_lem ground.p (context k) a));
         other = λ k. sym (ap (λ (d : ArmDenotation). d.other) (arm_of_lem ground.p (context k) a));

@@ -10,11 +10,12 @@ use Rattle.mv_ir.specs.declared.stm.Stm.{Stm}
 use Rattle.mv_ast.specs.declared.program.Known.{Known}
 use Rattle.mv_ast.specs.declared.world.Stop.{Stop}
 use Rattle.mv_ast.specs.declared.world.Stop.TheVariants as stops
-use Rattle.mv_ast.specs.Worlds.{World, Outcome, Came, Stopped, after, and_then, bind, give, stop}
+use Rattle.mv_ast.specs.Worlds.{World, Outcome, Came, Stopped, after, and_then, bind, give, counted, stop}
 use Rattle.mv_meaning.specs.declared.state.Frame.{Frame}
+use Rattle.mv_meaning.specs.declared.state.Lvalue.TheVariants as lvalue
 use Rattle.mv_ast.specs.declared.program.CType.{CType}
-use Rattle.mv_ast.specs.Numbering.{function_from, function_of_number}
-use Rattle.mv_meaning.specs.Meaning.{Evaluation, Context, Denotation, values_of, known_value, call_at, call_numbered, call_through}
+use Rattle.mv_ast.specs.Numbering.{place_from, function_of_number}
+use Rattle.mv_meaning.specs.Meaning.{Evaluation, Context, Denotation, callee_in, read_as, values_of, known_value, call_at, call_numbered, call_through}
 use Rattle.mv_ir.specs.World as code_world
 use Rattle.mv_ir.specs.Outcome.{State, Next, Ends, Bound, Call, End, spend, now}
 use Rattle.mv_ir.specs.Outcome as ir
@@ -22,7 +23,7 @@ use Rattle.mv_ir.specs.Trees.{nodes, nodes_of_all}
 use Rattle.mv_ir.specs.declared.stm.Callee.{Callee}
 use Rattle.mv_ir.specs.declared.stm.Callee.TheVariants as callees
 use Rattle.mv_ir.specs.KnownFunctions.{seen}
-use Rattle.mv_lower_spec.specs.Lowered.{Lowered, Lowering, Arguments, temp, call, known, is_empty, kept_if, lower_all, result_tree, lower_call, but_last, last_of, lower_through, lower_known, unless_void}
+use Rattle.mv_lower_spec.specs.Lowered.{Lowered, Lowering, Arguments, temp, call, known, is_empty, kept_if, lower_all, result_tree, lower_call, but_last, last_of, lower_through, lower_switched, lower_known, unless_void}
 use Rattle.mv_lower_spec.specs.Correct as c
 use Rattle.mv_lower_spec.specs.Correct.{Scene, val, Shows, Reached, Shown, CorrectFor, Correct, AllReached, AllShown, AllCorrect}
 use Rattle.mv_lower_spec.proofs.Running as run
@@ -204,13 +205,13 @@ module _ (scene : Scene) (bound : Bound) where
   known_shown n k trees vs f w s (Stopped why w2 work) le lt h ev a = absurd a
 
   pub correct_known : (k : Known) (es : List Denotation) (ls : List Lowering) → c.KnownAgrees scene.p scene.frame scene.own scene.setting k → AllCorrect scene bound es ls →
-      CorrectFor scene bound 100 (bind (values_of es) (known_value scene.p k)) (lower_known k ls)
+      CorrectFor scene bound 100 (bind (values_of es) (known_value scene.p scene.setting.numbers k)) (lower_known k ls)
   correct_known k es ls agrees cs n f w s le fits h =
       let all = lower_all ls n in
       let rest = known n k all.trees ∷ [] in
-      follow_all 11 100 n s all.code rest all.trees (temp n) (values_of es f w) (known_value scene.p k) (all_shown es ls cs n f w s le (omega (arith, fits)) h)
+      follow_all 11 100 n s all.code rest all.trees (temp n) (values_of es f w) (known_value scene.p scene.setting.numbers k) (all_shown es ls cs n f w s le (omega (arith, fits)) h)
       (λ vs f1 w1 work r.
-      known_shown n k all.trees vs f1 w1 r.state (known_value scene.p k vs f1 w1) le (omega (arith, fits)) r.shows r.values (agrees vs f1 w1 r.shows.function r.shows.live))
+      known_shown n k all.trees vs f1 w1 r.state (known_value scene.p scene.setting.numbers k vs f1 w1) le (omega (arith, fits)) r.shows r.values (agrees vs f1 w1 r.shows.function r.shows.live))
 
   -- ---- calls
 
@@ -318,39 +319,39 @@ module _ (scene : Scene) (bound : Bound) where
 
   -- ---- calls through pointers
 
-  place_is : (ns : List ℕ) (v i : ℕ) → function_from i ns v ≡ place ns v i
+  place_is : (ns : List ℕ) (v i : ℕ) → place_from i ns v ≡ place ns v i
   place_is [] v i = refl
   place_is (n ∷ ns) v i = ap (λ o. cond (eqb n v) (Some i) o) (place_is ns v (suc i))
 
   -- where code and source go through a pointer
-  through_at : (context : Context) (strict : c.IsStrict scene.p scene.setting.numbers context) (t : CType) (n v : ℕ) (ct : Tree) (trees : List Tree) (vs : List ℕ) (f : Frame) (w : World) (s : State) (z : Bool) (o : Option ℕ) →
-      scene.floor ≤ n → n < scene.room → Shows scene f w s → map (λ t. val scene t s) trees ≡ vs → val scene ct s ≡ v → eqb v 0 ≡ z → place scene.setting.numbers v 0 ≡ o → c.CallsAgree scene.p scene.frame scene.own bound context →
-      Shown scene bound 11 (37 + price (callees.Through ct) trees) n s (call (unless_void (is_void t) n) (callees.Through ct) trees ∷ []) (result_tree (is_void t) n)
+  through_at : (context : Context) (strict : c.IsStrict scene.p scene.setting.numbers context) (t : CType) (n v : ℕ) (callee : Callee) (trees : List Tree) (vs : List ℕ) (f : Frame) (w : World) (s : State) (z : Bool) (o : Option ℕ) →
+      scene.floor ≤ n → n < scene.room → Shows scene f w s → map (λ t. val scene t s) trees ≡ vs → goal scene.setting scene.frame callee s ≡ goal_of scene.setting.numbers v → eqb v 0 ≡ z → place scene.setting.numbers v 0 ≡ o → c.CallsAgree scene.p scene.frame scene.own bound context →
+      Shown scene bound 11 (37 + price callee trees) n s (call (unless_void (is_void t) n) callee trees ∷ []) (result_tree (is_void t) n)
       (cond z (stop (stops.Trapped 3)) (call_numbered context t o vs) f w)
-  through_at context strict t n v ct trees vs f w s true o le lt h ev ec ez eo agrees = record {
-    cost = price (callees.Through ct) trees + 0;
+  through_at context strict t n v callee trees vs f w s true o le lt h ev eg ez eo agrees = record {
+    cost = price callee trees + 0;
     runs = λ ne.
-        run.runs_call scene bound (unless_void (is_void t) n) (callees.Through ct) trees s ∙
-        ap (λ (x : ℕ). spend (price (callees.Through ct) trees) (call_to (goal_of scene.setting.numbers x) scene.frame.depth scene.frame.live (unless_void (is_void t) n) (map (λ t. val scene t s) trees) bound s)) ec ∙
-        ap (λ z. spend (price (callees.Through ct) trees) (call_to (cond z Null (goal_at (place scene.setting.numbers v 0))) scene.frame.depth scene.frame.live (unless_void (is_void t) n) (map (λ t. val scene t s) trees) bound s)) ez ∙
-        ap (λ (q : code_world.World). c.ran (price (callees.Through ct) trees + 0) (Ends (c.end_of (stops.Trapped 3) q))) h.world;
+        run.runs_call scene bound (unless_void (is_void t) n) callee trees s ∙
+        ap (λ (x : Goal). spend (price callee trees) (call_to x scene.frame.depth scene.frame.live (unless_void (is_void t) n) (map (λ t. val scene t s) trees) bound s)) eg ∙
+        ap (λ z. spend (price callee trees) (call_to (cond z Null (goal_at (place scene.setting.numbers v 0))) scene.frame.depth scene.frame.live (unless_void (is_void t) n) (map (λ t. val scene t s) trees) bound s)) ez ∙
+        ap (λ (q : code_world.World). c.ran (price callee trees + 0) (Ends (c.end_of (stops.Trapped 3) q))) h.world;
     paid = omega arith;
   }
-  through_at context strict t n v ct trees vs f w s false None le lt h ev ec ez eo agrees =
-      subst (λ (stray : Evaluation ℕ). Shown scene bound 11 (37 + price (callees.Through ct) trees) n s (call (unless_void (is_void t) n) (callees.Through ct) trees ∷ []) (result_tree (is_void t) n) (stray f w)) (sym strict.stray_is)
+  through_at context strict t n v callee trees vs f w s false None le lt h ev eg ez eo agrees =
+      subst (λ (stray : Evaluation ℕ). Shown scene bound 11 (37 + price callee trees) n s (call (unless_void (is_void t) n) callee trees ∷ []) (result_tree (is_void t) n) (stray f w)) (sym strict.stray_is)
       (record { cost = 0; runs = λ ne. no ne; paid = omega arith })
-  through_at context strict t n v ct trees vs f w s false (Some g) le lt h ev ec ez eo agrees =
-      subst (λ (lets : CType → ℕ → ℕ → Bool). Shown scene bound 11 (37 + price (callees.Through ct) trees) n s (call (unless_void (is_void t) n) (callees.Through ct) trees ∷ []) (result_tree (is_void t) n) (cond (lets t g (length vs)) (call_at context g vs) context.stray f w)) (sym strict.lets_are)
+  through_at context strict t n v callee trees vs f w s false (Some g) le lt h ev eg ez eo agrees =
+      subst (λ (lets : CType → ℕ → ℕ → Bool). Shown scene bound 11 (37 + price callee trees) n s (call (unless_void (is_void t) n) callee trees ∷ []) (result_tree (is_void t) n) (cond (lets t g (length vs)) (call_at context g vs) context.stray f w)) (sym strict.lets_are)
       (by (is_callable scene.p g (length vs) (is_void t)) refl)
     where
-      goal_is : goal scene.setting scene.frame (callees.Through ct) s ≡ At g
-      goal_is = ap (λ x. goal_of scene.setting.numbers x) ec ∙ ap (λ z. cond z Null (goal_at (place scene.setting.numbers v 0))) ez ∙ ap goal_at eo
+      goal_is : goal scene.setting scene.frame callee s ≡ At g
+      goal_is = eg ∙ ap (λ z. cond z Null (goal_at (place scene.setting.numbers v 0))) ez ∙ ap goal_at eo
 
       by : (z : Bool) → is_callable scene.p g (length vs) (is_void t) ≡ z →
-          Shown scene bound 11 (37 + price (callees.Through ct) trees) n s (call (unless_void (is_void t) n) (callees.Through ct) trees ∷ []) (result_tree (is_void t) n) (cond z (call_at context g vs) context.stray f w)
-      by true e = called context (is_void t) n g (callees.Through ct) trees vs f w s le lt h ev goal_is e agrees
+          Shown scene bound 11 (37 + price callee trees) n s (call (unless_void (is_void t) n) callee trees ∷ []) (result_tree (is_void t) n) (cond z (call_at context g vs) context.stray f w)
+      by true e = called context (is_void t) n g callee trees vs f w s le lt h ev goal_is e agrees
       by false e =
-          subst (λ (stray : Evaluation ℕ). Shown scene bound 11 (37 + price (callees.Through ct) trees) n s (call (unless_void (is_void t) n) (callees.Through ct) trees ∷ []) (result_tree (is_void t) n) (stray f w)) (sym strict.stray_is)
+          subst (λ (stray : Evaluation ℕ). Shown scene bound 11 (37 + price callee trees) n s (call (unless_void (is_void t) n) callee trees ∷ []) (result_tree (is_void t) n) (stray f w)) (sym strict.stray_is)
           (record { cost = 0; runs = λ ne. no ne; paid = omega arith })
 
   pub all_appended : (es : List Denotation) (ls : List Lowering) (e : Denotation) (l : Lowering) → AllCorrect scene bound es ls → Correct scene bound e.value l → AllCorrect scene bound (es ++ e ∷ []) (ls ++ l ∷ [])
@@ -387,5 +388,29 @@ module _ (scene : Scene) (bound : Bound) where
       show.more_credit scene bound 11 11 (37 + price (callees.Through ct) args) (100 + 3 * nodes_of_all all.trees) n n r.state rest (result_tree (is_void t) n) (call_through context t v us f1 w1) (omega arith) (omega (arith, parts_of all.trees)) (omega (arith, parts_of all.trees))
       (subst (λ (o : Option ℕ). Shown scene bound 11 (37 + price (callees.Through ct) args) n r.state rest (result_tree (is_void t) n) (cond (eqb v 0) (stop (stops.Trapped 3)) (call_numbered context t o us) f1 w1))
       (sym (ap (λ ns. function_of_number ns v) strict.numbers_are ∙ place_is scene.setting.numbers v 0))
-      (through_at context strict t n v ct args us f1 w1 r.state (eqb v 0) (place scene.setting.numbers v 0) le (omega (arith, fits)) r.shows (others_are all.trees r.state ∙ ap sequences.other_values r.values)
-      (last_is all.trees r.state ∙ ap sequences.last_value r.values) refl refl agrees))))
+      (through_at context strict t n v (callees.Through ct) args us f1 w1 r.state (eqb v 0) (place scene.setting.numbers v 0) le (omega (arith, fits)) r.shows (others_are all.trees r.state ∙ ap sequences.other_values r.values)
+      (ap (λ x. goal_of scene.setting.numbers x) (last_is all.trees r.state ∙ ap sequences.last_value r.values)) refl refl agrees))))
+
+  -- ---- calls through pointer switches
+
+  -- the number in a pointer switch, which the source reads behind the arguments and which pays for its node there
+  abbrev pub switched_read : Context → (global : ℕ) → Evaluation ℕ
+  switched_read context g = bind (give (lvalue.Global g 0)) (read_as scene.p context.numbers true)
+
+  pub correct_switched : (context : Context) → c.IsStrict scene.p scene.setting.numbers context → (t : CType) (es : List Denotation) (ls : List Lowering) (g : ℕ) → c.CallsAgree scene.p scene.frame scene.own bound context → AllCorrect scene bound es ls →
+      ((f : Frame) (w : World) → scene.setting.switched g (seen w) ≡ callee_in scene.p scene.setting.numbers (lvalue.Global g 0) f w) →
+      CorrectFor scene bound 100 (bind (values_of es) (λ vs. bind (counted 1 (switched_read context g)) (λ v. call_through context t v vs))) (lower_switched (is_void t) ls g)
+  correct_switched context strict t es ls g agrees cs same n f w s le fits h =
+      let all = lower_all ls n in
+      let callee = callees.Switched g in
+      let rest = call (unless_void (is_void t) n) callee all.trees ∷ [] in
+      follow_all 11 100 n s all.code rest all.trees (result_tree (is_void t) n) (values_of es f w) (λ vs. bind (counted 1 (switched_read context g)) (λ v. call_through context t v vs))
+      (all_shown es ls cs n f w s le (omega (arith, fits)) h)
+      (λ vs f1 w1 work r.
+      let v = callee_in scene.p context.numbers (lvalue.Global g 0) f1 w1 in
+      show.paid_by scene bound 11 (100 + 3 * nodes_of_all all.trees) n 1 r.state rest (result_tree (is_void t) n) (call_through context t v vs f1 w1)
+      (show.more_credit scene bound 11 11 (37 + price callee all.trees) (100 + 3 * nodes_of_all all.trees + 100 * 1) n n r.state rest (result_tree (is_void t) n) (call_through context t v vs f1 w1) (omega arith) (omega arith) (omega arith)
+      (subst (λ (o : Option ℕ). Shown scene bound 11 (37 + price callee all.trees) n r.state rest (result_tree (is_void t) n) (cond (eqb v 0) (stop (stops.Trapped 3)) (call_numbered context t o vs) f1 w1))
+      (sym (ap (λ ns. function_of_number ns v) strict.numbers_are ∙ place_is scene.setting.numbers v 0))
+      (through_at context strict t n v callee all.trees vs f1 w1 r.state (eqb v 0) (place scene.setting.numbers v 0) le (omega (arith, fits)) r.shows r.values
+      (ap (goal_of scene.setting.numbers) (ap (scene.setting.switched g) r.shows.world ∙ same f1 w1 ∙ ap (λ ns. callee_in scene.p ns (lvalue.Global g 0) f1 w1) (sym strict.numbers_are))) refl refl agrees))))

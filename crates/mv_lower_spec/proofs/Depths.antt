@@ -14,7 +14,7 @@ use Rattle.mv_ir.specs.Measures.{joined, stm_trees, trees, callee_trees}
 use Rattle.mv_ir.proofs.Induction.{Each, each_append}
 use Rattle.mv_ir.proofs.Keeping.{map_append}
 use Rattle.mv_ir.proofs.Rolls.{depth_roll, trees_roll}
-use Rattle.mv_lower_spec.specs.Lowered.{Lowered, Lowering, Arguments, number, temp, unary, set, set_global, divide, choose, check, read, write, call, known, truth, truth_in, is_empty, is_low, kept_if, first, second, lower_one, lower_two, lower_division, lower_both, lower_either, lower_choice, lower_set_local, lower_set_global, lower_all, result_tree, lower_call, but_last, last_of, lower_through, lower_known, index_in, lower_element, lower_read_element, lower_set_element, unless_void}
+use Rattle.mv_lower_spec.specs.Lowered.{Lowered, Lowering, Arguments, number, temp, unary, set, set_global, divide, choose, check, read, write, call, known, truth, truth_in, is_empty, is_low, kept_if, first, second, lower_one, lower_two, lower_division, lower_both, lower_either, lower_choice, lower_set_local, lower_set_global, lower_all, result_tree, lower_call, but_last, last_of, lower_through, lower_switched, lower_known, index_in, lower_element, lower_read_element, lower_set_element, unless_void}
 use Rattle.mv_ast.specs.declared.program.Known.{Known}
 use Rattle.mv_num.proofs.Booleans.{and_right}
 use Rattle.mv_ir.proofs.Lists.{joined_append}
@@ -196,6 +196,15 @@ shallow_call void f ls h n =
     let ok = shallow_all ls h n in
     record {
       code = both_parts all.code (call (unless_void void n) (callee.Direct f) all.trees ∷ []) ok.code (shallow_call_to (unless_void void n) (callee.Direct f) all.trees tt ok.trees);
+      tree = shallow_result void n;
+    }
+
+pub shallow_switched : (void : Bool) (ls : List Lowering) (g : ℕ) → Each AlwaysShallow ls → AlwaysShallow (lower_switched void ls g)
+shallow_switched void ls g h n =
+    let all = lower_all ls n in
+    let ok = shallow_all ls h n in
+    record {
+      code = both_parts all.code (call (unless_void void n) (callee.Switched g) all.trees ∷ []) ok.code (shallow_call_to (unless_void void n) (callee.Switched g) all.trees tt ok.trees);
       tree = shallow_result void n;
     }
 

@@ -1,5 +1,5 @@
 -- No tree of a lowered expression is deeper than 4.
-use Rattle.std.proofs.Common.{◌≡◌, ℕ, suc, ◌+◌, ◌≤◌, Bool, true, false, cond, List, [], ◌∷◌, map, max, sym, subst, arith}
+use Rattle.std.proofs.Common.{◌≡◌, ℕ, suc, ◌+◌, ◌≤◌, Bool, true, false, cond, List, [], ◌∷◌, map, max, Option, Some, None, sym, subst, arith}
 use Rattle.std.specs.Prelude.{nat_eq, nat_lt}
 use Rattle.mv_ir.specs.declared.tree.Tree.{Tree}
 use Rattle.mv_ir.specs.declared.tree.Tree.TheOpen as tree
@@ -15,10 +15,10 @@ use Rattle.mv_ast.specs.declared.program.Form.TheOpen as form
 use Rattle.mv_ast.specs.declared.program.Target.{Target, Target-F, fold-roll-Target, map-Target}
 use Rattle.mv_ast.specs.Operators.{is_unsigned}
 use Rattle.mv_lower_spec.specs.Lowered.{Lowering, number, temp, global, binary, set, set_global, read, write, lower_number, lower_local, lower_global, index_in, lower_element}
-use Rattle.mv_lower_spec.specs.Lower.{Part, Place, InLocal, InGlobal, Element, narrowed, unary_tree, converted_tree, less_tree, bit_tree, quotient_number, remainder_number, lower_operator, lower_product, lower_binary, place_of_layer, lower_read, lower_set, lower_changed, lower_change, next_tree, lower_after, lower_form, lower_layer, form_lowering, place_of, part_of, lower_expr}
+use Rattle.mv_lower_spec.specs.Lower.{Part, Place, InLocal, InGlobal, Element, narrowed, unary_tree, converted_tree, less_tree, bit_tree, quotient_number, remainder_number, lower_operator, lower_product, lower_binary, place_of_layer, lower_read, lower_set, lower_changed, lower_change, next_tree, lower_after, FormPart, switched_by, lower_called, lower_form_at, lower_form, lower_layer, form_part, form_lowering, place_of, part_of, lower_expr}
 use Rattle.mv_source_forms.specs.Names.{is_void}
 use Rattle.mv_source_forms.proofs.ExpressionInduction.{FormChildren, TargetChildren, expr_ind}
-use Rattle.mv_lower_spec.proofs.Depths.{Shallow, AlwaysShallow, both_parts, shallow_set, shallow_set_global, shallow_one, shallow_two, shallow_division, shallow_both, shallow_either, shallow_choice, shallow_set_local, shallow_store, shallow_call, shallow_through, shallow_known, shallow_read, shallow_write, shallow_index, shallow_element, shallow_read_element, shallow_set_element}
+use Rattle.mv_lower_spec.proofs.Depths.{Shallow, AlwaysShallow, both_parts, shallow_set, shallow_set_global, shallow_one, shallow_two, shallow_division, shallow_both, shallow_either, shallow_choice, shallow_set_local, shallow_store, shallow_call, shallow_through, shallow_switched, shallow_known, shallow_read, shallow_write, shallow_index, shallow_element, shallow_read_element, shallow_set_element}
 
 within_if : (z : Bool) (x y : Tree) (m : ℕ) → depth x ≤ m → depth y ≤ m → depth (cond z x y) ≤ m
 within_if true x y m h k = h
@@ -125,54 +125,59 @@ after_shallow up t (Element r i) h n =
       tree = omega (arith, depth_roll (tree.Temp n));
     }
 
-abbrev P : Form → Type 0
-P f = (t : CType) → AlwaysShallow (form_lowering f t)
-
-abbrev Q : Target → Type 0
-Q x = ShallowPlace (place_of x)
-
-abbrev S : Expr → Type 0
-S e = AlwaysShallow (lower_expr e)
-
-each : (es : List Expr) → Each S es → Each AlwaysShallow (map (λ (a : Part). a.lower) (map part_of es))
-each [] h = tt
-each (e ∷ es) h = (h.0, each es h.1)
-
-layer : (x : Form-F Form Target Expr) → FormChildren P Q S x → (t : CType) → AlwaysShallow (lower_form (map-Form Form Target Expr (CType → Lowering) Place Part form_lowering place_of part_of x) t)
-layer (form.Number n) h t = shallow_number n
-layer (form.Read target) h t = read_shallow (place_of target) h
-layer (form.Function f) h t = λ n. record { code = tt; tree = omega (arith, depth_roll (tree.Function f)) }
-layer (form.Unary op a) h t = shallow_one (unary_tree op) (lower_expr a) (unary_depth op) h
-layer (form.Binary op a b) h t = shallow_binary false op (part_of a).ctype (lower_expr a) (lower_expr b) h.0 h.1
-layer (form.Both a b) h t = shallow_both (lower_expr a) (lower_expr b) h.0 h.1
-layer (form.Either a b) h t = shallow_either (lower_expr a) (lower_expr b) h.0 h.1
-layer (form.Choose x a b) h t = shallow_choice (lower_expr x) (lower_expr a) (lower_expr b) h.0 h.1 h.2
-layer (form.Convert a) h t = shallow_one (converted_tree t) (lower_expr a) (converted_depth t) h
-layer (form.Set target a) h t = set_shallow (place_of target) (lower_expr a) h.0 h.1
-layer (form.Change op kind target a) h t = change_shallow op kind t (place_of target) (lower_expr a) h.0 h.1
-layer (form.After up target) h t = after_shallow up t (place_of target) h
-layer (form.Direct f args) h t = shallow_call (is_void t) f (map (λ (a : Part). a.lower) (map part_of args)) (each args h)
-layer (form.Through args callee) h t = shallow_through (is_void t) (map (λ (a : Part). a.lower) (map part_of args)) (lower_expr callee) (each args h.0) h.1
-layer (form.Known k args) h t = shallow_known k (map (λ (a : Part). a.lower) (map part_of args)) (each args h)
-
-target_layer : (x : Target-F Form Target Expr) → TargetChildren P Q S x → ShallowPlace (place_of_layer (map-Target Form Target Expr (CType → Lowering) Place Part form_lowering place_of part_of x))
-target_layer (form.Global g) h = tt
-target_layer (form.Local l) h = tt
-target_layer (form.GlobalAt g e) h = h
-target_layer (form.LocalAt l e) h = h
-
-pub expr_shallow : (e : Expr) → AlwaysShallow (lower_expr e)
-expr_shallow e =
-    expr_ind P Q S
-    (λ x h t. subst (λ (l : CType → Lowering). AlwaysShallow (l t)) (sym (fold-roll-Form (CType → Lowering) Place Part lower_form place_of_layer lower_layer x)) (layer x h t))
-    (λ x h. subst (λ (l : Place). ShallowPlace l) (sym (fold-roll-Target (CType → Lowering) Place Part lower_form place_of_layer lower_layer x)) (target_layer x h))
-    (λ x h. subst (λ (l : Part). AlwaysShallow l.lower) (sym (fold-roll-Expr (CType → Lowering) Place Part lower_form place_of_layer lower_layer x)) (h x.ctype)) e
-
 pub deepest_up : (ts : List Tree) → Each Shallow ts → deepest_of ts ≤ 4
 deepest_up [] h = omega arith
 deepest_up (t ∷ ts) h = omega (arith, h.0, deepest_up ts h.1)
 
-pub expr_is_shallow : (e : Expr) (n : ℕ) → (deepest (lower_expr e n).code ≤ 4) × (depth (lower_expr e n).tree ≤ 4)
-expr_is_shallow e n =
-    let h = expr_shallow e n in
-    (deepest_up (trees (lower_expr e n).code) h.code, h.tree)
+module _ (pointers : List ℕ) where
+  abbrev P : Form → Type 0
+  P f = (t : CType) → AlwaysShallow (form_lowering pointers f t)
+
+  abbrev Q : Target → Type 0
+  Q x = ShallowPlace (place_of pointers x)
+
+  abbrev S : Expr → Type 0
+  S e = AlwaysShallow (lower_expr pointers e)
+
+  each : (es : List Expr) → Each S es → Each AlwaysShallow (map (λ (a : Part). a.lower) (map (part_of pointers) es))
+  each [] h = tt
+  each (e ∷ es) h = (h.0, each es h.1)
+
+  layer : (x : Form-F Form Target Expr) → FormChildren P Q S x → (t : CType) → AlwaysShallow (lower_form_at pointers (map-Form Form Target Expr FormPart Place Part (form_part pointers) (place_of pointers) (part_of pointers) x) t)
+  layer (form.Number n) h t = shallow_number n
+  layer (form.Read target) h t = read_shallow (place_of pointers target) h
+  layer (form.Function f) h t = λ n. record { code = tt; tree = omega (arith, depth_roll (tree.Function f)) }
+  layer (form.Unary op a) h t = shallow_one (unary_tree op) (lower_expr pointers a) (unary_depth op) h
+  layer (form.Binary op a b) h t = shallow_binary false op (part_of pointers a).ctype (lower_expr pointers a) (lower_expr pointers b) h.0 h.1
+  layer (form.Both a b) h t = shallow_both (lower_expr pointers a) (lower_expr pointers b) h.0 h.1
+  layer (form.Either a b) h t = shallow_either (lower_expr pointers a) (lower_expr pointers b) h.0 h.1
+  layer (form.Choose x a b) h t = shallow_choice (lower_expr pointers x) (lower_expr pointers a) (lower_expr pointers b) h.0 h.1 h.2
+  layer (form.Convert a) h t = shallow_one (converted_tree t) (lower_expr pointers a) (converted_depth t) h
+  layer (form.Set target a) h t = set_shallow (place_of pointers target) (lower_expr pointers a) h.0 h.1
+  layer (form.Change op kind target a) h t = change_shallow op kind t (place_of pointers target) (lower_expr pointers a) h.0 h.1
+  layer (form.After up target) h t = after_shallow up t (place_of pointers target) h
+  layer (form.Direct f args) h t = shallow_call (is_void t) f (map (λ (a : Part). a.lower) (map (part_of pointers) args)) (each args h)
+  layer (form.Through args callee) h t = by (switched_by pointers (part_of pointers callee).reads)
+    where
+      by : (o : Option ℕ) → AlwaysShallow (lower_called o (is_void t) (map (λ (a : Part). a.lower) (map (part_of pointers) args)) (lower_expr pointers callee))
+      by None = shallow_through (is_void t) (map (λ (a : Part). a.lower) (map (part_of pointers) args)) (lower_expr pointers callee) (each args h.0) h.1
+      by (Some g) = shallow_switched (is_void t) (map (λ (a : Part). a.lower) (map (part_of pointers) args)) g (each args h.0)
+  layer (form.Known k args) h t = shallow_known k (map (λ (a : Part). a.lower) (map (part_of pointers) args)) (each args h)
+
+  target_layer : (x : Target-F Form Target Expr) → TargetChildren P Q S x → ShallowPlace (place_of_layer (map-Target Form Target Expr FormPart Place Part (form_part pointers) (place_of pointers) (part_of pointers) x))
+  target_layer (form.Global g) h = tt
+  target_layer (form.Local l) h = tt
+  target_layer (form.GlobalAt g e) h = h
+  target_layer (form.LocalAt l e) h = h
+
+  pub expr_shallow : (e : Expr) → AlwaysShallow (lower_expr pointers e)
+  expr_shallow e =
+      expr_ind P Q S
+      (λ x h t. subst (λ (l : FormPart). AlwaysShallow (l.lower t)) (sym (fold-roll-Form FormPart Place Part (lower_form pointers) place_of_layer (lower_layer pointers) x)) (layer x h t))
+      (λ x h. subst (λ (l : Place). ShallowPlace l) (sym (fold-roll-Target FormPart Place Part (lower_form pointers) place_of_layer (lower_layer pointers) x)) (target_layer x h))
+      (λ x h. subst (λ (l : Part). AlwaysShallow l.lower) (sym (fold-roll-Expr FormPart Place Part (lower_form pointers) place_of_layer (lower_layer pointers) x)) (h x.ctype)) e
+
+  pub expr_is_shallow : (e : Expr) (n : ℕ) → (deepest (lower_expr pointers e n).code ≤ 4) × (depth (lower_expr pointers e n).tree ≤ 4)
+  expr_is_shallow e n =
+      let h = expr_shallow e n in
+      (deepest_up (trees (lower_expr pointers e n).code) h.code, h.tree)

@@ -16,9 +16,10 @@ use Rattle.mv_ast.specs.declared.world.Stop.TheVariants as stop
 use Rattle.mv_ast.specs.Worlds as worlds
 use Rattle.mv_ast.specs.Worlds.{World, Outcome, Came, Stopped}
 use Rattle.mv_ast.specs.Counts.{words_of_size}
-use Rattle.mv_ast.specs.Plans.{word_at, bound_value}
+use Rattle.mv_ast.specs.Plans.{is_among, word_at, bound_value}
 use Rattle.mv_meaning.specs.declared.state.Frame.{Frame}
-use Rattle.mv_meaning.specs.Meaning.{Evaluation, Context, Denotation, known_value}
+use Rattle.mv_meaning.specs.declared.state.Lvalue.TheVariants as lvalue
+use Rattle.mv_meaning.specs.Meaning.{Evaluation, Context, Denotation, callee_in, known_value}
 use Rattle.mv_ast.specs.declared.program.Known.{Known}
 use Rattle.mv_lower_spec.specs.Lowered.{Lowering, unless_void}
 use Rattle.mv_source_forms.specs.Names.{is_callable, is_void, global_words}
@@ -219,6 +220,11 @@ pub record CallHalted (c : Call) (why : Stop) (w2 : World) (work : ℕ) : Type 0
   pub ends : is_astray why ≡ false → c ≡ record { cost = cost; end = end_of why (seen w2) }
   pub paid : cost ≤ 20 + 100 * work
 
+-- a call through a pointer switch sees the same number in the code as in the source
+abbrev pub SwitchedAgrees : Program → Setting → Type 0
+SwitchedAgrees p setting =
+    (g : ℕ) (f : Frame) (w : World) → is_among g p.pointers ≡ true → setting.switched g (seen w) ≡ callee_in p setting.numbers (lvalue.Global g 0) f w
+
 -- calls that a frame makes, of the function with this number
 module _ (p : Program) (frame : code_world.Frame) (own : ℕ) where
   -- a call leaves the caller's frame as it was, with the values that its switches are read as, all bindings where an attributed frame is live, and no object gets another size
@@ -244,7 +250,7 @@ module _ (p : Program) (frame : code_world.Frame) (own : ℕ) where
   abbrev pub KnownAgrees : Setting → Known → Type 0
   KnownAgrees setting k =
       (vs : List ℕ) (f : Frame) (w : World) → f.function ≡ own → w.live ≡ frame.live →
-      KnownShown (setting.known k vs frame.live (seen w)) f w (known_value p k vs f w)
+      KnownShown (setting.known k vs frame.live (seen w)) f w (known_value p setting.numbers k vs f w)
 
   pub record CallReached (void : Bool) (c : Call) (v : ℕ) (f f2 : Frame) (w w2 : World) (work : ℕ) : Type 0 where
     pub ends : c.end ≡ Returned (unless_void void v) (seen w2)

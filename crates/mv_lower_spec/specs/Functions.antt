@@ -36,15 +36,15 @@ abbrev pub outermost : Jumps
 outermost = record { leave = 0; again = 0; around = 0 }
 
 -- the code of a function's statements
-abbrev pub lower_body : Function → Code
-lower_body g = in_sequence (length g.locals) (map (lower_stmt (length g.locals) (size_in g.locals) (is_void g.result)) g.body) outermost
+abbrev pub lower_body : (pointers : List ℕ) → Function → Code
+lower_body pointers g = in_sequence (length g.locals) (map (lower_stmt pointers (length g.locals) (size_in g.locals) (is_void g.result)) g.body) outermost
 
 -- what follows it: the end of a function that isn't void gives 0
 abbrev pub ending : Bool → List Stm
 ending void = cond void [] (return_with (number 0) ∷ [])
 
-abbrev pub lower_function_code : Function → Code
-lower_function_code g = record { code = (lower_body g).code ++ ending (is_void g.result); top = (lower_body g).top }
+abbrev pub lower_function_code : (pointers : List ℕ) → Function → Code
+lower_function_code pointers g = record { code = (lower_body pointers g).code ++ ending (is_void g.result); top = (lower_body pointers g).top }
 
 -- ---- what code names
 
@@ -54,6 +54,7 @@ names_global code g = is_among g (scalars_read code) || is_among g (joined (map 
 abbrev pub callee_called : Callee → List ℕ
 callee_called (callee.Direct f) = f ∷ []
 callee_called (callee.Through t) = []
+callee_called (callee.Switched g) = []
 
 abbrev pub layer_called : Stm-F (List ℕ) → List ℕ
 layer_called (stm.If t a b) = joined a ++ joined b
@@ -93,7 +94,7 @@ marked_from is_called f (g ∷ gs) = cond (g.attributed && is_called f) (f ∷ m
 -- The lowering of a function.
 abbrev pub lower_function : Program → Function → Body
 lower_function p g =
-    let l = lower_function_code g in
+    let l = lower_function_code p.pointers g in
     record {
       params = g.params;
       temps = max (length g.locals) l.top;

@@ -1,5 +1,5 @@
 -- The lowering of expressions: a fold that gives, for each, its code and its tree from the first free temporary on.
-use Rattle.std.specs.Prelude.{ℕ, ◌+◌, Bool, true, false, cond, [], ◌∷◌, ◌++◌, map, if◌then◌else◌, nat_eq, nat_lt}
+use Rattle.std.specs.Prelude.{ℕ, ◌+◌, Bool, true, false, cond, List, [], ◌∷◌, ◌++◌, map, Option, Some, None, if◌then◌else◌, nat_eq, nat_lt}
 use Rattle.mv_ir.specs.declared.tree.Tree.{Tree}
 use Rattle.mv_ir.specs.declared.tree.Tree.TheOpen as tree
 use Rattle.mv_ir.specs.declared.tree.Tree.TheViews.{roll-Tree}
@@ -13,8 +13,9 @@ use Rattle.mv_ast.specs.declared.program.Form.{Form, Form-F, fold-Form}
 use Rattle.mv_ast.specs.declared.program.Form.TheOpen as form
 use Rattle.mv_ast.specs.declared.program.Target.{Target, Target-F, fold-Target}
 use Rattle.mv_ast.specs.Operators.{is_unsigned}
+use Rattle.mv_ast.specs.Plans.{is_among}
 use Rattle.mv_source_forms.specs.Names.{is_void}
-use Rattle.mv_lower_spec.specs.Lowered.{Lowering, number, unary, binary, temp, global, set, set_global, read, write, lower_number, lower_local, lower_global, lower_function, lower_one, lower_two, lower_division, lower_both, lower_either, lower_choice, lower_set_local, lower_set_global, lower_call, lower_through, lower_known, index_in, lower_element, lower_read_element, lower_set_element}
+use Rattle.mv_lower_spec.specs.Lowered.{Lowering, number, unary, binary, temp, global, set, set_global, read, write, lower_number, lower_local, lower_global, lower_function, lower_one, lower_two, lower_division, lower_both, lower_either, lower_choice, lower_set_local, lower_set_global, lower_call, lower_through, lower_switched, lower_known, index_in, lower_element, lower_read_element, lower_set_element}
 use Rattle.mv_ast.specs.Marks as marks
 use Rattle.mv_ir.specs.Operators as operators
 
@@ -76,10 +77,16 @@ lower_binary turned op t a b =
 
 -- ---- expressions
 
--- an expression's type, and what it is lowered to
+-- what a form is lowered to at the type of its expression, and the global scalar that it is the read of, if it is one
+pub record FormPart : Type 0 where
+  pub lower : CType → Lowering
+  pub reads : Option ℕ
+
+-- an expression's type, what it is lowered to, and the global scalar that it is the read of
 pub record Part : Type 0 where
   pub ctype : CType
   pub lower : Lowering
+  pub reads : Option ℕ
 
 -- where a value is read or stored
 pub data Place : Type 0 where
@@ -87,7 +94,7 @@ pub data Place : Type 0 where
   InGlobal : ℕ → Place
   Element : Array → Lowering → Place
 
-abbrev pub place_of_layer : Target-F (CType → Lowering) Place Part → Place
+abbrev pub place_of_layer : Target-F FormPart Place Part → Place
 place_of_layer (form.Global g) = InGlobal g
 place_of_layer (form.Local l) = InLocal l
 place_of_layer (form.GlobalAt g e) = Element (array.Global g) e.lower
@@ -128,35 +135,68 @@ lower_after up t (Element r i) n =
       top = at.top;
     }
 
-abbrev pub lower_form : Form-F (CType → Lowering) Place Part → CType → Lowering
-lower_form (form.Number n) t = lower_number n
-lower_form (form.Read target) t = lower_read target
-lower_form (form.Function f) t = lower_function f
-lower_form (form.Unary op a) t = lower_one (unary_tree op) a.lower
-lower_form (form.Binary op a b) t = lower_binary false op a.ctype a.lower b.lower
-lower_form (form.Both a b) t = lower_both a.lower b.lower
-lower_form (form.Either a b) t = lower_either a.lower b.lower
-lower_form (form.Choose c a b) t = lower_choice c.lower a.lower b.lower
-lower_form (form.Convert a) t = lower_one (converted_tree t) a.lower
-lower_form (form.Set target a) t = lower_set target a.lower
-lower_form (form.Change op kind target a) t = lower_change op kind t target a.lower
-lower_form (form.After up target) t = lower_after up t target
-lower_form (form.Direct f args) t = lower_call (is_void t) f (map (λ a. a.lower) args)
-lower_form (form.Through args f) t = lower_through (is_void t) (map (λ a. a.lower) args) f.lower
-lower_form (form.Known k args) t = lower_known k (map (λ a. a.lower) args)
+-- ---- calls through pointers
 
-abbrev pub lower_layer : Expr-F (CType → Lowering) Place Part → Part
-lower_layer e = record { ctype = e.ctype; lower = e.what e.ctype }
+-- the global scalar that is read at a place
+abbrev pub global_at : Place → Option ℕ
+global_at (InLocal l) = None
+global_at (InGlobal g) = Some g
+global_at (Element a i) = None
 
-abbrev pub form_lowering : Form → CType → Lowering
-form_lowering = fold-Form (CType → Lowering) Place Part lower_form place_of_layer lower_layer
+-- whether what is called is the read of a pointer switch, and of which
+abbrev pub switched_if : Bool → ℕ → Option ℕ
+switched_if true g = Some g
+switched_if false g = None
 
-abbrev pub place_of : Target → Place
-place_of = fold-Target (CType → Lowering) Place Part lower_form place_of_layer lower_layer
+abbrev pub switched_by : (pointers : List ℕ) → Option ℕ → Option ℕ
+switched_by pointers None = None
+switched_by pointers (Some g) = switched_if (is_among g pointers) g
 
-abbrev pub part_of : Expr → Part
-part_of = fold-Expr (CType → Lowering) Place Part lower_form place_of_layer lower_layer
+-- a call of what is called, the arguments in front of it: through a pointer switch, or through the value of a pointer
+abbrev pub lower_called : Option ℕ → Bool → List Lowering → Lowering → Lowering
+lower_called (Some g) void args f = lower_switched void args g
+lower_called None void args f = lower_through void args f
 
--- The lowering of an expression.
-abbrev pub lower_expr : Expr → Lowering
-lower_expr e = (part_of e).lower
+module _ (pointers : List ℕ) where
+  abbrev pub lower_form_at : Form-F FormPart Place Part → CType → Lowering
+  lower_form_at (form.Number n) t = lower_number n
+  lower_form_at (form.Read target) t = lower_read target
+  lower_form_at (form.Function f) t = lower_function f
+  lower_form_at (form.Unary op a) t = lower_one (unary_tree op) a.lower
+  lower_form_at (form.Binary op a b) t = lower_binary false op a.ctype a.lower b.lower
+  lower_form_at (form.Both a b) t = lower_both a.lower b.lower
+  lower_form_at (form.Either a b) t = lower_either a.lower b.lower
+  lower_form_at (form.Choose c a b) t = lower_choice c.lower a.lower b.lower
+  lower_form_at (form.Convert a) t = lower_one (converted_tree t) a.lower
+  lower_form_at (form.Set target a) t = lower_set target a.lower
+  lower_form_at (form.Change op kind target a) t = lower_change op kind t target a.lower
+  lower_form_at (form.After up target) t = lower_after up t target
+  lower_form_at (form.Direct f args) t = lower_call (is_void t) f (map (λ a. a.lower) args)
+  lower_form_at (form.Through args f) t = lower_called (switched_by pointers f.reads) (is_void t) (map (λ a. a.lower) args) f.lower
+  lower_form_at (form.Known k args) t = lower_known k (map (λ a. a.lower) args)
+
+  abbrev pub form_reads : Form-F FormPart Place Part → Option ℕ
+  form_reads (form.Read target) = global_at target
+  form_reads _ = None
+
+  abbrev pub lower_form : Form-F FormPart Place Part → FormPart
+  lower_form f = record { lower = lower_form_at f; reads = form_reads f }
+
+  abbrev pub lower_layer : Expr-F FormPart Place Part → Part
+  lower_layer e = record { ctype = e.ctype; lower = e.what.lower e.ctype; reads = e.what.reads }
+
+  abbrev pub form_part : Form → FormPart
+  form_part = fold-Form FormPart Place Part lower_form place_of_layer lower_layer
+
+  abbrev pub form_lowering : Form → CType → Lowering
+  form_lowering f = (form_part f).lower
+
+  abbrev pub place_of : Target → Place
+  place_of = fold-Target FormPart Place Part lower_form place_of_layer lower_layer
+
+  abbrev pub part_of : Expr → Part
+  part_of = fold-Expr FormPart Place Part lower_form place_of_layer lower_layer
+
+  -- The lowering of an expression, in a program with these pointer switches.
+  abbrev pub lower_expr : Expr → Lowering
+  lower_expr e = (part_of e).lower

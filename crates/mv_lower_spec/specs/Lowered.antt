@@ -179,6 +179,10 @@ lower_through void args f n =
     let all = lower_all (args ++ f ∷ []) n in
     lower_call_to void (callee.Through (last_of all.trees)) all (but_last all.trees) n
 
+-- a call through a pointer switch, which is read behind the arguments
+abbrev pub lower_switched : Bool → List Lowering → ℕ → Lowering
+lower_switched void args g n = lower_call_to void (callee.Switched g) (lower_all args n) (lower_all args n).trees n
+
 -- a known function
 abbrev pub lower_known : Known → List Lowering → Lowering
 lower_known k args n =

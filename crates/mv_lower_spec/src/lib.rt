@@ -9,8 +9,9 @@
 //!   programs are.
 //! - `expressions_are_right`: an expression that names only what there is, lowered from any free temporary on and run in
 //!   any frame that has room, does what it means (value, effects, traps) at a cost of at most 100 × work, keeping the
-//!   value included. The premises are that the functions that it calls and the known functions do so, and that a call
-//!   through a pointer reaches only functions that fit it. No tree of a lowered expression is deeper than 4.
+//!   value included. The premises are that the functions that it calls and the known functions do so, that a call through
+//!   a pointer switch sees in code what it sees in the source, and that a call through a pointer reaches only functions that
+//!   fit it. No tree of a lowered expression is deeper than 4.
 //! - `statements_are_right`: the same of well-formed statements, labelled as they should be, of all forms, at every
 //!   bound: blocks, declarations with their values, choices, loops, `switch` with fall through, and every way for control
 //!   to leave, again at a cost of at most 100 × work.

@@ -1,12 +1,12 @@
 -- Calls for plans, and polls: what the engine does is what the definition does to a state.
-use Rattle.std.proofs.Common.{◌≡◌, ◌≢◌, ⊎_elim, ℕ, ◌-◌, ◌<◌, ◌≤◌, ◌^◌, ltb, Bool, true, false, nat_eq, if◌then◌else◌, List, [], ◌∷◌, ◌++◌, Option, Some, None, refl, sym, ap, ap₂, ◌∙◌, subst, arith, append-nil, Result, Ok, Err, OnOk, OnErr}
+use Rattle.std.proofs.Common.{◌≡◌, ◌≢◌, ⊎_elim, ℕ, ◌-◌, ◌<◌, ◌≤◌, ◌^◌, ltb, Bool, true, false, nat_eq, if◌then◌else◌, List, [], ◌∷◌, ◌++◌, map, Option, Some, None, refl, sym, ap, ap₂, ◌∙◌, subst, arith, append-nil, Result, Ok, Err, OnOk, OnErr}
 use Rattle.std.proofs.lemmas.Bool.{ne_eqb, cases_lt, le-ltb}
 use Rattle.mv_num.specs.Words.{add}
 use Rattle.mv_ast.specs.declared.world.Binding.{Binding}
 use Rattle.mv_ast.specs.declared.world.Event.{Event}
 use Rattle.mv_ast.specs.declared.world.Action.{Action}
-use Rattle.mv_ast.specs.declared.world.Action.TheVariants.{Skip}
 use Rattle.mv_ast.specs.Plans.{events_from}
+use Rattle.mv_ast.specs.Worlds.{act_of, Skip}
 use Rattle.mv_isa.specs.declared.instr.Cause.TheVariants as cause
 use Rattle.mv_isa.specs.Execution.{reg, put}
 use Rattle.mv_fetch.specs.Held.{Room, Held}
@@ -25,7 +25,7 @@ use Rattle.mv_machine.proofs.Moved.{moves_telling, moves_quietly}
 
 abbrev of : Fields → (regs : List ℕ) → (pc : ℕ) → Room → List Binding → List (Option ℕ) → List Action → (output : List ℕ) → List Event → Stop → State
 of image regs pc room bindings input actions output log stop =
-    record { image = image; regs = regs; pc = pc; room = room; bindings = bindings; input = input; actions = actions; output = output; log = log; stop = stop }
+    record { hart = 0; image = image; regs = regs; pc = pc; room = room; bindings = bindings; input = input; actions = map act_of actions; output = output; log = log; stop = stop }
 
 -- a state with these fields
 same_state : (image image' : Fields) (regs regs' : List ℕ) (pc pc' : ℕ) (room room' : Room) (bindings bindings' : List Binding) (input : List (Option ℕ)) (actions : List Action) (output : List ℕ) (log : List Event) → image' ≡ image → regs' ≡ regs → pc' ≡ pc → room' ≡ room → bindings' ≡ bindings
@@ -134,7 +134,7 @@ module _ (engine engine' : Engine) (left written : Option (List ℕ)) (Told : Li
       subst (λ (a : List Action). Moves (environment_call Polls) (from a) (to is) Going Told) (sym taken.0)
       (subst (λ (a : List Action). Moves (environment_call Polls) (from []) (to a) Going Told) (sym taken.1) none)
 
-  pub poll_of_action : (action : Action) (was is : List Action) → live ≡ 0 → Taken (Some action) was is → Moves (act action) (from is) (to is) Going Told → Moves (environment_call Polls) (from was) (to is) Going Told
+  pub poll_of_action : (action : Action) (was is : List Action) → live ≡ 0 → Taken (Some action) was is → Moves (act (act_of action)) (from is) (to is) Going Told → Moves (environment_call Polls) (from was) (to is) Going Told
   unfolding polled
   poll_of_action action was is idle taken m = subst (λ (a : List Action). Moves (environment_call Polls) (from a) (to is) Going Told) (sym taken) (
     m.0,
@@ -153,8 +153,8 @@ module _ (engine engine' : Engine) (left written : Option (List ℕ)) (Told : Li
   skips actions quiet does = moves_telling (act Skip) (from actions) (to actions) Going Told [] refl refl quiet (λ i o l. does left written i o l)
 
 -- the same action
-pub acts : (x y : Seen) (Told : List Event → Type 0) (action same : Action) → action ≡ same → Moves (act same) x y Going Told → Moves (act action) x y Going Told
-acts x y Told action same e m = subst (λ (a : Action). Moves (act a) x y Going Told) (sym e) m
+pub acts : (x y : Seen) (Told : List Event → Type 0) (action same : Action) → action ≡ same → Moves (act (act_of same)) x y Going Told → Moves (act (act_of action)) x y Going Told
+acts x y Told action same e m = subst (λ (a : Action). Moves (act (act_of a)) x y Going Told) (sym e) m
 
 -- a flip: the memory behind its store, and the plan of a commit of all functions then
 pub flips : (engine engine' : Engine) (switch value : ℕ) (memory : Room) (plan : Planned) (news : List Event) (Told : List Event → Type 0) → memory ≡ with_value engine.image engine.memory switch value → plan ≡ plan_of engine.image memory.held engine.bindings 0 0 → Told news

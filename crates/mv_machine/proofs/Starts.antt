@@ -12,6 +12,7 @@ use Rattle.mv_descriptors.specs.declared.rows.SiteRow.{SiteRow}
 use Rattle.mv_image.specs.Spelling.{Fields}
 use Rattle.mv_image.specs.Format.{FitsFormat}
 use Rattle.mv_patch.specs.Tables.{patchable}
+use Rattle.mv_machine.specs.Acts.{polls_of}
 use Rattle.mv_machine.specs.Runs.{first}
 use Rattle.mv_machine.specs.Snapshots.{Snapshot, kept, resumed}
 
@@ -19,7 +20,7 @@ abbrev snapshot : (image : Fields) (pc : ℕ) (held : Held) (spare reserve : ℕ
 snapshot image pc held spare reserve bindings = record { image = image; regs = replicate 32 0; pc = pc; room = record { held = held; spare = spare; reserve = reserve }; bindings = bindings; last = None }
 
 pub started : (image same : Fields) (pc : ℕ) (room : Room) (bindings : List Binding) (count n : ℕ) → same ≡ image → pc ≡ image.entry → room.held ≡ first_memory image.text image.globals → room.spare ≡ n → room.reserve ≡ n → n ≡ length image.functions + 2 * length image.sites → bindings ≡ replicate count free → count ≡ length image.functions
-    → snapshot same pc room.held room.spare room.reserve bindings ≡ kept (first image [] []) None
+    → snapshot same pc room.held room.spare room.reserve bindings ≡ kept (first image [] (polls_of [])) None
 unfolding kept first patchable
 started image same pc room bindings count n w p h s r e b c =
     ap (λ (i : Fields). snapshot i pc room.held room.spare room.reserve bindings) w
@@ -34,6 +35,6 @@ pub copied_fits : (image : Fields) (entry : ℕ) (text globals : List ℕ) (swit
 copied_fits image entry text globals switches functions variants guards sites names e t g s f v u w n fits = rw (e, t, g, s, f, v, u, w, n) fits
 
 -- a run of a machine that has just been started is the run of its image
-pub first_state : (image : Fields) (input : List (Option ℕ)) (actions : List Action) → resumed (kept (first image [] []) None) input actions ≡ first image input actions
+pub first_state : (image : Fields) (input : List (Option ℕ)) (actions : List Action) → resumed (kept (first image [] (polls_of [])) None) input actions ≡ first image input (polls_of actions)
 unfolding resumed kept first
 first_state image input actions = refl

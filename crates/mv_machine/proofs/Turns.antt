@@ -1,8 +1,7 @@
 -- How a run grows by one instruction, and that nothing follows its end.
-use Rattle.std.proofs.Common.{ℕ, zero, suc, Bool, true, false, if◌then◌else◌, nat_eq, [], ◌∷◌, ◌≡◌, ◌≤◌, ◌+◌, ◌-◌, ◌^◌, add-one, List, ◌++◌, length, slice_index, refl, sym, ap, ap₂, ◌∙◌, subst, arith}
+use Rattle.std.proofs.Common.{ℕ, zero, suc, Bool, true, false, ◌&&◌, if◌then◌else◌, nat_eq, [], ◌∷◌, ◌≡◌, ◌≤◌, ◌+◌, ◌-◌, ◌^◌, add-one, List, ◌++◌, length, slice_index, refl, sym, ap, ap₂, ◌∙◌, subst, arith}
 use Rattle.std.proofs.lemmas.List.{get_or_append_left}
-use Rattle.mv_ast.specs.declared.world.Action.{Action}
-use Rattle.mv_ast.specs.declared.world.Action.TheVariants.{Skip, Flip}
+use Rattle.mv_ast.specs.Worlds.{Act, Skip, Flip, Adopt}
 use Rattle.mv_isa.specs.declared.instr.Cause.TheVariants as cause
 use Rattle.mv_isa.specs.Execution.{Outcome, Goes, Calls, Faults, reg}
 use Rattle.mv_isa.specs.declared.instr.Cause.{Cause}
@@ -43,12 +42,13 @@ either_goes : (b : Bool) (x y : State) → x.stop ≡ Going → y.stop ≡ Going
 either_goes true x y h k = h
 either_goes false x y h k = k
 
-act_goes : (action : Action) (s : State) → s.stop ≡ Going → (act action s).stop ≡ Going
+act_goes : (action : Act) (s : State) → s.stop ≡ Going → (act action s).stop ≡ Going
 unfolding answered
 act_goes Skip s going = going
 act_goes (Flip switch value) s going = going
+act_goes (Adopt bs) s going = going
 
-acted_goes : (s : State) (actions : List Action) → s.stop ≡ Going → (acted s actions).stop ≡ Going
+acted_goes : (s : State) (actions : List Act) → s.stop ≡ Going → (acted s actions).stop ≡ Going
 unfolding answered
 acted_goes s [] going = going
 acted_goes s (action ∷ later) going = act_goes action (record s { actions = later }) going
@@ -64,8 +64,8 @@ known_or_fault false x s why going e = ap (λ (stop : Stop). stopped s stop) e
 planned_faults : (s : State) (code index : ℕ) (why : Cause) → s.stop ≡ Going → (planned s code index).stop ≡ Fault why → planned s code index ≡ stopped s (Fault why)
 unfolding planned answered
 planned_faults s code index why going e =
-    known_or_fault (is_known_order s.image code index) (if nat_eq (live_frames s) 0 then ordered s code index else refused s (2 ^ 32 - 1)) s why
-    (either_goes (nat_eq (live_frames s) 0) (ordered s code index) (refused s (2 ^ 32 - 1)) going going) e
+    known_or_fault (is_known_order s.image code index) (if nat_eq s.hart 0 && nat_eq (live_frames s) 0 then ordered s code index else refused s (2 ^ 32 - 1)) s why
+    (either_goes (nat_eq s.hart 0 && nat_eq (live_frames s) 0) (ordered s code index) (refused s (2 ^ 32 - 1)) going going) e
 
 call_faults : (request : Request) (s : State) (why : Cause) → s.stop ≡ Going → (environment_call request s).stop ≡ Fault why → environment_call request s ≡ stopped s (Fault why)
 unfolding answered

@@ -4,3 +4,4 @@ pub mod Engines
 pub mod Snapshots
 pub mod Moves
 pub mod Actions
+pub mod Acts

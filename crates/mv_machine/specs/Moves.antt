@@ -1,9 +1,10 @@
 -- What the code holds of a state, and that what it does to it is what a definition does to the state.
-use Rattle.std.specs.Prelude.{ℕ, zero, suc, ◌+◌, ◌≡◌, ◌%◌, ◌^◌, ◌<◌, ◌⊎◌, ◌∷◌, List, [], ◌++◌, length, slice_get, Option, Some, None, option_map, IsSomeAnd, Ok}
+use Rattle.std.specs.Prelude.{ℕ, zero, suc, ◌+◌, ◌≡◌, ◌%◌, ◌^◌, ◌<◌, ◌⊎◌, ◌∷◌, List, [], ◌++◌, length, map, slice_get, Option, Some, None, option_map, IsSomeAnd, Ok}
 use Rattle.mv_num.specs.Words.{add}
 use Rattle.mv_ast.specs.declared.world.Binding.{Binding}
 use Rattle.mv_ast.specs.declared.world.Action.{Action}
 use Rattle.mv_ast.specs.declared.world.Event.{Event}
+use Rattle.mv_ast.specs.Worlds.{act_of}
 use Rattle.mv_image.specs.Spelling.{Fields}
 use Rattle.mv_isa.specs.declared.instr.Cause.TheVariants as cause
 use Rattle.mv_isa.specs.Execution.{put, reg, Calls}
@@ -48,13 +49,14 @@ seen engine actions left written = record {
 -- the state of which that is seen
 abbrev pub shown : Seen → Stop → (input : List (Option ℕ)) → (output : List ℕ) → (log : List Event) → State
 shown x stop input output log = record {
+  hart = 0;
   image = x.image;
   regs = x.regs;
   pc = x.pc;
   room = x.room;
   bindings = x.bindings;
   input = input;
-  actions = x.actions;
+  actions = map act_of x.actions;
   output = output;
   log = log;
   stop = stop;

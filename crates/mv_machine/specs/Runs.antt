@@ -1,14 +1,13 @@
 -- The run of a machine as a definition. `turn` is one instruction, `runs_from` is so many of them from any state, and `runs` is so many of an
--- image from its start. All of them are functions: of the image, the input, the operator's actions, the picks of the fetches and the number of
--- instructions.
-use Rattle.std.specs.Prelude.{ℕ, zero, suc, ◌+◌, ◌-◌, ◌%◌, ◌^◌, cond, eqb, ltb, if◌then◌else◌, nat_eq, List, [], ◌∷◌, ◌++◌, length, map, replicate, slice_get, slice_index, Option, Some, None, unwrap_or}
+-- image from its start. All of them are functions: of the image, the input, the number of the hart and what its polls take, the picks of the fetches
+-- and the number of instructions.
+use Rattle.std.specs.Prelude.{ℕ, zero, suc, ◌&&◌, ◌+◌, ◌-◌, ◌%◌, ◌^◌, cond, eqb, ltb, if◌then◌else◌, nat_eq, List, [], ◌∷◌, ◌++◌, length, map, replicate, slice_get, slice_index, Option, Some, None, unwrap_or}
 use Rattle.mv_num.specs.Words.{add}
 use Rattle.mv_ast.specs.declared.world.Binding.{Binding}
 use Rattle.mv_ast.specs.declared.world.Event.{Event}
-use Rattle.mv_ast.specs.declared.world.Action.{Action}
-use Rattle.mv_ast.specs.declared.world.Action.TheVariants.{Skip, Flip}
 use Rattle.mv_ast.specs.Orders as orders
 use Rattle.mv_ast.specs.Plans.{events_from}
+use Rattle.mv_ast.specs.Worlds.{Act, Skip, Flip, Adopt}
 use Rattle.mv_descriptors.specs.declared.rows.SwitchRow.{SwitchRow}
 use Rattle.mv_isa.specs.declared.instr.Cause.{Cause}
 use Rattle.mv_isa.specs.declared.instr.Cause.TheVariants as cause
@@ -20,7 +19,9 @@ use Rattle.mv_rv32.specs.Stepping.{access, picked_step}
 use Rattle.mv_image.specs.Spelling.{Fields}
 use Rattle.mv_patch.specs.Tables.{patchable}
 use Rattle.mv_patch.specs.declared.prepared.Pair.{Pair}
-use Rattle.mv_patch.specs.Orders.{Planned, is_known_order, first_bindings, plan_of}
+use Rattle.mv_patch.specs.Orders.{Planned, is_known_order, first_bindings, plan_of, plan_between}
+use Rattle.mv_patch.specs.Stores.{stored_all}
+use Rattle.mv_machine.specs.Acts.{PollActs}
 
 -- how a run stands: it goes on, or an instruction ended it
 pub data Stop : Type 0 where
@@ -31,6 +32,8 @@ pub data Stop : Type 0 where
 
 -- the machine and its outside
 pub record State : Type 0 where
+  -- the number of this hart; hart 0 alone commits
+  pub hart : ℕ
   pub image : Fields
   pub regs : List ℕ
   pub pc : ℕ
@@ -39,8 +42,8 @@ pub record State : Type 0 where
   pub bindings : List Binding
   -- what the reads to come are answered: a byte or the end of the input, and the end where the list is used up
   pub input : List (Option ℕ)
-  -- what the operator does at the polls to come, and nothing where the list is used up
-  pub actions : List Action
+  -- what the polls to come take, and nothing where the list is used up
+  pub actions : List Act
   -- the bytes that were written
   pub output : List ℕ
   pub log : List Event
@@ -130,10 +133,10 @@ carried_out s plan answer = record (answered s answer) {
 abbrev pub ordered : State → (code index : ℕ) → State
 ordered s code index = let plan = plan_of s.image s.room.held s.bindings code index in carried_out s plan plan.answer
 
--- with live frames an order changes nothing and is answered -1; one that is unknown is a fault
+-- with live frames, and in another hart than 0, an order changes nothing and is answered -1; one that is unknown is a fault
 unfoldable pub planned : State → (code index : ℕ) → State
 planned s code index =
-    if is_known_order s.image code index then (if nat_eq (live_frames s) 0 then ordered s code index else refused s (2 ^ 32 - 1)) else stopped s (Fault cause.Call)
+    if is_known_order s.image code index then (if nat_eq s.hart 0 && nat_eq (live_frames s) 0 then ordered s code index else refused s (2 ^ 32 - 1)) else stopped s (Fault cause.Call)
 
 -- ---- polls
 
@@ -151,12 +154,21 @@ abbrev pub flipped : State → (switch value : ℕ) → State
 flipped s switch value =
     let room = with_value s.image s.room switch value in carried_out (record s { room = room }) (plan_of s.image room.held s.bindings orders.commit 0) 1
 
-abbrev pub act : Action → State → State
+-- the bindings become those of a commit that another hart has made, of which text has the words already; memory stays
+abbrev pub adopts : State → List Binding → State
+adopts s bs = record (answered s 1) { room = with_plan s.room []; bindings = bs; log = s.log ++ events_from 0 s.bindings bs }
+
+-- alone, text gets the words at the same time
+abbrev pub adopted : State → List Binding → State
+adopted s bs = adopts (record s { room = stored_all s.room (plan_between s.image s.bindings bs) }) bs
+
+abbrev pub act : Act → State → State
 act Skip s = refused s 0
 act (Flip switch value) s = flipped s switch value
+act (Adopt bs) s = adopted s bs
 
 -- the next action is taken
-abbrev pub acted : State → List Action → State
+abbrev pub acted : State → List Act → State
 acted s [] = refused s 0
 acted s (action ∷ later) = act action (record s { actions = later })
 
@@ -222,19 +234,20 @@ executed s picks (suc n) = executed s picks n + counts_as (runs_from s picks n).
 -- ---- the start
 
 -- the registers hold 0, all functions are free, and each word of text has itself as its one choice
-unfoldable pub first : Fields → (input : List (Option ℕ)) → List Action → State
-first image input actions = record {
+unfoldable pub first : Fields → (input : List (Option ℕ)) → PollActs → State
+first image input polls = record {
+  hart = polls.hart;
   image = image;
   regs = replicate 32 0;
   pc = image.entry;
   room = record { held = first_memory image.text image.globals; spare = patchable image; reserve = patchable image };
   bindings = first_bindings image;
   input = input;
-  actions = actions;
+  actions = polls.acts;
   output = [];
   log = [];
   stop = Going;
 }
 
-abbrev pub runs : Fields → (input : List (Option ℕ)) → List Action → (picks : List ℕ) → (n : ℕ) → State
-runs image input actions picks n = runs_from (first image input actions) picks n
+abbrev pub runs : Fields → (input : List (Option ℕ)) → PollActs → (picks : List ℕ) → (n : ℕ) → State
+runs image input polls picks n = runs_from (first image input polls) picks n

@@ -1,8 +1,9 @@
 -- What contracts see of a machine between two calls of `run`, and what such a call has done.
-use Rattle.std.specs.Prelude.{ℕ, ◌≡◌, ◌+◌, ◌-◌, ◌<◌, List, [], ◌++◌, length, slice_index, Option, Some, None, option_map, IfSome, IsSomeAnd, ◌%◌}
+use Rattle.std.specs.Prelude.{ℕ, ◌≡◌, ◌+◌, ◌-◌, ◌<◌, List, [], ◌++◌, length, map, slice_index, Option, Some, None, option_map, IfSome, IsSomeAnd, ◌%◌}
 use Rattle.mv_ast.specs.declared.world.Binding.{Binding}
 use Rattle.mv_ast.specs.declared.world.Event.{Event}
 use Rattle.mv_ast.specs.declared.world.Action.{Action}
+use Rattle.mv_ast.specs.Worlds.{act_of}
 use Rattle.mv_image.specs.Spelling.{Fields}
 use Rattle.mv_isa.specs.Execution.{Calls, reg}
 use Rattle.mv_isa.specs.declared.instr.Cause.{Cause}
@@ -28,7 +29,7 @@ kept s last = record { image = s.image; regs = s.regs; pc = s.pc; room = s.room;
 
 -- the state from which a call of `run` goes on; the actions, the output and the log are those of this call
 unfoldable pub resumed : Snapshot → (input : List (Option ℕ)) → List Action → State
-resumed m input actions = record { image = m.image; regs = m.regs; pc = m.pc; room = m.room; bindings = m.bindings; input = input; actions = actions; output = []; log = []; stop = Going }
+resumed m input actions = record { hart = 0; image = m.image; regs = m.regs; pc = m.pc; room = m.room; bindings = m.bindings; input = input; actions = map act_of actions; output = []; log = []; stop = Going }
 
 -- a source that tells what is left answers each of these bytes and then the end; one that tells nothing may answer anything
 abbrev pub Tells : (left : Option (List ℕ)) → (input : List (Option ℕ)) → Type 0

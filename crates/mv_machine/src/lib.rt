@@ -1,6 +1,7 @@
 //! The machine that runs an image.
 //!
-//! - `specs/Runs.antt` defines the run: the state of an image after n instructions under a list of picks.
+//! - `specs/Runs.antt` defines the run: the state of an image after n instructions in a hart, with what its polls take and
+//!   under a list of picks. `Machine` runs hart 0, whose polls take the operator's actions (`polls_of`).
 //! - `Machine::start` gives the first state. `Machine::run` is that definition for the given number of instructions,
 //!   under the oracle's way or, where it tells none, one list of picks, one for each executed instruction but for one
 //!   that can't be fetched; a told list's place goes on by as many. `Ended`, `Trapped` and `Fault` are its stop; `Steps`
@@ -8,9 +9,10 @@
 //!   that call, which is a read or a write, and the count of the source's or the sink's faults rose; neither count ever
 //!   falls. A machine that has ended gives its answer again and does nothing. Each probe that is left was told the log of
 //!   the state, in order, up to the event at which it left. `bindings` and `word` are the state's.
-//! - An order and a poll are part of that definition: with a live frame they change nothing; else the plan of
-//!   `mv_patch` is in the plan area, the bindings are its own, and the log has an event for each that differs. Text is
-//!   stored by the program alone. On an image without attributed functions the probes are left as they were, a clause
+//! - An order and a poll are part of that definition: with a live frame they change nothing, nor does an order in another
+//!   hart than 0; else the plan of `mv_patch` is in the plan area, the bindings are its own, and the log has an event for
+//!   each that differs. Text is stored by the program alone, but for the words that come with bindings which a poll of
+//!   another hart adopts. On an image without attributed functions the probes are left as they were, a clause
 //!   says.
 //! - `specs/Commits.antt` says which commit is under way in a run. It is a definition for the laws above.
 //! - Only tested: that each pick is told the address of its instruction; two images that store over their own words under

@@ -8,6 +8,7 @@ ghost use Rattle.mv_io.specs.Outside.{Rose};
 ghost use Rattle.mv_probe.specs.Hearing.{hearing, IsPatient, object_at, Becomes};
 ghost use Rattle.mv_probe.specs.Fates.{Fates};
 ghost use Rattle.mv_machine.specs.Actions.{fits};
+ghost use Rattle.mv_machine.specs.Acts.{polls_of};
 ghost use Rattle.mv_machine.specs.Runs.{first};
 ghost use Rattle.mv_machine.specs.Snapshots.{kept, Ran, Unless, last_of};
 
@@ -71,7 +72,7 @@ impl Machine {
     /// The machine of an image before its first instruction. From here on memory can be wanting only where a program stores into its text more
     /// often between two FENCE.I than a plan of the image would.
     pub fn start(alloc: Global, image: &Image) -> Result<Machine, AllocError>
-        ensures { IfOk result (λ machine. machine ≡ kept (first image.now [] []) None) }
+        ensures { IfOk result (λ machine. machine ≡ kept (first image.now [] (polls_of [])) None) }
     {
         within_limits(image);
         let patchable = image.functions().len() + 2 * image.sites().len();

@@ -4,6 +4,7 @@ ghost use Rattle.std.specs.Prelude.{◌≡◌, ◌≤◌, ◌<◌, [], All, IfSo
 ghost use Rattle.mv_ast.specs.Orders as orders;
 ghost use Rattle.mv_ast.specs.Plans.{events_from};
 ghost use Rattle.mv_ast.specs.declared.world.Action.{Action};
+ghost use Rattle.mv_ast.specs.Worlds.{act_of};
 ghost use Rattle.mv_isa.specs.Execution.{reg};
 ghost use Rattle.mv_patch.specs.Orders.{is_known_order};
 ghost use Rattle.mv_patch.specs.Tables.{patchable};
@@ -154,7 +155,7 @@ fn act(engine: &mut Engine, action: Action, probes: &mut Vec<Box<dyn Probe>>)
     requires { All (λ probe. IsPatient (hearing (told probe) (patience probe))) probes.old.items }
     ensures quiet { engine.old.image.functions ≡ [] → probes.new ≡ probes.old }
     ensures image { engine.new.image ≡ engine.old.image }
-    ensures moves { (actions : List Action) (left written : Option (List ℕ)) → Moves (act action) (seen engine.old actions left written) (seen engine.new actions left written) Going
+    ensures moves { (actions : List Action) (left written : Option (List ℕ)) → Moves (act (act_of action)) (seen engine.old actions left written) (seen engine.new actions left written) Going
         (λ events. Fates (Becomes (λ probe. object_at probe.ptr probe.vtable) (λ probe. hearing (told probe) (patience probe)) events) probes.old.items probes.new.items) }
 {
     match action {

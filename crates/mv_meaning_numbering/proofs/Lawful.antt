@@ -17,27 +17,27 @@ abbrev pub all_reached : CType → ℕ → ℕ → Bool
 all_reached t f n = true
 
 pub no_strays : StraysDoNotShow
-no_strays p numbers lets stray typed numbering admits input actions bound fit =
+no_strays p numbers lets stray typed numbering admits hart input actions bound fit =
     same_meaning
     (record { program = p; ns = numbers; ms = own_numbers p; left = numbering_distinguishes p numbers numbering; right = own_distinguishes p; typed = typed })
-    input actions fit lets all_reached stray (give 0) admits (λ s f signature e h. refl) bound ∙
-    own_meaning p input actions bound
+    hart input actions fit lets all_reached stray (give 0) admits (λ s f signature e h. refl) bound ∙
+    own_meaning p hart input actions bound
 
 pub two_numberings : NumbersDoNotShow
-two_numberings p numbers others typed left right input actions bound fit =
+two_numberings p numbers others typed left right hart input actions bound fit =
     same_meaning
     (record { program = p; ns = numbers; ms = others; left = numbering_distinguishes p numbers left; right = numbering_distinguishes p others right; typed = typed })
-    input actions fit all_reached all_reached (give 0) (give 0) (λ s f signature e h. refl) (λ s f signature e h. refl) bound
+    hart input actions fit all_reached all_reached (give 0) (give 0) (λ s f signature e h. refl) (λ s f signature e h. refl) bound
 
 pub own_numbering : OwnNumberingIsOne
-own_numbering p input actions bound = own_meaning p input actions bound
+own_numbering p hart input actions bound = own_meaning p hart input actions bound
 
 pub any_numbering : AnyNumberingServes
-any_numbering p numbers typed numbering input actions bound fit =
+any_numbering p numbers typed numbering hart input actions bound fit =
     same_meaning
     (record { program = p; ns = numbers; ms = own_numbers p; left = numbering_distinguishes p numbers numbering; right = own_distinguishes p; typed = typed })
-    input actions fit all_reached all_reached (give 0) (give 0) (λ s f signature e h. refl) (λ s f signature e h. refl) bound ∙
-    own_meaning p input actions bound
+    hart input actions fit all_reached all_reached (give 0) (give 0) (λ s f signature e h. refl) (λ s f signature e h. refl) bound ∙
+    own_meaning p hart input actions bound
 
 -- a list of numbers that was found to be a numbering serves
 pub found_serves : (p : Program) (numbers : List ℕ) (answer : Bool) → Decides answer (IsNumbering p numbers) → IsTrue answer → IsTyped p → MeansItself p numbers

@@ -7,6 +7,7 @@ pub mod Lawful
 mod Leaves
 mod Numbers
 mod Outcomes
+pub mod Pointers
 mod Programs
 mod Statements
 mod Switches

@@ -3,11 +3,11 @@ use Rattle.std.proofs.Common.{◌≡◌, ℕ, zero, suc, ◌+◌, ◌<◌, List,
 use Rattle.std.specs.Prelude.{◌≢◌, All, AllPairs}
 use Rattle.mv_ast.specs.declared.program.Program.{Program}
 use Rattle.mv_ast.specs.declared.program.Function.{Function}
-use Rattle.mv_ast.specs.Numbering.{numbers_from, own_numbers, function_from, function_of_number}
+use Rattle.mv_ast.specs.Numbering.{numbers_from, own_numbers, place_from, function_of_number}
 use Rattle.mv_meaning_numbering.specs.Numberings.{IsNumbering}
 use Rattle.mv_ast.proofs.Common.{first_has, first_has_not}
 
-found_at : (ns : List ℕ) (i k : ℕ) → AllPairs (λ m n. m ≢ n) ns → k < length ns → function_from i ns (get_or ns k 0) ≡ Some (i + k)
+found_at : (ns : List ℕ) (i k : ℕ) → AllPairs (λ m n. m ≢ n) ns → k < length ns → place_from i ns (get_or ns k 0) ≡ Some (i + k)
 found_at [] i k apart lt = absurd (omega arith)
 found_at (n ∷ ns) i zero apart lt = first_has n i n ns refl ∙ ap Some (omega arith)
 found_at (n ∷ ns) i (suc k) apart lt =

@@ -3,18 +3,20 @@ use Rattle.std.proofs.Common.{◌≡◌, ℕ, ◌+◌, Bool, true, false, List, 
 use Rattle.std.specs.Prelude.{All, IsTrue}
 use Rattle.mv_ast.specs.declared.program.CType.{CType}
 use Rattle.mv_ast.specs.declared.world.Stop.{Stop}
-use Rattle.mv_ast.specs.Actions.{fits}
+use Rattle.mv_ast.specs.Actions.{act_fits}
 use Rattle.mv_ast.specs.Worlds.{World, Outcome, Came, Stopped, after, and_then, bind, give, stop, counted}
 use Rattle.mv_meaning.specs.declared.state.Frame.{Frame}
 use Rattle.mv_meaning.specs.Meaning.{Evaluation, unless_zero}
 use Rattle.mv_source_forms.specs.Typing.{global_types}
 use Rattle.mv_meaning_numbering.proofs.Alike.{Setting, SameObjects}
+use Rattle.mv_meaning_numbering.proofs.Pointers.{PointersTyped}
 
--- two worlds, with actions that fit
+-- two worlds, with actions that fit, in which pointer switches are bound to functions of their types
 pub record SameWorld (x : Setting) (w v : World) : Type 0 where
   pub globals : SameObjects x (global_types x.program) w.globals v.globals
   pub others : v ≡ record w { globals = v.globals }
-  pub actions : All (λ a. IsTrue (fits x.program a)) w.actions
+  pub actions : All (λ a. IsTrue (act_fits x.program w.hart a)) w.actions
+  pub pointers : PointersTyped x.program w.bindings
 
 -- two frames of a function, with locals of some types
 pub record SameFrame (x : Setting) (ts : List CType) (f g : Frame) : Type 0 where
@@ -106,4 +108,5 @@ moved x w v gs hs h k = record {
   globals = k;
   others = ap (λ (z : World). record z { globals = hs }) h.others;
   actions = h.actions;
+  pointers = h.pointers;
 }

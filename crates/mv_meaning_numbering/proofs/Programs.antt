@@ -8,23 +8,23 @@ use Rattle.mv_ast.specs.declared.program.Program.{Program}
 use Rattle.mv_ast.specs.declared.program.Global.{Global}
 use Rattle.mv_ast.specs.declared.program.Local.{Local}
 use Rattle.mv_ast.specs.declared.program.Function.{Function}
-use Rattle.mv_ast.specs.declared.world.Action.{Action}
 use Rattle.mv_ast.specs.declared.world.Stop.TheVariants.{Unfinished}
-use Rattle.mv_ast.specs.Actions.{fits}
+use Rattle.mv_ast.specs.Actions.{act_fits}
 use Rattle.mv_ast.specs.Counts.{words_of_size}
 use Rattle.mv_ast.specs.Numbering.{own_numbers, numbers_from}
-use Rattle.mv_ast.specs.Worlds.{World, Outcome, Came, Stopped}
+use Rattle.mv_ast.specs.Worlds.{World, Act, Outcome, Came, Stopped}
 use Rattle.mv_meaning.specs.declared.state.Frame.{Frame}
 use Rattle.mv_meaning.specs.declared.state.Flow.{Flow}
 use Rattle.mv_meaning.specs.declared.state.Flow.TheVariants.{Goes, Breaks, Continues, Returns}
 use Rattle.mv_meaning.specs.declared.meant.End.TheVariants.{Exit}
 use Rattle.mv_ast.specs.Starts.{first_words, first_world, renumbered, renumbered_at, first_words_under, first_world_under}
-use Rattle.mv_meaning.specs.Meaning.{Context, returned_value, frame_of, deeper, popped, back_in, call_of, flow_of_all, Evaluation, context_at, context_with, end_of_stop, meant_by, meaning_of, run_of_main, mean}
+use Rattle.mv_meaning.specs.Meaning.{Context, returned_value, frame_of, deeper, popped, back_in, call_of, flow_of_all, Evaluation, context_at, context_with, end_of_stop, meant_by, meaning_of, run_of_main, hart_mean}
 use Rattle.mv_meaning_numbering.specs.Numberings.{Admits, meaning_in, meaning_under}
 use Rattle.mv_source_forms.specs.Typing.{IsInteger, IsTypedFunction, IsFirstValue, local_types, parameter_types}
 use Rattle.mv_meaning_numbering.proofs.Numbers.{Distinguishes}
 use Rattle.mv_meaning_numbering.proofs.Alike.{Setting, Same, SameWords, SameObjects, SameValues, same_null, same_integer, words_null}
 use Rattle.mv_meaning_numbering.proofs.Outcomes.{SameWorld, SameFrame, AlikeOutcome, Alike, alike_stop}
+use Rattle.mv_meaning_numbering.proofs.Pointers.{free_typed}
 use Rattle.mv_meaning_numbering.proofs.Switches.{all_got}
 use Rattle.mv_meaning_numbering.proofs.Calls.{SameContext, SameFlow}
 use Rattle.mv_meaning_numbering.proofs.Statements.{alike_stmt, alike_body}
@@ -56,13 +56,14 @@ module _ (x : Setting) where
   frames_alike n g vs us h = record { locals = entry_alike g.locals g.params vs us h; function = refl }
 
   deeper_alike : (g : Function) (w v : World) → SameWorld x w v → SameWorld x (deeper g w) (deeper g v)
-  deeper_alike g w v h = record { globals = h.globals; others = ap (deeper g) h.others; actions = h.actions }
+  deeper_alike g w v h = record { globals = h.globals; others = ap (deeper g) h.others; actions = h.actions; pointers = h.pointers }
 
   popped_alike : (w v left after : World) → SameWorld x w v → SameWorld x left after → SameWorld x (popped w left) (popped v after)
   popped_alike w v left after h k = record {
     globals = k.globals;
     others = ap (λ (z : World). popped z after) h.others ∙ ap (λ (z : World). popped w z) k.others;
     actions = k.actions;
+    pointers = k.pointers;
   }
 
   returned_alike : (t : CType) (a b : Flow) → SameFlow x t a b → Same x t (returned_value a) (returned_value b)
@@ -152,9 +153,9 @@ module _ (x : Setting) where
     globals_alike gs (all_tail (λ (g : Global). All (IsFirstValue x.program g.ctype) g.first) g gs h),
   )
 
-  module _ (input : List ℕ) (actions : List Action) (fit : All (λ a. IsTrue (fits x.program a)) actions) where
-    starts_alike : SameWorld x (first_world_under x.program x.ns input actions) (first_world_under x.program x.ms input actions)
-    starts_alike = record { globals = globals_alike x.program.globals x.typed.globals; others = refl; actions = fit }
+  module _ (hart : ℕ) (input : List ℕ) (actions : List Act) (fit : All (λ a. IsTrue (act_fits x.program hart a)) actions) where
+    starts_alike : SameWorld x (first_world_under x.program x.ns hart input actions) (first_world_under x.program x.ms hart input actions)
+    starts_alike = record { globals = globals_alike x.program.globals x.typed.globals; others = refl; actions = fit; pointers = free_typed x.program }
 
     -- ---- the whole
 
@@ -170,7 +171,7 @@ module _ (x : Setting) where
     meanings_alike ts t (Stopped s w n) (Came b g v m) i h = absurd h
 
     pub same_meaning : (l m : CType → ℕ → ℕ → Bool) (stray other : Evaluation ℕ) → Admits x.program l → Admits x.program m → (bound : ℕ) →
-        meaning_in x.program (context_with x.program x.ns l stray bound) x.ns input actions ≡ meaning_in x.program (context_with x.program x.ms m other bound) x.ms input actions
+        meaning_in x.program (context_with x.program x.ns l stray bound) x.ns hart input actions ≡ meaning_in x.program (context_with x.program x.ms m other bound) x.ms hart input actions
     same_meaning l m stray other admits too bound =
         let c = context_with x.program x.ns l stray bound in
         let d = context_with x.program x.ms m other bound in
@@ -181,11 +182,11 @@ module _ (x : Setting) where
         subst (λ n. SameValues x (map (λ (l : Local). l.ctype) (take n g.locals)) [] []) (sym x.typed.entry.bare) tt in
         let frame : Frame = record { function = p.main; locals = [] } in
         subst (λ o.
-        meaning_of (run_of_main p c o frame (first_world_under p x.ns input actions)) ≡
-        meaning_of (run_of_main p d o frame (first_world_under p x.ms input actions))) (sym x.typed.entry.defined)
+        meaning_of (run_of_main p c o frame (first_world_under p x.ns hart input actions)) ≡
+        meaning_of (run_of_main p d o frame (first_world_under p x.ms hart input actions))) (sym x.typed.entry.defined)
         (meanings_alike (local_types g) g.result _ _ x.typed.entry.result
         (alike_body x c d (contexts_alike l m stray other admits too bound) g g.body typed.body
-        (frame_of p.main g []) (frame_of p.main g []) (first_world_under p x.ns input actions) (first_world_under p x.ms input actions)
+        (frame_of p.main g []) (frame_of p.main g []) (first_world_under p x.ns hart input actions) (first_world_under p x.ms hart input actions)
         (frames_alike p.main g [] [] none) starts_alike))
 
 -- ---- under the program's own numbering nothing is renumbered
@@ -213,8 +214,8 @@ module _ (p : Program) where
   own_globals (g ∷ gs) =
       ap (λ ws. ws ∷ map (first_words_under (own_numbers p)) gs) (own_words g.ctype (first_words g)) ∙ ap (λ l. first_words g ∷ l) (own_globals gs)
 
-  pub own_meaning : (input : List ℕ) (actions : List Action) (bound : ℕ) → meaning_under p (own_numbers p) input actions bound ≡ mean p input actions bound
-  own_meaning input actions bound =
+  pub own_meaning : (hart : ℕ) (input : List ℕ) (actions : List Act) (bound : ℕ) → meaning_under p (own_numbers p) hart input actions bound ≡ hart_mean p hart input actions bound
+  own_meaning hart input actions bound =
       ap (λ gs.
       meaning_of (run_of_main p (context_at p (own_numbers p) bound) (slice_get p.functions p.main) (record { function = p.main; locals = [] })
-      (record (first_world p input actions) { globals = gs }))) (own_globals p.globals)
+      (record (first_world p hart input actions) { globals = gs }))) (own_globals p.globals)

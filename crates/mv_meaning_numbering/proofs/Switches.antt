@@ -1,5 +1,5 @@
 -- Switches are integers: bound values and what a commit reads are the same under two numberings.
-use Rattle.std.proofs.Common.{◌≡◌, ℕ, suc, Bool, true, false, List, [], ◌∷◌, refl, ◌∙◌, ap, subst, arith, Option, Some, None, if◌then◌else◌, nat_eq, slice_get}
+use Rattle.std.proofs.Common.{◌≡◌, ℕ, suc, Bool, true, false, List, [], ◌∷◌, ◌++◌, refl, ◌∙◌, ap, ap₂, subst, arith, Option, Some, None, if◌then◌else◌, nat_eq, slice_get}
 use Rattle.std.specs.Prelude.{All}
 use Rattle.std.proofs.lemmas.List.Elements.{All-filter}
 use Rattle.std.proofs.lemmas.Option.{slice_get_within, get_or_from_slice_get}
@@ -7,9 +7,10 @@ use Rattle.mv_ast.specs.declared.program.CType.{CType}
 use Rattle.mv_ast.specs.declared.program.Program.{Program}
 use Rattle.mv_ast.specs.declared.program.Function.{Function}
 use Rattle.mv_ast.specs.declared.world.Binding.{Binding}
-use Rattle.mv_ast.specs.Plans.{attributed_functions, attributed_before, switch_global, global_or_none, word_at, switch_words, all_in_domain, bound_to, free, committed, value_among, binding_value, bound_value, is_addressed, is_commit, ordered_from, bindings_after}
+use Rattle.mv_ast.specs.Plans.{attributed_functions, attributed_before, switch_global, global_or_none, word_at, switch_words, all_in_domain, bound_to, free, committed, value_among, binding_value, bound_value, is_addressed, is_commit, ordered_from, ordered_function, pointer_bindings, bindings_after}
 use Rattle.mv_source_forms.specs.Typing.{IsInteger, IsIntegerSwitch, IsTypedFunction, global_types}
 use Rattle.mv_meaning_numbering.proofs.Alike.{Setting, SameObjects, same_integer, word_alike}
+use Rattle.mv_meaning_numbering.proofs.Pointers.{ordered_pointers_same}
 use Rattle.mv_num.proofs.Booleans.{value_if_some}
 use Rattle.mv_num.proofs.Lists.{all_tail, all_head}
 
@@ -82,13 +83,14 @@ module _ (x : Setting) (gs hs : List (List ℕ)) (same : SameObjects x (global_t
   committed_same f h =
       ap (λ vs. if all_in_domain x.program f.switches vs then bound_to vs else free) (words_same f.switches h.switches)
 
-  binding_same : (code : ℕ) (f : Function) → IsTypedFunction x.program f →
-      (if is_commit code then committed x.program gs f else free) ≡ (if is_commit code then committed x.program hs f else free)
+  binding_same : (code : ℕ) (f : Function) → IsTypedFunction x.program f → ordered_function x.program code gs f ≡ ordered_function x.program code hs f
   binding_same code f h = ap (λ b. if is_commit code then b else free) (committed_same f h)
 
   pub bindings_same : (code index : ℕ) (bs : List Binding) →
-      bindings_after x.program code index gs bs ≡ bindings_after x.program code index hs bs
+      bindings_after x.program x.ns code index gs bs ≡ bindings_after x.program x.ms code index hs bs
   bindings_same code index bs =
-      ordered_same (is_addressed code index) _ _ 0 (attributed_functions x.program) bs
-      (All-filter (λ f. f.attributed) (λ f. (if is_commit code then committed x.program gs f else free) ≡ (if is_commit code then committed x.program hs f else free))
-      x.program.functions (λ k d lt. binding_same code _ (x.typed.functions k d lt)))
+      ap₂ (λ fs ps. fs ++ ps)
+      (ordered_same (is_addressed code index) (ordered_function x.program code gs) (ordered_function x.program code hs) 0 (attributed_functions x.program) bs
+      (All-filter (λ f. f.attributed) (λ f. ordered_function x.program code gs f ≡ ordered_function x.program code hs f)
+      x.program.functions (λ k d lt. binding_same code _ (x.typed.functions k d lt))))
+      (ordered_pointers_same x gs hs same code index 0 x.program.pointers (pointer_bindings x.program bs) x.typed.pointers)

@@ -1,4 +1,4 @@
--- A program whose global is a function pointer: `int f(void) { return 7; } int (*g)(void) = f; int main(void) { if (g == 0) g = f; return g(); }` is well typed.
+-- A program whose global is a pointer switch: `int f(void) { return 7; } __attribute__((multiverse)) int (*g)(void) = f; int main(void) { if (g == 0) g = f; return g(); }` is well typed.
 use Rattle.std.proofs.Common.{◌≡◌, inl, inr, false, [], ◌∷◌, map, refl, sym, subst, Some, None}
 use Rattle.std.specs.Prelude.{All}
 use Rattle.std.proofs.lemmas.List.Elements.{All-nil, All-cons}
@@ -14,7 +14,7 @@ use Rattle.mv_ast.specs.declared.program.Stmt.{roll-Stmt, every_made-Stmt}
 use Rattle.mv_ast.specs.declared.program.Stmt.TheOpen as stmt
 use Rattle.mv_ast.specs.Starts.{first_words_under}
 use Rattle.mv_meaning_numbering.proofs.Constants.{comes_number}
-use Rattle.mv_source_forms.specs.Typing.{IsNull, IsFirstValue, LvalueHasType, HasTypedParts, IsTypedExpr, IsTypedStmt, IsTypedFunction, IsFunctionOf, IsTyped}
+use Rattle.mv_source_forms.specs.Typing.{IsNull, IsFirstValue, LvalueHasType, HasTypedParts, IsTypedExpr, IsTypedStmt, IsTypedFunction, IsFunctionOf, IsPointerSwitch, IsTyped}
 use Rattle.mv_source_forms.proofs.TypedParts.{rolled, TypedTarget, expr_made, target_made}
 use Rattle.mv_ast.specs.Types.{int}
 
@@ -65,6 +65,7 @@ program = record {
   globals = record { name = []; ctype = Pointer 0; size = None; first = 1 ∷ [] } ∷ [];
   functions = f ∷ main ∷ [];
   switches = [];
+  pointers = 0 ∷ [];
   main = 1;
 }
 
@@ -132,6 +133,7 @@ main_typed = record {
 pub worked_program : IsTyped program
 worked_program = record {
   functions = All-cons (IsTypedFunction program) f (main ∷ []) f_typed (All-cons (IsTypedFunction program) main [] main_typed (All-nil _));
+  pointers = All-cons (IsPointerSwitch program) 0 [] (record { signature = 0; global = refl }) (All-nil _);
   globals = All-cons (λ (g : Global). All (IsFirstValue program g.ctype) g.first) _ [] (All-cons (IsFirstValue program (Pointer 0)) 1 [] (inr (0, refl, f_is)) (All-nil _)) (All-nil _);
   entry = record { main = main; defined = refl; bare = refl; result = tt };
 }

@@ -3,7 +3,7 @@ use Rattle.std.specs.Prelude.{◌≡◌, ◌≢◌, ℕ, ◌<◌, ◌^◌, Bool,
 use Rattle.mv_ast.specs.declared.program.CType.{CType}
 use Rattle.mv_ast.specs.declared.program.Program.{Program}
 use Rattle.mv_ast.specs.declared.program.Signature.{Signature}
-use Rattle.mv_ast.specs.declared.world.Action.{Action}
+use Rattle.mv_ast.specs.Worlds.{Act}
 use Rattle.mv_meaning.specs.declared.meant.Meant.{Meant}
 use Rattle.mv_ast.specs.Starts.{first_world_under}
 use Rattle.mv_meaning.specs.Meaning.{Context, context_at, meaning_of, run_of_main}
@@ -16,13 +16,13 @@ pub record IsNumbering (p : Program) (numbers : List ℕ) : Type 0 where
   pub different : AllPairs (λ m n. m ≢ n) numbers
 
 -- The meaning of a program in what is around its evaluation: function pointers have the numbers there, the first values of globals among them.
-abbrev pub meaning_in : Program → Context → (numbers : List ℕ) → (input : List ℕ) → (actions : List Action) → Meant
-meaning_in p context numbers input actions =
-    meaning_of (run_of_main p context (slice_get p.functions p.main) (record { function = p.main; locals = [] }) (first_world_under p numbers input actions))
+abbrev pub meaning_in : Program → Context → (numbers : List ℕ) → (hart : ℕ) → (input : List ℕ) → (actions : List Act) → Meant
+meaning_in p context numbers hart input actions =
+    meaning_of (run_of_main p context (slice_get p.functions p.main) (record { function = p.main; locals = [] }) (first_world_under p numbers hart input actions))
 
--- The meaning of a program under a numbering.
-abbrev pub meaning_under : Program → (numbers : List ℕ) → (input : List ℕ) → (actions : List Action) → (bound : ℕ) → Meant
-meaning_under p numbers input actions bound = meaning_in p (context_at p numbers bound) numbers input actions
+-- The meaning of a program in a hart under a numbering.
+abbrev pub meaning_under : Program → (numbers : List ℕ) → (hart : ℕ) → (input : List ℕ) → (actions : List Act) → (bound : ℕ) → Meant
+meaning_under p numbers hart input actions bound = meaning_in p (context_at p numbers bound) numbers hart input actions
 
 -- whether a call through a pointer may reach each function of the pointer's type
 abbrev pub Admits : Program → (lets : (type : CType) (function arguments : ℕ) → Bool) → Type 0

@@ -53,6 +53,7 @@ module _ (d d' : ℕ → ℕ) (le : (f : ℕ) → d f ≤ d' f) where
   of_callee : (f : Callee) → callee_weight d 0 f ≤ callee_weight d' 0 f
   of_callee (callee.Direct f) = le f
   of_callee (callee.Through t) = omega arith
+  of_callee (callee.Switched g) = omega arith
 
   layer : (x : Stm-F Stm) → StmChildren Less x → layer_weight d 0 (map-Stm Stm ℕ (stm_weight d 0) x) ≤ layer_weight d' 0 (map-Stm Stm ℕ (stm_weight d' 0) x)
   layer (stm.Set t v) h = omega arith

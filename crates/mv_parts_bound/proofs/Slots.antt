@@ -12,13 +12,13 @@ use Rattle.mv_ir.specs.declared.stm.Stm.TheViews.{roll-Stm}
 use Rattle.mv_ir.specs.declared.stm.Stm.TheFolds.{map-Stm}
 use Rattle.mv_ir.proofs.Induction.{Each, StmChildren, stm_ind, stms_ind}
 use Rattle.mv_select_trees.specs.TreeCode.{tree_lines, operand_lines, operand_register}
-use Rattle.mv_select_statements.specs.StatementCode.{first, trap_label, set_lines, set_global_lines, divide_lines, check_lines, read_lines, write_lines, return_lines}
+use Rattle.mv_select_statements.specs.StatementCode.{first, set_lines, set_global_lines, divide_lines, check_lines, read_lines, write_lines, return_lines}
 use Rattle.mv_select_control.specs.declared.enclosing.Enclosing.{Enclosing}
 use Rattle.mv_select_control.specs.FlowCode.{Plan, Emitted, in_turn, branch_lines, loop_at, block_at, home, size, code_layer, statement_code}
 use Rattle.mv_select_control.proofs.StatementsDo.{code_roll}
 use Rattle.mv_select_control.proofs.TreeNames.{AnyNumber, all_any}
 use Rattle.mv_select_control.proofs.StatementsAreMade.{LineByLine, tree_made, operand_made, set_made, set_global_made, divide_made, check_made, read_made, write_made, return_made}
-use Rattle.mv_select_calls.specs.CallCode.{scratch_register, result_lines, guarded_lines, slot_lines, jump_lines, argument_lines, transfer_lines, call_lines, known_lines}
+use Rattle.mv_select_calls.specs.CallCode.{scratch_register, result_lines, guarded_lines, slot_lines, jump_lines, pointer_lines, argument_lines, transfer_lines, call_lines, known_lines}
 use Rattle.mv_select_calls.proofs.CallsAreMade.{result_made, argument_made, known_made}
 use Rattle.mv_select_functions.specs.FunctionCode.{Shape, bytes_of, end_label, plan, body_lines, prologue_lines, epilogue_lines, function_lines}
 use Rattle.mv_select_functions.proofs.FramesAreMade.{prologue_made, epilogue_made}
@@ -99,7 +99,8 @@ module _ (weight : ℕ → ℕ) (place : ℕ → ℕ) (is_attributed : ℕ → B
       by true = let none = none_weighs weight (result_lines r) (result_made none_made r) in omega (arith, none)
       by false = none_weighs weight (result_lines r) (result_made none_made r)
   transfer_has (callee.Through t) r =
-      behind weight (tree_lines place t scratch_register) (Branch 0 scratch_register 0 (trap_label 3) ∷ guarded_lines jump_lines r) (tree_made none_made place t (all_any _) scratch_register) (none_weighs weight (result_lines r) (result_made none_made r))
+      behind weight (tree_lines place t scratch_register) (pointer_lines r) (tree_made none_made place t (all_any _) scratch_register) (none_weighs weight (result_lines r) (result_made none_made r))
+  transfer_has (callee.Switched g) r = none_weighs weight (result_lines r) (result_made none_made r)
 
   call_has : (r : Option ℕ) (f : Callee) (args : List Tree) → Weighs weight (callee_weight direct 0 f) (call_lines place is_attributed r f args)
   call_has r f args = behind weight (argument_lines place first args) (transfer_lines place is_attributed f r) (argument_made none_made place first args (all_any _)) (transfer_has f r)

@@ -19,6 +19,11 @@ module _ (direct : ℕ → ℕ) (through : ℕ) where
   same_weight (callee.Through t) (callee.Through u) e = refl
   same_weight (callee.Direct f) (callee.Through u) e = absurd e
   same_weight (callee.Through t) (callee.Direct g) e = absurd e
+  same_weight (callee.Switched g) (callee.Switched h) e = refl
+  same_weight (callee.Direct f) (callee.Switched h) e = absurd e
+  same_weight (callee.Through t) (callee.Switched h) e = absurd e
+  same_weight (callee.Switched g) (callee.Direct h) e = absurd e
+  same_weight (callee.Switched g) (callee.Through u) e = absurd e
 
   pub weights : Measure (layer_weight direct through) (stm_weight direct through)
   weights = record {

@@ -5,3 +5,4 @@ pub mod Groups
 pub mod Shown
 pub mod Tables
 pub mod Laws
+pub mod Stores

@@ -1,9 +1,10 @@
 -- Before a call that failed: what the meaning does there.
-use Rattle.std.proofs.Common.{◌≡◌, ℕ, ◌+◌, ◌^◌, ◌<◌, List, [], ◌∷◌, ◌++◌, length, take, slice_index, Option, Some, refl, sym, ap, ◌∙◌, subst, arith}
+use Rattle.std.proofs.Common.{◌≡◌, ℕ, ◌+◌, ◌^◌, ◌<◌, List, [], ◌∷◌, ◌++◌, length, map, take, slice_index, Option, Some, refl, sym, ap, ◌∙◌, subst, arith}
 use Rattle.std.specs.Prelude.{All, IsTrue}
 use Rattle.std.proofs.lemmas.List.{length-append, map-append}
 use Rattle.std.proofs.lemmas.List.Elements.{All-append, All-cons, All-nil, All-take}
-use Rattle.mv_ast.specs.Actions.{fits, IsOfWord}
+use Rattle.mv_ast.specs.Actions.{act_fits, IsActOfWord}
+use Rattle.mv_ast.specs.Worlds.{act_of}
 use Rattle.mv_ast.specs.declared.world.Action.{Action}
 use Rattle.mv_ast.specs.declared.program.Program.{Program}
 use Rattle.mv_refine.specs.CutRuns.{with_input}
@@ -12,6 +13,7 @@ use Rattle.mv_refine.proofs.Follows.{read_takes_more, write_writes_more}
 use Rattle.mv_image.specs.Spelling.{Fields}
 use Rattle.mv_refine_machine.proofs.Inputs.{first_input}
 use Rattle.mv_refine_runs.specs.Behaves.{BehavesAlways, taken_of}
+use Rattle.mv_machine.specs.Acts.{PollActs, polls_of}
 use Rattle.mv_machine.specs.Runs.{State, Going, Reads, Writes, bytes_to_come, first, runs_from, runs}
 use Rattle.mv_machine.specs.Snapshots.{Asks}
 use Rattle.mv_meaning.specs.Meaning.{mean}
@@ -22,9 +24,9 @@ use Rattle.mv_refine.specs.Meant.{TakesMore, WritesMore}
 use Rattle.mv_refine.proofs.Inputs.{parted}
 
 -- the first state of an image with another input
-first_with : (image : Fields) (input other : List (Option ℕ)) (actions : List Action) → with_input (first image input actions) other ≡ first image other actions
+first_with : (image : Fields) (input other : List (Option ℕ)) (polls : PollActs) → with_input (first image input polls) other ≡ first image other polls
 unfolding first
-first_with image input other actions = refl
+first_with image input other polls = refl
 
 longer : (s t m : List ℕ) (byte : ℕ) → t ≡ s ++ byte ∷ [] → Begins t m → length s < length m
 longer s t m byte e (rest, whole) =
@@ -34,36 +36,36 @@ longer s t m byte e (rest, whole) =
     let more = length-append s (byte ∷ []) in
     omega (arith, all, parts, one, more)
 
-module _ (p : Program) (image : Fields) (behaves : BehavesAlways p image) (actions : List Action) (words : All IsOfWord actions) (fit : All (λ a. IsTrue (fits p a)) actions)
+module _ (p : Program) (image : Fields) (behaves : BehavesAlways p image) (actions : List Action) (words : All IsActOfWord (map act_of actions)) (fit : All (λ a. IsTrue (act_fits p 0 a)) (map act_of actions))
     (bytes : List ℕ) (are : All (λ b. b < 2 ^ 8) bytes) (picks : List ℕ) (count steps : ℕ) (fewer : count < steps) where
   abbrev before : State
-  before = runs image (bytes_to_come bytes) actions picks count
+  before = runs image (bytes_to_come bytes) (polls_of actions) picks count
 
   abbrev taken : List ℕ
   taken = take (taken_of bytes before) bytes
 
   -- the run on what was taken and one more byte
   abbrev on : (byte : ℕ) → State
-  on byte = runs image (bytes_to_come (taken ++ byte ∷ [])) actions picks (count + 1)
+  on byte = runs image (bytes_to_come (taken ++ byte ∷ [])) (polls_of actions) picks (count + 1)
 
   module _ (going : before.stop ≡ Going) (asks : Asks before (slice_index picks count) Reads) where
     empty : (byte : ℕ) → (on byte).input ≡ []
     empty byte =
-        let parts = parted bytes before (runs_leave image (bytes_to_come bytes) actions picks count) in
-        let whole : (first image (bytes_to_come bytes) actions).input ≡ bytes_to_come taken ++ bytes_to_come parts.rest =
-        first_input image (bytes_to_come bytes) actions ∙ ap bytes_to_come (parts.whole ∙ ap (λ (t : List ℕ). t ++ parts.rest) (sym parts.front)) ∙ map-append Some taken parts.rest in
+        let parts = parted bytes before (runs_leave image (bytes_to_come bytes) (polls_of actions) picks count) in
+        let whole : (first image (bytes_to_come bytes) (polls_of actions)).input ≡ bytes_to_come taken ++ bytes_to_come parts.rest =
+        first_input image (bytes_to_come bytes) (polls_of actions) ∙ ap bytes_to_come (parts.whole ∙ ap (λ (t : List ℕ). t ++ parts.rest) (sym parts.front)) ∙ map-append Some taken parts.rest in
         let all : bytes_to_come taken ++ Some byte ∷ [] ≡ bytes_to_come (taken ++ byte ∷ []) = sym (map-append Some taken (byte ∷ [])) in
-        let start : with_input (first image (bytes_to_come bytes) actions) (bytes_to_come taken ++ Some byte ∷ []) ≡ first image (bytes_to_come (taken ++ byte ∷ [])) actions =
-        first_with image (bytes_to_come bytes) (bytes_to_come taken ++ Some byte ∷ []) actions ∙ ap (λ (i : List (Option ℕ)). first image i actions) all in
+        let start : with_input (first image (bytes_to_come bytes) (polls_of actions)) (bytes_to_come taken ++ Some byte ∷ []) ≡ first image (bytes_to_come (taken ++ byte ∷ [])) (polls_of actions) =
+        first_with image (bytes_to_come bytes) (bytes_to_come taken ++ Some byte ∷ []) (polls_of actions) ∙ ap (λ (i : List (Option ℕ)). first image i (polls_of actions)) all in
         subst (λ (s : State). (runs_from s picks (count + 1)).input ≡ []) start
-        (read_takes_more (first image (bytes_to_come bytes) actions) picks count (bytes_to_come taken) (bytes_to_come parts.rest) (Some byte) whole parts.left going asks)
+        (read_takes_more (first image (bytes_to_come bytes) (polls_of actions)) picks count (bytes_to_come taken) (bytes_to_come parts.rest) (Some byte) whole parts.left going asks)
 
     pub takes_more : TakesMore p actions steps taken
     takes_more byte lt =
         let good : All (λ b. b < 2 ^ 8) (taken ++ byte ∷ []) =
         All-append (λ b. b < 2 ^ 8) taken (byte ∷ []) (All-take (λ b. b < 2 ^ 8) (taken_of bytes before) bytes are) (All-cons (λ b. b < 2 ^ 8) byte [] lt (All-nil (λ b. b < 2 ^ 8))) in
-        let few = ((behaves (taken ++ byte ∷ []) actions picks good words fit).within (count + 1)).taken in
-        let more = (bound_extends p (taken ++ byte ∷ []) actions (count + 1) steps (omega (arith, fewer))).taken in
+        let few = ((behaves (taken ++ byte ∷ []) (polls_of actions) picks good words fit).within (count + 1)).taken in
+        let more = (bound_extends p 0 (taken ++ byte ∷ []) (map act_of actions) (count + 1) steps (omega (arith, fewer))).taken in
         let none : length (on byte).input ≡ 0 = ap length (empty byte) in
         let all = length-append taken (byte ∷ []) in
         omega (arith, few, more, none, all)
@@ -71,9 +73,9 @@ module _ (p : Program) (image : Fields) (behaves : BehavesAlways p image) (actio
   module _ (going : before.stop ≡ Going) (asks : Asks before (slice_index picks count) Writes) where
     pub outputs_more : WritesMore p actions bytes steps before.output
     outputs_more =
-        let next = runs image (bytes_to_come bytes) actions picks (count + 1) in
-        let more = write_writes_more (first image (bytes_to_come bytes) actions) picks count going asks in
-        let within = ((behaves bytes actions picks are words fit).within (count + 1)).output in
-        let extends = (bound_extends p bytes actions (count + 1) steps (omega (arith, fewer))).output in
+        let next = runs image (bytes_to_come bytes) (polls_of actions) picks (count + 1) in
+        let more = write_writes_more (first image (bytes_to_come bytes) (polls_of actions)) picks count going asks in
+        let within = ((behaves bytes (polls_of actions) picks are words fit).within (count + 1)).output in
+        let extends = (bound_extends p 0 bytes (map act_of actions) (count + 1) steps (omega (arith, fewer))).output in
         longer before.output next.output (mean p bytes actions steps).output more.0 more.1
         (Begins-trans next.output (mean p bytes actions (count + 1)).output (mean p bytes actions steps).output within extends)

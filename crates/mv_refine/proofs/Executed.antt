@@ -1,11 +1,13 @@
 -- What the run of an image does that behaves as a program means.
-use Rattle.std.proofs.Common.{◌≡◌, ⊎_elim, ℕ, ◌^◌, ◌<◌, ◌≤◌, List, take, Option, Some, None, refl, sym, ap, ◌∙◌, subst, arith}
+use Rattle.std.proofs.Common.{◌≡◌, ⊎_elim, ℕ, ◌^◌, ◌<◌, ◌≤◌, List, map, take, Option, Some, None, refl, sym, ap, ◌∙◌, subst, arith}
 use Rattle.std.specs.Prelude.{slice_index, All, IfSome, IsTrue, Result, Ok, Err}
 use Rattle.std.specs.declared.alloc.AllocError.{AllocError}
 use Rattle.std.proofs.lemmas.Bool.{cases_lt}
-use Rattle.std.proofs.lemmas.List.Elements.{All-weaker}
-use Rattle.mv_ast.specs.Actions.{fits, IsOfWord}
+use Rattle.std.proofs.lemmas.List.Elements.{All-map, All-weaker}
+use Rattle.mv_ast.specs.Actions.{fits, act_fits, IsOfWord, IsActOfWord}
+use Rattle.mv_ast.specs.Worlds.{act_of}
 use Rattle.mv_ast.specs.declared.world.Action.{Action}
+use Rattle.mv_ast.specs.declared.world.Action.TheVariants.{Skip, Flip}
 use Rattle.mv_ast.specs.declared.world.Event.{Event}
 use Rattle.mv_ast.specs.declared.program.Program.{Program}
 use Rattle.mv_fetch.specs.Held.{Room}
@@ -16,6 +18,7 @@ use Rattle.mv_refine_runs.specs.Behaves.{IsWhole, EndsRight, Behaves, BehavesAlw
 use Rattle.mv_machine.specs.declared.machine.Stopped.{Stopped}
 use Rattle.mv_machine.specs.declared.machine.Stopped.TheVariants as answer
 use Rattle.mv_machine.specs.Actions as image_actions
+use Rattle.mv_machine.specs.Acts.{polls_of}
 use Rattle.mv_machine.specs.Runs.{State, Stop, Going, Exit, Trap, Fault, Reads, Writes, bytes_to_come, runs}
 use Rattle.mv_machine.specs.Snapshots.{Snapshot, Asks, WantsMemory, kept, Tells}
 use Rattle.mv_meaning.specs.declared.meant.End.{End}
@@ -44,7 +47,7 @@ module _ (p : Program) (actions : List Action) (bytes : List ℕ) where
   end_at k = (mean p bytes actions k).«end»
 
   later_end : (j k : ℕ) → j ≤ k → (end_at j ≡ source.More → ⊥) → end_at j ≡ end_at k
-  later_end j k le ended = ap (λ (m : Meant). m.«end») ((bound_extends p bytes actions j k le).ended ended)
+  later_end j k le ended = ap (λ (m : Meant). m.«end») ((bound_extends p 0 bytes (map act_of actions) j k le).ended ended)
 
   -- a meaning has one end
   one_end : (j k : ℕ) → (end_at j ≡ source.More → ⊥) → (end_at k ≡ source.More → ⊥) → end_at j ≡ end_at k
@@ -54,9 +57,9 @@ module _ (p : Program) (actions : List Action) (bytes : List ℕ) where
       (cases_lt j k)
 
 module _ (p : Program) (image : Fields) (before after : Environment) (Heard : List Event → Type 0) (machine : Snapshot) (bytes : List ℕ) (actions : List Action) (picks : List ℕ) (steps : ℕ)
-    (behaves : Behaves p image bytes actions picks) where
+    (behaves : Behaves p image bytes (polls_of actions) picks) where
   abbrev state : ℕ → State
-  state n = runs image (bytes_to_come bytes) actions picks n
+  state n = runs image (bytes_to_come bytes) (polls_of actions) picks n
 
   abbrev meant : Meant
   meant = mean p bytes actions steps
@@ -72,7 +75,7 @@ module _ (p : Program) (image : Fields) (before after : Environment) (Heard : Li
   abbrev part : (n : ℕ) → n ≤ steps → Leaves n → DoesPart before after Heard machine bytes meant (state n).output
   part n le leaves =
       let within = behaves.within n in
-      let extends = bound_extends p bytes actions n steps le in
+      let extends = bound_extends p 0 bytes (map act_of actions) n steps le in
       let fewer = within.taken in
       let more = extends.taken in record {
         begins = Begins-trans (state n).output (mean p bytes actions n).output meant.output within.output extends.output;
@@ -124,16 +127,30 @@ module _ (p : Program) (image : Fields) (actions : List Action) (steps : ℕ) (b
 
 -- ---- what a run of an image does that behaves as a program means
 
--- actions that fit the image fit the program
-fit_program : (p : Program) (image : Fields) → SameFit p image → (actions : List Action) → All (λ a. IsTrue (image_actions.fits image.switches a)) actions → All (λ a. IsTrue (fits p a)) actions
-fit_program p image same actions = All-weaker (λ a. IsTrue (image_actions.fits image.switches a)) (λ a. IsTrue (fits p a)) (λ a h. subst IsTrue (same a) h) actions
+-- the operator's actions that fit the image are what may be taken in hart 0 of the program
+fit_act : (p : Program) (a : Action) → act_fits p 0 (act_of a) ≡ fits p a
+fit_act p Skip = refl
+fit_act p (Flip switch value) = refl
+
+fit_program : (p : Program) (image : Fields) → SameFit p image → (actions : List Action) → All (λ a. IsTrue (image_actions.fits image.switches a)) actions →
+    All (λ a. IsTrue (act_fits p 0 a)) (map act_of actions)
+fit_program p image same actions fit =
+    All-map (λ a. IsTrue (act_fits p 0 a)) act_of actions
+    (All-weaker (λ a. IsTrue (image_actions.fits image.switches a)) (λ a. IsTrue (act_fits p 0 (act_of a))) (λ a h. subst IsTrue (same a ∙ sym (fit_act p a)) h) actions fit)
+
+word_act : (a : Action) → IsOfWord a → IsActOfWord (act_of a)
+word_act Skip h = h
+word_act (Flip switch value) h = h
+
+words_acts : (actions : List Action) → All IsOfWord actions → All IsActOfWord (map act_of actions)
+words_acts actions words = All-map IsActOfWord act_of actions (All-weaker IsOfWord (λ a. IsActOfWord (act_of a)) word_act actions words)
 
 -- a snapshot has the bindings of the state that it is kept of
 pub kept_bindings : (machine : Snapshot) (s : State) → machine ≡ kept s machine.last → machine.bindings ≡ s.bindings
 unfolding kept
 kept_bindings machine s is = ap (λ (m : Snapshot). m.bindings) is
 
-module _ (p : Program) (image : Fields) (behaves : BehavesAlways p image) (actions : List Action) (words : All IsOfWord actions) (fit : All (λ a. IsTrue (fits p a)) actions) (steps : ℕ) (before after : Environment) (Heard : List Event → Type 0) (machine : Snapshot) where
+module _ (p : Program) (image : Fields) (behaves : BehavesAlways p image) (actions : List Action) (words : All IsActOfWord (map act_of actions)) (fit : All (λ a. IsTrue (act_fits p 0 a)) (map act_of actions)) (steps : ℕ) (before after : Environment) (Heard : List Event → Type 0) (machine : Snapshot) where
   module _ (bytes : List ℕ) (told : before.input.left ≡ Some bytes) (are : All (λ b. b < 2 ^ 8) bytes) where
     kept_room : (s : State) → machine ≡ kept s machine.last → machine.room ≡ s.room
     unfolding kept
@@ -142,62 +159,62 @@ module _ (p : Program) (image : Fields) (behaves : BehavesAlways p image) (actio
     input_is : (input : List (Option ℕ)) → Tells before.input.left input → input ≡ bytes_to_come bytes
     input_is input tells = subst (λ (l : Option (List ℕ)). Tells l input) told tells
 
-    leaves : (input : List (Option ℕ)) (picks : List ℕ) (n : ℕ) → IsDone image actions before after Heard machine input picks n → Leaves p image before after Heard machine bytes actions picks steps (behaves bytes actions picks are words fit) n
+    leaves : (input : List (Option ℕ)) (picks : List ℕ) (n : ℕ) → IsDone image (polls_of actions) before after Heard machine input picks n → Leaves p image before after Heard machine bytes actions picks steps (behaves bytes (polls_of actions) picks are words fit) n
     leaves input picks n done =
         let same = input_is input done.told in
-        let taken : Took before after (take (taken_of bytes (runs image input actions picks n)) bytes) =
-        subst (λ (l : Option (List ℕ)). IfSome l (λ (b : List ℕ). Took before after (take (taken_of b (runs image input actions picks n)) b))) told done.taken in
+        let taken : Took before after (take (taken_of bytes (runs image input (polls_of actions) picks n)) bytes) =
+        subst (λ (l : Option (List ℕ)). IfSome l (λ (b : List ℕ). Took before after (take (taken_of b (runs image input (polls_of actions) picks n)) b))) told done.taken in
         record {
-          output = subst (λ (i : List (Option ℕ)). Wrote before after (runs image i actions picks n).output) same done.output;
-          taken = subst (λ (i : List (Option ℕ)). Took before after (take (taken_of bytes (runs image i actions picks n)) bytes)) same taken;
-          heard = subst (λ (i : List (Option ℕ)). Heard (runs image i actions picks n).log) same done.heard;
-          bindings = subst (λ (i : List (Option ℕ)). machine.bindings ≡ (runs image i actions picks n).bindings) same (kept_bindings machine (runs image input actions picks n) done.state);
-          room = subst (λ (i : List (Option ℕ)). machine.room ≡ (runs image i actions picks n).room) same (kept_room (runs image input actions picks n) done.state);
+          output = subst (λ (i : List (Option ℕ)). Wrote before after (runs image i (polls_of actions) picks n).output) same done.output;
+          taken = subst (λ (i : List (Option ℕ)). Took before after (take (taken_of bytes (runs image i (polls_of actions) picks n)) bytes)) same taken;
+          heard = subst (λ (i : List (Option ℕ)). Heard (runs image i (polls_of actions) picks n).log) same done.heard;
+          bindings = subst (λ (i : List (Option ℕ)). machine.bindings ≡ (runs image i (polls_of actions) picks n).bindings) same (kept_bindings machine (runs image input (polls_of actions) picks n) done.state);
+          room = subst (λ (i : List (Option ℕ)). machine.room ≡ (runs image i (polls_of actions) picks n).room) same (kept_room (runs image input (polls_of actions) picks n) done.state);
         }
 
-    stop_at : (input : List (Option ℕ)) (picks : List ℕ) (n : ℕ) (stop : Stop) → input ≡ bytes_to_come bytes → (runs image input actions picks n).stop ≡ stop →
-        (runs image (bytes_to_come bytes) actions picks n).stop ≡ stop
-    stop_at input picks n stop same stops = subst (λ (i : List (Option ℕ)). (runs image i actions picks n).stop ≡ stop) same stops
+    stop_at : (input : List (Option ℕ)) (picks : List ℕ) (n : ℕ) (stop : Stop) → input ≡ bytes_to_come bytes → (runs image input (polls_of actions) picks n).stop ≡ stop →
+        (runs image (bytes_to_come bytes) (polls_of actions) picks n).stop ≡ stop
+    stop_at input picks n stop same stops = subst (λ (i : List (Option ℕ)). (runs image i (polls_of actions) picks n).stop ≡ stop) same stops
 
-    ends : (stop : Stop) → (s : Stands image actions before after Heard machine stop steps) → EndsRight bytes (runs image (bytes_to_come bytes) actions s.picks steps) (mean p bytes actions steps) stop
-    ends stop s = right p image before after Heard machine bytes actions s.picks steps (behaves bytes actions s.picks are words fit) stop (stop_at s.input s.picks steps stop (input_is s.input s.done.told) s.stops)
+    ends : (stop : Stop) → (s : Stands image (polls_of actions) before after Heard machine stop steps) → EndsRight bytes (runs image (bytes_to_come bytes) (polls_of actions) s.picks steps) (mean p bytes actions steps) stop
+    ends stop s = right p image before after Heard machine bytes actions s.picks steps (behaves bytes (polls_of actions) s.picks are words fit) stop (stop_at s.input s.picks steps stop (input_is s.input s.done.told) s.stops)
 
-    over : (stop : Stop) → (stop ≡ Going → ⊥) → (s : Stands image actions before after Heard machine stop steps) → (runs image (bytes_to_come bytes) actions s.picks steps).stop ≡ Going → ⊥
+    over : (stop : Stop) → (stop ≡ Going → ⊥) → (s : Stands image (polls_of actions) before after Heard machine stop steps) → (runs image (bytes_to_come bytes) (polls_of actions) s.picks steps).stop ≡ Going → ⊥
     over stop other s going = other (sym (stop_at s.input s.picks steps stop (input_is s.input s.done.told) s.stops) ∙ going)
 
     -- before a call that failed it is so far, and the run on what the source tells stands there and goes on
-    module _ (Next : State → ℕ → Type 0) (s : StandsBefore image actions before after Heard machine Next steps) where
+    module _ (Next : State → ℕ → Type 0) (s : StandsBefore image (polls_of actions) before after Heard machine Next steps) where
       abbrev here : State
-      here = runs image (bytes_to_come bytes) actions s.picks s.count
+      here = runs image (bytes_to_come bytes) (polls_of actions) s.picks s.count
 
       abbrev stuck_part : DoesPart before after Heard machine bytes (mean p bytes actions steps) here.output
       stuck_part =
           let fewer = s.fewer in
-          let b = behaves bytes actions s.picks are words fit in
+          let b = behaves bytes (polls_of actions) s.picks are words fit in
           part p image before after Heard machine bytes actions s.picks steps b s.count (omega (arith, fewer)) (leaves s.input s.picks s.count s.done)
 
       goes_on : here.stop ≡ Going
       goes_on = stop_at s.input s.picks s.count Going (input_is s.input s.done.told) s.going
 
       comes_next : Next here (slice_index s.picks s.count)
-      comes_next = subst (λ (i : List (Option ℕ)). Next (runs image i actions s.picks s.count) (slice_index s.picks s.count)) (input_is s.input s.done.told) s.next
+      comes_next = subst (λ (i : List (Option ℕ)). Next (runs image i (polls_of actions) s.picks s.count) (slice_index s.picks s.count)) (input_is s.input s.done.told) s.next
 
     -- no instruction wants memory
-    roomy : StandsBefore image actions before after Heard machine WantsMemory steps → ⊥
-    roomy s = (behaves bytes actions s.picks are words fit).roomy s.count (slice_index s.picks s.count) (comes_next WantsMemory s)
+    roomy : StandsBefore image (polls_of actions) before after Heard machine WantsMemory steps → ⊥
+    roomy s = (behaves bytes (polls_of actions) s.picks are words fit).roomy s.count (slice_index s.picks s.count) (comes_next WantsMemory s)
 
-    does : (stopped : Stopped) → Runs image actions before after Heard machine steps stopped → DoesOn p image actions steps before after Heard machine bytes stopped
+    does : (stopped : Stopped) → Runs image (polls_of actions) before after Heard machine steps stopped → DoesOn p image actions steps before after Heard machine bytes stopped
     does (answer.Ended status) r =
         let s = r.stands in
-        all p image before after Heard machine bytes actions s.picks steps (behaves bytes actions s.picks are words fit) (source.Exit status) (leaves s.input s.picks steps s.done)
+        all p image before after Heard machine bytes actions s.picks steps (behaves bytes (polls_of actions) s.picks are words fit) (source.Exit status) (leaves s.input s.picks steps s.done)
         (over (Exit status) (λ e. cc) s) (ends (Exit status) s)
     does (answer.Trapped code) r =
         let s = r.stands in
-        all p image before after Heard machine bytes actions s.picks steps (behaves bytes actions s.picks are words fit) (source.Trap code) (leaves s.input s.picks steps s.done)
+        all p image before after Heard machine bytes actions s.picks steps (behaves bytes (polls_of actions) s.picks are words fit) (source.Trap code) (leaves s.input s.picks steps s.done)
         (over (Trap code) (λ e. cc) s) (ends (Trap code) s)
     does answer.Steps r =
         let s = r.stands in
-        let b = behaves bytes actions s.picks are words fit in (
+        let b = behaves bytes (polls_of actions) s.picks are words fit in (
           _,
           part p image before after Heard machine bytes actions s.picks steps b steps (omega arith) (leaves s.input s.picks steps s.done),
           keeps_up p image before after Heard machine bytes actions s.picks steps b (stop_at s.input s.picks steps Going (input_is s.input s.done.told) s.stops),
@@ -213,7 +230,7 @@ module _ (p : Program) (image : Fields) (behaves : BehavesAlways p image) (actio
     does (answer.Fault pc why) r = ends (Fault why) r.0
     does answer.Memory r = roomy r
 
-  module _ (stopped : Stopped) (runs : Runs image actions before after Heard machine steps stopped) where
+  module _ (stopped : Stopped) (runs : Runs image (polls_of actions) before after Heard machine steps stopped) where
     does_from : (l : Option (List ℕ)) → before.input.left ≡ l → DoesFrom p image actions steps before after Heard machine l stopped
     does_from None told = tt
     does_from (Some bytes) told = λ are. does bytes told are stopped runs
@@ -236,7 +253,7 @@ executes built actions words fit steps before after Heard (Ok e) runs =
     let p = built.program in
     let image = built.image in record {
       runs = runs;
-      does = λ behaves same. run_does p image behaves actions words (fit_program p image same actions fit) steps before after Heard e.machine e.stopped runs;
-      decides = λ behaves same. run_decides p image behaves actions words (fit_program p image same actions fit) steps before after Heard e.machine e.stopped runs;
+      does = λ behaves same. run_does p image behaves actions (words_acts actions words) (fit_program p image same actions fit) steps before after Heard e.machine e.stopped runs;
+      decides = λ behaves same. run_decides p image behaves actions (words_acts actions words) (fit_program p image same actions fit) steps before after Heard e.machine e.stopped runs;
     }
 executes built actions words fit steps before after Heard (Err why) none = none

@@ -1,8 +1,7 @@
 -- A run on what another one takes and one more answer goes as that one does, up to where it takes the one more.
-use Rattle.std.proofs.Common.{◌≡◌, ℕ, zero, suc, ◌-◌, ◌%◌, ◌^◌, ◌⊎◌, inl, inr, ⊎_elim, Bool, true, false, if◌then◌else◌, nat_eq, List, [], ◌∷◌, ◌++◌, length, slice_index, Option, refl, sym, ap, ◌∙◌, subst, arith}
+use Rattle.std.proofs.Common.{◌≡◌, ℕ, zero, suc, ◌-◌, ◌%◌, ◌^◌, ◌⊎◌, inl, inr, ⊎_elim, Bool, true, false, ◌&&◌, if◌then◌else◌, nat_eq, List, [], ◌∷◌, ◌++◌, length, slice_index, Option, refl, sym, ap, ◌∙◌, subst, arith}
 use Rattle.std.proofs.lemmas.List.{length-append, nil_from_length}
-use Rattle.mv_ast.specs.declared.world.Action.{Action}
-use Rattle.mv_ast.specs.declared.world.Action.TheVariants.{Skip, Flip}
+use Rattle.mv_ast.specs.Worlds.{Act, Skip, Flip, Adopt}
 use Rattle.mv_fetch.specs.Held.{Room}
 use Rattle.mv_isa.specs.Execution.{Outcome, Goes, Calls, Faults, reg}
 use Rattle.mv_isa.specs.declared.instr.Cause.TheVariants as cause
@@ -30,13 +29,14 @@ module _ (s : State) (input : List (Option ℕ)) where
   planned_same : (code index : ℕ) → planned (with_input s input) code index ≡ with_input (planned s code index) input
   unfolding planned answered
   planned_same code index =
-      one_of_three (is_known_order s.image code index) (nat_eq (live_frames s) 0) (ordered s code index) (refused s (2 ^ 32 - 1)) (stopped s (Fault cause.Call))
+      one_of_three (is_known_order s.image code index) (nat_eq s.hart 0 && nat_eq (live_frames s) 0) (ordered s code index) (refused s (2 ^ 32 - 1)) (stopped s (Fault cause.Call))
 
-  acted_same : (actions : List Action) → acted (with_input s input) actions ≡ with_input (acted s actions) input
+  acted_same : (actions : List Act) → acted (with_input s input) actions ≡ with_input (acted s actions) input
   unfolding answered
   acted_same [] = refl
   acted_same (Skip ∷ later) = refl
   acted_same (Flip switch value ∷ later) = refl
+  acted_same (Adopt bs ∷ later) = refl
 
   polled_same : polled (with_input s input) ≡ with_input (polled s) input
   unfolding polled answered
@@ -46,7 +46,7 @@ module _ (s : State) (input : List (Option ℕ)) where
 
 plan_keeps : (s : State) → EachLeaves (λ (t : State). t.input ≡ s.input) s
 unfolding answered
-plan_keeps s = record { refuses = λ actions answer. refl; carries = λ room actions plan answer. refl; faults = refl }
+plan_keeps s = record { refuses = λ actions answer. refl; carries = λ room actions plan answer. refl; adopts = λ actions bs. refl; faults = refl }
 
 -- ---- two runs
 

@@ -9,6 +9,7 @@ use Rattle.mv_build.specs.declared.built.Built.{Built}
 use Rattle.mv_image.specs.Spelling.{Fields}
 use Rattle.mv_refine_runs.specs.Behaves.{BehavesAlways}
 use Rattle.mv_machine.specs.Actions as machine
+use Rattle.mv_machine.specs.Acts.{polls_of}
 use Rattle.mv_refine.specs.declared.execution.Execution.{Execution}
 use Rattle.mv_refine.specs.Environment.{Environment}
 use Rattle.mv_refine.specs.Meant.{Does, Decides}
@@ -21,14 +22,14 @@ SameFit p image = (action : Action) → machine.fits image.switches action ≡ s
 module _ (image : Fields) (actions : List Action) (steps : ℕ) (before after : Environment) (Heard : List Event → Type 0) where
   -- one run of an image is what was done, or there was no memory before its first instruction, with all as before
   abbrev pub RunsImage : Result Execution AllocError → Type 0
-  RunsImage (Ok e) = Runs image actions before after Heard e.machine steps e.stopped
+  RunsImage (Ok e) = Runs image (polls_of actions) before after Heard e.machine steps e.stopped
   RunsImage (Err why) = (after ≡ before) × Heard []
 
 module _ (built : Built) (actions : List Action) (steps : ℕ) (before after : Environment) (Heard : List Event → Type 0) where
   -- One run of the image is what was done. Where the image behaves as the program means, and the same actions fit both, this is what the program means with
   -- the actions, at that number as its bound.
   pub record IsExecution (e : Execution) : Type 0 where
-    pub runs : Runs built.image actions before after Heard e.machine steps e.stopped
+    pub runs : Runs built.image (polls_of actions) before after Heard e.machine steps e.stopped
     pub does : BehavesAlways built.program built.image → SameFit built.program built.image → Does built.program built.image actions steps before after Heard e.machine e.stopped
     pub decides : BehavesAlways built.program built.image → SameFit built.program built.image → Decides built.program actions steps before after e.stopped
 

@@ -3,6 +3,7 @@ use Rattle.std.specs.Prelude.{ℕ, ◌≡◌, ◌+◌, ◌*◌, ◌^◌, ◌<◌
 use Rattle.mv_ast.specs.declared.program.Program.{Program}
 use Rattle.mv_ast.specs.declared.world.Action.{Action}
 use Rattle.mv_ast.specs.declared.world.Event.{Event}
+use Rattle.mv_ast.specs.Counts.{instructions_per_work}
 use Rattle.mv_image.specs.Patched.{text_of}
 use Rattle.mv_image.specs.Spelling.{Fields}
 use Rattle.mv_patch.specs.Orders.{values_of}
@@ -40,9 +41,9 @@ module _ (before after : Environment) (Heard : List Event → Type 0) (machine :
     pub logged : Begins events m.log
     pub heard : Heard events
 
--- so many instructions are time enough for all that is meant at a bound: a hundred for each unit of its work, and a hundred more
+-- so many instructions are time enough for all that is meant at a bound: `instructions_per_work` for each unit of its work, and as many more
 abbrev pub IsEnough : Program → List Action → (bytes : List ℕ) → (steps bound : ℕ) → Type 0
-IsEnough p actions bytes steps bound = 100 * (1 + (mean p bytes actions bound).work) ≤ steps
+IsEnough p actions bytes steps bound = instructions_per_work * (1 + (mean p bytes actions bound).work) ≤ steps
 
 -- at each bound for which there was time, the meaning has not ended and its output was written
 abbrev pub KeepsUp : Program → List Action → (bytes : List ℕ) → (steps : ℕ) → (piece : List ℕ) → Type 0

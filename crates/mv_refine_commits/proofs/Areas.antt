@@ -6,9 +6,12 @@ use Rattle.mv_num.specs.Bytes.{AreWords}
 use Rattle.mv_fetch.specs.Held.{Held, Room, region_of, index_of, words_of, present, part, joined, load, store, with_word}
 use Rattle.mv_fetch.specs.Stores.{spared}
 use Rattle.mv_rv32.specs.Stepping.{access, with_held}
-use Rattle.mv_machine.specs.Runs.{plan_area, stored_word, stored_words}
+use Rattle.mv_patch.specs.declared.prepared.Pair.{Pair}
+use Rattle.mv_patch.specs.Stores.{stored, stored_all}
+use Rattle.mv_machine.specs.Runs.{plan_area, stored_word, stored_words, spelled_pairs, with_plan}
 use Rattle.mv_refine_commits.specs.Watched.{plan_words}
 use Rattle.mv_refine_machine.proofs.Memory.{whole_word}
+use Rattle.mv_refine_stores.proofs.Stored.{same_plan}
 use Rattle.mv_num.proofs.Lists.{get_set_same, get_set_other}
 
 plan_region : (a : ℕ) → 0x0040_0000 ≤ a → a < 0x0048_0000 → region_of a ≡ region_of 0x0040_0000
@@ -154,3 +157,25 @@ writes (x ∷ words) r k size fit small =
     by_index p later (suc j) v h =
         let here : at (k + suc j) ≡ at (suc k + j) = omega arith in
         ap (λ a. access.load (stored_words (stored_word r (at k) x) (at k + 4) words) a 4) here ∙ later.loads j v h
+
+-- ---- stores into text
+
+stored_beside : (pairs : List Pair) (r : Room) (plan : List ℕ) → stored_all (planned_room r plan) pairs ≡ planned_room (stored_all r pairs) plan
+unfolding stored_all stored
+stored_beside [] r plan = refl
+stored_beside (pair ∷ pairs) r plan = stored_beside pairs (stored r pair) plan
+
+empty_plan : (r : Room) (w : ℕ) → slice_get r.held.plan 0 ≡ Some w → with_plan r [] ≡ planned_room r (set r.held.plan 0 (joined plan_area 4 w 0))
+unfolding stored_words spelled_pairs
+empty_plan r w there = stored_word_is r 0 0 w (omega arith) there
+
+-- They leave the plan area, so an empty plan may come before them or behind them.
+pub plan_commutes : (pairs : List Pair) (r : Room) → length r.held.plan ≡ plan_words → with_plan (stored_all r pairs) [] ≡ stored_all (with_plan r []) pairs
+plan_commutes pairs r size =
+    let word = there_at r.held.plan 0 (omega (arith, size)) in
+    let kept = same_plan r pairs in
+    let emptied : List ℕ → List ℕ = λ plan. set plan 0 (joined plan_area 4 word.0 0) in
+    empty_plan (stored_all r pairs) word.0 (ap (λ (plan : List ℕ). slice_get plan 0) kept ∙ word.1)
+    ∙ ap (λ (plan : List ℕ). planned_room (stored_all r pairs) (emptied plan)) kept
+    ∙ sym (stored_beside pairs r (emptied r.held.plan))
+    ∙ ap (λ x. stored_all x pairs) (sym (empty_plan r word.0 word.1))

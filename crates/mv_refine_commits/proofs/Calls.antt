@@ -4,7 +4,6 @@ use Rattle.std.specs.List.{All}
 use Rattle.mv_num.specs.Words.{add}
 use Rattle.mv_ast.specs.declared.program.Program.{Program}
 use Rattle.mv_ast.specs.declared.program.Known.TheVariants.{Getchar, Putchar, Poll, Plan}
-use Rattle.mv_ast.specs.declared.world.Action.{Action}
 use Rattle.mv_isa.specs.declared.instr.Instr.TheVariants.{Ecall}
 use Rattle.mv_isa.specs.Encoding.{encode}
 use Rattle.mv_isa.specs.Execution.{reg, put}
@@ -15,6 +14,7 @@ use Rattle.mv_patch.specs.Orders.{plan_between}
 use Rattle.mv_ir.specs.World.{World, Answer}
 use Rattle.mv_ir.specs.KnownFunctions.{next_byte, written}
 use Rattle.mv_ir.specs.Programs.{setting_of}
+use Rattle.mv_machine.specs.Acts.{PollActs}
 use Rattle.mv_machine.specs.Runs.{State, Request, Reads, Writes, request_of, bytes_to_come, word_read, next_read, later_reads, answered, environment_call}
 use Rattle.mv_machine.specs.Commits.{opens, is_some_pair}
 use Rattle.mv_machine.proofs.Calls.{request_reads, request_writes}
@@ -45,10 +45,12 @@ record Does (image : Fields) (w : World) (s next : State) (answer : Answer) : Ty
   pc : next.pc ≡ add s.pc 4
   room : next.room ≡ s.room
   bindings : next.bindings ≡ s.bindings
+  hart : next.hart ≡ s.hart
   actions : next.actions ≡ s.actions
   calm : IsCalm image answer.world (rest_of next)
   globals : answer.world.globals ≡ w.globals
   same_bindings : answer.world.bindings ≡ w.bindings
+  same_hart : answer.world.hart ≡ w.hart
   same_actions : answer.world.actions ≡ w.actions
 
 reads_do : (image : Fields) (w : World) (s : State) (bytes : List ℕ) → w.input ≡ bytes → IsCalm image w (rest_of s) → Does image w s (environment_call Reads s) (next_byte bytes w)
@@ -59,6 +61,7 @@ reads_do image w s [] e calm =
       pc = refl;
       room = refl;
       bindings = refl;
+      hart = refl;
       actions = refl;
       calm = record {
         goes_on = calm.goes_on;
@@ -72,6 +75,7 @@ reads_do image w s [] e calm =
       };
       globals = refl;
       same_bindings = refl;
+      same_hart = refl;
       same_actions = refl;
     }
 reads_do image w s (byte ∷ bytes) e calm =
@@ -80,6 +84,7 @@ reads_do image w s (byte ∷ bytes) e calm =
       pc = refl;
       room = refl;
       bindings = refl;
+      hart = refl;
       actions = refl;
       calm = record {
         goes_on = calm.goes_on;
@@ -93,6 +98,7 @@ reads_do image w s (byte ∷ bytes) e calm =
       };
       globals = refl;
       same_bindings = refl;
+      same_hart = refl;
       same_actions = refl;
     }
 
@@ -103,6 +109,7 @@ writes_do image w s calm = record {
   pc = refl;
   room = refl;
   bindings = refl;
+  hart = refl;
   actions = refl;
   calm = record {
     goes_on = calm.goes_on;
@@ -116,12 +123,13 @@ writes_do image w s calm = record {
   };
   globals = refl;
   same_bindings = refl;
+  same_hart = refl;
   same_actions = refl;
 }
 
-module _ (known : Known) (attributed : List ℕ) (closed : (pc address : ℕ) → Bool) (image : Fields) (rules : Rules image) (input : List (Option ℕ)) (actions : List Action) (picks : List ℕ)
+module _ (known : Known) (attributed : List ℕ) (closed : (pc address : ℕ) → Bool) (image : Fields) (rules : Rules image) (input : List (Option ℕ)) (polls : PollActs) (picks : List ℕ)
     (bytes : All IsByteOrEnd input) (y : Layout) (budget far : ℕ) where
-  open watched_run attributed closed image input actions picks use {machine, start, state as S, run, under as U}
+  open watched_run attributed closed image input polls picks use {machine, start, state as S, run, under as U}
 
   abbrev St : ℕ → World → ℕ → Type 0
   St = Stands access y machine budget far
@@ -156,6 +164,7 @@ module _ (known : Known) (attributed : List ℕ) (closed : (pc address : ℕ) �
         reserve = ap (λ (r : Room). r.reserve) room_is ∙ quiet.reserve;
         plan = ap (λ (r : Room). length r.held.plan) room_is ∙ quiet.plan;
         under = under_none;
+        hart = ap (λ (s : State). s.hart) next ∙ does.hart ∙ quiet.hart ∙ sym does.same_hart;
         actions = ap (λ (s : State). s.actions) next ∙ does.actions ∙ quiet.actions ∙ sym does.same_actions;
       }
 
@@ -181,7 +190,7 @@ module _ (known : Known) (attributed : List ℕ) (closed : (pc address : ℕ) �
     byte_served : (args : List ℕ) (pc i : ℕ) → unpatched_word image pc ≡ Some (encode Ecall) → Serves access y machine budget far (setting_of numbers p) 1 pc (pc + 4) Getchar args i
     byte_served args pc i at_word spare bound w here asks paid asked =
         let q = quiet pc i w here at_word in
-        let left = subst (All IsByteOrEnd) q.calm.input (bytes_left start picks i (subst (All IsByteOrEnd) (sym (first_input image input actions)) bytes)) in
+        let left = subst (All IsByteOrEnd) q.calm.input (bytes_left start picks i (subst (All IsByteOrEnd) (sym (first_input image input polls)) bytes)) in
         comes_back pc i w here at_word Reads (next_byte w.input w) (request_reads (reg (S i).regs 17) asks.number) (reads_do image w (S i) w.input refl q.calm) (byte_fits w.input w left)
         spare bound (next_byte w.input w).cost paid asked
 
@@ -202,5 +211,5 @@ module _ (known : Known) (attributed : List ℕ) (closed : (pc address : ℕ) �
     serves_calls (Plan code index) args pc i may direct count at_word = absurd direct
 
 pub watched_calls : Known → WatchedCallsAreServed
-watched_calls known attributed closed image rules input actions picks bytes y budget far numbers p =
-    serves_calls known attributed closed image rules input actions picks bytes y budget far numbers p
+watched_calls known attributed closed image rules input polls picks bytes y budget far numbers p =
+    serves_calls known attributed closed image rules input polls picks bytes y budget far numbers p

@@ -1,7 +1,6 @@
 -- A run starts, exits and traps from sound places.
 use Rattle.std.proofs.Common.{◌≡◌, ℕ, ◌+◌, ◌%◌, ◌^◌, ◌≤◌, Bool, true, List, pos, Option, refl, sym, ap, ◌∙◌, subst, arith}
 use Rattle.std.proofs.lemmas.Bool.{and_parts}
-use Rattle.mv_ast.specs.declared.world.Action.{Action}
 use Rattle.mv_isa.specs.declared.instr.Instr.TheVariants.{Addi, Ecall}
 use Rattle.mv_isa.specs.declared.labelled.Line.TheVariants.{Word}
 use Rattle.mv_isa.specs.Execution.{reg, put}
@@ -9,6 +8,7 @@ use Rattle.mv_isa.specs.Standing.{InstrStands}
 use Rattle.mv_image.specs.Spelling.{Fields}
 use Rattle.mv_image.specs.Faults.{Rules}
 use Rattle.mv_ir.specs.World.{World}
+use Rattle.mv_machine.specs.Acts.{PollActs}
 use Rattle.mv_machine.specs.Runs.{State, Exit, Trap, bytes_to_come, first as first_state}
 use Rattle.mv_machine.proofs.Turns.{runs_none}
 use Rattle.mv_select_statements.specs.StatementCode.{first, trap_label}
@@ -40,12 +40,12 @@ use Rattle.mv_refine_commits.proofs.WatchedRun.{watched_run}
 
 -- ---- lines that a run walks
 
-module _ (known : Known) (attributed : List ℕ) (closed : (pc address : ℕ) → Bool) (image : Fields) (rules : Rules image) (input : List (Option ℕ)) (actions : List Action) (picks : List ℕ)
+module _ (known : Known) (attributed : List ℕ) (closed : (pc address : ℕ) → Bool) (image : Fields) (rules : Rules image) (input : List (Option ℕ)) (polls : PollActs) (picks : List ℕ)
     (place entry : ℕ → ℕ) where
-  open watched_run attributed closed image input actions picks use {machine, start, run}
+  open watched_run attributed closed image input polls picks use {machine, start, run}
 
   ok : IsRun access (no_frame entry) machine
-  ok = watched_runs known attributed closed image rules input actions picks (no_frame entry) (none_inside entry) (λ pc a may. absurd cc)
+  ok = watched_runs known attributed closed image rules input polls picks (no_frame entry) (none_inside entry) (λ pc a may. absurd cc)
 
   comes : (pc i : ℕ) (w : World) → ComesQuietly closed image start picks pc w i → At access machine place entry ok w pc (run i).regs (run i).memory i
   comes pc i w h = record {
@@ -78,7 +78,7 @@ module _ (known : Known) (attributed : List ℕ) (closed : (pc address : ℕ) �
       let s = at closed image start picks t in
       (and_parts (runs.is_sound closed (spot_of s)) (keeps_text (texts_of image) (run t).memory.under (spot_of s)) h).0
 
-  plain_comes : (pc i : ℕ) (w : World) → ComesQuietly closed image start picks pc w i → ComesTo closed image input actions picks pc w i
+  plain_comes : (pc i : ℕ) (w : World) → ComesQuietly closed image start picks pc w i → ComesTo closed image input polls picks pc w i
   plain_comes pc i w h = record { at = h.here; calm = h.quiet.calm; sound = λ t lt. plainly t (h.sound t lt) }
 
   pub exits : ExitIsRight → (main_label end : ℕ) → Placed (machine_text attributed image) place entry (start_lines main_label) start_address end → (i : ℕ) (w : World)
@@ -95,7 +95,7 @@ module _ (known : Known) (attributed : List ℕ) (closed : (pc address : ℕ) �
       record {
         quiet = quiet_there w q.0 (i + 1) regs (run i).memory b;
         sound = λ t le. before_next (SoundAt closed image start picks) (i + 1) b.sound (call_sound w q.0 q.2.0 (i + 1) regs (run i).memory q.2.1 b) t (omega (arith, le));
-        stopped = (exit attributed closed image input actions picks place entry main_label end p i w (plain_comes return_address i w h)).stopped;
+        stopped = (exit attributed closed image input polls picks place entry main_label end p i w (plain_comes return_address i w h)).stopped;
       }
 
   pub traps : TrapIsRight → (code : ℕ) → 1 ≤ code → code ≤ 4 → (stub end : ℕ) → Placed (machine_text attributed image) place entry (trap_lines code) stub end → (i : ℕ) (w : World)
@@ -113,48 +113,48 @@ module _ (known : Known) (attributed : List ℕ) (closed : (pc address : ℕ) �
       record {
         quiet = quiet_there w q.0 (i + 2) regs2 m d;
         sound = λ t lt. before_next (SoundAt closed image start picks) (i + 2) d.sound (call_sound w q.0 q.2.0 (i + 2) regs2 m q.2.1 d) t (omega (arith, lt));
-        stopped = (trap attributed closed image input actions picks code ge le place entry stub end p i w (plain_comes (place (trap_label code)) i w h)).stopped;
+        stopped = (trap attributed closed image input polls picks code ge le place entry stub end p i w (plain_comes (place (trap_label code)) i w h)).stopped;
       }
 
 pub exit_is_right : Known → ExitIsRight → WatchedExitIsRight
-exit_is_right known exit attributed closed image rules input actions picks place entry main_label end p i w h =
-    exits known attributed closed image rules input actions picks place entry exit main_label end p i w h
+exit_is_right known exit attributed closed image rules input polls picks place entry main_label end p i w h =
+    exits known attributed closed image rules input polls picks place entry exit main_label end p i w h
 
 pub trap_is_right : Known → TrapIsRight → WatchedTrapIsRight
-trap_is_right known trap attributed closed image rules input actions picks code ge le place entry stub end p i w h =
-    traps known attributed closed image rules input actions picks place entry trap code ge le stub end p i w h
+trap_is_right known trap attributed closed image rules input polls picks code ge le place entry stub end p i w h =
+    traps known attributed closed image rules input polls picks place entry trap code ge le stub end p i w h
 
 -- ---- the start
 
-module _ (known : Known) (plain : StartIsRight) (attributed : List ℕ) (closed : (pc address : ℕ) → Bool) (image : Fields) (rules : Rules image) (bytes : List ℕ) (actions : List Action) (picks : List ℕ)
-    (y : Layout) (budget far : ℕ) (w : World) (begins : IsFirst image bytes w) (acts : w.actions ≡ actions) (held : HoldsData y image w) (entry_is : image.entry ≡ start_address)
+module _ (known : Known) (plain : StartIsRight) (attributed : List ℕ) (closed : (pc address : ℕ) → Bool) (image : Fields) (rules : Rules image) (bytes : List ℕ) (polls : PollActs) (picks : List ℕ)
+    (y : Layout) (budget far : ℕ) (w : World) (begins : IsFirst image bytes w) (hart : w.hart ≡ polls.hart) (acts : w.actions ≡ polls.acts) (held : HoldsData y image w) (entry_is : image.entry ≡ start_address)
     (place entry : ℕ → ℕ) (main_label end : ℕ) (p : Placed (machine_text attributed image) place entry (start_lines main_label) start_address end) where
   abbrev host : Machine Watched
-  host = watched_machine attributed closed image (bytes_to_come bytes) actions picks
+  host = watched_machine attributed closed image (bytes_to_come bytes) polls picks
 
   abbrev is_run : IsRun access (no_frame entry) host
-  is_run = ok known attributed closed image rules (bytes_to_come bytes) actions picks place entry
+  is_run = ok known attributed closed image rules (bytes_to_come bytes) polls picks place entry
 
   open host.run 0 use {memory as m, regs as regs0}
 
   at0 : At access host place entry is_run w start_address regs0 m 0
   at0 = record {
-    is = ap (λ (a : ℕ). record (host.run 0) { pc = a }) (ap (λ (s : State). s.pc) (runs_none (first_state image (bytes_to_come bytes) actions) picks) ∙ first_entry image bytes actions ∙ entry_is);
-    calm = watched_begins known image bytes actions picks w begins acts;
+    is = ap (λ (a : ℕ). record (host.run 0) { pc = a }) (ap (λ (s : State). s.pc) (runs_none (first_state image (bytes_to_come bytes) polls) picks) ∙ first_entry image bytes polls ∙ entry_is);
+    calm = watched_begins known image bytes polls picks w begins hart acts;
     sound = λ t lt. absurd (omega (arith, lt));
   }
 
   abbrev at3 : At access host place entry is_run w (place main_label) (regs3 access host place entry is_run w main_label end p at0) m 3
   at3 = walked.at3 access host place entry is_run w main_label end p at0
 
-  globals_beside : (n : ℕ) → HoldsGlobals runs.access y (machine_of attributed closed image (bytes_to_come bytes) actions picks) budget far w (host.run n).memory.rest
+  globals_beside : (n : ℕ) → HoldsGlobals runs.access y (machine_of attributed closed image (bytes_to_come bytes) polls picks) budget far w (host.run n).memory.rest
       → HoldsGlobals access y host budget far w (host.run n).memory
   unfolding access runs.access
   globals_beside n h = record { sizes = h.sizes; words = h.words; loads = h.loads }
 
   pub enters : EntersQuietly y host budget far (place main_label) w 3
   enters =
-      let x = plain attributed closed image bytes actions picks y budget far w begins held entry_is place entry main_label end p in record {
+      let x = plain attributed closed image bytes polls picks y budget far w begins held entry_is place entry main_label end p in record {
         stands = record {
           at = x.stands.at;
           calm = subst (λ (z : Spot Watched). is_quiet image (outside w) z.memory ≡ true) (sym at3.is) at3.calm;
@@ -169,5 +169,5 @@ module _ (known : Known) (plain : StartIsRight) (attributed : List ℕ) (closed 
       }
 
 pub start_is_right : Known → StartIsRight → WatchedStartIsRight
-start_is_right known plain attributed closed image rules bytes actions picks y budget far w begins acts held entry_is place entry main_label end p =
-    enters known plain attributed closed image rules bytes actions picks y budget far w begins acts held entry_is place entry main_label end p
+start_is_right known plain attributed closed image rules bytes polls picks y budget far w begins hart acts held entry_is place entry main_label end p =
+    enters known plain attributed closed image rules bytes polls picks y budget far w begins hart acts held entry_is place entry main_label end p

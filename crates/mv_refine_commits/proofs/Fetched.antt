@@ -30,6 +30,9 @@ module _ (s : State) (i : Instr) (fits : Fits i) (one : choices s.room.held s.pc
   unfolding choices_at
   instr_is pick = ap (option_and_then decode) (picked pick) ∙ decode-encode i fits
 
+  pub instr_first : option_and_then decode (slice_get (choices s.room.held s.pc) 0) ≡ Some i
+  instr_first = ap (λ (l : List ℕ). option_and_then decode (slice_get l 0)) one ∙ decode-encode i fits
+
   -- it is sound for fetches and loads
   pub plainly_sound : (closed : (pc address : ℕ) → Bool) → opens (closed s.pc) (loads_from i s.regs) ≡ true → runs.is_sound closed (spot_of s) ≡ true
   plainly_sound closed unbarred =

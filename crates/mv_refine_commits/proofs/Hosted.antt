@@ -1,6 +1,5 @@
 -- The machine begins in calm, and its memory has words.
 use Rattle.std.proofs.Common.{◌≡◌, ℕ, false, List, [], length, option_map, Option, Some, None, refl, sym, ap, ◌∙◌, subst}
-use Rattle.mv_ast.specs.declared.world.Action.{Action}
 use Rattle.mv_fetch.specs.Held.{fence, first as first_memory}
 use Rattle.mv_rv32.specs.Stepping as memory
 use Rattle.mv_image.specs.Spelling.{Fields}
@@ -8,6 +7,7 @@ use Rattle.mv_image.specs.Patched.{text_of}
 use Rattle.mv_patch.specs.Orders.{values_of}
 use Rattle.mv_patch.specs.Tables.{patchable}
 use Rattle.mv_ir.specs.World.{World}
+use Rattle.mv_machine.specs.Acts.{PollActs}
 use Rattle.mv_machine.specs.Runs.{bytes_to_come, first, runs_from}
 use Rattle.mv_machine.specs.Commits.{commit_from}
 use Rattle.mv_select_control.specs.Runs.{outside}
@@ -26,23 +26,23 @@ use Rattle.mv_refine_commits.specs.Watched.{Watched, access, watched, put_room, 
 use Rattle.mv_refine_commits.specs.Hosted.{WatchedRunsBegin, WatchedMemory}
 use Rattle.mv_refine_commits.specs.Known.{Known}
 use Rattle.mv_refine_commits.proofs.Quiet.{quiet_told, quiet_tested}
-use Rattle.mv_refine_commits.proofs.Images.{first_actions}
+use Rattle.mv_refine_commits.proofs.Images.{first_hart, first_actions}
 use Rattle.mv_refine_commits.proofs.Tabled.{room_stored}
 
 -- ---- the start
 
-plan_there : (image : Fields) (input : List (Option ℕ)) (actions : List Action) → length (first image input actions).room.held.plan ≡ plan_words
+plan_there : (image : Fields) (input : List (Option ℕ)) (polls : PollActs) → length (first image input polls).room.held.plan ≡ plan_words
 unfolding first first_memory
-plan_there image input actions = zeros_count 131072
+plan_there image input polls = zeros_count 131072
 
-reserved : (image : Fields) (input : List (Option ℕ)) (actions : List Action) → (first image input actions).room.reserve ≡ patchable image
+reserved : (image : Fields) (input : List (Option ℕ)) (polls : PollActs) → (first image input polls).room.reserve ≡ patchable image
 unfolding first
-reserved image input actions = refl
+reserved image input polls = refl
 
 -- the first memory is as behind FENCE.I
-fenced_first : (image : Fields) (input : List (Option ℕ)) (actions : List Action) → memory.access.fence (first image input actions).room ≡ (first image input actions).room
+fenced_first : (image : Fields) (input : List (Option ℕ)) (polls : PollActs) → memory.access.fence (first image input polls).room ≡ (first image input polls).room
 unfolding memory.access fence first first_memory
-fenced_first image input actions = refl
+fenced_first image input polls = refl
 
 -- a frame without cells
 no_frame : Site
@@ -61,24 +61,25 @@ no_frame = record {
 }
 
 module _ (known : Known) where
-  first_calm : (image : Fields) (bytes : List ℕ) (actions : List Action) (picks : List ℕ) (w : World) → IsFirst image bytes w → IsCalm image (outside w) (rest_of (first image (bytes_to_come bytes) actions))
+  first_calm : (image : Fields) (bytes : List ℕ) (polls : PollActs) (picks : List ℕ) (w : World) → IsFirst image bytes w → IsCalm image (outside w) (rest_of (first image (bytes_to_come bytes) polls))
   unfolding runs_from
-  first_calm image bytes actions picks w h =
-      (known.calms image (outside w) (rest_of (first image (bytes_to_come bytes) actions))).0 (known.begins [] (λ pc a. false) image bytes actions picks no_frame w h)
+  first_calm image bytes polls picks w h =
+      (known.calms image (outside w) (rest_of (first image (bytes_to_come bytes) polls))).0 (known.begins [] (λ pc a. false) image bytes polls picks no_frame w h)
 
   pub watched_begins : WatchedRunsBegin
   unfolding runs_from commit_from
-  watched_begins image bytes actions picks w h acts =
-      let start = first image (bytes_to_come bytes) actions in
-      let calm = first_calm image bytes actions picks w h in
-      let all : IsWhole start.room = subst IsWhole (fenced_first image (bytes_to_come bytes) actions) (known.rooms.fence start.room) in
+  watched_begins image bytes polls picks w h hart acts =
+      let start = first image (bytes_to_come bytes) polls in
+      let calm = first_calm image bytes polls picks w h in
+      let all : IsWhole start.room = subst IsWhole (fenced_first image (bytes_to_come bytes) polls) (known.rooms.fence start.room) in
       quiet_tested known image (outside w) (watched start None) (record {
         calm = calm;
         settled = known.rooms.settles (texts_of image w.bindings) start.room all (calm.text ∙ ap (λ bs. text_of image (values_of bs)) calm.bindings) calm.no_older;
-        reserve = reserved image (bytes_to_come bytes) actions;
-        plan = plan_there image (bytes_to_come bytes) actions;
+        reserve = reserved image (bytes_to_come bytes) polls;
+        plan = plan_there image (bytes_to_come bytes) polls;
         under = refl;
-        actions = first_actions image (bytes_to_come bytes) actions ∙ sym acts;
+        hart = first_hart image (bytes_to_come bytes) polls ∙ sym hart;
+        actions = first_actions image (bytes_to_come bytes) polls ∙ sym acts;
       })
 
   -- ---- memory
@@ -103,8 +104,8 @@ module _ (known : Known) where
   loads_back m b v e = e
 
   pub watched_memory : WatchedMemory
-  watched_memory attributed closed image input actions picks y laid =
-      let plain = whole.memory y laid attributed closed image input actions picks in
+  watched_memory attributed closed image input polls picks y laid =
+      let plain = whole.memory y laid attributed closed image input polls picks in
       record {
         stores = λ m b v w word lt loads. kept_beside y m b v (plain.stores m.rest b v w word lt (loads_beside m b w loads));
         words = λ m b w word loads. plain.words m.rest b w word (loads_beside m b w loads);

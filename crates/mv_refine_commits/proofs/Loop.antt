@@ -21,10 +21,11 @@ use Rattle.mv_select_trees.proofs.Registers.{put_same, put_other, put_registers}
 use Rattle.mv_select_control.proofs.Walk.{before_next}
 use Rattle.mv_select_functions.specs.Loads.{loads_from}
 use Rattle.mv_refine_machine.specs.MachineRuns.{spot_of, opens}
-use Rattle.mv_refine_stores.specs.Stores.{stored_all, AreTexts, IsInRange}
+use Rattle.mv_patch.specs.Stores.{stored_all}
+use Rattle.mv_refine_stores.specs.Stores.{AreTexts, IsInRange}
 use Rattle.mv_refine_stores.specs.Between.{IsSettled, IsStored}
 use Rattle.mv_refine_stores.specs.Laws.{TextIsBetween, BetweenIsTested, PairsAreInRange}
-use Rattle.mv_refine_commits.specs.Watch.{into_text, are_elsewhere, is_sound}
+use Rattle.mv_refine_commits.specs.Watch.{is_call, into_text, are_elsewhere, is_sound}
 use Rattle.mv_refine_commits.specs.Served.{IsPlanOpen}
 use Rattle.mv_refine_commits.specs.Storing.{HasPlan, IsOther, run, Sound, pairs, Planned, Storing, AtLoop, Committed}
 use Rattle.mv_refine_commits.proofs.PlanWords.{plan_address, plan_word}
@@ -68,7 +69,7 @@ module _ (between : TextIsBetween) (tested : BetweenIsTested) (differ : PairsAre
   line : (k k' to : ℕ) (i : Instr) (done left done' left' : List Pair) (regs regs' : List ℕ) (t : ℕ)
       → slice_get commit_instrs k ≡ Some i → to ≡ b + 4 * k'
       → execute access i regs (b + 4 * k) (room done) ≡ Goes regs' to (room done')
-      → opens (closed (b + 4 * k)) (loads_from i regs) ≡ true → not (into_text (target i regs) && eqb (room done).spare 0) ≡ true → ((s : State) (u : Option (List Binding)) → after_instr s (Some i) u ≡ u)
+      → opens (closed (b + 4 * k)) (loads_from i regs) ≡ true → not (into_text (target i regs) && eqb (room done).spare 0) ≡ true → ((s : State) (u : Option (List Binding)) → (after_instr s (Some i) u ≡ u) × (is_call (Some i) ≡ false))
       → done' ++ left' ≡ coming → AreRegisters regs' → ((q : ℕ) → IsOther q → reg regs' q ≡ reg regs q)
       → In (b + 4 * k) done left regs t → In (b + 4 * k') done' left' regs' (t + 1)
   line k k' to i done left done' left' regs regs' t here on goes unbarred wants quiet joined registers others h =
@@ -88,7 +89,7 @@ module _ (between : TextIsBetween) (tested : BetweenIsTested) (differ : PairsAre
   sets : (k r v : ℕ) (i : Instr) (done left : List Pair) (regs : List ℕ) (t : ℕ) → k < 12 → slice_get commit_instrs k ≡ Some i
       → (r ≡ 5) ⊎ ((r ≡ 6) ⊎ ((r ≡ 7) ⊎ (r ≡ 28))) → v < 2 ^ 32
       → execute access i regs (b + 4 * k) (room done) ≡ Goes (put regs r v) (b + 4 * k + 4) (room done)
-      → opens (closed (b + 4 * k)) (loads_from i regs) ≡ true → not (into_text (target i regs) && eqb (room done).spare 0) ≡ true → ((s : State) (u : Option (List Binding)) → after_instr s (Some i) u ≡ u)
+      → opens (closed (b + 4 * k)) (loads_from i regs) ≡ true → not (into_text (target i regs) && eqb (room done).spare 0) ≡ true → ((s : State) (u : Option (List Binding)) → (after_instr s (Some i) u ≡ u) × (is_call (Some i) ≡ false))
       → In (b + 4 * k) done left regs t → In (b + 4 * (suc k)) done left (put regs r v) (t + 1)
   sets k r v i done left regs t lt here which word goes unbarred wants quiet h =
       line k (suc k) (b + 4 * k + 4) i done left done left regs (put regs r v) t here (omega arith) goes unbarred wants quiet h.joined
@@ -138,16 +139,16 @@ module _ (between : TextIsBetween) (tested : BetweenIsTested) (differ : PairsAre
       let r4 = put r3 6 (length left) in
       let c1 : In (b + 4 * 4) done (pair ∷ left) r0 (i + 1) =
       line 3 4 (b + 4 * 3 + 4) (Beq 6 0 (pos 28)) done (pair ∷ left) done (pair ∷ left) r0 r0 i refl (omega arith)
-      (stays_goes access (room done) r0 (b + 4 * 3) (small 3 (omega arith)) 6 (length left) h.count) refl refl (λ s u. refl) q h.stands.registers (λ n o. refl) h.stands in
+      (stays_goes access (room done) r0 (b + 4 * 3) (small 3 (omega arith)) 6 (length left) h.count) refl refl (λ s u. (refl, refl)) q h.stands.registers (λ n o. refl) h.stands in
       let p1 : reg r0 5 + 4 ≡ 0x0040_0000 + 8 * length done + 4 = omega (arith, h.pointer) in
       let c2 : In (b + 4 * 5) done (pair ∷ left) r1 (i + 1 + 1) =
       sets 4 7 pair.address (Lw 7 5 (pos 4)) done (pair ∷ left) r0 (i + 1) (omega arith) refl (inr (inr (inl refl))) fits.address
-      (lw_goes access (room done) r0 (b + 4 * 4) (small 4 (omega arith)) 7 5 4 (0x0040_0000 + 8 * length done + 4) pair.address p1 (omega (arith, few)) (address_loads done left pair q)) (load_open 4 7 5 4 r0 (omega arith) (omega (arith, p1)) (omega (arith, p1, few))) refl (λ s u. refl) c1 in
+      (lw_goes access (room done) r0 (b + 4 * 4) (small 4 (omega arith)) 7 5 4 (0x0040_0000 + 8 * length done + 4) pair.address p1 (omega (arith, few)) (address_loads done left pair q)) (load_open 4 7 5 4 r0 (omega arith) (omega (arith, p1)) (omega (arith, p1, few))) refl (λ s u. (refl, refl)) c1 in
       let n1 = c2.registers.count in
       let p2 : reg r1 5 + 8 ≡ 0x0040_0000 + 8 * length done + 8 = omega (arith, h.pointer, put_other r0 7 5 pair.address (omega arith) (λ e. omega (arith, e))) in
       let c3 : In (b + 4 * 6) done (pair ∷ left) r2 (i + 1 + 1 + 1) =
       sets 5 28 pair.word (Lw 28 5 (pos 8)) done (pair ∷ left) r1 (i + 1 + 1) (omega arith) refl (inr (inr (inr refl))) fits.word
-      (lw_goes access (room done) r1 (b + 4 * 5) (small 5 (omega arith)) 28 5 8 (0x0040_0000 + 8 * length done + 8) pair.word p2 (omega (arith, few)) (word_loads done left pair q)) (load_open 5 28 5 8 r1 (omega arith) (omega (arith, p2)) (omega (arith, p2, few))) refl (λ s u. refl) c2 in
+      (lw_goes access (room done) r1 (b + 4 * 5) (small 5 (omega arith)) 28 5 8 (0x0040_0000 + 8 * length done + 8) pair.word p2 (omega (arith, few)) (word_loads done left pair q)) (load_open 5 28 5 8 r1 (omega arith) (omega (arith, p2)) (omega (arith, p2, few))) refl (λ s u. (refl, refl)) c2 in
       let n2 = c3.registers.count in
       let to : reg r2 7 ≡ pair.address = put_other r1 28 7 pair.word (omega arith) (λ e. omega (arith, e)) ∙ put_same r0 7 pair.address (omega arith) (omega (arith, many)) in
       let what : reg r2 28 ≡ pair.word = put_same r1 28 pair.word (omega arith) (omega (arith, n1)) in
@@ -158,11 +159,11 @@ module _ (between : TextIsBetween) (tested : BetweenIsTested) (differ : PairsAre
       let c4 : In (b + 4 * 7) (done ++ pair ∷ []) left r2 (i + 1 + 1 + 1 + 1) =
       line 6 7 (b + 4 * 6 + 4) (Sw 7 28 (pos 0)) done (pair ∷ left) (done ++ pair ∷ []) left r2 r2 (i + 1 + 1 + 1) refl (omega arith)
       (sw_goes access (room done) r2 (b + 4 * 6) (small 6 (omega arith)) 7 28 pair.address pair.word (room (done ++ pair ∷ [])) to what fits.address (facts.next pair left refl ∙ ap (λ ps. Some (stored_all begun ps)) (append_assoc before done (pair ∷ [])))) refl
-      (ap (λ z. not (into_text (Some (add (reg r2 7) (word_of (pos 0)))) && z)) spare ∙ not_and_false (into_text (Some (add (reg r2 7) (word_of (pos 0)))))) (λ s u. refl) q' c3.registers (λ n o. refl) c3 in
+      (ap (λ z. not (into_text (Some (add (reg r2 7) (word_of (pos 0)))) && z)) spare ∙ not_and_false (into_text (Some (add (reg r2 7) (word_of (pos 0)))))) (λ s u. (refl, refl)) q' c3.registers (λ n o. refl) c3 in
       let p5 : reg r2 5 ≡ 0x0040_0000 + 8 * length done = put_other r1 28 5 pair.word (omega arith) (λ e. omega (arith, e)) ∙ put_other r0 7 5 pair.address (omega arith) (λ e. omega (arith, e)) ∙ h.pointer in
       let c5 : In (b + 4 * 8) (done ++ pair ∷ []) left r3 (i + 1 + 1 + 1 + 1 + 1) =
       sets 7 5 (0x0040_0000 + 8 * length done + 8) (Addi 5 5 (pos 8)) (done ++ pair ∷ []) left r2 (i + 1 + 1 + 1 + 1) (omega arith) refl (inl refl) (omega (arith, few))
-      (addi_goes access (room (done ++ pair ∷ [])) r2 (b + 4 * 7) (small 7 (omega arith)) 5 5 8 (0x0040_0000 + 8 * length done + 8) (omega (arith, p5)) (omega (arith, few))) refl refl (λ s u. refl) c4 in
+      (addi_goes access (room (done ++ pair ∷ [])) r2 (b + 4 * 7) (small 7 (omega arith)) 5 5 8 (0x0040_0000 + 8 * length done + 8) (omega (arith, p5)) (omega (arith, few))) refl refl (λ s u. (refl, refl)) c4 in
       let n3 = c5.registers.count in
       let left_many : length left < 2 ^ 32 = omega (arith, ap length q, length-append done (pair ∷ left), few_coming) in
       let p6 : reg r3 6 ≡ suc (length left) =
@@ -170,11 +171,11 @@ module _ (between : TextIsBetween) (tested : BetweenIsTested) (differ : PairsAre
       ∙ put_other r0 7 6 pair.address (omega arith) (λ e. omega (arith, e)) ∙ h.count in
       let c6 : In (b + 4 * 9) (done ++ pair ∷ []) left r4 (i + 1 + 1 + 1 + 1 + 1 + 1) =
       sets 8 6 (length left) (Addi 6 6 (negsuc 0)) (done ++ pair ∷ []) left r3 (i + 1 + 1 + 1 + 1 + 1) (omega arith) refl (inr (inl refl)) left_many
-      (less_goes access (room (done ++ pair ∷ [])) r3 (b + 4 * 8) (small 8 (omega arith)) 6 6 (length left) p6 left_many) refl refl (λ s u. refl) c5 in
+      (less_goes access (room (done ++ pair ∷ [])) r3 (b + 4 * 8) (small 8 (omega arith)) 6 6 (length left) p6 left_many) refl refl (λ s u. (refl, refl)) c5 in
       let even = stub.here.2 in
       let c7 : In (b + 4 * 3) (done ++ pair ∷ []) left r4 (i + 1 + 1 + 1 + 1 + 1 + 1 + 1) =
       line 9 3 (b + 4 * 3) (Jal 0 (negsuc 23)) (done ++ pair ∷ []) left (done ++ pair ∷ []) left r4 r4 (i + 1 + 1 + 1 + 1 + 1 + 1) refl refl
-      (back_goes access (room (done ++ pair ∷ [])) r4 (b + 4 * 9) (small 9 (omega arith)) (b + 4 * 3) (omega arith) (omega (arith, even))) refl refl (λ s u. refl) q' c6.registers (λ n o. refl) c6 in
+      (back_goes access (room (done ++ pair ∷ [])) r4 (b + 4 * 9) (small 9 (omega arith)) (b + 4 * 3) (omega arith) (omega (arith, even))) refl refl (λ s u. (refl, refl)) q' c6.registers (λ n o. refl) c6 in
       let seven : i + 1 + 1 + 1 + 1 + 1 + 1 + 1 ≡ i + 7 = omega arith in
       let p8 : reg r4 5 ≡ 0x0040_0000 + 8 * length done + 8 =
       put_other r3 6 5 (length left) (omega arith) (λ e. omega (arith, e)) ∙ put_same r2 5 (0x0040_0000 + 8 * length done + 8) (omega arith) (omega (arith, n2)) in
@@ -198,7 +199,7 @@ module _ (between : TextIsBetween) (tested : BetweenIsTested) (differ : PairsAre
   store_loop [] done i h =
       let even = stub.here.2 in
       let c = line 3 10 (b + 4 * 3 + 28) (Beq 6 0 (pos 28)) done [] done [] h.regs h.regs i refl (omega arith)
-      (leaves_goes access (room done) h.regs (b + 4 * 3) (small 3 (omega arith)) 6 (omega (arith, even)) h.count) refl refl (λ s u. refl) h.stands.joined h.stands.registers (λ n o. refl) h.stands in
+      (leaves_goes access (room done) h.regs (b + 4 * 3) (small 3 (omega arith)) 6 (omega (arith, even)) h.count) refl refl (λ s u. (refl, refl)) h.stands.joined h.stands.registers (λ n o. refl) h.stands in
       record {
         time = i + 1;
         regs = h.regs;
@@ -235,14 +236,14 @@ module _ (between : TextIsBetween) (tested : BetweenIsTested) (differ : PairsAre
       } in
       let c1 : In (b + 4 * 2) [] coming r1 (start + 1) =
       sets 1 5 0x0040_0000 (Lui 5 (pos 0x400)) [] coming r0 start (omega arith) refl (inl refl) (omega arith)
-      (lui_goes access (room []) r0 (b + 4 * 1) (small 1 (omega arith))) refl refl (λ s u. refl) c0 in
+      (lui_goes access (room []) r0 (b + 4 * 1) (small 1 (omega arith))) refl refl (λ s u. (refl, refl)) c0 in
       let n1 = c1.registers.count in
       let p1 : reg r1 5 ≡ 0x0040_0000 = put_same r0 5 0x0040_0000 (omega arith) (omega (arith, many)) in
       let counted : access.load (room []) (0x0040_0000 + 4 * 0) 4 ≡ Some (length coming) =
       plan_is [] coming refl 0 (length coming) refl in
       let c2 : In (b + 4 * 3) [] coming r2 (start + 1 + 1) =
       sets 2 6 (length coming) (Lw 6 5 (pos 0)) [] coming r1 (start + 1) (omega arith) refl (inr (inl refl)) (omega (arith, few))
-      (lw_goes access (room []) r1 (b + 4 * 2) (small 2 (omega arith)) 6 5 0 (0x0040_0000 + 4 * 0) (length coming) (omega (arith, p1)) (omega arith) counted) (load_open 2 6 5 0 r1 (omega arith) (omega (arith, p1)) (omega (arith, p1))) refl (λ s u. refl) c1 in
+      (lw_goes access (room []) r1 (b + 4 * 2) (small 2 (omega arith)) 6 5 0 (0x0040_0000 + 4 * 0) (length coming) (omega (arith, p1)) (omega arith) counted) (load_open 2 6 5 0 r1 (omega arith) (omega (arith, p1)) (omega (arith, p1))) refl (λ s u. (refl, refl)) c1 in
       let two : start + 1 + 1 ≡ start + 2 = omega arith in
       record {
         regs = r2;
@@ -271,7 +272,7 @@ module _ (between : TextIsBetween) (tested : BetweenIsTested) (differ : PairsAre
         registers = h.registers;
         others = h.others;
         sound = before_next (Sound closed texts first picks) i h.sound
-            (ap₂ (λ u s. is_sound closed texts u (spot_of s)) h.under h.is ∙ mid_sound between tested differ closed texts first picks word old new start begun before coming are planned plain apart (b + 4 * 10) FenceI coming [] regs at h.joined refl refl);
+            (ap₂ (λ u s. is_sound closed texts u (spot_of s)) h.under h.is ∙ mid_sound between tested differ closed texts first picks word old new start begun before coming are planned plain apart (b + 4 * 10) FenceI coming [] regs at h.joined refl refl refl);
       }
 
   -- from behind the call to behind FENCE.I

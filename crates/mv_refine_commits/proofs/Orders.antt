@@ -3,30 +3,32 @@ use Rattle.std.specs.List.{All}
 use Rattle.std.proofs.lemmas.List.Elements.{All-head}
 use Rattle.std.proofs.lemmas.Bool.{and_parts, and_from}
 use Rattle.std.proofs.lemmas.Option.{slice_get_within}
-use Rattle.std.proofs.Common.{◌≡◌, ◌≢◌, ◌⊎◌, inl, inr, ℕ, ◌+◌, ◌*◌, ◌<◌, ◌≤◌, ◌^◌, Bool, true, List, ◌∷◌, length, slice_get, Option, Some, None, refl, sym, ap, ap₂, ◌∙◌, subst, arith}
+use Rattle.std.proofs.Common.{◌≡◌, ◌≢◌, ◌⊎◌, inl, inr, ℕ, ◌+◌, ◌*◌, ◌<◌, ◌≤◌, ◌^◌, Bool, true, eqb, List, ◌∷◌, length, slice_get, Option, Some, None, refl, sym, ap, ap₂, ◌∙◌, subst, arith}
 use Rattle.mv_ast.specs.declared.program.Known.{Known}
 use Rattle.mv_ast.specs.declared.program.Known.TheVariants.{Getchar, Putchar, Poll, Plan}
 use Rattle.mv_ast.specs.declared.program.Program.{Program}
-use Rattle.mv_ast.specs.declared.world.Action.{Action}
-use Rattle.mv_ast.specs.declared.world.Action.TheVariants.{Flip}
-use Rattle.mv_ast.specs.Actions.{fits, is_switch_value, IsOfWord}
+use Rattle.mv_ast.specs.declared.world.Action.TheVariants as action
+use Rattle.mv_ast.specs.Actions.{fits, act_fits, is_switch_value, IsActOfWord}
+use Rattle.mv_ast.specs.Worlds.{Act, Flip}
 use Rattle.mv_ast.specs.declared.program.Switch.{Switch}
 use Rattle.mv_ast.specs.Counts as counts
 use Rattle.mv_ast.specs.Plans as source
+use Rattle.mv_ast.specs.Plans.{Answered}
 use Rattle.mv_isa.specs.declared.instr.Instr.TheVariants.{Ecall}
 use Rattle.mv_isa.specs.Execution.{reg}
 use Rattle.mv_isa.specs.Standing.{InstrStands}
 use Rattle.mv_image.specs.Spelling.{Fields}
 use Rattle.mv_image.specs.Faults.{Rules}
-use Rattle.mv_patch.specs.Orders.{plan_between, is_known_order}
+use Rattle.mv_patch.specs.Orders.{is_known_order}
 use Rattle.mv_patch.specs.Tables.{patchable}
 use Rattle.mv_ir.specs.World as ir
 use Rattle.mv_ir.specs.World.{World}
 use Rattle.mv_ir.specs.WellFormed.{known_arguments}
 use Rattle.mv_ir.specs.Programs.{setting_of}
-use Rattle.mv_ir.specs.KnownFunctions.{known_answer, seen, seen_from}
+use Rattle.mv_ir.specs.KnownFunctions.{known_answer, seen_from, patch_cost, poll_cost}
 use Rattle.mv_linker.specs.Linked.{commit_lines}
 use Rattle.mv_ir_worlds.specs.Fit.{IsFit, is_fit}
+use Rattle.mv_machine.specs.Acts.{PollActs}
 use Rattle.mv_machine.specs.Runs.{State, request_of, environment_call, planned, polled}
 use Rattle.mv_machine.proofs.Calls.{request_plans, request_polls}
 use Rattle.mv_select_statements.specs.StatementCode.{first}
@@ -43,7 +45,7 @@ use Rattle.mv_refine_commits.specs.Served.{IsPlanned, IsPlanOpen, AtStub, IsBack
 use Rattle.mv_refine_commits.specs.Tabled.{IsTabled, TabledOrdersAreServed}
 use Rattle.mv_refine_commits.specs.Known.{Known as Laws}
 use Rattle.mv_refine_commits.proofs.Images.{run_image, run_actions}
-use Rattle.mv_refine_commits.proofs.Planning.{plan_gives, poll_gives}
+use Rattle.mv_refine_commits.proofs.Planning.{Gives, plan_gives, poll_gives}
 use Rattle.mv_refine_commits.proofs.Quiet.{quiet_told, quiet_tested}
 use Rattle.mv_refine_commits.proofs.Served.{Calmly, calm_calls, loads_stack, stub_serves}
 use Rattle.mv_refine_commits.proofs.Stands.{stub_stands}
@@ -67,6 +69,7 @@ quiet_inside image w m h = record {
   reserve = h.reserve;
   plan = h.plan;
   under = h.under;
+  hart = h.hart;
   actions = h.actions;
 }
 
@@ -86,6 +89,7 @@ quiet_outside image w m h = record {
   reserve = h.reserve;
   plan = h.plan;
   under = h.under;
+  hart = h.hart;
   actions = h.actions;
 }
 
@@ -96,24 +100,24 @@ kept_register q n (inr (inl h)) o e = omega (arith, h, e, o)
 kept_register q n (inr (inr h)) o e = omega (arith, h.0, h.1, e, o)
 
 -- a flip that fits is of a switch that is there
-there : (p : Program) (switch value : ℕ) → fits p (Flip switch value) ≡ true → switch < length p.switches
+there : (p : Program) (switch value : ℕ) → fits p (action.Flip switch value) ≡ true → switch < length p.switches
 there p switch value h = by_row (slice_get p.switches switch) refl h
   where
     by_row : (o : Option Switch) → slice_get p.switches switch ≡ o → is_switch_value p o value ≡ true → switch < length p.switches
     by_row None e k = absurd (cc)
     by_row (Some s) e k = slice_get_within p.switches switch s e
 
-module _ (known : Laws) (attributed : List ℕ) (closed : (pc address : ℕ) → Bool) (image : Fields) (rules : Rules image) (input : List (Option ℕ)) (actions : List Action) (words : All IsOfWord actions) (picks : List ℕ)
+module _ (known : Laws) (attributed : List ℕ) (closed : (pc address : ℕ) → Bool) (image : Fields) (rules : Rules image) (input : List (Option ℕ)) (polls : PollActs) (words : All IsActOfWord polls.acts) (picks : List ℕ)
     (y : Layout) (laid : IsSetOut y) (place entry : ℕ → ℕ) (end : ℕ) (placed : Placed (machine_text attributed image) place entry commit_lines y.commit end) (free : IsPlanOpen closed y.commit)
-    (budget far : ℕ) (numbers : List ℕ) (p : Program) (few : patchable image ≤ counts.patchable p) (tabled : IsTabled p y image)
+    (budget far : ℕ) (numbers : List ℕ) (p : Program) (numbered : length numbers ≡ length p.functions) (few : patchable image ≤ counts.patchable p) (tabled : IsTabled p y image)
     (knows : (code index : ℕ) → y.may_ask (Plan code index) ≡ true → is_known_order image code index ≡ true) where
   abbrev machine : Machine Watched
-  machine = narrowed (watched_machine attributed closed image input actions picks) (is_fit p) (machine_text attributed image)
+  machine = narrowed (watched_machine attributed closed image input polls picks) (is_fit p) (machine_text attributed image)
 
   abbrev setting : ir.Setting
   setting = setting_of numbers p
 
-  open watched_run attributed closed image input actions picks use {start, run, state as Now, under}
+  open watched_run attributed closed image input polls picks use {start, run, state as Now, under}
 
   module _ (i : ℕ) (w : World) (here : Stands access y machine budget far y.commit w i) where
     calm : (is_fit p (outside w) ≡ true) × (is_quiet image (outside w) (run i).memory ≡ true)
@@ -126,7 +130,7 @@ module _ (known : Laws) (attributed : List ℕ) (closed : (pc address : ℕ) →
     quiet = quiet_inside image w (run i).memory (quiet_told known image (outside w) (run i).memory calm.1)
 
     of : (Now i).image ≡ image
-    of = run_image image input actions picks i
+    of = run_image image input polls picks i
 
     calmly : Calmly known closed image rules start picks w Ecall i
     calmly =
@@ -142,48 +146,48 @@ module _ (known : Laws) (attributed : List ℕ) (closed : (pc address : ℕ) →
 
     -- what a known function gives at this time
     abbrev answer : Known → List ℕ → ir.Answer
-    answer k args = known_answer p k args (reg (Now i).regs live_register) w
+    answer k args = known_answer p numbers k args (reg (Now i).regs live_register) w
 
     -- the next state has its answer, and the plan that it is to be carried out by
     pub record IsPlannedFor (k : Known) (args : List ℕ) : Type 0 where
       pub planned : IsPlanned image (answer k args).world (answer k args).value (Now i) (Now (i + 1))
       pub word : (answer k args).value < 2 ^ 32
       pub globals : HoldsGlobals access y machine budget far (answer k args).world (run (i + 1)).memory
-      pub cost : 6 + 7 * length (plan_between image w.bindings (answer k args).world.bindings) ≤ stub_cost + (answer k args).cost
+      pub cost : 6 + 7 * length planned.coming ≤ stub_cost + (answer k args).cost
 
-    flip_small : (switch value : ℕ) (rest : List Action) → w.actions ≡ Flip switch value ∷ rest → (switch < length p.switches) × (value < 2 ^ 32)
-    flip_small switch value rest e = (
-      there p switch value (All-head (λ (a : Action). fits p a ≡ true) (Flip switch value) rest (subst (All (λ (a : Action). fits p a ≡ true)) e fit.actions)),
-      All-head IsOfWord (Flip switch value) rest (subst (All IsOfWord) (quiet.actions ∙ e) (run_actions image input actions picks i words)),
-    )
+    -- what the call gives, as an answer and its cost
+    abbrev Given : Answered → ℕ → State → Type 0
+    Given = Gives known y laid machine budget far numbers p image rules few (Now i) of (under i) w quiet
+
+    -- a flip that comes next is one of hart 0
+    flip_small : (switch value : ℕ) (rest : List Act) → w.actions ≡ Flip switch value ∷ rest → (eqb w.hart 0 ≡ true) × (switch < length p.switches) × (value < 2 ^ 32)
+    flip_small switch value rest e =
+        let Fits : Act → Type 0 = λ a. act_fits p w.hart a ≡ true in
+        let both = and_parts (eqb w.hart 0) (fits p (action.Flip switch value)) (All-head Fits (Flip switch value) rest (subst (All Fits) e fit.actions)) in (
+          both.0,
+          there p switch value both.1,
+          All-head IsActOfWord (Flip switch value) rest (subst (All IsActOfWord) (quiet.actions ∙ e) (run_actions image input polls picks i words)),
+        )
 
     all_planned : (k : Known) (args : List ℕ) → y.may_ask k ≡ true → (IsDirect k → ⊥) → Asks access y machine budget far setting k args i → IsPlannedFor k args
     all_planned Getchar args may other asks = absurd (other tt)
     all_planned Putchar args may other asks = absurd (other tt)
     all_planned Poll args may other asks =
-        let g = poll_gives known y laid machine budget far p image rules few (Now i) of (under i) w quiet here.globals
-        (λ k v rest e. let f = flip_small k v rest e in flip_agrees p y laid image rules tabled w (run i).memory machine budget far here.globals k v f.0 f.1) in
         let next : Now (i + 1) ≡ polled (Now i) = called ∙ ap (λ r. environment_call r (Now i)) (request_polls (reg (Now i).regs 17) asks.number) in
-        let after = source.polled p (seen_from 0 (reg (Now i).regs live_register) w) in
-        record {
-          planned = subst (IsPlanned image (seen after.world) after.answer (Now i)) (sym next) g.planned;
-          word = g.word;
-          globals = subst (λ (s : State). HoldsGlobals access y machine budget far (seen after.world) (watched s (under (i + 1)))) (sym next) (g.globals (under (i + 1)));
-          cost = g.paid;
-        }
+        let after = source.polled p numbers (seen_from 0 (reg (Now i).regs live_register) w) in
+        let g = subst (Given after (poll_cost p w.hart after.answer)) (sym next)
+        (poll_gives known y laid machine budget far numbers p image rules few (Now i) of (under i) w quiet here.globals
+        (λ k v rest e. let f = flip_small k v rest e in (f.0, flip_agrees p numbers y laid image rules tabled w (run i).memory machine budget far here.globals k v f.1 f.2))) in
+        record { planned = g.planned; word = g.word; globals = g.globals (under (i + 1)); cost = g.paid }
     all_planned (Plan code index) args may other asks =
-        let g = plan_gives known y laid machine budget far p image rules few (Now i) of (under i) w quiet code index here.globals
-        (agrees p y image tabled w (run i).memory machine budget far here.globals code index rules (knows code index may)) in
         let asked = asks.order in
         let next : Now (i + 1) ≡ planned (Now i) code index =
         called ∙ ap (λ r. environment_call r (Now i)) (request_plans (reg (Now i).regs 17) asks.number) ∙ ap₂ (planned (Now i)) asked.0 asked.1 in
-        let after = source.ordered p code index (seen_from 0 (reg (Now i).regs live_register) w) in
-        record {
-          planned = subst (IsPlanned image (seen after.world) after.answer (Now i)) (sym next) g.planned;
-          word = g.word;
-          globals = subst (λ (s : State). HoldsGlobals access y machine budget far (seen after.world) (watched s (under (i + 1)))) (sym next) (g.globals (under (i + 1)));
-          cost = g.paid;
-        }
+        let after = source.ordered p numbers code index (seen_from 0 (reg (Now i).regs live_register) w) in
+        let g = subst (Given after (patch_cost p)) (sym next)
+        (plan_gives known y laid machine budget far numbers p image rules few (Now i) of (under i) w quiet code index here.globals
+        (agrees p y image tabled w (run i).memory machine budget far here.globals code index numbers rules (knows code index may))) in
+        record { planned = g.planned; word = g.word; globals = g.globals (under (i + 1)); cost = g.paid }
 
   module _ (k : Known) (args : List ℕ) (back i : ℕ) (w : World) (may : y.may_ask k ≡ true) (other : IsDirect k → ⊥) (count : length args ≡ known_arguments k) (target : IsTarget back)
       (link : reg (run i).regs link_register ≡ back)
@@ -195,7 +199,7 @@ module _ (known : Laws) (attributed : List ℕ) (closed : (pc address : ℕ) →
     plan : IsPlannedFor i w here k args
     plan = all_planned i w here k args may other asks
 
-    at_stub : AtStub closed image start picks y.commit back w a.world a.value i
+    abbrev at_stub : AtStub closed image start picks y.commit back w a.world a.value i
     at_stub = record {
       here = here.at;
       of = of i w here;
@@ -208,7 +212,7 @@ module _ (known : Laws) (attributed : List ℕ) (closed : (pc address : ℕ) →
       sound = here.sound;
     }
 
-    back_again : (j : ℕ) × IsBack closed image start picks back w a.world a.value i j
+    back_again : (j : ℕ) × IsBack closed image start picks back w a.world a.value plan.planned.coming i j
     back_again =
         stub_serves known attributed closed image rules place entry y.commit end placed free start picks back w a.world a.value i at_stub
 
@@ -224,7 +228,7 @@ module _ (known : Laws) (attributed : List ℕ) (closed : (pc address : ℕ) →
     unfolding access
     stack_stays b above =
         let high = asks.high in let begins = laid.stack_begins in let ends = laid.stack_ends in
-        loads_stack (Now i).room (Now (i + 1)).room b (omega (arith, above.0, high, begins)) (omega (arith, above.1, ends)) plan.planned.stack
+        loads_stack (Now i).room (Now (i + 1)).room b (omega (arith, above.0, high, begins)) (omega (arith, above.1, ends)) plan.planned.stack_stays
 
     globals_there : HoldsGlobals access y machine budget far a.world (run j).memory
     globals_there = record {
@@ -247,7 +251,7 @@ module _ (known : Laws) (attributed : List ℕ) (closed : (pc address : ℕ) →
 
     fit_again : is_fit p (outside a.world) ≡ true
     fit_again =
-        let f = known.keep_fit p k args (reg (Now i).regs live_register) w (fit i w here) in
+        let f = known.keep_fit p numbers k args (reg (Now i).regs live_register) w numbered (fit i w here) in
         (known.fits p (outside a.world)).1 (record { bindings = f.bindings; actions = f.actions })
 
     stands : Stands access y machine budget far back a.world j
@@ -272,5 +276,5 @@ module _ (known : Laws) (attributed : List ℕ) (closed : (pc address : ℕ) →
       returns k args back i w may other count target link here asks spare bound paid asked
 
 pub tabled_orders_are_served : Laws → TabledOrdersAreServed
-tabled_orders_are_served known attributed closed image rules input actions words picks y laid place entry end placed free budget far numbers p few tabled knows =
-    serves known attributed closed image rules input actions words picks y laid place entry end placed free budget far numbers p few tabled knows
+tabled_orders_are_served known attributed closed image rules input polls words picks y laid place entry end placed free budget far numbers p numbered few tabled knows =
+    serves known attributed closed image rules input polls words picks y laid place entry end placed free budget far numbers p numbered few tabled knows

@@ -1,6 +1,6 @@
 -- The stub on an image, from its call to its return.
 use Rattle.std.proofs.Common.{◌≡◌, ◌≢◌, inl, inr, ⊎_elim, ℕ, add-one, ◌+◌, ◌-◌, ◌*◌, ◌/◌, ◌%◌, ◌<◌, ◌≤◌, Bool, true, false, ◌&&◌, ◌||◌, not, cond, eqb, ltb, List, [], ◌∷◌, ◌++◌, length, slice_get, slice_index, is_some, Option, Some, None, pos, refl, sym, ap, ap₂, ◌∙◌, subst, arith}
-use Rattle.std.proofs.lemmas.List.{append-nil}
+use Rattle.std.proofs.lemmas.List.{append-nil, append_assoc}
 use Rattle.std.specs.List.{All}
 use Rattle.std.proofs.lemmas.List.Elements.{All-head, All-tail}
 use Rattle.std.proofs.lemmas.Bool.{and_from, ne_eqb, cases_lt, lt-ltb, le-ltb, or_parts, eqb-true, ltb-true, ltb-false}
@@ -32,11 +32,12 @@ use Rattle.mv_select_functions.specs.Loads.{loads_from}
 use Rattle.mv_refine_machine.specs.Layout.{IsOutsideText}
 use Rattle.mv_refine_machine.specs.MachineRuns.{spot_of, machine_text, may_be_patched, image_word, unpatched_word}
 use Rattle.mv_refine_machine.specs.MachineRuns as runs
-use Rattle.mv_refine_stores.specs.Stores.{stored_all, AreTexts}
+use Rattle.mv_patch.specs.Stores.{stored_all}
+use Rattle.mv_refine_stores.specs.Stores.{AreTexts}
 use Rattle.mv_refine_stores.specs.Between.{IsSettled, is_between, IsStored}
 use Rattle.mv_refine_stores.specs.Laws.{IsNeverPatched}
 use Rattle.mv_refine_commits.specs.Watch.{texts_of, into_text, are_elsewhere, is_sound}
-use Rattle.mv_refine_commits.specs.Storing.{HasPlan, Planned, opened, Committed}
+use Rattle.mv_refine_commits.specs.Storing.{Planned, opened, Committed}
 use Rattle.mv_refine_commits.specs.Watched.{watched, IsQuiet}
 use Rattle.mv_refine_commits.specs.Served.{at, under, SoundAt, QuietAt, IsPlanOpen, AtStub, IsBack}
 use Rattle.mv_refine_commits.specs.Laws.{StubServes}
@@ -244,7 +245,7 @@ module _ (known : Known) (closed : (pc address : ℕ) → Bool) (image : Fields)
     the_pairs = plan_between image w.bindings after.bindings
 
     abbrev begun : List Pair → Option (List Binding)
-    begun = opened closed (texts_of image) first picks w.bindings after.bindings (i + 1) (S (i + 1)).room [] the_pairs
+    begun = opened closed (texts_of image) first picks w.bindings after.bindings (i + 1) h.planned.begun h.planned.before h.planned.coming
 
     -- the call
     calls : Calmly w Ecall i
@@ -271,7 +272,10 @@ module _ (known : Known) (closed : (pc address : ℕ) → Bool) (image : Fields)
     sound_call : (t : ℕ) → t < i + 1 → SoundAt closed image first picks t
     sound_call = before_next (SoundAt closed image first picks) i h.sound (calm_sound w Ecall i calls refl refl)
 
-    behind : Planned closed (texts_of image) first picks w.bindings after.bindings (i + 1) (S (i + 1)).room [] the_pairs
+    joined : h.planned.before ++ h.planned.coming ≡ the_pairs
+    joined = h.planned.joined ∙ ap (λ bs. plan_between image bs after.bindings) h.quiet.calm.bindings
+
+    behind : Planned closed (texts_of image) first picks w.bindings after.bindings (i + 1) h.planned.begun h.planned.before h.planned.coming
     unfolding stored_all
     behind =
         let p = h.planned in
@@ -281,41 +285,50 @@ module _ (known : Known) (closed : (pc address : ℕ) → Bool) (image : Fields)
           bound = p.bindings;
           under = under_call;
           settled = record { text = p.text ∙ s.text; older = p.older ∙ s.older; spare = p.spare ∙ s.spare ∙ sym p.reserve };
-          joined = refl;
-          room = refl;
-          plan = subst (λ bs. HasPlan (S (i + 1)).room (plan_between image bs after.bindings)) h.quiet.calm.bindings p.plan;
+          joined = joined;
+          room = p.room;
+          plan = p.plan;
           few = omega (arith, few, few_patchable image rules);
           reserved = omega (arith, few, p.reserve, h.quiet.reserve);
           registers = subst AreRegisters (sym p.regs) (put_registers (S i).regs 10 answer h.registers (omega arith) (omega arith) h.word);
           sound = sound_call;
         }
 
+    -- whatever is stored of the pairs to come
+    plain : (done left : List Pair) → done ++ left ≡ h.planned.coming → (a word : ℕ) → W a ≡ Some word → choices (stored_all h.planned.begun (h.planned.before ++ done)).held a ≡ word ∷ []
+    plain done left q a word e =
+        stays w.bindings after.bindings h.planned.begun behind.settled (h.planned.before ++ done) left (append_assoc h.planned.before done left ∙ ap (λ (ps : List Pair). h.planned.before ++ ps) q ∙ joined) a word e
+
     behind_at : (S (i + 1)).pc ≡ pc + 4 * 1
     behind_at =
         let small = stub.here in
         h.planned.pc ∙ ap (λ a. add a 4) h.here ∙ add_four pc (omega (arith, small.1))
 
-    stored_on : Commits known.between known.tested known.differ known.ranges closed (texts_of image) first picks W w.bindings after.bindings (i + 1) (S (i + 1)).room [] the_pairs (are_texts w.bindings after.bindings)
-        behind (stays w.bindings after.bindings (S (i + 1)).room behind.settled) (apart w.bindings after.bindings) pc stub free
+    stored_on : Commits known.between known.tested known.differ known.ranges closed (texts_of image) first picks W w.bindings after.bindings (i + 1) h.planned.begun h.planned.before h.planned.coming (are_texts w.bindings after.bindings)
+        behind plain (apart w.bindings after.bindings) pc stub free
     stored_on =
-        commits known.between known.tested known.differ known.ranges closed (texts_of image) first picks W w.bindings after.bindings (i + 1) (S (i + 1)).room [] the_pairs (are_texts w.bindings after.bindings)
-        behind (stays w.bindings after.bindings (S (i + 1)).room behind.settled) (apart w.bindings after.bindings) pc stub free behind_at
+        commits known.between known.tested known.differ known.ranges closed (texts_of image) first picks W w.bindings after.bindings (i + 1) h.planned.begun h.planned.before h.planned.coming (are_texts w.bindings after.bindings)
+        behind plain (apart w.bindings after.bindings) pc stub free behind_at
 
     abbrev j : ℕ
     j = stored_on.time
 
-    abbrev done : Committed closed (texts_of image) first picks w.bindings after.bindings (i + 1) (S (i + 1)).room [] the_pairs (pc + 4 * 11) j
+    abbrev done : Committed closed (texts_of image) first picks w.bindings after.bindings (i + 1) h.planned.begun h.planned.before h.planned.coming (pc + 4 * 11) j
     done = stored_on.done
 
-    stores : IsStored (texts_of image w.bindings) (texts_of image after.bindings) (S (i + 1)).room the_pairs []
-    stores = known.between (texts_of image w.bindings) (texts_of image after.bindings) (are_texts w.bindings after.bindings) (S (i + 1)).room behind.settled the_pairs [] (append-nil the_pairs)
+    stores : IsStored (texts_of image w.bindings) (texts_of image after.bindings) h.planned.begun the_pairs []
+    stores = known.between (texts_of image w.bindings) (texts_of image after.bindings) (are_texts w.bindings after.bindings) h.planned.begun behind.settled the_pairs [] (append-nil the_pairs)
+
+    -- of them those that the call found there
+    found : IsStored (texts_of image w.bindings) (texts_of image after.bindings) h.planned.begun h.planned.before h.planned.coming
+    found = known.between (texts_of image w.bindings) (texts_of image after.bindings) (are_texts w.bindings after.bindings) h.planned.begun behind.settled h.planned.before h.planned.coming joined
 
     -- calm again
     quiet_again : QuietAt closed image first picks after j
     quiet_again =
         let p = h.planned in
         let is = done.is in
-        let f = fence_keeps (stored_all (S (i + 1)).room the_pairs) in
+        let f = fence_keeps (stored_all h.planned.begun the_pairs) in
         let bindings : (S j).bindings ≡ after.bindings = ap (λ (s : State). s.bindings) is ∙ p.bindings in record {
           calm = record {
             goes_on = ap (λ (s : State). s.stop) is ∙ p.going;
@@ -331,6 +344,7 @@ module _ (known : Known) (closed : (pc address : ℕ) → Bool) (image : Fields)
           reserve = ap (λ (s : State). s.room.reserve) is ∙ f.1 ∙ stores.reserve ∙ p.reserve ∙ h.quiet.reserve;
           under = done.under;
           plan = ap (λ (s : State). length s.room.held.plan) is ∙ ap length (f.0.2 ∙ stores.plan) ∙ p.size ∙ h.quiet.plan;
+          hart = ap (λ (s : State). s.hart) is ∙ p.hart;
           actions = ap (λ (s : State). s.actions) is ∙ p.actions;
         }
 
@@ -358,14 +372,14 @@ module _ (known : Known) (closed : (pc address : ℕ) → Bool) (image : Fields)
         calm_goes after (Jalr 0 1 (pos 0)) j (S j).regs back (S j).room returns
         (return_goes access (S j).room (S j).regs (S j).pc (omega (arith, at, small.1)) back link h.target.0 h.target.1)
 
-    served : (k : ℕ) × IsBack closed image first picks back w after answer i k
+    served : (k : ℕ) × IsBack closed image first picks back w after answer h.planned.coming i k
     served =
         let n = stored_on.count in
         let value : reg (S j).regs 10 ≡ answer =
         ap (λ (s : State). reg s.regs 10) done.is
         ∙ done.others 10 ((λ e. omega (arith, e)), (λ e. omega (arith, e)), (λ e. omega (arith, e)), (λ e. omega (arith, e)))
         ∙ ap (λ rs. reg rs 10) h.planned.regs ∙ put_same (S i).regs 10 answer (omega arith) (omega (arith, h.registers.count)) in
-        let f = fence_keeps (stored_all (S (i + 1)).room the_pairs) in (
+        let f = fence_keeps (stored_all h.planned.begun the_pairs) in (
           j + 1,
           record {
             here = ap (λ (s : State). s.pc) gone;
@@ -375,7 +389,8 @@ module _ (known : Known) (closed : (pc address : ℕ) → Bool) (image : Fields)
             value = ap (λ (s : State). reg s.regs 10) gone ∙ value;
             others = λ q a b c d e. ap (λ (s : State). reg s.regs q) gone ∙ ap (λ (s : State). reg s.regs q) done.is ∙ done.others q (a, b, c, d) ∙ other_call q e;
             loads = λ a out. ap (λ (s : State). access.load s.room a 4) (gone ∙ ap (λ (s : State). record s { pc = back }) done.is)
-                ∙ loads_outside (S (i + 1)).room (access.fence (stored_all (S (i + 1)).room the_pairs)) a out (f.0.0 ∙ stores.globals) (f.0.1 ∙ stores.stack);
+                ∙ loads_outside (S (i + 1)).room (access.fence (stored_all h.planned.begun the_pairs)) a out
+                (f.0.0 ∙ stores.globals ∙ sym (ap (λ (r : Room). r.held.globals) h.planned.room ∙ found.globals)) (f.0.1 ∙ stores.stack ∙ sym (ap (λ (r : Room). r.held.stack) h.planned.room ∙ found.stack));
             sound = before_next (SoundAt closed image first picks) j done.sound (calm_sound after (Jalr 0 1 (pos 0)) j returns refl refl);
             count = omega (arith, n);
           },

@@ -1,5 +1,5 @@
 -- One instruction of the stub, in mid-commit.
-use Rattle.std.proofs.Common.{◌≡◌, ℕ, add-one, ◌+◌, Bool, true, ◌&&◌, not, eqb, List, [], ◌∷◌, ◌++◌, slice_index, Option, Some, refl, sym, ap, ap₂, ◌∙◌, append_assoc}
+use Rattle.std.proofs.Common.{◌≡◌, ℕ, add-one, ◌+◌, Bool, true, false, ◌&&◌, not, eqb, List, [], ◌∷◌, ◌++◌, slice_index, Option, Some, refl, sym, ap, ap₂, ◌∙◌, append_assoc}
 use Rattle.std.proofs.lemmas.Bool.{and_from}
 use Rattle.mv_ast.specs.declared.world.Binding.{Binding}
 use Rattle.mv_isa.specs.declared.instr.Instr.{Instr}
@@ -18,12 +18,13 @@ use Rattle.mv_select_trees.specs.View.{AreRegisters}
 use Rattle.mv_select_control.proofs.Walk.{before_next}
 use Rattle.mv_select_functions.specs.Loads.{loads_from}
 use Rattle.mv_refine_machine.specs.MachineRuns.{spot_of, rest_of, opens}
-use Rattle.mv_refine_stores.specs.Stores.{stored_all, AreTexts}
+use Rattle.mv_patch.specs.Stores.{stored_all}
+use Rattle.mv_refine_stores.specs.Stores.{AreTexts}
 use Rattle.mv_refine_stores.specs.Between.{is_between, IsStored}
 use Rattle.mv_refine_stores.specs.Laws.{TextIsBetween, BetweenIsTested}
-use Rattle.mv_refine_commits.specs.Watch.{into_text, is_settled, are_elsewhere, is_apart, is_sound}
+use Rattle.mv_refine_commits.specs.Watch.{is_call, instr_at, into_text, is_settled, are_elsewhere, is_apart, is_sound}
 use Rattle.mv_refine_commits.specs.Storing.{IsOther, run, under_way, Sound, pairs, opened, Planned, Storing}
-use Rattle.mv_refine_commits.proofs.Fetched.{executes, instr_is, plainly_sound, target_is}
+use Rattle.mv_refine_commits.proofs.Fetched.{executes, instr_first, instr_is, plainly_sound, target_is}
 
 module _ (between : TextIsBetween) (tested : BetweenIsTested) (differ : PairsAreDifferences)
     (closed : (pc address : ℕ) → Bool) (texts : List Binding → List ℕ) (first : State) (picks : List ℕ) (word : ℕ → Option ℕ) (old new : List Binding) (start : ℕ)
@@ -70,21 +71,21 @@ module _ (between : TextIsBetween) (tested : BetweenIsTested) (differ : PairsAre
 
   module _ (plain : (done left : List Pair) → done ++ left ≡ coming → (a w : ℕ) → word a ≡ Some w → choices (room done).held a ≡ w ∷ [])
       (apart : (a w : ℕ) → word a ≡ Some w → are_elsewhere a the_pairs ≡ true) where
-    mid_apart : (pc w : ℕ) (done : List Pair) (regs : List ℕ) → word pc ≡ Some w → is_apart texts (begins the_pairs) (spot_of (mid pc done regs)) ≡ true
-    mid_apart pc w done regs there = by_pairs the_pairs refl
+    mid_apart : (pc w : ℕ) (done : List Pair) (regs : List ℕ) → word pc ≡ Some w → not (is_call (instr_at (spot_of (mid pc done regs)))) ≡ true → is_apart texts (begins the_pairs) (spot_of (mid pc done regs)) ≡ true
+    mid_apart pc w done regs there silent = by_pairs the_pairs refl
       where
         by_pairs : (ps : List Pair) → the_pairs ≡ ps → is_apart texts (begins ps) (spot_of (mid pc done regs)) ≡ true
         by_pairs [] e = refl
-        by_pairs (p ∷ ps) e = ap (λ b. are_elsewhere pc (pairs_between (texts old) (texts b))) planned.bound ∙ apart pc w there
+        by_pairs (p ∷ ps) e = and_from _ _ silent (ap (λ b. are_elsewhere pc (pairs_between (texts old) (texts b))) planned.bound ∙ apart pc w there)
 
     pub mid_sound : (pc : ℕ) (i : Instr) (done left : List Pair) (regs : List ℕ) → InstrStands word pc i → done ++ left ≡ coming
-        → opens (closed pc) (loads_from i regs) ≡ true → not (into_text (target i regs) && eqb (room done).spare 0) ≡ true → is_sound closed texts (begins the_pairs) (spot_of (mid pc done regs)) ≡ true
+        → opens (closed pc) (loads_from i regs) ≡ true → not (into_text (target i regs) && eqb (room done).spare 0) ≡ true → is_call (Some i) ≡ false → is_sound closed texts (begins the_pairs) (spot_of (mid pc done regs)) ≡ true
     unfolding is_sound
-    mid_sound pc i done left regs at q unbarred wants =
+    mid_sound pc i done left regs at q unbarred wants silent =
         let one = plain done left q pc (encode i) at.word in
         let x = mid pc done regs in
         and_from _ _ (plainly_sound x i at.fields one closed unbarred) (and_from _ _ (mid_settled pc done left regs q)
-        (and_from _ _ (ap (λ t. not (into_text t && eqb (room done).spare 0)) (target_is x i at.fields one) ∙ wants) (mid_apart pc (encode i) done regs at.word)))
+        (and_from _ _ (ap (λ t. not (into_text t && eqb (room done).spare 0)) (target_is x i at.fields one) ∙ wants) (mid_apart pc (encode i) done regs at.word (ap not (ap is_call (instr_first x i at.fields one) ∙ silent)))))
 
     -- ---- it goes on
 
@@ -94,7 +95,7 @@ module _ (between : TextIsBetween) (tested : BetweenIsTested) (differ : PairsAre
       pub goes : execute access i regs pc (room done) ≡ Goes regs' pc' (room done')
       pub unbarred : opens (closed pc) (loads_from i regs) ≡ true
       pub wants : not (into_text (target i regs) && eqb (room done).spare 0) ≡ true
-      pub quiet : (s : State) (u : Option (List Binding)) → after_instr s (Some i) u ≡ u
+      pub quiet : (s : State) (u : Option (List Binding)) → (after_instr s (Some i) u ≡ u) × (is_call (Some i) ≡ false)
 
     -- the one word is fetched at a time in mid-commit
     mid_one : (pc : ℕ) (i : Instr) (done left : List Pair) (regs : List ℕ) → InstrStands word pc i → done ++ left ≡ coming
@@ -125,10 +126,10 @@ module _ (between : TextIsBetween) (tested : BetweenIsTested) (differ : PairsAre
         → AreRegisters regs' → ((q : ℕ) → IsOther q → reg regs' q ≡ reg regs q) → In pc done left regs t → In pc' done' left' regs' (t + 1)
     steps pc pc' i done left done' left' regs regs' t d joined registers others h = record {
       is = mid_goes pc pc' i done left regs regs' (room done') t d.at h.joined d.goes h.is;
-      under = mid_under pc i done left regs t d.at h.joined h.is ∙ d.quiet (mid pc done regs) (U t) ∙ h.under;
+      under = mid_under pc i done left regs t d.at h.joined h.is ∙ (d.quiet (mid pc done regs) (U t)).0 ∙ h.under;
       joined = joined;
       registers = registers;
       others = λ q o. others q o ∙ h.others q o;
       sound = before_next (Sound closed texts first picks) t h.sound
-          (ap₂ (λ u s. is_sound closed texts u (spot_of s)) h.under h.is ∙ mid_sound pc i done left regs d.at h.joined d.unbarred d.wants);
+          (ap₂ (λ u s. is_sound closed texts u (spot_of s)) h.under h.is ∙ mid_sound pc i done left regs d.at h.joined d.unbarred d.wants (d.quiet (mid pc done regs) (U t)).1);
     }

@@ -1,15 +1,16 @@
 -- Orders do by the tables what they do in the source.
-use Rattle.std.proofs.Common.{◌≡◌, ◌≢◌, inr, ℕ, suc, ◌+◌, ◌*◌, ◌%◌, ◌^◌, ◌<◌, ◌≤◌, Bool, true, false, ◌&&◌, ◌||◌, cond, eqb, ltb, List, [], ◌∷◌, length, map, take, slice_get, slice_index, slice_index_or, is_some, unwrap_or, option_map, Option, Some, None, Err, refl, sym, ap, ap₂, ◌∙◌, subst, arith}
+use Rattle.std.proofs.Common.{◌≡◌, ◌≢◌, inr, ℕ, suc, ◌+◌, ◌*◌, ◌%◌, ◌^◌, ◌<◌, ◌≤◌, Bool, true, false, ◌&&◌, ◌||◌, cond, eqb, ltb, List, [], ◌∷◌, length, map, take, slice_get, slice_index, slice_index_or, is_some, unwrap_or, option_map, ◌++◌, Option, Some, None, Err, refl, sym, ap, ap₂, ◌∙◌, subst, arith}
 use Rattle.std.specs.List.{All}
 use Rattle.std.specs.Result.{result_ok}
 use Rattle.std.proofs.lemmas.Option.{unwrap_or-slice_get}
+use Rattle.std.proofs.lemmas.List.{append-nil}
 use Rattle.std.proofs.lemmas.List.Elements.{All-nil, All-cons, All-head, All-tail}
 use Rattle.mv_ast.specs.declared.program.Program.{Program}
 use Rattle.mv_ast.specs.declared.program.Function.{Function}
 use Rattle.mv_ast.specs.declared.program.Switch.{Switch}
 use Rattle.mv_ast.specs.declared.world.Binding.{Binding}
 use Rattle.mv_ast.specs.Plans as source
-use Rattle.mv_ast.specs.Plans.{attributed_functions, switch_words, switch_global, word_at, words_or_none, committed, all_in_domain, is_addressed, is_among, is_commit, ordered_from, bound_from, bound_to, free, global_or_none}
+use Rattle.mv_ast.specs.Plans.{attributed_functions, switch_words, switch_global, word_at, words_or_none, committed, all_in_domain, is_addressed, is_pointer_addressed, ordered_function, ordered_pointer, pointer_bindings, is_among, is_commit, ordered_from, bound_from, bound_to, free, global_or_none}
 use Rattle.mv_descriptors.specs.declared.rows.SwitchRow.{SwitchRow}
 use Rattle.mv_descriptors.specs.declared.rows.FunctionRow.{FunctionRow}
 use Rattle.mv_fetch.specs.declared.memory.AccessError.TheVariants.{Misaligned}
@@ -23,6 +24,7 @@ use Rattle.mv_image.specs.Patched.{fitting_variant}
 use Rattle.mv_image.proofs.Limits.{is_within}
 use Rattle.mv_patch.specs.Orders.{word_in, words_now, bound_now, is_ordered, next_binding, ordered_rows, bound_rows, bindings_after, answer_after, is_known_order}
 use Rattle.mv_ir.specs.World.{World}
+use Rattle.mv_machine.specs.Acts.{polls_of}
 use Rattle.mv_machine.specs.Runs.{with_word_of, with_value}
 use Rattle.mv_ir_worlds.proofs.Combining.{combination_in, in_combination}
 use Rattle.mv_select_control.specs.Runs.{Machine}
@@ -136,7 +138,7 @@ module _ (p : Program) (y : Layout) (image : Fields) (tabled : IsTabled p y imag
     by_rows = next_binding image held code
 
     abbrev by_source : Function → Binding
-    by_source g = cond (is_commit code) (committed p w.globals g) free
+    by_source = ordered_function p code w.globals
 
     orders_same : (rows : List FunctionRow) (gs : List Function) (n : ℕ) (bs : List Binding) → length rows ≡ length gs → Matching n rows gs
         → ordered_rows (is_ordered code index) by_rows n rows bs ≡ ordered_from (is_addressed code index) by_source n gs bs
@@ -171,15 +173,26 @@ module _ (p : Program) (y : Layout) (image : Fields) (tabled : IsTabled p y imag
     start : Matching 0 image.functions (attributed_functions p)
     start k row g e f = let z : k ≡ k + 0 = omega arith in subst (λ n. Match n row g) z (matches k row g e f)
 
-    pub agrees : Rules image → is_known_order image code index ≡ true → OrderAgrees p image w held code index
+    -- there is no pointer switch behind the functions
+    bindings_alone : (numbers : List ℕ) (bs : List Binding) → source.bindings_after p numbers code index w.globals bs ≡ ordered_from (is_addressed code index) by_source 0 (attributed_functions p) bs
+    bindings_alone numbers bs =
+        let functions = ordered_from (is_addressed code index) by_source 0 (attributed_functions p) bs in
+        ap (λ gs. functions ++ ordered_from (is_pointer_addressed p code index) (ordered_pointer numbers code w.globals) 0 gs (pointer_bindings p bs)) tabled.none ∙ append-nil functions
+
+    bound_alone : (bs : List Binding) → source.bound_after p code index bs ≡ bound_from (is_addressed code index) 0 (attributed_functions p) bs
+    bound_alone bs =
+        let functions = bound_from (is_addressed code index) 0 (attributed_functions p) bs in
+        ap (λ gs. functions + bound_from (is_pointer_addressed p code index) 0 gs (pointer_bindings p bs)) tabled.none ∙ (let z : functions + 0 ≡ functions = omega arith in z)
+
+    pub agrees : (numbers : List ℕ) → Rules image → is_known_order image code index ≡ true → OrderAgrees p numbers image w held code index
     unfolding bindings_after answer_after
-    agrees rules known =
+    agrees numbers rules known =
         let bs = bindings_after image held code index w.bindings in
         let functions = (is_within image rules).functions in
         record {
           known = known;
-          bindings = orders_same image.functions (attributed_functions p) 0 w.bindings tabled.functions start;
-          answers = ap (λ (k : ℕ). cond (is_commit code) k 0) (answers_same image.functions (attributed_functions p) 0 bs tabled.functions start);
+          bindings = orders_same image.functions (attributed_functions p) 0 w.bindings tabled.functions start ∙ sym (bindings_alone numbers w.bindings);
+          answers = ap (λ (k : ℕ). cond (is_commit code) k 0) (answers_same image.functions (attributed_functions p) 0 bs tabled.functions start ∙ sym (bound_alone bs));
           small = below (is_commit code) (few_bound image.functions 0 bs) functions;
         }
       where
@@ -215,7 +228,7 @@ pub room_stored : (m after : Rest) (o : Option Room) → option_map (with_room m
 room_stored m after None e = absurd (cc)
 room_stored m after (Some r) e = (r, refl, cc)
 
-module _ (p : Program) (y : Layout) (laid : IsSetOut y) (image : Fields) (rules : Rules image) (tabled : IsTabled p y image) (w : World) (m : Watched) (machine : Machine Watched) (budget far : ℕ)
+module _ (p : Program) (numbers : List ℕ) (y : Layout) (laid : IsSetOut y) (image : Fields) (rules : Rules image) (tabled : IsTabled p y image) (w : World) (m : Watched) (machine : Machine Watched) (budget far : ℕ)
     (holds : HoldsGlobals access y machine budget far w m) (switch value : ℕ) (lt : switch < length p.switches) (small : value < 2 ^ 32) where
   own : (x : Switch) × (slice_get p.switches switch ≡ Some x)
   own = there_at p.switches switch lt
@@ -248,7 +261,7 @@ module _ (p : Program) (y : Layout) (laid : IsSetOut y) (image : Fields) (rules 
   stores : Stores
   unfolding access runs.access
   stores =
-      let kept = (whole.memory y laid [] (λ pc a. false) image [] [] []).stores m.rest at value (slice_index (slice_index_or w.globals g []) 0) (inr (g, 0, size, refl)) small (holds.loads g 0 size) in
+      let kept = (whole.memory y laid [] (λ pc a. false) image [] (polls_of []) []).stores m.rest at value (slice_index (slice_index_or w.globals g []) 0) (inr (g, 0, size, refl)) small (holds.loads g 0 size) in
       let r = room_stored m.rest kept.after (memory.access.store m.rest.room at 4 value) kept.stored in
       record {
         room = r.0;
@@ -280,14 +293,14 @@ module _ (p : Program) (y : Layout) (laid : IsSetOut y) (image : Fields) (rules 
       let begins = laid.data_begins g size in let ends = laid.data_ends g size in
       data_store m.rest.room stores.room at value (omega (arith, begins)) (omega (arith, ends, size)) stores.stored
 
-  pub flip_agrees : FlipAgrees y machine budget far p image w m switch value
+  pub flip_agrees : FlipAgrees y machine budget far p numbers image w m switch value
   flip_agrees =
-      subst (λ (k : ℕ). FlipAgrees y machine budget far p image w m switch value) global
+      subst (λ (k : ℕ). FlipAgrees y machine budget far p numbers image w m switch value) global
       (record {
         keeps = subst (λ (r : Room). KeepsAll m.rest.room r) (sym value_is) keeps;
         holds = subst (λ (k : ℕ). HoldsGlobals access y machine budget far (with_switch w k value) (put_room m (with_value image m.rest.room switch value))) (sym global)
             (subst (λ (r : Room). HoldsGlobals access y machine budget far (with_switch w g value) (put_room m r)) (sym value_is) holds_then);
-        agrees = subst (λ (k : ℕ). OrderAgrees p image (with_switch w k value) (with_value image m.rest.room switch value).held 0 0) (sym global)
-            (subst (λ (r : Room). OrderAgrees p image (with_switch w g value) r.held 0 0) (sym value_is)
-            (agrees p y image tabled (with_switch w g value) (put_room m stores.room) machine budget far holds_then 0 0 rules no_order));
+        agrees = subst (λ (k : ℕ). OrderAgrees p numbers image (with_switch w k value) (with_value image m.rest.room switch value).held 0 0) (sym global)
+            (subst (λ (r : Room). OrderAgrees p numbers image (with_switch w g value) r.held 0 0) (sym value_is)
+            (agrees p y image tabled (with_switch w g value) (put_room m stores.room) machine budget far holds_then 0 0 numbers rules no_order));
       })

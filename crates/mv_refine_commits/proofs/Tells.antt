@@ -6,7 +6,10 @@ use Rattle.mv_fetch.specs.Held.{IsInText, region_of, choices}
 use Rattle.mv_rv32.specs.Stepping.{picked_target}
 use Rattle.mv_machine.specs.Runs.{choices_at}
 use Rattle.mv_refine_machine.specs.MachineRuns.{spot_of}
-use Rattle.mv_refine_commits.specs.Watch.{into_text, are_elsewhere, is_apart, is_sound}
+use Rattle.std.specs.Prelude.{option_and_then, slice_get}
+use Rattle.mv_isa.specs.declared.instr.Instr.TheVariants.{Ecall}
+use Rattle.mv_isa.specs.Encoding.{decode}
+use Rattle.mv_refine_commits.specs.Watch.{is_call, instr_at, into_text, are_elsewhere, is_apart, is_sound}
 use Rattle.mv_refine_commits.specs.Tells.{SoundPlacesTell}
 use Rattle.std.specs.List.{All}
 use Rattle.std.proofs.lemmas.List.Elements.{All-nil, All-cons}
@@ -49,7 +52,13 @@ apart_told : (texts : List Binding → List ℕ) (under : Option (List Binding))
 apart_told texts None s h old e = absurd (cc)
 apart_told texts (Some other) s h old e =
     let same : other ≡ old = cc in
-    subst (λ bs. All (λ (pair : Pair). pair.address ≢ s.pc) (pairs_between (texts bs) (texts s.bindings))) same (elsewhere_told s.pc (pairs_between (texts other) (texts s.bindings)) h)
+    subst (λ bs. All (λ (pair : Pair). pair.address ≢ s.pc) (pairs_between (texts bs) (texts s.bindings))) same (elsewhere_told s.pc (pairs_between (texts other) (texts s.bindings)) (and_parts _ _ h).1)
+
+calls_told : (texts : List Binding → List ℕ) (under : Option (List Binding)) (s : State) → is_apart texts under (spot_of s) ≡ true → (old : List Binding) → under ≡ Some old → instr_at (spot_of s) ≡ Some Ecall → ⊥
+calls_told texts None s h old e call = cc
+calls_told texts (Some other) s h old e call =
+    let silent = (and_parts (not (is_call (instr_at (spot_of s)))) (are_elsewhere s.pc (pairs_between (texts other) (texts s.bindings))) h).0 in
+    let f : not true ≡ true = ap (λ i. not (is_call i)) (sym call) ∙ silent in cc
 
 -- a pick of the only choice
 zero_of : (n pick : ℕ) → n ≡ 1 → pick % n ≡ 0
@@ -70,4 +79,7 @@ sound_tells closed texts under s h =
           let z : pick % length (choices s.room.held s.pc) ≡ 0 = zero_of (length (choices s.room.held s.pc)) pick one in
           wants_not (picked_target s.room 0 s.regs s.pc) s.room.spare r.0 (subst (λ k. IsSomeAnd (picked_target s.room k s.regs s.pc) IsInText) z w.0) w.1;
       apart = apart_told texts under s r.1;
+      calls = λ old e call.
+          let z : 0 % length (choices s.room.held s.pc) ≡ 0 = zero_of (length (choices s.room.held s.pc)) 0 one in
+          calls_told texts under s r.1 old e (ap (λ (k : ℕ). option_and_then decode (slice_get (choices s.room.held s.pc) k)) (sym z) ∙ call);
     }

@@ -5,7 +5,6 @@ use Rattle.std.specs.Result.{result_ok}
 use Rattle.std.proofs.lemmas.Bool.{and_parts, and_from, ltb-true, ltb-false, leb-true, ne_eqb, cases_lt, lt-ltb, le-ltb}
 use Rattle.std.proofs.lemmas.Option.{slice_get_within, get_or_from_slice_get, slice_get-get_or}
 use Rattle.mv_num.specs.Words.{add, word_of}
-use Rattle.mv_ast.specs.declared.world.Action.{Action}
 use Rattle.mv_ast.specs.declared.world.Binding.{Binding}
 use Rattle.mv_isa.specs.declared.instr.Instr.{Instr}
 use Rattle.mv_isa.specs.declared.instr.Instr.TheVariants.{Sb, Sh, Sw, FenceI, Ecall}
@@ -21,6 +20,7 @@ use Rattle.mv_image.specs.Patched.{word_under}
 use Rattle.mv_image.proofs.PatchLaws.{text_size, text_at}
 use Rattle.mv_patch.specs.Orders.{values_of}
 use Rattle.mv_ir.specs.World.{World}
+use Rattle.mv_machine.specs.Acts.{PollActs}
 use Rattle.mv_machine.specs.Runs.{State, first, runs_from, choices_at, fetched_step}
 use Rattle.mv_machine.specs.Commits.{after_instr, commit_from, where_it_goes}
 use Rattle.mv_machine.proofs.Turns.{runs_more, turn_by}
@@ -105,6 +105,7 @@ quiet_kept image w m r k h = record {
   reserve = k.reserve ∙ h.reserve;
   plan = ap (λ (xs : List ℕ). length xs) k.plan ∙ h.plan;
   under = h.under;
+  hart = h.hart;
   actions = h.actions;
 }
 
@@ -189,15 +190,15 @@ module _ (known : Known) (image : Fields) (rules : Rules image) where
           ∙ ap Some (text_at image (values_of w.bindings) k within ∙ ap₂ (λ c y. word_under image (values_of w.bindings) c y) at here) ∙ q in
           ap (choices room.held) (sym at) ∙ known.rooms.one (texts_of image w.bindings) room settled (known.images image rules (values_of w.bindings) (values_of w.bindings)).texts.lies k word stands
 
-module _ (known : Known) (image : Fields) (rules : Rules image) (input : List (Option ℕ)) (actions : List Action) (picks : List ℕ) (s : Site) (out : OwnOutsideText s) where
+module _ (known : Known) (image : Fields) (rules : Rules image) (input : List (Option ℕ)) (polls : PollActs) (picks : List ℕ) (s : Site) (out : OwnOutsideText s) where
   abbrev S : ℕ → State
-  S i = runs_from (first image input actions) picks i
+  S i = runs_from (first image input polls) picks i
 
   abbrev at : ℕ → Spot Watched
-  at = spot_at (first image input actions) picks
+  at = spot_at (first image input polls) picks
 
   abbrev On : ℕ → World → Spot Watched → Type 0
-  On = LeadsBound image input actions picks s
+  On = LeadsBound image input polls picks s
 
   -- the one word that is fetched, its instruction, and where that leads
   record Led (i : ℕ) (w : World) (next : Spot Watched) : Type 0 where
@@ -243,12 +244,12 @@ module _ (known : Known) (image : Fields) (rules : Rules image) (input : List (O
   next_state : (i : ℕ) (w : World) (next : Spot Watched) (l : Led i w next) → S (i + 1) ≡ record (S i) { regs = next.regs; pc = next.pc; room = l.room }
   next_state i w next l =
       let outcome : Outcome Room = Goes next.regs next.pc l.room in
-      runs_more (first image input actions) picks i ∙ turn_by (S i) (slice_index picks i) outcome l.quiet.calm.goes_on (fetched i w next l)
+      runs_more (first image input polls) picks i ∙ turn_by (S i) (slice_index picks i) outcome l.quiet.calm.goes_on (fetched i w next l)
 
   next_under : (i : ℕ) (w : World) (next : Spot Watched) (l : Led i w next) → (at (i + 1)).memory.under ≡ None
   unfolding commit_from choices_at
   next_under i w next l =
-      ap (commit_from (first image input actions) picks) (add-one i)
+      ap (commit_from (first image input polls) picks) (add-one i)
       ∙ ap₂ (λ stop o. where_it_goes stop (after_instr (S i) o (at i).memory.under) (at i).memory.under) l.quiet.calm.goes_on
       (ap (option_and_then decode) (one_picked l.word (slice_index picks i) (choices (S i).room.held (S i).pc) l.one) ∙ l.says)
       ∙ ap (after_instr (S i) (Some l.instr)) l.quiet.under
@@ -333,7 +334,7 @@ module _ (known : Known) (image : Fields) (rules : Rules image) (input : List (O
       ∙ (known.tested t t (S i).room.held).1 ((known.rooms.same t (S i).room.held).1 (l.quiet.settled.text, l.quiet.settled.older)))
       (and_from _ _ (ap (λ a. not (into_text a && eqb (S i).room.spare 0)) (target_is i w next l) ∙ finds_room i w next h l) refl)
 
-  pub taken : WatchedStepsTaken image input actions picks s
+  pub taken : WatchedStepsTaken image input polls picks s
   taken = record { goes = goes; one = one; keeps = keeps; stays = stays_quiet }
 
   -- a step that loads only what the code may load loads nothing that is closed to what stands there
@@ -351,17 +352,17 @@ module _ (known : Known) (image : Fields) (rules : Rules image) (input : List (O
       some_same e = cc
 
 pub watched_steps : Known → WatchedStepsAreTaken
-watched_steps known image rules input actions picks s out = taken known image rules input actions picks s out
+watched_steps known image rules input polls picks s out = taken known image rules input polls picks s out
 
 -- ---- machines that are calm in some worlds, over words that stand there under the bindings
 
-module _ (known : Known) (attributed : List ℕ) (closed : (pc address : ℕ) → Bool) (image : Fields) (rules : Rules image) (input : List (Option ℕ)) (actions : List Action) (picks : List ℕ) (s : Site)
+module _ (known : Known) (attributed : List ℕ) (closed : (pc address : ℕ) → Bool) (image : Fields) (rules : Rules image) (input : List (Option ℕ)) (polls : PollActs) (picks : List ℕ) (s : Site)
     (out : OwnOutsideText s) (test : World → Bool) (text : Text) (inside : (w : World) (a word : ℕ) → test w ≡ true → text.word a ≡ Some word → bound_word image w a ≡ Some word)
     (free : (pc word a : ℕ) → text.word pc ≡ Some word → s.reach.may_load a ≡ true → closed pc a ≡ false) where
   abbrev machine : Machine Watched
-  machine = narrowed (watched_machine attributed closed image input actions picks) test text
+  machine = narrowed (watched_machine attributed closed image input polls picks) test text
 
-  open watched_run attributed closed image input actions picks use {run as now}
+  open watched_run attributed closed image input polls picks use {run as now}
 
   -- the word of the text, which stands there under the bindings, and its step
   record Shown (i : ℕ) (w : World) (next : Spot Watched) : Type 0 where
@@ -370,7 +371,7 @@ module _ (known : Known) (attributed : List ℕ) (closed : (pc address : ℕ) �
     there : text.word (now i).pc ≡ Some word
     stands : bound_word image (outside w) (now i).pc ≡ Some word
     step_on : step (limited access s) (Some word) (now i).regs (now i).pc (now i).memory ≡ Goes next.regs next.pc next.memory
-    leads : LeadsBound image input actions picks s i (outside w) next
+    leads : LeadsBound image input polls picks s i (outside w) next
 
   shown : (i : ℕ) (w : World) (next : Spot Watched) → LeadsOn access s machine i w next → Shown i w next
   shown i w next h =
@@ -395,31 +396,31 @@ module _ (known : Known) (attributed : List ℕ) (closed : (pc address : ℕ) �
   sound_there i w next h =
       let r = shown i w next h in
       and_from (runs.is_sound closed (plain_spot (now i))) (keeps_text (texts_of image) (now i).memory.under (plain_spot (now i)))
-      (loads_open known image rules input actions picks s out closed i (outside w) next r.leads r.word r.stands r.step_on (λ a may. free (now i).pc r.word a r.there may)) ((taken known image rules input actions picks s out).keeps i (outside w) next r.leads)
+      (loads_open known image rules input polls picks s out closed i (outside w) next r.leads r.word r.stands r.step_on (λ a may. free (now i).pc r.word a r.there may)) ((taken known image rules input polls picks s out).keeps i (outside w) next r.leads)
 
   pub runs_in : IsRun access s machine
   runs_in = record {
-    registers = (known.runs attributed (λ pc a. false) image input actions picks s out (λ pc a may. refl)).registers;
-    goes = λ i w next h. (taken known image rules input actions picks s out).goes i (outside w) next (shown i w next h).leads;
+    registers = (known.runs attributed (λ pc a. false) image input polls picks s out (λ pc a may. refl)).registers;
+    goes = λ i w next h. (taken known image rules input polls picks s out).goes i (outside w) next (shown i w next h).leads;
     sound = sound_there;
     stays = λ i w next h.
         let r = shown i w next h in
-        and_from (test (outside w)) (is_quiet image (outside w) next.memory) r.passes (quiet_tested known image (outside w) next.memory ((taken known image rules input actions picks s out).stays i (outside w) next r.leads));
+        and_from (test (outside w)) (is_quiet image (outside w) next.memory) r.passes (quiet_tested known image (outside w) next.memory ((taken known image rules input polls picks s out).stays i (outside w) next r.leads));
   }
 
 pub watched_runs : Known → WatchedRunsAreRuns
-watched_runs known attributed closed image rules input actions picks s out free =
-    runs_in known attributed closed image rules input actions picks s out (λ w. true) (machine_text attributed image) (λ w a word passes e. (known.found image).stands w a word e) (λ pc word a there may. free pc a may)
+watched_runs known attributed closed image rules input polls picks s out free =
+    runs_in known attributed closed image rules input polls picks s out (λ w. true) (machine_text attributed image) (λ w a word passes e. (known.found image).stands w a word e) (λ pc word a there may. free pc a may)
 
 pub watched_alone : Known → WatchedRunsAreRunsAlone
-watched_alone known attributed closed image rules input actions picks from to s out free =
-    runs_in known attributed closed image rules input actions picks s out (λ w. true) (part from to (machine_text attributed image))
+watched_alone known attributed closed image rules input polls picks from to s out free =
+    runs_in known attributed closed image rules input polls picks s out (λ w. true) (part from to (machine_text attributed image))
     (λ w a word passes e. (known.found image).stands w a word (in_part (leb from a) (ltb a to) (unpatched_word image a) word e).2)
     (λ pc word a there may. let p = in_part (leb from pc) (ltb pc to) (unpatched_word image pc) word there in free pc a (leb-true from pc p.0) (ltb-true pc to p.1) may)
 
 pub watched_under : Known → WatchedRunsAreRunsUnder
-watched_under known attributed closed image rules input actions picks bs from to s out free =
-    runs_in known attributed closed image rules input actions picks s out (has_bindings bs) (part from to (words_alone (words_under image bs)))
+watched_under known attributed closed image rules input polls picks bs from to s out free =
+    runs_in known attributed closed image rules input polls picks s out (has_bindings bs) (part from to (words_alone (words_under image bs)))
     (λ w a word passes e.
     same_words image w a ∙ ap (λ (xs : List Binding). words_under image xs a) (sym ((bindings_are_told bs w.bindings).0 passes)) ∙ (in_part (leb from a) (ltb a to) (words_under image bs a) word e).2)
     (λ pc word a there may. let p = in_part (leb from pc) (ltb pc to) (words_under image bs pc) word there in free pc a (leb-true from pc p.0) (ltb-true pc to p.1) may)

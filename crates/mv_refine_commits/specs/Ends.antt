@@ -1,11 +1,11 @@
 -- How runs start and end, with each place sound.
 use Rattle.std.specs.Prelude.{ℕ, ◌≡◌, ◌+◌, ◌%◌, ◌^◌, ◌<◌, ◌≤◌, Bool, List, Option}
-use Rattle.mv_ast.specs.declared.world.Action.{Action}
 use Rattle.mv_ast.specs.Traps.{depth_limit}
 use Rattle.mv_isa.specs.Execution.{reg}
 use Rattle.mv_image.specs.Spelling.{Fields}
 use Rattle.mv_image.specs.Faults.{Rules}
 use Rattle.mv_ir.specs.World.{World}
+use Rattle.mv_machine.specs.Acts.{PollActs}
 use Rattle.mv_machine.specs.Runs.{State, Stop, Exit, Trap, bytes_to_come, first as first_state}
 use Rattle.mv_select_statements.specs.StatementCode.{first, trap_label}
 use Rattle.mv_select_control.specs.Placed.{Placed}
@@ -47,23 +47,23 @@ module _ (closed : (pc address : ℕ) → Bool) (image : Fields) (start : State)
 -- Where the start stub stands at an image's entry, the run is at main after three instructions.
 abbrev pub WatchedStartIsRight : Type 0
 WatchedStartIsRight =
-    (attributed : List ℕ) (closed : (pc address : ℕ) → Bool) (image : Fields) → Rules image → (bytes : List ℕ) (actions : List Action) (picks : List ℕ) (y : Layout) (budget far : ℕ) (w : World) →
-    IsFirst image bytes w → w.actions ≡ actions → HoldsData y image w → image.entry ≡ start_address →
+    (attributed : List ℕ) (closed : (pc address : ℕ) → Bool) (image : Fields) → Rules image → (bytes : List ℕ) (polls : PollActs) (picks : List ℕ) (y : Layout) (budget far : ℕ) (w : World) →
+    IsFirst image bytes w → w.hart ≡ polls.hart → w.actions ≡ polls.acts → HoldsData y image w → image.entry ≡ start_address →
     (place entry : ℕ → ℕ) (main_label end : ℕ) → Placed (machine_text attributed image) place entry (start_lines main_label) start_address end →
-    EntersQuietly y (watched_machine attributed closed image (bytes_to_come bytes) actions picks) budget far (place main_label) w 3
+    EntersQuietly y (watched_machine attributed closed image (bytes_to_come bytes) polls picks) budget far (place main_label) w 3
 
 -- Behind it, where main returns to, two instructions end the run with what main returned, modulo 256.
 abbrev pub WatchedExitIsRight : Type 0
 WatchedExitIsRight =
-    (attributed : List ℕ) (closed : (pc address : ℕ) → Bool) (image : Fields) → Rules image → (input : List (Option ℕ)) (actions : List Action) (picks : List ℕ) →
+    (attributed : List ℕ) (closed : (pc address : ℕ) → Bool) (image : Fields) → Rules image → (input : List (Option ℕ)) (polls : PollActs) (picks : List ℕ) →
     (place entry : ℕ → ℕ) (main_label end : ℕ) → Placed (machine_text attributed image) place entry (start_lines main_label) start_address end →
-    (i : ℕ) (w : World) → let start = first_state image input actions in ComesQuietly closed image start picks return_address w i →
+    (i : ℕ) (w : World) → let start = first_state image input polls in ComesQuietly closed image start picks return_address w i →
     EndsQuietly closed image start picks w (i + 1) (Exit (reg (state closed image start picks i).regs first % 2 ^ 8))
 
 -- Where the stub of a trap stands, three instructions end the run with its code.
 abbrev pub WatchedTrapIsRight : Type 0
 WatchedTrapIsRight =
-    (attributed : List ℕ) (closed : (pc address : ℕ) → Bool) (image : Fields) → Rules image → (input : List (Option ℕ)) (actions : List Action) (picks : List ℕ) (code : ℕ) → 1 ≤ code → code ≤ 4 →
+    (attributed : List ℕ) (closed : (pc address : ℕ) → Bool) (image : Fields) → Rules image → (input : List (Option ℕ)) (polls : PollActs) (picks : List ℕ) (code : ℕ) → 1 ≤ code → code ≤ 4 →
     (place entry : ℕ → ℕ) (stub end : ℕ) → Placed (machine_text attributed image) place entry (trap_lines code) stub end →
-    (i : ℕ) (w : World) → let start = first_state image input actions in ComesQuietly closed image start picks (place (trap_label code)) w i →
+    (i : ℕ) (w : World) → let start = first_state image input polls in ComesQuietly closed image start picks (place (trap_label code)) w i →
     EndsQuietly closed image start picks w (i + 2) (Trap code)

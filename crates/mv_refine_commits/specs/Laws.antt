@@ -19,4 +19,4 @@ abbrev pub StubServes : Type 0
 StubServes =
     (attributed : List ℕ) (closed : (pc address : ℕ) → Bool) (image : Fields) → Rules image → (place entry : ℕ → ℕ) (pc end : ℕ) →
     Placed (machine_text attributed image) place entry commit_lines pc end → IsPlanOpen closed pc → (first : State) (picks : List ℕ) (back : ℕ) (w after : World) (answer i : ℕ) →
-    AtStub closed image first picks pc back w after answer i → (j : ℕ) × IsBack closed image first picks back w after answer i j
+    (h : AtStub closed image first picks pc back w after answer i) → (j : ℕ) × IsBack closed image first picks back w after answer h.planned.coming i j

@@ -1,11 +1,14 @@
 -- What the stub does on an image, from its call for a plan to its return.
-use Rattle.std.specs.Prelude.{ℕ, ◌≡◌, ◌≢◌, ◌+◌, ◌*◌, ◌<◌, ◌≤◌, ◌^◌, Bool, true, false, List, length, Option}
+use Rattle.std.specs.Prelude.{ℕ, ◌≡◌, ◌≢◌, ◌+◌, ◌*◌, ◌<◌, ◌≤◌, ◌^◌, Bool, true, false, List, ◌++◌, length, Option}
 use Rattle.mv_num.specs.Words.{add}
 use Rattle.mv_ast.specs.declared.world.Binding.{Binding}
 use Rattle.mv_isa.specs.Execution.{reg, put}
 use Rattle.mv_rv32.specs.Stepping.{access}
 use Rattle.mv_image.specs.Spelling.{Fields}
+use Rattle.mv_fetch.specs.Held.{Room}
+use Rattle.mv_patch.specs.declared.prepared.Pair.{Pair}
 use Rattle.mv_patch.specs.Orders.{plan_between}
+use Rattle.mv_patch.specs.Stores.{stored_all}
 use Rattle.mv_ir.specs.World.{World}
 use Rattle.mv_machine.specs.Runs.{State, Going, bytes_to_come, plan_area, runs_from}
 use Rattle.mv_machine.specs.Commits.{commit_from}
@@ -17,21 +20,28 @@ use Rattle.mv_refine_commits.specs.Watch.{texts_of, is_sound}
 use Rattle.mv_refine_commits.specs.Storing.{HasPlan}
 use Rattle.mv_refine_commits.specs.Watched.{watched, IsQuiet}
 
--- What a call for a plan leaves, of a state in which it is made, with an answer and the world afterwards: the new bindings, and the pairs in the plan
--- area. It doesn't store into text.
+-- What a call for a plan leaves, of a state in which it is made, with an answer and the world afterwards: the new bindings; and of the pairs some in text already, the others in
+-- the plan area. Orders and flips have none in text, and what a hart adopts is there at once.
 pub record IsPlanned (image : Fields) (after : World) (answer : ℕ) (now next : State) : Type 0 where
   pub regs : next.regs ≡ put now.regs 10 answer
   pub pc : next.pc ≡ add now.pc 4
   pub going : next.stop ≡ Going
-  pub text : next.room.held.text ≡ now.room.held.text
-  pub older : next.room.held.older ≡ now.room.held.older
-  pub stack : next.room.held.stack ≡ now.room.held.stack
-  pub spare : next.room.spare ≡ now.room.spare
-  pub reserve : next.room.reserve ≡ now.room.reserve
-  pub plan : HasPlan next.room (plan_between image now.bindings after.bindings)
-  pub size : length next.room.held.plan ≡ length now.room.held.plan
+  pub begun : Room
+  pub before : List Pair
+  pub coming : List Pair
+  pub joined : before ++ coming ≡ plan_between image now.bindings after.bindings
+  pub room : next.room ≡ stored_all begun before
+  pub text : begun.held.text ≡ now.room.held.text
+  pub older : begun.held.older ≡ now.room.held.older
+  pub stack : begun.held.stack ≡ now.room.held.stack
+  pub spare : begun.spare ≡ now.room.spare
+  pub reserve : begun.reserve ≡ now.room.reserve
+  pub plan : HasPlan begun coming
+  pub size : length begun.held.plan ≡ length now.room.held.plan
+  pub stack_stays : next.room.held.stack ≡ now.room.held.stack
   pub bindings : next.bindings ≡ after.bindings
   pub input : next.input ≡ bytes_to_come after.input
+  pub hart : next.hart ≡ after.hart
   pub actions : next.actions ≡ after.actions
   pub output : next.output ≡ after.output
   pub log : next.log ≡ after.log
@@ -66,7 +76,7 @@ module _ (closed : (pc address : ℕ) → Bool) (image : Fields) (first : State)
     pub sound : (t : ℕ) → t < i → SoundAt t
 
   -- A later time is back from the stub, in calm with the world afterwards; the answer is in a0, and t0 to t3 alone have changed beside it.
-  pub record IsBack (back : ℕ) (w after : World) (answer i j : ℕ) : Type 0 where
+  pub record IsBack (back : ℕ) (w after : World) (answer : ℕ) (coming : List Pair) (i j : ℕ) : Type 0 where
     pub here : (at j).pc ≡ back
     pub quiet : QuietAt after j
     pub registers : AreRegisters (at j).regs
@@ -74,4 +84,4 @@ module _ (closed : (pc address : ℕ) → Bool) (image : Fields) (first : State)
     pub others : (q : ℕ) → q ≢ 5 → q ≢ 6 → q ≢ 7 → q ≢ 28 → q ≢ 10 → reg (at j).regs q ≡ reg (at i).regs q
     pub loads : (a : ℕ) → IsOutsideText a → access.load (at j).room a 4 ≡ access.load (at (i + 1)).room a 4
     pub sound : (t : ℕ) → t < j → SoundAt t
-    pub count : j ≡ i + 6 + 7 * length (plan_between image w.bindings after.bindings)
+    pub count : j ≡ i + 6 + 7 * length coming

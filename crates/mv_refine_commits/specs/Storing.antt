@@ -10,7 +10,7 @@ use Rattle.mv_machine.specs.Runs.{State, Going, plan_area, spelled_pairs, runs_f
 use Rattle.mv_machine.specs.Commits.{commit_from}
 use Rattle.mv_select_trees.specs.View.{AreRegisters}
 use Rattle.mv_refine_machine.specs.MachineRuns.{spot_of}
-use Rattle.mv_refine_stores.specs.Stores.{stored_all}
+use Rattle.mv_patch.specs.Stores.{stored_all}
 use Rattle.mv_refine_stores.specs.Between.{IsSettled}
 use Rattle.mv_refine_commits.specs.Watch.{is_sound}
 

@@ -4,6 +4,8 @@ use Rattle.std.specs.List.{All}
 use Rattle.mv_ast.specs.declared.world.Binding.{Binding}
 use Rattle.mv_patch.specs.declared.prepared.Pair.{Pair}
 use Rattle.mv_patch.specs.Pairs.{pairs_between}
+use Rattle.mv_isa.specs.declared.instr.Instr.TheVariants.{Ecall}
+use Rattle.mv_machine.specs.Commits.{fetched_instr}
 use Rattle.mv_machine.specs.Runs.{State, choices_at}
 use Rattle.mv_machine.specs.Snapshots.{WantsMemory}
 use Rattle.mv_refine_machine.specs.MachineRuns as runs
@@ -17,6 +19,8 @@ pub record SoundTells (closed : (pc address : ℕ) → Bool) (texts : List Bindi
   pub unbarred : runs.is_sound closed (spot_of s) ≡ true
   pub settled : is_settled texts under (rest_of s) ≡ true
   pub roomy : (pick : ℕ) → WantsMemory s pick → ⊥
+  -- no environment call is made while a commit is under way
+  pub calls : (old : List Binding) → under ≡ Some old → fetched_instr s 0 ≡ Some Ecall → ⊥
   pub apart : (old : List Binding) → under ≡ Some old → All (λ (pair : Pair). pair.address ≢ s.pc) (pairs_between (texts old) (texts s.bindings))
 
 abbrev pub SoundPlacesTell : Type 0

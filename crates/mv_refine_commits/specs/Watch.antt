@@ -1,7 +1,11 @@
 -- What holds before each instruction, also while a commit is under way.
-use Rattle.std.specs.Prelude.{ℕ, Bool, true, false, ◌&&◌, not, eqb, ltb, List, [], ◌∷◌, Option, Some, None}
+use Rattle.std.specs.Prelude.{ℕ, Bool, true, false, ◌&&◌, not, eqb, ltb, List, [], ◌∷◌, Option, Some, None, option_and_then, slice_get}
 use Rattle.mv_num.specs.Regions.{text_start, data_start}
 use Rattle.mv_ast.specs.declared.world.Binding.{Binding}
+use Rattle.mv_isa.specs.declared.instr.Instr.{Instr}
+use Rattle.mv_isa.specs.declared.instr.Instr.TheVariants.{Ecall}
+use Rattle.mv_isa.specs.Encoding.{decode}
+use Rattle.mv_fetch.specs.Held.{choices}
 use Rattle.mv_rv32.specs.Stepping.{picked_target}
 use Rattle.mv_image.specs.Spelling.{Fields}
 use Rattle.mv_image.specs.Patched.{text_of}
@@ -36,10 +40,19 @@ abbrev pub are_elsewhere : ℕ → List Pair → Bool
 are_elsewhere a [] = true
 are_elsewhere a (pair ∷ pairs) = not (eqb pair.address a) && are_elsewhere a pairs
 
--- pc stands at no word that the commit that is under way changes, stored or to come
+-- an environment call
+abbrev pub is_call : Option Instr → Bool
+is_call (Some Ecall) = true
+is_call i = false
+
+-- the instruction at a spot, by the first choice
+abbrev pub instr_at : Spot Rest → Option Instr
+instr_at spot = option_and_then decode (slice_get (choices spot.memory.room.held spot.pc) 0)
+
+-- pc stands at no word that the commit that is under way changes, stored or to come, and at no environment call
 abbrev pub is_apart : (texts : List Binding → List ℕ) → Option (List Binding) → Spot Rest → Bool
 is_apart texts None spot = true
-is_apart texts (Some old) spot = are_elsewhere spot.pc (pairs_between (texts old) (texts spot.memory.bindings))
+is_apart texts (Some old) spot = not (is_call (instr_at spot)) && are_elsewhere spot.pc (pairs_between (texts old) (texts spot.memory.bindings))
 
 -- text is settled, a store finds room, and a commit changes no word at which pc stands
 abbrev pub keeps_text : (texts : List Binding → List ℕ) → Option (List Binding) → Spot Rest → Bool

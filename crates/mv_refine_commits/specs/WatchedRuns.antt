@@ -1,11 +1,11 @@
 -- The machine whose memory tells the commit that is under way is one on which code runs.
 use Rattle.std.specs.Prelude.{ℕ, ◌≡◌, ◌+◌, Bool, true, false, List, Option}
-use Rattle.mv_ast.specs.declared.world.Action.{Action}
 use Rattle.mv_ast.specs.declared.world.Binding.{Binding}
 use Rattle.mv_isa.specs.Execution.{Goes, step}
 use Rattle.mv_image.specs.Spelling.{Fields}
 use Rattle.mv_image.specs.Faults.{Rules}
 use Rattle.mv_ir.specs.World.{World}
+use Rattle.mv_machine.specs.Acts.{PollActs}
 use Rattle.mv_machine.specs.Runs.{first}
 use Rattle.mv_select_statements.specs.Frames.{Site}
 use Rattle.mv_select_statements.specs.Leads.{Writes}
@@ -18,9 +18,9 @@ use Rattle.mv_refine_machine.specs.Under.{words_under}
 use Rattle.mv_refine_commits.specs.Watch.{texts_of, keeps_text}
 use Rattle.mv_refine_commits.specs.Watched.{Watched, access, IsQuiet, plain_spot, spot_at, watched_machine}
 
-module _ (image : Fields) (input : List (Option ℕ)) (actions : List Action) (picks : List ℕ) (s : Site) where
+module _ (image : Fields) (input : List (Option ℕ)) (polls : PollActs) (picks : List ℕ) (s : Site) where
   abbrev pub run : ℕ → Spot Watched
-  run = spot_at (first image input actions) picks
+  run = spot_at (first image input polls) picks
 
   -- a calm time of the run, from which the word that stands there under the bindings leads to a place, storing at most to a cell of the frame's own
   pub record LeadsBound (i : ℕ) (w : World) (next : Spot Watched) : Type 0 where
@@ -37,24 +37,24 @@ module _ (image : Fields) (input : List (Option ℕ)) (actions : List Action) (p
 
 abbrev pub WatchedStepsAreTaken : Type 0
 WatchedStepsAreTaken =
-    (image : Fields) → Rules image → (input : List (Option ℕ)) (actions : List Action) (picks : List ℕ) (s : Site) → OwnOutsideText s → WatchedStepsTaken image input actions picks s
+    (image : Fields) → Rules image → (input : List (Option ℕ)) (polls : PollActs) (picks : List ℕ) (s : Site) → OwnOutsideText s → WatchedStepsTaken image input polls picks s
 
--- For every image that keeps the rules, input, actions and picks, the run is one of a machine on which code runs, at each site whose own cells lie outside
+-- For every image that keeps the rules, input, hart with what its polls take, and picks, the run is one of a machine on which code runs, at each site whose own cells lie outside
 -- text, and that loads from no address that is closed anywhere.
 abbrev pub WatchedRunsAreRuns : Type 0
 WatchedRunsAreRuns =
-    (attributed : List ℕ) (closed : (pc address : ℕ) → Bool) (image : Fields) → Rules image → (input : List (Option ℕ)) (actions : List Action) (picks : List ℕ) (s : Site) → OwnOutsideText s →
-    ((pc a : ℕ) → s.reach.may_load a ≡ true → closed pc a ≡ false) → IsRun access s (watched_machine attributed closed image input actions picks)
+    (attributed : List ℕ) (closed : (pc address : ℕ) → Bool) (image : Fields) → Rules image → (input : List (Option ℕ)) (polls : PollActs) (picks : List ℕ) (s : Site) → OwnOutsideText s →
+    ((pc a : ℕ) → s.reach.may_load a ≡ true → closed pc a ≡ false) → IsRun access s (watched_machine attributed closed image input polls picks)
 
 -- And so it is where only a part of text stands, at each that loads from no address that is closed there.
 abbrev pub WatchedRunsAreRunsAlone : Type 0
 WatchedRunsAreRunsAlone =
-    (attributed : List ℕ) (closed : (pc address : ℕ) → Bool) (image : Fields) → Rules image → (input : List (Option ℕ)) (actions : List Action) (picks : List ℕ) (from to : ℕ) (s : Site) →
-    OwnOutsideText s → IsOpen closed from to s.reach → IsRun access s (alone (watched_machine attributed closed image input actions picks) from to)
+    (attributed : List ℕ) (closed : (pc address : ℕ) → Bool) (image : Fields) → Rules image → (input : List (Option ℕ)) (polls : PollActs) (picks : List ℕ) (from to : ℕ) (s : Site) →
+    OwnOutsideText s → IsOpen closed from to s.reach → IsRun access s (alone (watched_machine attributed closed image input polls picks) from to)
 
 -- So is the machine under some bindings, over a part of the words that stand under these.
 abbrev pub WatchedRunsAreRunsUnder : Type 0
 WatchedRunsAreRunsUnder =
-    (attributed : List ℕ) (closed : (pc address : ℕ) → Bool) (image : Fields) → Rules image → (input : List (Option ℕ)) (actions : List Action) (picks : List ℕ) (bs : List Binding) (from to : ℕ)
+    (attributed : List ℕ) (closed : (pc address : ℕ) → Bool) (image : Fields) → Rules image → (input : List (Option ℕ)) (polls : PollActs) (picks : List ℕ) (bs : List Binding) (from to : ℕ)
     (s : Site) → OwnOutsideText s → IsOpen closed from to s.reach →
-    IsRun access s (alone (narrow.under (watched_machine attributed closed image input actions picks) (words_under image) bs) from to)
+    IsRun access s (alone (narrow.under (watched_machine attributed closed image input polls picks) (words_under image) bs) from to)

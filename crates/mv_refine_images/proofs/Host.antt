@@ -1,18 +1,18 @@
 -- The machine with a built image is a host for its program, and the program is loaded there.
 use Rattle.std.proofs.Common.{◌≡◌, ℕ, ◌<◌, ◌^◌, true, List, Some, slice_get, All, refl}
 use Rattle.std.proofs.lemmas.List.Elements.{All-map}
-use Rattle.mv_ast.specs.declared.world.Action.{Action}
+use Rattle.mv_ast.specs.Actions.{IsActOfWord}
 use Rattle.mv_ast.specs.declared.program.Program.{Program}
 use Rattle.mv_ast.specs.declared.program.Function.{Function}
 use Rattle.mv_isa.specs.Code.{IsPlace}
 use Rattle.mv_image.specs.Spelling.{Fields}
+use Rattle.mv_machine.specs.Acts.{PollActs}
 use Rattle.mv_machine.specs.Runs.{bytes_to_come}
 use Rattle.mv_refine_machine.specs.Layout.{IsSetOut}
 use Rattle.mv_refine_machine.specs.Laws.{IsByteOrEnd}
 use Rattle.mv_refine_machine.specs.MachineRuns.{called_at}
 use Rattle.mv_refine_machine.specs.Under.{words_under}
 use Rattle.mv_refine_machine.proofs.Whole.{laid, own}
-use Rattle.mv_ast.specs.Actions.{IsOfWord}
 use Rattle.mv_refine_commits.specs.Watched.{access}
 use Rattle.mv_refine_programs.specs.Hosts.{IsOpenHost, IsOpenlyLoaded}
 use Rattle.mv_link_text.specs.Text.{StubsArePlaced}
@@ -20,12 +20,12 @@ use Rattle.mv_parts_tables.specs.Laws.{HaveTables}
 use Rattle.mv_refine_images.proofs.LinkedProgram.{Basis, linked_program}
 use Rattle.mv_refine_images.specs.Layouts.{address_of}
 use Rattle.mv_refine_images.proofs.Closed.{plan_open}
-use Rattle.mv_refine_images.proofs.Data.{entries, set_out}
+use Rattle.mv_refine_images.proofs.Data.{counted, entries, set_out}
 use Rattle.mv_refine_images.proofs.Standing.{is_one, selected}
 use Rattle.mv_refine_images.proofs.Watching.{runs_openly}
 
 module _ (p : Program) (image : Fields) (basis : Basis p image) where
-  open basis use {laws, formed, built}
+  open basis use {laws, formed, unswitched, built}
   open linked_program p image built use {parts, sizing, y, numbers, attributed, shut, machine}
 
   out : IsSetOut y
@@ -35,9 +35,9 @@ module _ (p : Program) (image : Fields) (basis : Basis p image) where
   stubs = laws.stubs parts image built.are.are built.are.fit built.linked
 
   pub tables : HaveTables p image
-  tables = laws.tables p formed built.bodies built.tables parts built.are image built.linked
+  tables = laws.tables p formed unswitched built.bodies built.tables parts built.are image built.linked
 
-  module _ (bytes : List ℕ) (actions : List Action) (picks : List ℕ) (are_bytes : All (λ b. b < 2 ^ 8) bytes) (of_words : All IsOfWord actions) (budget far : ℕ) where
+  module _ (bytes : List ℕ) (polls : PollActs) (picks : List ℕ) (are_bytes : All (λ b. b < 2 ^ 8) bytes) (of_words : All IsActOfWord polls.acts) (budget far : ℕ) where
     bytes_or_end : All IsByteOrEnd (bytes_to_come bytes)
     bytes_or_end = All-map IsByteOrEnd Some bytes are_bytes
 
@@ -47,22 +47,24 @@ module _ (p : Program) (image : Fields) (basis : Basis p image) where
         let s = laws.slots parts image built.are.are built.are.fit built.linked a f e in
         ((s.1 s.0.0 s.0.1).here, λ g here. is_one p image basis s.0.0 f g s.0.1 here)
 
-    host : IsOpenHost access y (machine bytes actions picks) (words_under image) shut budget far p numbers
+    host : IsOpenHost access y (machine bytes polls picks) (words_under image) shut budget far p numbers
     host = record {
       laid = laid y out;
-      memory = laws.memory attributed shut image (bytes_to_come bytes) actions picks y out;
+      memory = laws.memory attributed shut image (bytes_to_come bytes) polls picks y out;
       sizes = λ x. refl;
       runs = λ from to reach free s stands less.
-          runs_openly laws.runs_alone attributed shut image built.rules (bytes_to_come bytes) actions picks from to s (own y out s stands) (λ pc a word le lt there may. free pc a word le lt there (less a may));
+          runs_openly laws.runs_alone attributed shut image built.rules (bytes_to_come bytes) polls picks from to s (own y out s stands) (λ pc a word le lt there may. free pc a word le lt there (less a may));
       runs_under = λ bs from to reach free s stands less.
-          laws.runs_under attributed shut image built.rules (bytes_to_come bytes) actions picks bs from to s (own y out s stands) (λ pc a le lt may. free pc a le lt (less a may));
+          laws.runs_under attributed shut image built.rules (bytes_to_come bytes) polls picks bs from to s (own y out s stands) (λ pc a le lt may. free pc a le lt (less a may));
       entries = entries p image basis;
-      calls = laws.calls attributed shut image built.rules (bytes_to_come bytes) actions picks bytes_or_end y budget far numbers p;
+      calls = laws.calls attributed shut image built.rules (bytes_to_come bytes) polls picks bytes_or_end y budget far numbers p;
       stub =
-          laws.orders attributed shut image built.rules (bytes_to_come bytes) actions of_words picks y out (address_of parts sizing) (address_of parts sizing) stubs.commit_ends stubs.commit
-          (plan_open image parts sizing p out y.commit) budget far numbers p tables.places (tables.tabled y (λ x. refl) (λ x. refl)) tables.orders;
+          laws.orders attributed shut image built.rules (bytes_to_come bytes) polls of_words picks y out (address_of parts sizing) (address_of parts sizing) stubs.commit_ends stubs.commit
+          (plan_open image parts sizing p out y.commit) budget far numbers p (counted p image basis) tables.places (tables.tabled y (λ x. refl) (λ x. refl)) tables.orders;
+      count = counted p image basis;
+      none = unswitched;
       slots = slots;
     }
 
-    pub loaded : IsOpenlyLoaded access y (machine bytes actions picks) (words_under image) shut budget far p numbers
+    pub loaded : IsOpenlyLoaded access y (machine bytes polls picks) (words_under image) shut budget far p numbers
     loaded = record { formed = formed; host = host; functions = selected p image basis }

@@ -1,9 +1,9 @@
 -- What a built image is linked of, by the names that the laws on it use.
-use Rattle.std.specs.Prelude.{ℕ, Bool, List}
-use Rattle.mv_ast.specs.declared.world.Action.{Action}
+use Rattle.std.specs.Prelude.{ℕ, ◌≡◌, Bool, List, []}
 use Rattle.mv_ast.specs.declared.program.Program.{Program}
 use Rattle.mv_image.specs.Spelling.{Fields}
 use Rattle.mv_source_forms.specs.WellFormed.{IsWellFormed}
+use Rattle.mv_machine.specs.Acts.{PollActs}
 use Rattle.mv_machine.specs.Runs.{bytes_to_come}
 use Rattle.mv_select_control.specs.Placed.{Text}
 use Rattle.mv_select_control.specs.Runs.{Machine}
@@ -31,7 +31,7 @@ pub record LinkedProgram : Type 0 where
   -- the words of its text that are never patched, and its slots
   pub words : Text
   -- the machine on which it runs
-  pub machine : (bytes : List ℕ) → List Action → (picks : List ℕ) → Machine Watched
+  pub machine : (bytes : List ℕ) → PollActs → (picks : List ℕ) → Machine Watched
 
 abbrev pub linked_program : (p : Program) (image : Fields) → IsBuilt p image → LinkedProgram
 linked_program p image built = record {
@@ -43,8 +43,8 @@ linked_program p image built = record {
   attributed = attributed_numbers built.parts.attributed;
   shut = closed image built.parts built.linked.sizing p;
   words = machine_text (attributed_numbers built.parts.attributed) image;
-  machine = λ bytes actions picks.
-      watched_machine (attributed_numbers built.parts.attributed) (closed image built.parts built.linked.sizing p) image (bytes_to_come bytes) actions picks;
+  machine = λ bytes polls picks.
+      watched_machine (attributed_numbers built.parts.attributed) (closed image built.parts built.linked.sizing p) image (bytes_to_come bytes) polls picks;
 }
 
 -- what the laws on a built program stand on
@@ -52,4 +52,5 @@ pub record Basis (p : Program) (image : Fields) : Type 0 where
   pub laws : Laws
   pub formed : IsWellFormed p
   pub have_words : HasWordsOfGlobals p
+  pub unswitched : p.pointers ≡ []
   pub built : IsBuilt p image

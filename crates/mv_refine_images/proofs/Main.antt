@@ -43,8 +43,8 @@ known b = record {
 }
 
 main_does : Below → MainFollows Watched
-main_does b access y machine words closed budget far p numbers loaded numbering input actions fit back i target ra begins stands bound =
-    main_follows access y machine words closed budget far p numbers loaded (known b) (main_keeps Watched) b.right_main b.alike numbering input actions fit back i target ra begins stands bound
+main_does b access y machine words closed budget far p numbers loaded numbering hart input acts fit back i target ra begins stands bound =
+    main_follows access y machine words closed budget far p numbers loaded (known b) (main_keeps Watched) b.right_main b.alike numbering hart input acts fit back i target ra begins stands bound
 
 pub follows : Below → MainFollowsOpenly Watched
 follows b = main_openly Watched b.told b.first (narrow.alike Watched) (hosts_narrowed Watched b.told b.knowns (narrow.alike Watched) (narrow.runs Watched)) (main_does b)

@@ -8,7 +8,6 @@ use Rattle.std.proofs.lemmas.Option.{get_or_from_slice_get, slice_get_within, sa
 use Rattle.mv_ast.specs.declared.program.Program.{Program}
 use Rattle.mv_ast.specs.declared.program.Function.{Function}
 use Rattle.mv_ast.specs.declared.program.Global.{Global}
-use Rattle.mv_ast.specs.declared.world.Action.{Action}
 use Rattle.mv_ast.specs.Plans.{attributed_functions, is_among, switch_global, global_or_none}
 use Rattle.mv_descriptors.specs.declared.rows.SiteRow.{SiteRow}
 use Rattle.mv_descriptors.specs.declared.rows.VariantRow.{VariantRow}
@@ -18,6 +17,7 @@ use Rattle.mv_image.specs.Patched.{site_at, site_before, variants_before}
 use Rattle.mv_image.specs.Spelling.{Fields}
 use Rattle.mv_lower_spec.specs.Functions.{lower_function}
 use Rattle.mv_source_forms.specs.Names.{words_of_global}
+use Rattle.mv_machine.specs.Acts.{PollActs}
 use Rattle.mv_machine.specs.Runs.{State, bytes_to_come, runs}
 use Rattle.mv_select_calls.specs.Convention.{Layout}
 use Rattle.mv_refine_commits.specs.Tabled.{IsTabled}
@@ -239,9 +239,9 @@ module _ (p : Program) (image : Fields) (basis : Basis p image) where
     beside_closed None (Some site) h = site_closed site h
     beside_closed None None v = word_closed v
 
-  pub no_own_switch : (bytes : List ℕ) (actions : List Action) (picks : List ℕ) → LoadsWhatIsOpen image shut bytes actions picks → LoadsNoOwnSwitch image bytes actions picks
-  no_own_switch bytes actions picks opens t a going word has loads n code own =
-      let s : State = runs image (bytes_to_come bytes) actions picks t in
+  pub no_own_switch : (bytes : List ℕ) (polls : PollActs) (picks : List ℕ) → LoadsWhatIsOpen image shut bytes polls picks → LoadsNoOwnSwitch image bytes polls picks
+  no_own_switch bytes polls picks opens t a going word has loads n code own =
+      let s : State = runs image (bytes_to_come bytes) polls picks t in
       let closed_there : closed image parts sizing p s.pc a ≡ true =
       and_from (eqb (s.pc % 4) 0) (is_closed_beside image parts sizing p (site_at image s.pc) (site_before image s.pc) s.pc a) (aligned s.room.held s.pc word has)
       (beside_closed n a s.pc own (site_at image s.pc) (site_before image s.pc) code) in

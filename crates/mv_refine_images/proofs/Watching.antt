@@ -1,6 +1,5 @@
 -- On the machine that tells which commit is under way, code runs that may load what is open at the words that are never patched.
 use Rattle.std.proofs.Common.{◌≡◌, ℕ, Bool, true, false, ◌&&◌, not, cond, leb, ltb, List, [], ◌∷◌, Option, Some, None, is_some, option_and_then, refl, sym, ap, ap₂, ◌∙◌, subst}
-use Rattle.mv_ast.specs.declared.world.Action.{Action}
 use Rattle.mv_ast.specs.declared.world.Binding.{Binding}
 use Rattle.mv_isa.specs.Encoding.{decode}
 use Rattle.mv_isa.specs.Execution.{Access, Goes, step}
@@ -8,6 +7,7 @@ use Rattle.mv_fetch.specs.Held.{choices}
 use Rattle.mv_image.specs.Spelling.{Fields}
 use Rattle.mv_image.specs.Faults.{Rules}
 use Rattle.mv_ir.specs.World.{World}
+use Rattle.mv_machine.specs.Acts.{PollActs}
 use Rattle.mv_machine.specs.Runs.{first}
 use Rattle.mv_select_statements.specs.Frames.{Site}
 use Rattle.mv_select_statements.specs.Leads.{limited}
@@ -51,10 +51,10 @@ module _ (image : Fields) (closed : (pc address : ℕ) → Bool) (pc word : ℕ)
       (subst (λ z. are_open (unpatched image closed z) spot.regs (choices spot.memory.room.held spot.pc) ≡ are_open (closed z) spot.regs (choices spot.memory.room.held spot.pc)) (sym here)
       (same_open spot.regs (choices spot.memory.room.held spot.pc)))
 
-module _ (runs_alone : WatchedRunsAreRunsAlone) (attributed : List ℕ) (closed : (pc address : ℕ) → Bool) (image : Fields) (rules : Rules image) (input : List (Option ℕ)) (actions : List Action)
+module _ (runs_alone : WatchedRunsAreRunsAlone) (attributed : List ℕ) (closed : (pc address : ℕ) → Bool) (image : Fields) (rules : Rules image) (input : List (Option ℕ)) (polls : PollActs)
     (picks : List ℕ) (from to : ℕ) (s : Site) (out : OwnOutsideText s) (free : IsOpenIn (machine_text attributed image) closed from to s.reach) where
   abbrev machine : ((pc address : ℕ) → Bool) → Machine Watched
-  machine c = alone (watched_machine attributed c image input actions picks) from to
+  machine c = alone (watched_machine attributed c image input polls picks) from to
 
   open_there : IsOpen (unpatched image closed) from to s.reach
   open_there pc a le lt may = by (unpatched_word image pc) refl
@@ -64,14 +64,14 @@ module _ (runs_alone : WatchedRunsAreRunsAlone) (attributed : List ℕ) (closed 
       by (Some word) e = free pc a word le lt e may
 
   run : IsRun access s (machine (unpatched image closed))
-  run = runs_alone attributed (unpatched image closed) image rules input actions picks from to s out open_there
+  run = runs_alone attributed (unpatched image closed) image rules input polls picks from to s out open_there
 
   led : (i : ℕ) (w : World) (next : Spot Watched) → LeadsOn access s (machine closed) i w next → LeadsOn access s (machine (unpatched image closed)) i w next
   led i w next h = record { calm = h.calm; steps = h.steps; writes = h.writes }
 
   sound : (i : ℕ) (w : World) (next : Spot Watched) → LeadsOn access s (machine closed) i w next → (machine closed).is_sound ((machine closed).run i) ≡ true
   sound i w next h =
-      let now = spot_at (first image input actions) picks i in
+      let now = spot_at (first image input polls) picks i in
       let found = has_word (limited access s) (cond (leb from now.pc && ltb now.pc to) (unpatched_word image now.pc) None) now.regs now.pc now.memory next h.steps in
       let stands = (in_part (leb from now.pc) (ltb now.pc to) (unpatched_word image now.pc) found.0 found.1).2 in
       sym (same_sound image closed now.pc found.0 stands (texts_of image) now.memory.under (plain_spot now) refl) ∙ run.sound i w next (led i w next h)

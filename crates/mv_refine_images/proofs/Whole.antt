@@ -6,13 +6,13 @@ use Rattle.std.proofs.Math.ListN as lists
 use Rattle.std.proofs.lemmas.List.{length-map}
 use Rattle.std.proofs.lemmas.List.Elements.{All-from_get_or}
 use Rattle.mv_ast.specs.declared.program.Program.{Program}
-use Rattle.mv_ast.specs.declared.world.Action.{Action}
-use Rattle.mv_ast.specs.Actions.{fits, IsOfWord}
+use Rattle.mv_ast.specs.Actions.{act_fits, IsActOfWord}
 use Rattle.mv_image.specs.Spelling.{Fields}
 use Rattle.mv_ir.specs.World.{World}
 use Rattle.mv_ir.specs.Levels.{Code}
 use Rattle.mv_ir.specs.Programs.{setting_of, code_of, call_of_main}
 use Rattle.mv_ir.specs.Reached.{IsReached, EndsAreReached}
+use Rattle.mv_machine.specs.Acts.{PollActs}
 use Rattle.mv_lower_spec.specs.Functions.{lower_program}
 use Rattle.mv_select_calls.specs.Convention.{Stands}
 use Rattle.mv_select_functions.specs.Functions.{Begins}
@@ -41,13 +41,13 @@ run_reached : EndsAreReached → (p : Program) (numbers : List ℕ) (codes : Lis
 run_reached reached p numbers codes None bound w = tt
 run_reached reached p numbers codes (Some main) bound w = reached p numbers codes main bound w
 
-module _ (p : Program) (image : Fields) (basis : Basis p image) (bytes : List ℕ) (actions : List Action) (picks : List ℕ)
-    (are_bytes : All (λ b. b < 2 ^ 8) bytes) (of_words : All IsOfWord actions) (fit : All (λ a. IsTrue (fits p a)) actions) where
+module _ (p : Program) (image : Fields) (basis : Basis p image) (bytes : List ℕ) (polls : PollActs) (picks : List ℕ)
+    (are_bytes : All (λ b. b < 2 ^ 8) bytes) (of_words : All IsActOfWord polls.acts) (fit : All (λ a. IsTrue (act_fits p polls.hart a)) polls.acts) where
   open basis use {laws, formed, built}
   open linked_program p image built use {parts, sizing, y, numbers, attributed, shut, machine}
 
   abbrev first : World
-  first = first_seen p numbers bytes actions
+  first = first_seen p numbers polls.hart bytes polls.acts
 
   has_stubs : HasStubs attributed image y
   has_stubs = let s = stubs p image basis in record {
@@ -63,7 +63,7 @@ module _ (p : Program) (image : Fields) (basis : Basis p image) (bytes : List �
   -- ---- the first world
 
   is_first : IsFirst image bytes first
-  is_first = record { input = refl; output = refl; bindings = (tables p image basis).bindings numbers bytes actions; log = refl }
+  is_first = record { input = refl; output = refl; bindings = (tables p image basis).bindings numbers polls.hart bytes polls.acts; log = refl }
 
   data_is : image.globals ≡ map (linker.datum_word (address_of parts sizing)) parts.globals
   data_is = ap (λ (i : Fields). i.globals) built.linked.image_is
@@ -90,13 +90,13 @@ module _ (p : Program) (image : Fields) (basis : Basis p image) (bytes : List �
   -- ---- main is called
 
   module _ (budget far : ℕ) where
-    enters : EntersQuietly y (machine bytes actions picks) budget far (address_of parts sizing parts.main) first 3
+    enters : EntersQuietly y (machine bytes polls picks) budget far (address_of parts sizing parts.main) first 3
     enters =
         let s = stubs p image basis in
-        laws.starts attributed shut image built.rules bytes actions picks y budget far first is_first refl holds (ap (λ (i : Fields). i.entry) built.linked.image_is) (address_of parts sizing) (address_of parts sizing)
+        laws.starts attributed shut image built.rules bytes polls picks y budget far first is_first refl refl holds (ap (λ (i : Fields). i.entry) built.linked.image_is) (address_of parts sizing) (address_of parts sizing)
         parts.main s.start_ends s.start
 
-    begins : Begins access y (machine bytes actions picks) 3
+    begins : Begins access y (machine bytes polls picks) 3
     begins =
         let sp = enters.stack in record {
           live = enters.live;
@@ -106,14 +106,14 @@ module _ (p : Program) (image : Fields) (basis : Basis p image) (bytes : List �
           within = omega (arith, sp);
         }
 
-    stands : Stands access y (machine bytes actions picks) budget far (y.entry p.main) first 3
-    stands = subst (λ f. Stands access y (machine bytes actions picks) budget far (address_of parts sizing f) first 3) built.are.main enters.stands
+    stands : Stands access y (machine bytes polls picks) budget far (y.entry p.main) first 3
+    stands = subst (λ f. Stands access y (machine bytes polls picks) budget far (address_of parts sizing f) first 3) built.are.main enters.stands
 
-    calls_main : (k : ℕ) → CallsMain attributed shut p image bytes actions picks y first budget far k
+    calls_main : (k : ℕ) → CallsMain attributed shut p image bytes polls picks y first budget far k
     calls_main k =
-        let m = laws.main_follows access y (machine bytes actions picks) (words_under image) shut budget far p numbers
-        (loaded p image basis bytes actions picks are_bytes of_words budget far)
-        (numbering p image basis) bytes actions fit return_address 3 (omega arith, refl) enters.link begins stands k in record {
+        let m = laws.main_follows access y (machine bytes polls picks) (words_under image) shut budget far p numbers
+        (loaded p image basis bytes polls picks are_bytes of_words budget far)
+        (numbering p image basis) polls.hart bytes polls.acts fit return_address 3 (omega arith, refl) enters.link begins stands k in record {
           call = m.0;
           means = m.1;
           reached = subst (IsReached first) (sym m.2) (run_reached laws.ends_are_reached p numbers (code_of (lower_program p)) (slice_get (code_of (lower_program p)) p.main) k first);
@@ -121,11 +121,11 @@ module _ (p : Program) (image : Fields) (basis : Basis p image) (bytes : List �
           follows = m.4;
         }
 
-  pub behaves_and_loads : Behaves p image bytes actions picks × LoadsWhatIsOpen image shut bytes actions picks × LoadsNoOwnSwitch image bytes actions picks
+  pub behaves_and_loads : Behaves p image bytes polls picks × LoadsWhatIsOpen image shut bytes polls picks × LoadsNoOwnSwitch image bytes polls picks
   behaves_and_loads =
-      let behaves = laws.images_behave attributed shut p image bytes actions picks y built.rules has_stubs record { first = first; input = omega arith; calls = calls_main } in
-      (behaves.0, behaves.1, no_own_switch p image basis bytes actions picks behaves.1)
+      let behaves = laws.images_behave attributed shut p image bytes polls picks y built.rules has_stubs record { first = first; input = omega arith; calls = calls_main } in
+      (behaves.0, behaves.1, no_own_switch p image basis bytes polls picks behaves.1)
 
 pub built_behaves : Laws → BuiltProgramsBehave
-built_behaves laws p image formed have_words built bytes actions picks are_bytes of_words fit =
-    behaves_and_loads p image (record { laws = laws; formed = formed; have_words = have_words; built = built }) bytes actions picks are_bytes of_words fit
+built_behaves laws p image formed have_words unswitched built bytes polls picks are_bytes of_words fit =
+    behaves_and_loads p image (record { laws = laws; formed = formed; have_words = have_words; unswitched = unswitched; built = built }) bytes polls picks are_bytes of_words fit

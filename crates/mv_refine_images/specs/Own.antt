@@ -1,6 +1,5 @@
 -- No code of a variant loads a switch of its function, by the tables of the image alone.
 use Rattle.std.specs.Prelude.{ℕ, ◌≡◌, ◌+◌, ◌<◌, ◌≤◌, List, take, Option, Some, None, slice_get, Contains}
-use Rattle.mv_ast.specs.declared.world.Action.{Action}
 use Rattle.mv_descriptors.specs.declared.rows.FunctionRow.{FunctionRow}
 use Rattle.mv_descriptors.specs.declared.rows.SiteRow.{SiteRow}
 use Rattle.mv_descriptors.specs.declared.rows.SwitchRow.{SwitchRow}
@@ -8,6 +7,7 @@ use Rattle.mv_descriptors.specs.declared.rows.VariantRow.{VariantRow}
 use Rattle.mv_fetch.specs.Held.{choices}
 use Rattle.mv_image.specs.Patched.{site_at, site_before, variants_before}
 use Rattle.mv_image.specs.Spelling.{Fields}
+use Rattle.mv_machine.specs.Acts.{PollActs}
 use Rattle.mv_machine.specs.Runs.{Going, bytes_to_come, runs}
 use Rattle.mv_refine_runs.specs.Behaves.{word_loads}
 
@@ -42,8 +42,8 @@ module _ (image : Fields) (n : ℕ) where
   HasVariantCode None None pc = IsVariantWord pc
 
 -- No instruction of a run that is code of a function's variants loads a data word of a switch of the function, whatever is picked.
-abbrev pub LoadsNoOwnSwitch : Fields → (bytes : List ℕ) → List Action → (picks : List ℕ) → Type 0
-LoadsNoOwnSwitch image bytes actions picks =
-    (t a : ℕ) → let s = runs image (bytes_to_come bytes) actions picks t in
+abbrev pub LoadsNoOwnSwitch : Fields → (bytes : List ℕ) → PollActs → (picks : List ℕ) → Type 0
+LoadsNoOwnSwitch image bytes polls picks =
+    (t a : ℕ) → let s = runs image (bytes_to_come bytes) polls picks t in
     s.stop ≡ Going → (word : ℕ) → Contains (choices s.room.held s.pc) word → word_loads s.regs word ≡ Some a →
     (n : ℕ) → HasVariantCode image n (site_at image s.pc) (site_before image s.pc) s.pc → IsOwnSwitch image n a → ⊥

@@ -5,9 +5,10 @@
 //!
 //! - `built_programs_behave`: the run of an image that is linked of the code of all functions of a well-formed program and of
 //!   the variants of its attributed ones, of the first words of its globals, and of tables, does what the program means
-//!   (`Behaves`), on each input of bytes, with any actions of the operator that fit the program, and whatever the fetches
+//!   (`Behaves`), in each hart, on each input of bytes, with any acts of its polls that fit there, and whatever the fetches
 //!   pick; also while commits, reverts and polls rewrite its text. Assumed besides is that each global has a word, which
-//!   `good_globals_are_formed` gives of checked programs. `build` of `mv_build` gives such images.
+//!   `good_globals_are_formed` gives of checked programs, and that the program has no pointer switches. `build` of
+//!   `mv_build` gives such images.
 //! - And no instruction loads a data word of a global that is closed to what stands at its place (`specs/Closed.antt`): the
 //!   words of a function load from no global that the function doesn't read; those of a variant, and an inline body at a
 //!   site, besides from no switch of the variant's function.

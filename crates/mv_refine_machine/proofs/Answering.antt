@@ -1,7 +1,7 @@
 -- What an environment call does from a calm time.
 use Rattle.std.proofs.Common.{◌≡◌, ℕ, ◌+◌, ◌-◌, ◌%◌, ◌^◌, ◌<◌, ◌≤◌, Bool, true, false, eqb, ltb, List, [], ◌∷◌, ◌++◌, slice_index, Option, Some, None, refl, sym, ap, ◌∙◌, subst, arith}
 use Rattle.std.proofs.lemmas.Bool.{lt-ltb, ne_eqb}
-use Rattle.mv_ast.specs.declared.world.Action.{Action}
+use Rattle.mv_machine.specs.Acts.{PollActs}
 use Rattle.mv_isa.specs.Encoding.{decode}
 use Rattle.mv_isa.specs.Execution.{Outcome, Goes, Calls, Faults, reg, put, step}
 use Rattle.mv_fetch.specs.Held.{Room, choices}
@@ -93,12 +93,12 @@ call_has_word : (word : Option ℕ) (regs : List ℕ) (pc : ℕ) (m : Rest) → 
 call_has_word None regs pc m e = absurd (cc)
 call_has_word (Some w) regs pc m e = (w, refl)
 
-module _ (image : Fields) (input : List (Option ℕ)) (actions : List Action) (picks : List ℕ) where
+module _ (image : Fields) (input : List (Option ℕ)) (polls : PollActs) (picks : List ℕ) where
   abbrev at : ℕ → State
-  at i = runs image input actions picks i
+  at i = runs image input polls picks i
 
   abbrev Asked : (number i : ℕ) → World → Type 0
-  Asked = AtCall image input actions picks
+  Asked = AtCall image input polls picks
 
   record Called (i : ℕ) : Type 0 where
     word : ℕ
@@ -121,7 +121,7 @@ module _ (image : Fields) (input : List (Option ℕ)) (actions : List Action) (p
       let c = called number i w h in
       let outcome : Outcome Room = Calls in
       let fetched : fetched_step (at i) (slice_index picks i) ≡ outcome = fetches_one (at i) (slice_index picks i) c.word c.one ∙ c.calls in
-      runs_more (first image input actions) picks i ∙ turn_by (at i) (slice_index picks i) outcome h.calm.goes_on fetched
+      runs_more (first image input polls) picks i ∙ turn_by (at i) (slice_index picks i) outcome h.calm.goes_on fetched
       ∙ ap (λ a. environment_call (request_of a) (at i)) h.asks
 
   sound : (closed : (pc address : ℕ) → Bool) (number i : ℕ) (w : World) → Asked number i w → is_sound closed (spot_of (at i)) ≡ true
@@ -138,7 +138,7 @@ module _ (image : Fields) (input : List (Option ℕ)) (actions : List Action) (p
   -- a run that was stopped stays so
   stays : (i j : ℕ) (stop : Stop) → IsOver stop → at (i + 1) ≡ stopped (at i) stop → i < j → spot_of (at j) ≡ stopped_at (spot_of (at i)) stop
   stays i j stop over e lt =
-      let later : at (j - (i + 1) + (i + 1)) ≡ at (i + 1) = runs_over (first image input actions) picks (i + 1) (j - (i + 1)) (subst (λ (s : State). IsOver s.stop) (sym e) over) in
+      let later : at (j - (i + 1) + (i + 1)) ≡ at (i + 1) = runs_over (first image input polls) picks (i + 1) (j - (i + 1)) (subst (λ (s : State). IsOver s.stop) (sym e) over) in
       let same : j - (i + 1) + (i + 1) ≡ j = omega (arith, lt) in
       ap spot_of (ap at (sym same) ∙ later ∙ e)
 
@@ -151,5 +151,5 @@ module _ (image : Fields) (input : List (Option ℕ)) (actions : List Action) (p
   traps i j w h ge le lt =
       stays i j (Trap (reg (at i).regs 10)) tt (after_call 3 i w h ∙ ap (stopped (at i)) (trap_is (reg (at i).regs 10) ge le)) lt
 
-  pub answered_calls : (closed : (pc address : ℕ) → Bool) → CallsAreAnswered image input actions picks closed
+  pub answered_calls : (closed : (pc address : ℕ) → Bool) → CallsAreAnswered image input polls picks closed
   answered_calls closed = record { sound = sound closed; exits = exits; reads = reads; writes = writes; traps = traps }

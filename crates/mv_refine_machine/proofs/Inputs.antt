@@ -2,7 +2,7 @@
 use Rattle.std.proofs.Common.{◌≡◌, ℕ, List, [], ◌∷◌, Option, refl, sym, subst}
 use Rattle.std.specs.List.{All}
 use Rattle.std.proofs.lemmas.List.Elements.{All-tail}
-use Rattle.mv_ast.specs.declared.world.Action.{Action}
+use Rattle.mv_machine.specs.Acts.{PollActs}
 use Rattle.mv_isa.specs.Execution.{reg}
 use Rattle.mv_image.specs.Spelling.{Fields}
 use Rattle.mv_machine.proofs.Leaving.{Leaves as EachLeaves, planned_leaves, polled_leaves}
@@ -19,7 +19,7 @@ later_bytes (answer ∷ later) h = All-tail IsByteOrEnd answer later h
 
 plan_bytes : (s : State) → GivesBytes s → EachLeaves GivesBytes s
 unfolding answered
-plan_bytes s h = record { refuses = λ actions answer. h; carries = λ room actions plan answer. h; faults = h }
+plan_bytes s h = record { refuses = λ actions answer. h; carries = λ room actions plan answer. h; adopts = λ actions bs. h; faults = h }
 
 call_bytes : (request : Request) (s : State) → GivesBytes s → GivesBytes (environment_call request s)
 unfolding answered
@@ -34,9 +34,9 @@ call_bytes Unknown s h = h
 pub bytes_left : (s : State) (picks : List ℕ) (n : ℕ) → GivesBytes s → GivesBytes (runs_from s picks n)
 bytes_left = runs_keep GivesBytes (record { goes = λ regs pc room s h. h; calls = call_bytes; faults = λ why s h. h })
 
-pub first_input : (image : Fields) (input : List (Option ℕ)) (actions : List Action) → (first image input actions).input ≡ input
+pub first_input : (image : Fields) (input : List (Option ℕ)) (polls : PollActs) → (first image input polls).input ≡ input
 unfolding first
-first_input image input actions = refl
+first_input image input polls = refl
 
-pub run_bytes : (image : Fields) (input : List (Option ℕ)) (actions : List Action) (picks : List ℕ) (n : ℕ) → All IsByteOrEnd input → All IsByteOrEnd (runs image input actions picks n).input
-run_bytes image input actions picks n h = bytes_left (first image input actions) picks n (subst (All IsByteOrEnd) (sym (first_input image input actions)) h)
+pub run_bytes : (image : Fields) (input : List (Option ℕ)) (polls : PollActs) (picks : List ℕ) (n : ℕ) → All IsByteOrEnd input → All IsByteOrEnd (runs image input polls picks n).input
+run_bytes image input polls picks n h = bytes_left (first image input polls) picks n (subst (All IsByteOrEnd) (sym (first_input image input polls)) h)

@@ -1,7 +1,7 @@
 -- The machine's run is one on which code runs.
 use Rattle.std.proofs.Common.{◌≡◌, inl, inr, ℕ, ◌+◌, Bool, true, false, ◌&&◌, cond, eqb, leb, ltb, List, [], ◌∷◌, length, slice_index, Option, Some, None, refl, sym, ap, subst, ◌∙◌}
 use Rattle.std.proofs.lemmas.Bool.{leb-true, ltb-true}
-use Rattle.mv_ast.specs.declared.world.Action.{Action}
+use Rattle.mv_machine.specs.Acts.{PollActs}
 use Rattle.mv_fetch.specs.Held.{Room, choices}
 use Rattle.mv_image.specs.Spelling.{Fields}
 use Rattle.mv_ir.specs.World.{World}
@@ -32,12 +32,12 @@ pub has_word : (word : Option ℕ) (regs : List ℕ) (pc : ℕ) (m : Rest) (next
 has_word None regs pc m next e = absurd (cc)
 has_word (Some w) regs pc m next e = (w, refl)
 
-module _ (image : Fields) (input : List (Option ℕ)) (actions : List Action) (picks : List ℕ) (s : Site) where
+module _ (image : Fields) (input : List (Option ℕ)) (polls : PollActs) (picks : List ℕ) (s : Site) where
   abbrev Leads : ℕ → World → Spot Rest → Type 0
-  Leads = LeadsUnder image input actions picks s
+  Leads = LeadsUnder image input polls picks s
 
   abbrev at : ℕ → State
-  at i = runs image input actions picks i
+  at i = runs image input polls picks i
 
   -- the one word that is fetched, and where its step leads
   record Led (i : ℕ) (next : Spot Rest) : Type 0 where
@@ -60,7 +60,7 @@ module _ (image : Fields) (input : List (Option ℕ)) (actions : List Action) (p
       let l = led i w next h in
       let outcome : Outcome Room = Goes next.regs next.pc l.went.room in
       let fetched : fetched_step (at i) (slice_index picks i) ≡ outcome = fetches_one (at i) (slice_index picks i) l.word l.one ∙ l.went.goes in
-      ap spot_of (runs_more (first image input actions) picks i ∙ turn_by (at i) (slice_index picks i) outcome h.calm.goes_on fetched)
+      ap spot_of (runs_more (first image input polls) picks i ∙ turn_by (at i) (slice_index picks i) outcome h.calm.goes_on fetched)
       ∙ ap (λ (m : Rest). record next { memory = m }) (sym l.went.rest)
 
   sound : (i : ℕ) (w : World) (next : Spot Rest) → Leads i w next → has_one_choice (spot_of (at i)) ≡ true
@@ -71,26 +71,26 @@ module _ (image : Fields) (input : List (Option ℕ)) (actions : List Action) (p
     written w m m' (inl same) calm = subst (λ x. IsCalm image w x) (sym same) calm
     written w m m' (inr x) calm = calm_kept image w m m' (store_keeps m m' (address s x.0) x.1 (out x.0 x.2 x.3) x.5) calm
 
-    pub steps_are_taken : StepsAreTaken image input actions picks s
+    pub steps_are_taken : StepsAreTaken image input polls picks s
     steps_are_taken = record { goes = goes; sound = sound; stays = λ i w next h. written w (rest_of (at i)) next.memory h.writes h.calm }
 
 -- ---- a machine whose text has words that are never patched
 
-module _ (attributed : List ℕ) (closed : (pc address : ℕ) → Bool) (image : Fields) (input : List (Option ℕ)) (actions : List Action) (picks : List ℕ) (s : Site) (out : OwnOutsideText s) (text : Text)
+module _ (attributed : List ℕ) (closed : (pc address : ℕ) → Bool) (image : Fields) (input : List (Option ℕ)) (polls : PollActs) (picks : List ℕ) (s : Site) (out : OwnOutsideText s) (text : Text)
     (inside : (a word : ℕ) → text.word a ≡ Some word → unpatched_word image a ≡ Some word)
     (free : (pc word a : ℕ) → text.word pc ≡ Some word → s.reach.may_load a ≡ true → closed pc a ≡ false) where
   abbrev machine : Machine Rest
-  machine = record (machine_of attributed closed image input actions picks) { text = text }
+  machine = record (machine_of attributed closed image input polls picks) { text = text }
 
   abbrev now : ℕ → State
-  now i = runs image input actions picks i
+  now i = runs image input polls picks i
 
   -- the word of the text, which stands there under the bindings, and its step
   record Shown (i : ℕ) (w : World) (next : Spot Rest) : Type 0 where
     word : ℕ
     there : text.word (now i).pc ≡ Some word
     step_on : step (limited access s) (Some word) (now i).regs (now i).pc (rest_of (now i)) ≡ Goes next.regs next.pc next.memory
-    leads : Leads image input actions picks s i (outside w) next
+    leads : Leads image input polls picks s i (outside w) next
 
   shown : (i : ℕ) (w : World) (next : Spot Rest) → LeadsOn access s machine i w next → Shown i w next
   shown i w next h =
@@ -116,11 +116,11 @@ module _ (attributed : List ℕ) (closed : (pc address : ℕ) → Bool) (image :
 
   pub runs_in : IsRun access s machine
   runs_in = record {
-    registers = run_registers image input actions picks;
-    goes = λ i w next h. goes image input actions picks s i (outside w) next (shown i w next h).leads;
+    registers = run_registers image input polls picks;
+    goes = λ i w next h. goes image input polls picks s i (outside w) next (shown i w next h).leads;
     sound = sound_there;
     stays = λ i w next h.
-        let r = (shown i w next h).leads in calm_tested image (outside w) next.memory (written image input actions picks s out (outside w) (rest_of (now i)) next.memory r.writes r.calm);
+        let r = (shown i w next h).leads in calm_tested image (outside w) next.memory (written image input polls picks s out (outside w) (rest_of (now i)) next.memory r.writes r.calm);
   }
 
 -- what stands in a part of a text stands there, and lies within
@@ -130,12 +130,12 @@ in_part true false o word h = absurd cc
 in_part false c o word h = absurd cc
 
 pub runs_are : RunsAreRuns
-runs_are attributed closed image input actions picks s out free =
-    runs_in attributed closed image input actions picks s out (machine_text attributed image) (λ a word h. h) (λ pc word a there may. free pc a may)
+runs_are attributed closed image input polls picks s out free =
+    runs_in attributed closed image input polls picks s out (machine_text attributed image) (λ a word h. h) (λ pc word a there may. free pc a may)
 
 pub runs_are_alone : RunsAreRunsAlone
-runs_are_alone attributed closed image input actions picks from to s out free =
-    runs_in attributed closed image input actions picks s out (part from to (machine_text attributed image)) (λ a word h. (in_part (leb from a) (ltb a to) (unpatched_word image a) word h).2)
+runs_are_alone attributed closed image input polls picks from to s out free =
+    runs_in attributed closed image input polls picks s out (part from to (machine_text attributed image)) (λ a word h. (in_part (leb from a) (ltb a to) (unpatched_word image a) word h).2)
     (λ pc word a there may.
     let p = in_part (leb from pc) (ltb pc to) (unpatched_word image pc) word there in
     free pc a (leb-true from pc p.0) (ltb-true pc to p.1) may)

@@ -1,7 +1,7 @@
 -- A run has 32 registers.
 use Rattle.std.proofs.Common.{◌≡◌, ℕ, zero, suc, ◌%◌, Bool, true, false, cond, eqb, List, length, slice_get, slice_index, Option, Some, None, ℤ, refl, ◌∙◌, length-set}
 use Rattle.std.proofs.lemmas.Bool.{ne_eqb}
-use Rattle.mv_ast.specs.declared.world.Action.{Action}
+use Rattle.mv_machine.specs.Acts.{PollActs}
 use Rattle.mv_num.specs.declared.kind.Kind.{Kind}
 use Rattle.mv_num.specs.Words.{add, word_of}
 use Rattle.mv_isa.specs.declared.instr.Cause.TheVariants as cause
@@ -114,7 +114,7 @@ fetched_keeps s pick = step_keeps (slice_get (choices s.room.held s.pc) (pick % 
 
 plan_keeps : (s : State) → EachLeaves (λ (t : State). length t.regs ≡ length s.regs) s
 unfolding answered
-plan_keeps s = record { refuses = λ actions answer. put_length s.regs 10 answer; carries = λ room actions plan answer. put_length s.regs 10 answer; faults = refl }
+plan_keeps s = record { refuses = λ actions answer. put_length s.regs 10 answer; carries = λ room actions plan answer. put_length s.regs 10 answer; adopts = λ actions bs. put_length s.regs 10 1; faults = refl }
 
 call_keeps : (request : Request) (s : State) → length (environment_call request s).regs ≡ length s.regs
 unfolding answered
@@ -146,9 +146,9 @@ unfolding runs_from
 runs_keep s picks zero = refl
 runs_keep s picks (suc n) = turn_keeps (runs_from s picks n) (slice_index picks n) ∙ runs_keep s picks n
 
-first_registers : (image : Fields) (input : List (Option ℕ)) (actions : List Action) → length (first image input actions).regs ≡ 32
+first_registers : (image : Fields) (input : List (Option ℕ)) (polls : PollActs) → length (first image input polls).regs ≡ 32
 unfolding first
-first_registers image input actions = refl
+first_registers image input polls = refl
 
-pub run_registers : (image : Fields) (input : List (Option ℕ)) (actions : List Action) (picks : List ℕ) (n : ℕ) → length (runs image input actions picks n).regs ≡ 32
-run_registers image input actions picks n = runs_keep (first image input actions) picks n ∙ first_registers image input actions
+pub run_registers : (image : Fields) (input : List (Option ℕ)) (polls : PollActs) (picks : List ℕ) (n : ℕ) → length (runs image input polls picks n).regs ≡ 32
+run_registers image input polls picks n = runs_keep (first image input polls) picks n ∙ first_registers image input polls

@@ -1,7 +1,7 @@
 -- The machine serves `getchar` and `putchar`.
 use Rattle.std.proofs.Common.{◌≡◌, ℕ, ◌+◌, ◌^◌, ◌<◌, ◌≤◌, Bool, true, List, [], ◌∷◌, Option, Some, refl, ap, ◌∙◌, subst, arith}
 use Rattle.std.specs.List.{All}
-use Rattle.mv_ast.specs.declared.world.Action.{Action}
+use Rattle.mv_machine.specs.Acts.{PollActs}
 use Rattle.mv_ast.specs.declared.program.Program.{Program}
 use Rattle.mv_ast.specs.declared.program.Known.TheVariants.{Getchar, Putchar, Poll, Plan}
 use Rattle.mv_fetch.specs.Held.{Room}
@@ -53,9 +53,9 @@ is_call : (word : Option ℕ) (regs : List ℕ) (pc : ℕ) (m : Rest) → word �
 unfolding execute
 is_call word regs pc m e = ap (λ x. step access x regs pc m) e ∙ ap (λ d. decoded access d regs pc m) (decode-encode Ecall tt)
 
-module _ (attributed : List ℕ) (closed : (pc address : ℕ) → Bool) (image : Fields) (input : List (Option ℕ)) (actions : List Action) (picks : List ℕ) (bytes : All IsByteOrEnd input) (y : Layout) (budget far : ℕ) where
+module _ (attributed : List ℕ) (closed : (pc address : ℕ) → Bool) (image : Fields) (input : List (Option ℕ)) (polls : PollActs) (picks : List ℕ) (bytes : All IsByteOrEnd input) (y : Layout) (budget far : ℕ) where
   abbrev machine : Machine Rest
-  machine = machine_of attributed closed image input actions picks
+  machine = machine_of attributed closed image input polls picks
 
   abbrev St : ℕ → World → ℕ → Type 0
   St = Stands access y machine budget far
@@ -83,7 +83,7 @@ module _ (attributed : List ℕ) (closed : (pc address : ℕ) → Bool) (image :
           small = fits.small;
         })
 
-  at_call : (number pc i : ℕ) (w : World) → St pc w i → unpatched_word image pc ≡ Some (encode Ecall) → reg (machine.run i).regs 17 ≡ number → AtCall image input actions picks number i (outside w)
+  at_call : (number pc i : ℕ) (w : World) → St pc w i → unpatched_word image pc ≡ Some (encode Ecall) → reg (machine.run i).regs 17 ≡ number → AtCall image input polls picks number i (outside w)
   at_call number pc i w h at_word asks = record {
     calm = calm_told image (outside w) (machine.run i).memory h.calm;
     calls = is_call (unpatched_word image (machine.run i).pc) (machine.run i).regs (machine.run i).pc (machine.run i).memory (ap (unpatched_word image) h.at ∙ at_word);
@@ -91,14 +91,14 @@ module _ (attributed : List ℕ) (closed : (pc address : ℕ) → Bool) (image :
   }
 
   module _ (numbers : List ℕ) (p : Program) where
-    answers : CallsAreAnswered image input actions picks closed
-    answers = answered_calls image input actions picks closed
+    answers : CallsAreAnswered image input polls picks closed
+    answers = answered_calls image input polls picks closed
 
     byte_served : (args : List ℕ) (pc i : ℕ) → unpatched_word image pc ≡ Some (encode Ecall) → Serves access y machine budget far (setting_of numbers p) 1 pc (pc + 4) Getchar args i
     byte_served args pc i at_word spare bound w h asks paid asked =
         let at = at_call 1 pc i w h at_word asks.number in
         let input_is : (machine.run i).memory.input ≡ bytes_to_come w.input = at.calm.input in
-        let left = subst (All IsByteOrEnd) input_is (run_bytes image input actions picks i bytes) in
+        let left = subst (All IsByteOrEnd) input_is (run_bytes image input polls picks i bytes) in
         comes_back (next_byte w.input (outside w)) (next_byte w.input w) w pc i
         (record { value = same_byte w.input w; world = same_world w.input w; globals = same_globals w.input w; small = byte_fits w.input w left })
         h at_word (answers.reads i (outside w) at) (answers.sound 1 i (outside w) at) spare bound (next_byte w.input w).cost paid asked

@@ -3,7 +3,7 @@ use Rattle.std.proofs.Common.{◌≡◌, ℕ, zero, suc, ◌+◌, true, List, []
 use Rattle.std.proofs.lemmas.List.{length-replicate}
 use Rattle.std.specs.Prelude.{All}
 use Rattle.std.proofs.lemmas.List.Elements.{All-head, All-tail}
-use Rattle.mv_ast.specs.declared.world.Action.{Action}
+use Rattle.mv_machine.specs.Acts.{PollActs}
 use Rattle.mv_ast.specs.Plans.{free}
 use Rattle.mv_ast.specs.declared.world.Binding.{Binding}
 use Rattle.mv_fetch.specs.Held.{zeros, first as first_memory}
@@ -53,9 +53,9 @@ pub zeros_count : (n : ℕ) → length (zeros n) ≡ n
 unfolding zeros
 zeros_count n = length-replicate n 0
 
-first_calm : (image : Fields) (input : List ℕ) (actions : List Action) (w : World) → IsFirst image input w → IsCalm image w (rest_of (first image (bytes_to_come input) actions))
+first_calm : (image : Fields) (input : List ℕ) (polls : PollActs) (w : World) → IsFirst image input w → IsCalm image w (rest_of (first image (bytes_to_come input) polls))
 unfolding first first_memory
-first_calm image input actions w h = record {
+first_calm image input polls w h = record {
   goes_on = refl;
   text = sym (free_text image (values_of (replicate (length image.functions) free)) (none_bound (length image.functions)));
   no_older = none_older (length image.text);
@@ -66,7 +66,7 @@ first_calm image input actions w h = record {
   log = sym h.log;
 }
 
-pub run_begins : (image : Fields) (input : List ℕ) (actions : List Action) (picks : List ℕ) (w : World) → IsFirst image input w → is_calm image w (rest_of (runs image (bytes_to_come input) actions picks 0)) ≡ true
-run_begins image input actions picks w h =
-    let start = first image (bytes_to_come input) actions in
-    ap (λ s. is_calm image w (rest_of s)) (runs_none start picks) ∙ calm_tested image w (rest_of start) (first_calm image input actions w h)
+pub run_begins : (image : Fields) (input : List ℕ) (polls : PollActs) (picks : List ℕ) (w : World) → IsFirst image input w → is_calm image w (rest_of (runs image (bytes_to_come input) polls picks 0)) ≡ true
+run_begins image input polls picks w h =
+    let start = first image (bytes_to_come input) polls in
+    ap (λ s. is_calm image w (rest_of s)) (runs_none start picks) ∙ calm_tested image w (rest_of start) (first_calm image input polls w h)

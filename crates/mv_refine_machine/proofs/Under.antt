@@ -1,7 +1,7 @@
 -- The machine under some bindings runs code.
 use Rattle.std.proofs.Common.{◌≡◌, ℕ, ◌<◌, ◌≤◌, Bool, true, leb, ltb, List, Option, Some, refl, sym, ap, subst, ◌∙◌}
 use Rattle.std.proofs.lemmas.Bool.{and_parts, and_from, leb-true, ltb-true}
-use Rattle.mv_ast.specs.declared.world.Action.{Action}
+use Rattle.mv_machine.specs.Acts.{PollActs}
 use Rattle.mv_ast.specs.declared.world.Binding.{Binding}
 use Rattle.mv_image.specs.Spelling.{Fields}
 use Rattle.mv_isa.specs.Execution.{Goes, step}
@@ -31,10 +31,10 @@ pub same_words : (image : Fields) (w : World) (a : ℕ) → bound_word image w a
 unfolding bound_word
 same_words image w a = refl
 
-module _ (attributed : List ℕ) (closed : (pc address : ℕ) → Bool) (image : Fields) (input : List (Option ℕ)) (actions : List Action) (picks : List ℕ) (bs : List Binding) (from to : ℕ) (s : Site) (out : OwnOutsideText s)
+module _ (attributed : List ℕ) (closed : (pc address : ℕ) → Bool) (image : Fields) (input : List (Option ℕ)) (polls : PollActs) (picks : List ℕ) (bs : List Binding) (from to : ℕ) (s : Site) (out : OwnOutsideText s)
     (free : IsOpen closed from to s.reach) where
   abbrev machine : Machine Rest
-  machine = machine_of attributed closed image input actions picks
+  machine = machine_of attributed closed image input polls picks
 
   abbrev under : Machine Rest
   under = alone (narrow.under machine (words_under image) bs) from to
@@ -46,7 +46,7 @@ module _ (attributed : List ℕ) (closed : (pc address : ℕ) → Bool) (image :
     above : from ≤ (machine.run i).pc
     below : (machine.run i).pc < to
     step_on : step (limited access s) (Some word) (machine.run i).regs (machine.run i).pc (machine.run i).memory ≡ Goes next.regs next.pc next.memory
-    leads : LeadsUnder image input actions picks s i (outside w) next
+    leads : LeadsUnder image input polls picks s i (outside w) next
 
   shown : (i : ℕ) (w : World) (next : Spot Rest) → LeadsOn access s under i w next → Shown i w next
   shown i w next h =
@@ -77,13 +77,13 @@ module _ (attributed : List ℕ) (closed : (pc address : ℕ) → Bool) (image :
 
   runs_under : IsRun access s under
   runs_under = record {
-    registers = run_registers image input actions picks;
-    goes = λ i w next h. (steps_are_taken image input actions picks s out).goes i (outside w) next (shown i w next h).leads;
+    registers = run_registers image input polls picks;
+    goes = λ i w next h. (steps_are_taken image input polls picks s out).goes i (outside w) next (shown i w next h).leads;
     sound = sound_there;
     stays = λ i w next h.
         and_from (has_bindings bs (outside w)) (is_calm image (outside w) next.memory) (and_parts (has_bindings bs (outside w)) (is_calm image (outside w) (machine.run i).memory) h.calm).0
-        (calm_tested image (outside w) next.memory ((steps_are_taken image input actions picks s out).stays i (outside w) next (shown i w next h).leads));
+        (calm_tested image (outside w) next.memory ((steps_are_taken image input polls picks s out).stays i (outside w) next (shown i w next h).leads));
   }
 
 pub runs_are_under : RunsAreRunsUnder
-runs_are_under attributed closed image input actions picks bs from to s out free = runs_under attributed closed image input actions picks bs from to s out free
+runs_are_under attributed closed image input polls picks bs from to s out free = runs_under attributed closed image input polls picks bs from to s out free

@@ -1,7 +1,7 @@
 -- The globals and the stack of a program in the machine's memory.
 use Rattle.std.proofs.Common.{◌≡◌, Bool, ⊎_elim, inl, inr, ℕ, ◌+◌, ◌*◌, ◌^◌, ◌<◌, ◌≤◌, true, List, [], Option, Some, sym, ap, arith}
 use Rattle.std.proofs.lemmas.Bool.{cases_lt, cases_order}
-use Rattle.mv_ast.specs.declared.world.Action.{Action}
+use Rattle.mv_machine.specs.Acts.{PollActs}
 use Rattle.mv_image.specs.Spelling.{Fields}
 use Rattle.mv_ir.specs.World.{World}
 use Rattle.mv_select_statements.specs.Frames.{Site, address}
@@ -73,8 +73,8 @@ module _ (y : Layout) (h : IsSetOut y) where
       let low = stack.0 in let high = stack.1 in let begin = h.stack_begins in let end = h.stack_ends in
       stack_loads m b (omega (arith, low, begin)) (omega (arith, high, end)) stack.2 (calm_told image w m calm).stack
 
-  pub memory : (attributed : List ℕ) (closed : (pc address : ℕ) → Bool) (image : Fields) (input : List (Option ℕ)) (actions : List Action) (picks : List ℕ) → IsMemory access y (machine_of attributed closed image input actions picks)
-  memory attributed closed image input actions picks = record {
+  pub memory : (attributed : List ℕ) (closed : (pc address : ℕ) → Bool) (image : Fields) (input : List (Option ℕ)) (polls : PollActs) (picks : List ℕ) → IsMemory access y (machine_of attributed closed image input polls picks)
+  memory attributed closed image input polls picks = record {
     stores = λ m b v w word lt loads. kept m b v w lt loads;
     words = λ m b w word loads. load_word m b w loads;
     stack = stack_there image;

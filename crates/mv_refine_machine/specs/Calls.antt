@@ -1,6 +1,6 @@
 -- What the machine does at environment calls from a calm time.
 use Rattle.std.specs.Prelude.{ℕ, ◌≡◌, ◌+◌, ◌%◌, ◌^◌, ◌<◌, ◌≤◌, Bool, true, List, Option}
-use Rattle.mv_ast.specs.declared.world.Action.{Action}
+use Rattle.mv_machine.specs.Acts.{PollActs}
 use Rattle.mv_num.specs.Words.{add}
 use Rattle.mv_isa.specs.Execution.{Calls, reg, put, step}
 use Rattle.mv_isa.specs.Requests as requests
@@ -23,9 +23,9 @@ pub record IsAnswered (image : Fields) (answer : Answer) (now next : Spot Rest) 
 abbrev pub stopped_at : Spot Rest → Stop → Spot Rest
 stopped_at now stop = record now { memory = record now.memory { stop = stop } }
 
-module _ (image : Fields) (input : List (Option ℕ)) (actions : List Action) (picks : List ℕ) where
+module _ (image : Fields) (input : List (Option ℕ)) (polls : PollActs) (picks : List ℕ) where
   abbrev pub run : ℕ → Spot Rest
-  run = run_of image input actions picks
+  run = run_of image input polls picks
 
   -- a calm time of the run stands at an environment call that is never patched, with its number in a7
   pub record AtCall (number i : ℕ) (w : World) : Type 0 where

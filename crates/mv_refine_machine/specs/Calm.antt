@@ -22,8 +22,8 @@ pub record Rest : Type 0 where
   pub stop : Stop
 
 -- The run goes on; text is the image's under the bindings, and each of its words is the only one that a fetch may give; the stack has all its words; and
--- the input to come, the output, the bindings and the log are those of the world. Nothing is said of the world's globals, of how many bytes it took, and
--- of its actions.
+-- the input to come, the output, the bindings and the log are those of the world. Nothing is said of the world's globals, of its hart, of how many
+-- bytes it took, and of its actions.
 pub record IsCalm (image : Fields) (w : World) (m : Rest) : Type 0 where
   pub goes_on : m.stop ≡ Going
   pub text : m.room.held.text ≡ text_of image (values_of m.bindings)

@@ -2,7 +2,7 @@
 use Rattle.std.specs.Prelude.{ℕ, ◌≡◌, ◌↔◌, ◌+◌, ◌*◌, ◌%◌, ◌^◌, ◌<◌, ◌≤◌, Bool, true, false, List, [], length, replicate, slice_get, Option, Some, None}
 use Rattle.std.specs.List.{All}
 use Rattle.mv_num.specs.Regions.{text_start, data_start}
-use Rattle.mv_ast.specs.declared.world.Action.{Action}
+use Rattle.mv_machine.specs.Acts.{PollActs}
 use Rattle.mv_ast.specs.declared.program.Program.{Program}
 use Rattle.mv_ast.specs.declared.world.Binding.{Binding}
 use Rattle.mv_ast.specs.Plans.{free}
@@ -38,28 +38,28 @@ use Rattle.mv_refine_machine.specs.Layout.{OwnOutsideText, IsLaidOut, IsPacked}
 abbrev pub CalmIsTested : Type 0
 CalmIsTested = (image : Fields) (w : World) (m : Rest) → (is_calm image w m ≡ true) ↔ IsCalm image w m
 
--- For every image, input, actions and picks, the machine's run is one of a machine on which code runs, at each site whose own cells lie outside text, and that
+-- For every image, input, polls and picks, the machine's run is one of a machine on which code runs, at each site whose own cells lie outside text, and that
 -- loads from no address that is closed anywhere.
 abbrev pub RunsAreRuns : Type 0
 RunsAreRuns =
-    (attributed : List ℕ) (closed : (pc address : ℕ) → Bool) (image : Fields) (input : List (Option ℕ)) (actions : List Action) (picks : List ℕ) (s : Site) → OwnOutsideText s →
-    ((pc a : ℕ) → s.reach.may_load a ≡ true → closed pc a ≡ false) → IsRun access s (machine_of attributed closed image input actions picks)
+    (attributed : List ℕ) (closed : (pc address : ℕ) → Bool) (image : Fields) (input : List (Option ℕ)) (polls : PollActs) (picks : List ℕ) (s : Site) → OwnOutsideText s →
+    ((pc a : ℕ) → s.reach.may_load a ≡ true → closed pc a ≡ false) → IsRun access s (machine_of attributed closed image input polls picks)
 
 -- And so it is where only a part of text stands, at each that loads from no address that is closed there.
 abbrev pub RunsAreRunsAlone : Type 0
 RunsAreRunsAlone =
-    (attributed : List ℕ) (closed : (pc address : ℕ) → Bool) (image : Fields) (input : List (Option ℕ)) (actions : List Action) (picks : List ℕ) (from to : ℕ) (s : Site) → OwnOutsideText s →
-    IsOpen closed from to s.reach → IsRun access s (alone (machine_of attributed closed image input actions picks) from to)
+    (attributed : List ℕ) (closed : (pc address : ℕ) → Bool) (image : Fields) (input : List (Option ℕ)) (polls : PollActs) (picks : List ℕ) (from to : ℕ) (s : Site) → OwnOutsideText s →
+    IsOpen closed from to s.reach → IsRun access s (alone (machine_of attributed closed image input polls picks) from to)
 
 -- and it takes the steps of the words that stand under the bindings
 abbrev pub BoundStepsAreTaken : Type 0
-BoundStepsAreTaken = (image : Fields) (input : List (Option ℕ)) (actions : List Action) (picks : List ℕ) (s : Site) → OwnOutsideText s → StepsAreTaken image input actions picks s
+BoundStepsAreTaken = (image : Fields) (input : List (Option ℕ)) (polls : PollActs) (picks : List ℕ) (s : Site) → OwnOutsideText s → StepsAreTaken image input polls picks s
 
 -- So the machine under some bindings, over a part of the words that stand under these, is one on which code runs.
 abbrev pub RunsAreRunsUnder : Type 0
 RunsAreRunsUnder =
-    (attributed : List ℕ) (closed : (pc address : ℕ) → Bool) (image : Fields) (input : List (Option ℕ)) (actions : List Action) (picks : List ℕ) (bs : List Binding) (from to : ℕ) (s : Site) → OwnOutsideText s →
-    IsOpen closed from to s.reach → IsRun access s (alone (under (machine_of attributed closed image input actions picks) (words_under image) bs) from to)
+    (attributed : List ℕ) (closed : (pc address : ℕ) → Bool) (image : Fields) (input : List (Option ℕ)) (polls : PollActs) (picks : List ℕ) (bs : List Binding) (from to : ℕ) (s : Site) → OwnOutsideText s →
+    IsOpen closed from to s.reach → IsRun access s (alone (under (machine_of attributed closed image input polls picks) (words_under image) bs) from to)
 
 -- The words of an image's text are found at their addresses. Where bindings don't show, they stand there under all bindings; and bindings show
 -- nowhere in an image without functions and sites.
@@ -115,12 +115,12 @@ pub record IsFirst (image : Fields) (bytes : List ℕ) (w : World) : Type 0 wher
 -- a run begins in calm
 abbrev pub RunsBeginInCalm : Type 0
 RunsBeginInCalm =
-    (attributed : List ℕ) (closed : (pc address : ℕ) → Bool) (image : Fields) (bytes : List ℕ) (actions : List Action) (picks : List ℕ) (s : Site) (w : World) → IsFirst image bytes w →
-    let machine = machine_of attributed closed image (bytes_to_come bytes) actions picks in Calm access s machine w (machine.run 0).memory
+    (attributed : List ℕ) (closed : (pc address : ℕ) → Bool) (image : Fields) (bytes : List ℕ) (polls : PollActs) (picks : List ℕ) (s : Site) (w : World) → IsFirst image bytes w →
+    let machine = machine_of attributed closed image (bytes_to_come bytes) polls picks in Calm access s machine w (machine.run 0).memory
 
--- environment calls are answered, for every image, input, actions and picks
+-- environment calls are answered, for every image, input, polls and picks
 abbrev pub EnvironmentCalls : Type 0
-EnvironmentCalls = (closed : (pc address : ℕ) → Bool) (image : Fields) (input : List (Option ℕ)) (actions : List Action) (picks : List ℕ) → CallsAreAnswered image input actions picks closed
+EnvironmentCalls = (closed : (pc address : ℕ) → Bool) (image : Fields) (input : List (Option ℕ)) (polls : PollActs) (picks : List ℕ) → CallsAreAnswered image input polls picks closed
 
 -- an answer to a read is a byte, or the end of the input
 abbrev pub IsByteOrEnd : Option ℕ → Type 0
@@ -130,9 +130,9 @@ IsByteOrEnd (Some byte) = byte < 2 ^ 8
 -- So where its input is bytes, the machine serves those known functions that are environment calls, for every program and layout.
 abbrev pub KnownCallsAreServed : Type 0
 KnownCallsAreServed =
-    (attributed : List ℕ) (closed : (pc address : ℕ) → Bool) (image : Fields) (input : List (Option ℕ)) (actions : List Action) (picks : List ℕ) → All IsByteOrEnd input →
+    (attributed : List ℕ) (closed : (pc address : ℕ) → Bool) (image : Fields) (input : List (Option ℕ)) (polls : PollActs) (picks : List ℕ) → All IsByteOrEnd input →
     (y : Layout) (budget far : ℕ) (numbers : List ℕ) (p : Program) →
-    ServesCalls access y (machine_of attributed closed image input actions picks) budget far (setting_of numbers p)
+    ServesCalls access y (machine_of attributed closed image input polls picks) budget far (setting_of numbers p)
 
 -- globals and arrays that stand one behind the other are laid out
 abbrev pub PackedIsLaidOut : Type 0

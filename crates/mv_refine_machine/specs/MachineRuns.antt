@@ -1,7 +1,7 @@
 -- The machine as a run on which code stands. Its text has what is never patched, and the sites as slots; what stands under bindings is told apart.
 use Rattle.std.specs.Prelude.{ℕ, ◌-◌, ◌/◌, ◌%◌, Bool, true, not, ◌&&◌, ◌||◌, cond, eqb, ltb, List, [], ◌∷◌, length, slice_get, is_some, Option, Some, None, option_map, option_and_then}
 use Rattle.mv_num.specs.Regions.{text_start, data_start}
-use Rattle.mv_ast.specs.declared.world.Action.{Action}
+use Rattle.mv_machine.specs.Acts.{PollActs}
 use Rattle.mv_isa.specs.Encoding.{decode}
 use Rattle.mv_isa.specs.Execution.{Access}
 use Rattle.mv_fetch.specs.Held.{Room, choices}
@@ -81,13 +81,13 @@ abbrev pub is_sound : (closed : (pc address : ℕ) → Bool) → Spot Rest → B
 is_sound closed spot = has_one_choice spot && are_open (closed spot.pc) spot.regs (choices spot.memory.room.held spot.pc)
 
 -- the run of an image on an input, by any picks of the fetches
-abbrev pub run_of : Fields → (input : List (Option ℕ)) → List Action → (picks : List ℕ) → ℕ → Spot Rest
-run_of image input actions picks n = spot_of (runs image input actions picks n)
+abbrev pub run_of : Fields → (input : List (Option ℕ)) → PollActs → (picks : List ℕ) → ℕ → Spot Rest
+run_of image input polls picks n = spot_of (runs image input polls picks n)
 
-abbrev pub machine_of : (attributed : List ℕ) → (closed : (pc address : ℕ) → Bool) → Fields → (input : List (Option ℕ)) → List Action → (picks : List ℕ) → Machine Rest
-machine_of attributed closed image input actions picks = record {
+abbrev pub machine_of : (attributed : List ℕ) → (closed : (pc address : ℕ) → Bool) → Fields → (input : List (Option ℕ)) → PollActs → (picks : List ℕ) → Machine Rest
+machine_of attributed closed image input polls picks = record {
   text = machine_text attributed image;
   is_calm = is_calm image;
   is_sound = is_sound closed;
-  run = run_of image input actions picks;
+  run = run_of image input polls picks;
 }

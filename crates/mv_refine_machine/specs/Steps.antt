@@ -1,6 +1,6 @@
 -- Steps of the words that stand in text under the bindings, also where it may be patched.
 use Rattle.std.specs.Prelude.{ℕ, ◌≡◌, ◌+◌, true, List, Option}
-use Rattle.mv_ast.specs.declared.world.Action.{Action}
+use Rattle.mv_machine.specs.Acts.{PollActs}
 use Rattle.mv_isa.specs.Execution.{Goes, step}
 use Rattle.mv_image.specs.Spelling.{Fields}
 use Rattle.mv_ir.specs.World.{World}
@@ -10,9 +10,9 @@ use Rattle.mv_select_control.specs.Runs.{Spot}
 use Rattle.mv_refine_machine.specs.Calm.{Rest, IsCalm}
 use Rattle.mv_refine_machine.specs.MachineRuns.{access, bound_word, has_one_choice, run_of}
 
-module _ (image : Fields) (input : List (Option ℕ)) (actions : List Action) (picks : List ℕ) (s : Site) where
+module _ (image : Fields) (input : List (Option ℕ)) (polls : PollActs) (picks : List ℕ) (s : Site) where
   abbrev run : ℕ → Spot Rest
-  run = run_of image input actions picks
+  run = run_of image input polls picks
 
   -- a calm time of the run, from which the word that stands there leads to a place, storing at most to a cell of the frame's own
   pub record LeadsUnder (i : ℕ) (w : World) (next : Spot Rest) : Type 0 where

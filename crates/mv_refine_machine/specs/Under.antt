@@ -7,7 +7,7 @@ use Rattle.mv_refine_machine.specs.MachineRuns.{bound_word}
 
 -- a world with some bindings, and nothing else
 abbrev pub bound_world : List Binding → World
-bound_world bs = record { globals = []; input = []; taken = 0; output = []; bindings = bs; actions = []; log = [] }
+bound_world bs = record { globals = []; hart = 0; input = []; taken = 0; output = []; bindings = bs; actions = []; log = [] }
 
 abbrev pub words_under : Fields → List Binding → ℕ → Option ℕ
 words_under image bs = bound_word image (bound_world bs)

@@ -1,6 +1,6 @@
 //! The machine runs the code of frames: its runs between two instructions, its text, its memory and its environment calls.
 //!
-//! - `runs_are_runs`: for every image, input, actions and picks of the fetches, the run of `mv_machine`'s definition is
+//! - `runs_are_runs`: for every image, input, polls and picks of the fetches, the run of `mv_machine`'s definition is
 //!   one on which code runs (`IsRun`), for every frame whose own words lie in the data and the stack, and that loads from
 //!   no closed address. Which addresses are closed to what stands at a place is for the caller to say.
 //!   `runs_are_runs_alone`: so it is where only a part of text stands, for frames that load from no address that is

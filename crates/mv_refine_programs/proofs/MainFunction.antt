@@ -3,10 +3,10 @@ use Rattle.std.proofs.Common.{◌≡◌, ℕ, zero, suc, ◌+◌, ◌≤◌, Boo
 use Rattle.std.specs.Prelude.{All, IsTrue, slice_get}
 use Rattle.mv_ast.specs.declared.program.Program.{Program}
 use Rattle.mv_ast.specs.declared.program.Function.{Function}
-use Rattle.mv_ast.specs.declared.world.Action.{Action}
 use Rattle.mv_ast.specs.declared.world.Binding.{Binding}
-use Rattle.mv_ast.specs.Actions.{fits}
-use Rattle.mv_meaning.specs.Meaning.{mean}
+use Rattle.mv_ast.specs.Actions.{act_fits}
+use Rattle.mv_ast.specs.Worlds.{Act}
+use Rattle.mv_meaning.specs.Meaning.{hart_mean}
 use Rattle.mv_meaning_numbering.specs.Numberings.{IsNumbering}
 use Rattle.mv_isa.specs.Execution.{Access, reg}
 use Rattle.mv_ir.specs.World as ir
@@ -36,9 +36,9 @@ level_count calls (suc k) = let below = level_count calls k in omega (arith, bel
 
 module _ {M : Type 0} (access : Access M) (y : Layout) (machine : Machine M) (words : List Binding → ℕ → Option ℕ) (closed : (pc address : ℕ) → Bool) (budget far : ℕ) (p : Program) (numbers : List ℕ)
     (loaded : IsLoaded access y machine words closed budget far p numbers) (known : Known M) (keep_main : MainKeeps M) (right_main : MainIsRight) (alike : MainEndsAlike)
-    (numbering : IsNumbering p numbers) (input : List ℕ) (actions : List Action) (fit : All (λ a. IsTrue (fits p a)) actions)
+    (numbering : IsNumbering p numbers) (hart : ℕ) (input : List ℕ) (actions : List Act) (fit : All (λ a. IsTrue (act_fits p hart a)) actions)
     (back i : ℕ) (target : IsTarget back) (ra : reg (machine.run i).regs link_register ≡ back) (begins : Begins access y machine i)
-    (stands : Stands access y machine budget far (y.entry p.main) (first_seen p numbers input actions) i) (k : ℕ) where
+    (stands : Stands access y machine budget far (y.entry p.main) (first_seen p numbers hart input actions) i) (k : ℕ) where
   abbrev main : Function
   main = loaded.formed.typed.entry.main
 
@@ -55,7 +55,7 @@ module _ {M : Type 0} (access : Access M) (y : Layout) (machine : Machine M) (wo
   frame = record { depth = 0; live = 0; bound = [] }
 
   abbrev first : World
-  first = first_seen p numbers input actions
+  first = first_seen p numbers hart input actions
 
   record Followed : Type 0 where
     contents : Contents
@@ -71,15 +71,15 @@ module _ {M : Type 0} (access : Access M) (y : Layout) (machine : Machine M) (wo
       record { contents = m.0; follows = λ spare paid asked. m.1 spare first stands begins paid asked }
 
   pub main_follows : (c : Call)
-      × IsExecution (mean p input actions k) (execution_of first c.cost c.end)
-      × (c.end ≡ (run_of_main numbers (lower_program p) input actions k).end)
+      × IsExecution (hart_mean p hart input actions k) (execution_of first c.cost c.end)
+      × (c.end ≡ (run_of_main numbers (lower_program p) hart input actions k).end)
       × ((w : World) → c.end ≡ Returned None w → ⊥)
       × ((spare : ℕ) → i + (spare + 44 + c.cost) ≤ budget → far ≤ i + k → FollowsCall access y machine budget far spare k i back c.end)
-  main_follows = (c, right_main p numbers loaded.formed numbering input actions k fit followed.contents main here, ends.0, ends.1, follows)
+  main_follows = (c, right_main p numbers loaded.formed numbering hart input actions k fit followed.contents main here, ends.0, ends.1, follows)
     where
-      ends : ((body_from setting frame followed.contents (lower_function p main) [] levels first).end ≡ (run_of_main numbers (lower_program p) input actions k).end)
+      ends : ((body_from setting frame followed.contents (lower_function p main) [] levels first).end ≡ (run_of_main numbers (lower_program p) hart input actions k).end)
           × ((w : World) → (body_from setting frame followed.contents (lower_function p main) [] levels first).end ≡ Returned None w → ⊥)
-      ends = alike p numbers loaded.formed numbering input actions k fit followed.contents main here
+      ends = alike p numbers loaded.formed numbering hart input actions k fit followed.contents main here
 
       c : Call
       c = body_from setting frame followed.contents (lower_function p main) [] levels first

@@ -1,21 +1,40 @@
 -- A machine that is calm in any worlds, narrowed to fit ones.
-use Rattle.std.proofs.Common.{◌≡◌, ℕ, ◌+◌, Bool, true, List, Option}
+use Rattle.std.proofs.Common.{◌≡◌, ℕ, zero, suc, ◌+◌, Bool, true, List, [], ◌∷◌, length, Option, refl, ap, ◌∙◌}
 use Rattle.std.proofs.lemmas.Bool.{and_parts}
 use Rattle.mv_ast.specs.declared.program.Program.{Program}
 use Rattle.mv_ast.specs.declared.world.Binding.{Binding}
 use Rattle.mv_isa.specs.Execution.{Access}
+use Rattle.mv_ast.specs.Plans.{attributed_functions, word_at}
+use Rattle.mv_ast.specs.Numbering.{place_from}
 use Rattle.mv_ir.specs.World.{World}
+use Rattle.mv_ir.specs.Trees.{scalar}
+use Rattle.mv_ir.specs.KnownFunctions.{switched_at}
 use Rattle.mv_ir.specs.Programs.{setting_of}
 use Rattle.mv_ir_worlds.specs.Fit.{IsFit, is_fit}
 use Rattle.mv_ir_worlds.specs.Laws.{FitIsTold, KnownsKeepFit, FirstIsFit}
 use Rattle.mv_select_control.specs.Runs.{Machine, outside}
 use Rattle.mv_select_calls.specs.Convention.{Layout, Returns}
-use Rattle.mv_select_calls.specs.Environment.{ServesCalls}
+use Rattle.mv_select_calls.specs.Environment.{IsFree, ServesCalls}
 use Rattle.mv_select_functions.specs.Functions.{part, alone}
 use Rattle.mv_select_slots.specs.Narrowed.{narrowed, has_bindings, words_alone}
 use Rattle.mv_select_slots.specs.Laws as narrow
 use Rattle.mv_refine_programs.specs.Hosts.{IsHost, IsOpenHost}
 use Rattle.mv_refine_programs.specs.Laws.{first_seen, HostsAreNarrowed, MainFollows, MainFollowsOpenly}
+
+-- ---- calls through pointer switches
+
+word_is : (globals : List (List ℕ)) (g : ℕ) → word_at globals g 0 ≡ scalar globals g
+word_is [] g = refl
+word_is ([] ∷ globals) zero = refl
+word_is ((word ∷ words) ∷ globals) zero = refl
+word_is (words ∷ globals) (suc g) = word_is globals g
+
+-- where there are no pointer switches, each is read from memory
+free_without : (p : Program) (numbers : List ℕ) → p.pointers ≡ [] → IsFree (setting_of numbers p)
+free_without p numbers none g w =
+    ap (λ gs. switched_at numbers (place_from (length (attributed_functions p)) gs g) g w) none ∙ word_is w.globals g
+
+-- ---- hosts
 
 module _ {M : Type 0} (told : FitIsTold) (keep : KnownsKeepFit) (alike : narrow.NarrowedAreAlike M) (runs : narrow.NarrowedRuns M)
     (access : Access M) (y : Layout) (machine : Machine M) (words : List Binding → ℕ → Option ℕ) (closed : (pc address : ℕ) → Bool) (budget far : ℕ) (p : Program) (numbers : List ℕ) where
@@ -23,11 +42,11 @@ module _ {M : Type 0} (told : FitIsTold) (keep : KnownsKeepFit) (alike : narrow.
   fit = narrowed machine (is_fit p) machine.text
 
   -- a call that is served leaves a fit world
-  serves_calls : ServesCalls access y machine budget far (setting_of numbers p) → ServesCalls access y fit budget far (setting_of numbers p)
-  serves_calls serves k args pc i may direct count word spare bound w stands asks paid asked =
+  serves_calls : length numbers ≡ length p.functions → ServesCalls access y machine budget far (setting_of numbers p) → ServesCalls access y fit budget far (setting_of numbers p)
+  serves_calls count_is serves k args pc i may direct count word spare bound w stands asks paid asked =
       let a = alike access y machine (is_fit p) machine.text budget far in
       let is : is_fit p w ≡ true = (and_parts (is_fit p (outside w)) (machine.is_calm (outside w) (machine.run i).memory) stands.calm).0 in
-      let after : IsFit p _ = keep p k args _ w ((told p w).0 is) in
+      let after : IsFit p _ = keep p numbers k args _ w count_is ((told p w).0 is) in
       let s = serves k args pc i may direct count word spare bound w ((a.0 pc w i is).1 stands) (record { number = asks.number; arguments = asks.arguments; order = asks.order; high = asks.high }) paid asked in
       (s.0, returns spare bound i (pc + 4) _ s.0 ((told p _).1 after) s.1, s.2)
     where
@@ -48,7 +67,7 @@ module _ {M : Type 0} (told : FitIsTold) (keep : KnownsKeepFit) (alike : narrow.
     runs_under = λ bs from to reach free s stands less.
         (runs access y machine (has_bindings bs)).1 (is_fit p) (part from to (words_alone (words bs))) machine.text s (h.runs_under bs from to reach free s stands less);
     entries = h.entries;
-    serves = record { calls = serves_calls h.calls; stub = h.stub };
+    serves = record { calls = serves_calls h.count h.calls; stub = h.stub; free = free_without p numbers h.none };
     fit = λ w m calm. (told p w).0 (and_parts (is_fit p w) (machine.is_calm w m) calm).0;
     slots = h.slots;
   }
@@ -61,11 +80,11 @@ hosts_narrowed M told keep alike runs access y machine words closed budget far p
 }
 
 pub main_openly : (M : Type 0) → FitIsTold → FirstIsFit → narrow.NarrowedAreAlike M → HostsAreNarrowed M → MainFollows M → MainFollowsOpenly M
-main_openly M told first alike hosts follows access y machine words closed budget far p numbers loaded numbering input actions fitting back i target ra begins stands bound =
+main_openly M told first alike hosts follows access y machine words closed budget far p numbers loaded numbering hart input actions fitting back i target ra begins stands bound =
     let a = alike access y machine (is_fit p) machine.text budget far in
-    let t : is_fit p (first_seen p numbers input actions) ≡ true = (told p (first_seen p numbers input actions)).1 (first p numbers input actions fitting) in
+    let t : is_fit p (first_seen p numbers hart input actions) ≡ true = (told p (first_seen p numbers hart input actions)).1 (first p numbers hart input actions fitting) in
     let m =
-    follows access y (narrowed machine (is_fit p) machine.text) words closed budget far p numbers (hosts access y machine words closed budget far p numbers loaded) numbering input actions fitting back i target ra
+    follows access y (narrowed machine (is_fit p) machine.text) words closed budget far p numbers (hosts access y machine words closed budget far p numbers loaded) numbering hart input actions fitting back i target ra
     (record { live = begins.live; left = begins.left; even = begins.even; room = begins.room; within = begins.within })
-    ((a.0 (y.entry p.main) (first_seen p numbers input actions) i t).0 stands) bound in
+    ((a.0 (y.entry p.main) (first_seen p numbers hart input actions) i t).0 stands) bound in
     (m.0, m.1, m.2, m.3, λ spare paid asked. a.2 spare bound i back m.0.end (m.4 spare paid asked))

@@ -50,7 +50,8 @@ pub record IsHost {M : Type 0} (access : Access M) (y : Layout) (machine : Machi
   pub fit : (w : World) (m : M) → machine.is_calm w m ≡ true → IsFit p w
   pub slots : (at f : ℕ) → machine.text.slot at ≡ Some f → IsPlace at × ((g : Function) → slice_get p.functions f ≡ Some g → g.attributed ≡ true)
 
--- A machine of which nothing is known of the worlds in which it is calm. Environment calls are served in any, orders and polls in fit ones.
+-- A machine of which nothing is known of the worlds in which it is calm. Environment calls are served in any, orders and polls in fit ones. Each function has a
+-- number, and there are no pointer switches.
 pub record IsOpenHost {M : Type 0} (access : Access M) (y : Layout) (machine : Machine M) (words : List Binding → ℕ → Option ℕ) (closed : (pc address : ℕ) → Bool) (budget far : ℕ) (p : Program) (numbers : List ℕ) : Type 0 where
   pub laid : IsLaid y
   pub memory : IsMemory access y machine
@@ -60,6 +61,8 @@ pub record IsOpenHost {M : Type 0} (access : Access M) (y : Layout) (machine : M
   pub entries : (f : ℕ) → f < length numbers → (slice_index numbers f ≡ y.entry f) × IsPlace (y.entry f)
   pub calls : ServesCalls access y machine budget far (setting_of numbers p)
   pub stub : ServesOrders access y (narrowed machine (is_fit p) machine.text) budget far (setting_of numbers p)
+  pub count : length numbers ≡ length p.functions
+  pub none : p.pointers ≡ []
   pub slots : (at f : ℕ) → machine.text.slot at ≡ Some f → IsPlace at × ((g : Function) → slice_get p.functions f ≡ Some g → g.attributed ≡ true)
 
 module _ (y : Layout) (text : Text) (words : List Binding → ℕ → Option ℕ) (closed : (pc address : ℕ) → Bool) (p : Program) (numbers : List ℕ) (f : ℕ) (g : Function) where

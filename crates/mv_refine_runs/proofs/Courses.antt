@@ -2,7 +2,6 @@
 use Rattle.std.proofs.Common.{◌≡◌, ◌⊎◌, inl, inr, ⊎_elim, ℕ, ◌+◌, ◌-◌, ◌*◌, ◌%◌, ◌^◌, ◌<◌, ◌≤◌, zero, suc, Bool, true, false, not, List, [], ◌∷◌, length, Contains, replicate, slice_index_or, Option, Some, None, refl, sym, ap, ◌∙◌, subst, arith}
 use Rattle.std.proofs.lemmas.Bool.{cases_lt, and_parts}
 use Rattle.std.proofs.lemmas.List.{length-map}
-use Rattle.mv_ast.specs.declared.world.Action.{Action}
 use Rattle.mv_ast.specs.declared.world.Binding.{Binding}
 use Rattle.mv_ast.specs.declared.program.Program.{Program}
 use Rattle.mv_fetch.specs.Held.{choices}
@@ -14,12 +13,13 @@ use Rattle.mv_ir.specs.Programs as code
 use Rattle.mv_ir.specs.Programs.{Ending, executed, execution_of}
 use Rattle.mv_ir.specs.Reached.{IsReached}
 use Rattle.mv_lower_correct.specs.Laws.{IsExecution, ending_of}
+use Rattle.mv_machine.specs.Acts.{PollActs}
 use Rattle.mv_machine.specs.Runs.{State, Stop, Going, Exit, Trap, bytes_to_come, first as first_state, runs}
 use Rattle.mv_meaning.specs.declared.meant.End as meant
 use Rattle.mv_meaning.specs.declared.meant.End.TheVariants as source
 use Rattle.mv_meaning.specs.declared.meant.Meant.{Meant}
 use Rattle.mv_meaning.specs.Growth.{Begins}
-use Rattle.mv_meaning.specs.Meaning.{mean}
+use Rattle.mv_meaning.specs.Meaning.{hart_mean}
 use Rattle.mv_meaning.proofs.Growing.{Begins-refl}
 use Rattle.mv_select_control.specs.Runs.{Machine, outside}
 use Rattle.mv_select_calls.specs.Convention.{Layout, FollowsCall}
@@ -146,25 +146,30 @@ module _ (tested : BetweenIsTested) (rooms : RoomsAreWhole) (closed : (pc addres
   changing_told : (old : List Binding) → SoundTells closed (texts_of image) (Some old) s → IsTextChanging image old s
   changing_told old told = record { words = (tested (texts_of image old) (texts_of image s.bindings) s.room.held).0 told.settled; apart = told.apart old refl }
 
+-- where none can be, none is
+none_calls : (under : Option (List Binding)) → ((old : List Binding) → under ≡ Some old → ⊥) → under ≡ None
+none_calls None never = refl
+none_calls (Some old) never = absurd (never old refl)
+
 -- ---- the run of an image
 
 module _ (quiet_tested : QuietIsTested) (tells : SoundPlacesTell) (tested : BetweenIsTested) (rooms : RoomsAreWhole) (exit_right : WatchedExitIsRight) (trap_right : WatchedTrapIsRight)
-    (attributed : List ℕ) (closed : (pc address : ℕ) → Bool) (p : Program) (image : Fields) (bytes : List ℕ) (actions : List Action) (picks : List ℕ) (y : Layout)
-    (rules : Rules image) (stubs : HasStubs attributed image y) (main : RunsMain attributed closed p image bytes actions picks y) where
+    (attributed : List ℕ) (closed : (pc address : ℕ) → Bool) (p : Program) (image : Fields) (bytes : List ℕ) (polls : PollActs) (picks : List ℕ) (y : Layout)
+    (rules : Rules image) (stubs : HasStubs attributed image y) (main : RunsMain attributed closed p image bytes polls picks y) where
   abbrev input : List (Option ℕ)
   input = bytes_to_come bytes
 
   abbrev start : State
-  start = first_state image input actions
+  start = first_state image input polls
 
   abbrev machine : Machine Watched
-  machine = watched_machine attributed closed image input actions picks
+  machine = watched_machine attributed closed image input polls picks
 
   abbrev state : ℕ → State
-  state n = runs image input actions picks n
+  state n = runs image input polls picks n
 
   abbrev under : ℕ → Option (List Binding)
-  under n = commit_at image bytes actions picks n
+  under n = commit_at image bytes polls picks n
 
   abbrev IsSound : ℕ → Type 0
   IsSound t = SoundAt closed image start picks t
@@ -206,7 +211,7 @@ module _ (quiet_tested : QuietIsTested) (tells : SoundPlacesTell) (tested : Betw
         let stands = f.1.stands in
         let paid = f.1.paid in
         let says = said bytes m (code.Exited (v % 256)) cost w x counts in
-        let ends = exit_right attributed closed image rules input actions picks stubs.place stubs.entry stubs.main_label stubs.start_ends stubs.start f.0 w
+        let ends = exit_right attributed closed image rules input polls picks stubs.place stubs.entry stubs.main_label stubs.start_ends stubs.start f.0 w
         (record { here = stands.at; quiet = inside w f.0 stands.calm; sound = stands.sound }) in record {
           world = w;
           last = f.0 + 1;
@@ -227,7 +232,7 @@ module _ (quiet_tested : QuietIsTested) (tells : SoundPlacesTell) (tested : Betw
           world = w;
           last = f.0 + 2;
           stop = Trap c;
-          ends = trap_right attributed closed image rules input actions picks c ge le stubs.place stubs.entry (y.trap c) (stubs.trap_ends c) placed f.0 w
+          ends = trap_right attributed closed image rules input polls picks c ge le stubs.place stubs.entry (y.trap c) (stubs.trap_ends c) placed f.0 w
               (record { here = f.1.at ∙ sym placed.1.label; quiet = inside w f.0 f.1.calm; sound = f.1.sound });
           soon = omega (arith, paid);
           says = says;
@@ -257,7 +262,7 @@ module _ (quiet_tested : QuietIsTested) (tells : SoundPlacesTell) (tested : Betw
     goes Stuck x reached valued f = absurd (never_stuck m.«end» x.ending)
 
   abbrev meaning : ℕ → Meant
-  meaning k = mean p bytes actions k
+  meaning k = hart_mean p polls.hart bytes polls.acts k
 
   -- what is left for main is enough for what its call costs
   abbrev main_budget : ℕ → ℕ
@@ -276,7 +281,7 @@ module _ (quiet_tested : QuietIsTested) (tells : SoundPlacesTell) (tested : Betw
     calm_within : (n : ℕ) → n ≤ t → IsWithin bytes (state n) m
     calm_within n le =
         let calm = quiet.calm in
-        let g = run_grew (first_state image input actions) picks n t le in
+        let g = run_grew (first_state image input polls) picks n t le in
         let fewer = g.input in
         let taken = says.taken in
         let left = left_over bytes (state t).input w calm.input in record {
@@ -286,12 +291,12 @@ module _ (quiet_tested : QuietIsTested) (tells : SoundPlacesTell) (tested : Betw
         }
 
     calm_going : (n : ℕ) → n ≤ t → (state n).stop ≡ Going
-    calm_going n le = going_before (first_state image input actions) picks n t le quiet.calm.goes_on
+    calm_going n le = going_before (first_state image input polls) picks n t le quiet.calm.goes_on
 
     calm_done : (n : ℕ) → t ≤ n → m.«end» ≡ source.More → HasDone (state n) m
     calm_done n le more =
         let calm = quiet.calm in
-        let g = run_grew (first_state image input actions) picks t n le in record {
+        let g = run_grew (first_state image input polls) picks t n le in record {
           output = subst (λ o. Begins o (state n).output) (calm.output ∙ sym says.output) g.output;
           log = subst (λ o. Begins o (state n).log) (calm.log ∙ sym says.log) g.log;
           ended = λ finished going. finished more;
@@ -382,7 +387,7 @@ module _ (quiet_tested : QuietIsTested) (tells : SoundPlacesTell) (tested : Betw
   told_under : (n : ℕ) (u : Option (List Binding)) → under n ≡ u → SoundTells closed (texts_of image) u (state n)
   told_under n u e = subst (λ v. SoundTells closed (texts_of image) v (state n)) e (told n)
 
-  pub behaves : Behaves p image bytes actions picks × LoadsWhatIsOpen image closed bytes actions picks
+  pub behaves : Behaves p image bytes polls picks × LoadsWhatIsOpen image closed bytes polls picks
   behaves = (
     record {
       within = within;
@@ -392,6 +397,7 @@ module _ (quiet_tested : QuietIsTested) (tells : SoundPlacesTell) (tested : Betw
       settled = λ n e. settled_told tested rooms closed image (state n) (told_under n None e);
       between = λ n old e. changing_told tested rooms closed image (state n) old (told_under n (Some old) e);
       over = none;
+      calls = λ n e. none_calls (under n) (λ old is. (told n).calls old is e);
       roomy = λ n pick. (told n).roomy pick;
     },
     λ n a going word c is.

@@ -35,6 +35,7 @@ unfolding answered
 plan_grew s = record {
   refuses = λ actions answer. record { output = Begins-refl s.output; log = Begins-refl s.log; input = omega arith };
   carries = λ room actions plan answer. record { output = Begins-refl s.output; log = (events_from 0 s.bindings plan.bound, refl); input = omega arith };
+  adopts = λ actions bs. record { output = Begins-refl s.output; log = (events_from 0 s.bindings bs, refl); input = omega arith };
   faults = record { output = Begins-refl s.output; log = Begins-refl s.log; input = omega arith };
 }
 

@@ -30,6 +30,7 @@ unfolding answered
 plan_stops s going = record {
   refuses = λ actions answer over. absurd (over going);
   carries = λ room actions plan answer over. absurd (over going);
+  adopts = λ actions bs over. absurd (over going);
   faults = λ over. refl;
 }
 

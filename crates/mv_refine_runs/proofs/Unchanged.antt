@@ -1,5 +1,5 @@
 -- With a live frame calls for plans and polls change nothing; and with all functions free settled text is the image's.
-use Rattle.std.proofs.Common.{◌≡◌, ◌≢◌, ℕ, ◌^◌, ◌-◌, Bool, false, cond, nat_eq, if◌then◌else◌, List, [], option_map, unwrap_or, Option, Some, None, refl, sym, ap, ◌∙◌, subst}
+use Rattle.std.proofs.Common.{◌≡◌, ◌≢◌, ℕ, ◌^◌, ◌-◌, Bool, true, false, ◌&&◌, cond, nat_eq, if◌then◌else◌, List, [], option_map, unwrap_or, Option, Some, None, refl, sym, ap, ◌∙◌, subst}
 use Rattle.std.proofs.lemmas.Bool.{ne_eqb}
 use Rattle.std.proofs.Math.Path.{fun_ext}
 use Rattle.std.specs.Result.{result_ok}
@@ -53,20 +53,24 @@ module _ (s : State) (live : live_frames s ≢ 0) where
   not_none = ne_eqb (live_frames s) 0 live
 
   -- what is done only without live frames isn't done
-  refuses : (idle busy : State) → IsUnchanged s busy → IsUnchanged s (if nat_eq (live_frames s) 0 then idle else busy)
-  refuses idle busy h = subst (λ (b : Bool). IsUnchanged s (if b then idle else busy)) (sym not_none) h
+  refuses : (also : Bool) (idle busy : State) → IsUnchanged s busy → IsUnchanged s (if also && nat_eq (live_frames s) 0 then idle else busy)
+  refuses also idle busy h = subst (λ (b : Bool). IsUnchanged s (if also && b then idle else busy)) (sym not_none) (never also)
+    where
+      never : (also : Bool) → IsUnchanged s (if also && false then idle else busy)
+      never true = h
+      never false = h
 
   planned_leaves : (code index : ℕ) → IsUnchanged s (planned s code index)
   unfolding planned
   planned_leaves code index =
       let busy = refused s (2 ^ 32 - 1) in
-      either (IsUnchanged s) (is_known_order s.image code index) (if nat_eq (live_frames s) 0 then ordered s code index else busy) (stopped s (Fault cause.Call))
-      (refuses (ordered s code index) busy (refused_leaves s (2 ^ 32 - 1)))
+      either (IsUnchanged s) (is_known_order s.image code index) (if nat_eq s.hart 0 && nat_eq (live_frames s) 0 then ordered s code index else busy) (stopped s (Fault cause.Call))
+      (refuses (nat_eq s.hart 0) (ordered s code index) busy (refused_leaves s (2 ^ 32 - 1)))
       (record { text = refl; older = refl; bindings = refl; actions = refl; log = refl })
 
   polled_leaves : IsUnchanged s (polled s)
   unfolding polled
-  polled_leaves = refuses (acted s s.actions) (refused s 0) (refused_leaves s 0)
+  polled_leaves = refuses true (acted s s.actions) (refused s 0) (refused_leaves s 0)
 
   call_leaves : (request : Request) → IsForPlan request → IsUnchanged s (environment_call request s)
   call_leaves Exits h = absurd h

@@ -1,24 +1,26 @@
 -- What the run of an image does, by what a program means.
 use Rattle.std.specs.Prelude.{ℕ, ◌≡◌, ◌≢◌, ◌+◌, ◌-◌, ◌*◌, ◌^◌, ◌<◌, ◌≤◌, Bool, false, IsTrue, List, [], length, replicate, All, Option, Some, None, option_and_then, Contains}
-use Rattle.mv_ast.specs.declared.world.Action.{Action}
 use Rattle.mv_ast.specs.declared.world.Binding.{Binding}
 use Rattle.mv_ast.specs.declared.program.Program.{Program}
-use Rattle.mv_ast.specs.Actions.{fits, IsOfWord}
+use Rattle.mv_ast.specs.Actions.{act_fits, IsActOfWord}
+use Rattle.mv_ast.specs.Counts.{instructions_per_work}
 use Rattle.mv_fetch.specs.Held.{choices}
 use Rattle.mv_image.specs.Patched.{text_of}
 use Rattle.mv_image.specs.Spelling.{Fields}
+use Rattle.mv_isa.specs.declared.instr.Instr.TheVariants.{Ecall}
 use Rattle.mv_isa.specs.Encoding.{decode}
 use Rattle.mv_select_functions.specs.Loads.{loads_from}
 use Rattle.mv_patch.specs.declared.prepared.Pair.{Pair}
 use Rattle.mv_patch.specs.Orders.{plan_between, values_of}
-use Rattle.mv_machine.specs.Commits.{commit_from}
+use Rattle.mv_machine.specs.Acts.{PollActs}
+use Rattle.mv_machine.specs.Commits.{commit_from, fetched_instr}
 use Rattle.mv_machine.specs.Runs.{State, Stop, Going, Exit, Trap, Fault, bytes_to_come, choices_at, first, runs}
 use Rattle.mv_machine.specs.Snapshots.{WantsMemory}
 use Rattle.mv_meaning.specs.declared.meant.End.{End}
 use Rattle.mv_meaning.specs.declared.meant.End.TheVariants as source
 use Rattle.mv_meaning.specs.declared.meant.Meant.{Meant}
 use Rattle.mv_meaning.specs.Growth.{Begins}
-use Rattle.mv_meaning.specs.Meaning.{mean}
+use Rattle.mv_meaning.specs.Meaning.{hart_mean}
 use Rattle.mv_refine_stores.specs.Between.{IsBetween}
 
 -- how many bytes of an input a state has taken
@@ -68,36 +70,49 @@ pub record IsTextChanging (image : Fields) (old : List Binding) (s : State) : Ty
 -- ---- runs
 
 -- the bindings from which the commit began that is under way after n instructions of a run; none where none is under way
-abbrev pub commit_at : Fields → (bytes : List ℕ) → List Action → (picks : List ℕ) → (n : ℕ) → Option (List Binding)
-commit_at image bytes actions picks n = commit_from (first image (bytes_to_come bytes) actions) picks n
+abbrev pub commit_at : Fields → (bytes : List ℕ) → PollActs → (picks : List ℕ) → (n : ℕ) → Option (List Binding)
+commit_at image bytes polls picks n = commit_from (first image (bytes_to_come bytes) polls) picks n
 
--- The run of an image on an input, with some of the operator's actions and by any picks of the fetches, does what a program means with them. After n
--- instructions it has done no more than the meaning at the bound n, and all of the meaning at each bound whose work is less than a hundredth of n. It ends
--- only as the meaning does. Each fetch has one choice, so that no pick matters. Text is that of the bindings, but while a commit is under way, when it is
--- between that of the bindings before and that of those behind it; no commit is under way in a run that has ended. No instruction wants memory, whatever
--- is picked.
-pub record Behaves (p : Program) (image : Fields) (bytes : List ℕ) (actions : List Action) (picks : List ℕ) : Type 0 where
-  pub within : (n : ℕ) → IsWithin bytes (runs image (bytes_to_come bytes) actions picks n) (mean p bytes actions n)
-  pub ends : (n : ℕ) → EndsRight bytes (runs image (bytes_to_come bytes) actions picks n) (mean p bytes actions n) (runs image (bytes_to_come bytes) actions picks n).stop
-  pub does : (n k : ℕ) → 100 * (1 + (mean p bytes actions k).work) ≤ n → HasDone (runs image (bytes_to_come bytes) actions picks n) (mean p bytes actions k)
-  pub fetches : (n : ℕ) → (runs image (bytes_to_come bytes) actions picks n).stop ≡ Going → choices_at (runs image (bytes_to_come bytes) actions picks n) ≡ 1
-  pub settled : (n : ℕ) → commit_at image bytes actions picks n ≡ None → IsTextSettled image (runs image (bytes_to_come bytes) actions picks n)
-  pub between : (n : ℕ) (old : List Binding) → commit_at image bytes actions picks n ≡ Some old → IsTextChanging image old (runs image (bytes_to_come bytes) actions picks n)
-  pub over : (n : ℕ) → ((runs image (bytes_to_come bytes) actions picks n).stop ≡ Going → ⊥) → commit_at image bytes actions picks n ≡ None
-  pub roomy : (n pick : ℕ) → WantsMemory (runs image (bytes_to_come bytes) actions picks n) pick → ⊥
+module _ (p : Program) (image : Fields) (bytes : List ℕ) (polls : PollActs) (picks : List ℕ) where
+  -- the state after n instructions
+  abbrev at : ℕ → State
+  at n = runs image (bytes_to_come bytes) polls picks n
+
+  -- what the program means in this hart, at the bound k
+  abbrev meant : ℕ → Meant
+  meant k = hart_mean p polls.hart bytes polls.acts k
+
+  abbrev under_way : ℕ → Option (List Binding)
+  under_way n = commit_at image bytes polls picks n
+
+  -- The run of an image in a hart, on an input, with some acts of its polls and by any picks of the fetches, does what a program means with them. After n
+  -- instructions it has done no more than the meaning at the bound n, and all of the meaning at each bound whose work is less than a hundredth of n. It ends
+  -- only as the meaning does. Each fetch has one choice, so that no pick matters. Text is that of the bindings, but while a commit is under way, when it is
+  -- between that of the bindings before and that of those behind it; no commit is under way in a run that has ended, nor where an environment call is made. No
+  -- instruction wants memory, whatever is picked.
+  pub record Behaves : Type 0 where
+    pub within : (n : ℕ) → IsWithin bytes (at n) (meant n)
+    pub ends : (n : ℕ) → EndsRight bytes (at n) (meant n) (at n).stop
+    pub does : (n k : ℕ) → instructions_per_work * (1 + (meant k).work) ≤ n → HasDone (at n) (meant k)
+    pub fetches : (n : ℕ) → (at n).stop ≡ Going → choices_at (at n) ≡ 1
+    pub settled : (n : ℕ) → under_way n ≡ None → IsTextSettled image (at n)
+    pub between : (n : ℕ) (old : List Binding) → under_way n ≡ Some old → IsTextChanging image old (at n)
+    pub over : (n : ℕ) → ((at n).stop ≡ Going → ⊥) → under_way n ≡ None
+    pub calls : (n : ℕ) → fetched_instr (at n) 0 ≡ Some Ecall → under_way n ≡ None
+    pub roomy : (n pick : ℕ) → WantsMemory (at n) pick → ⊥
 
 -- where a word, read as an instruction, loads from, if it is a load
 abbrev pub word_loads : (regs : List ℕ) → ℕ → Option ℕ
 word_loads regs word = option_and_then (λ i. loads_from i regs) (decode word)
 
 -- No instruction of the run loads from an address that is closed to what stands at its place, whatever is picked.
-abbrev pub LoadsWhatIsOpen : Fields → (closed : (pc address : ℕ) → Bool) → (bytes : List ℕ) → List Action → (picks : List ℕ) → Type 0
-LoadsWhatIsOpen image closed bytes actions picks =
-    (n a : ℕ) → let s = runs image (bytes_to_come bytes) actions picks n in
+abbrev pub LoadsWhatIsOpen : Fields → (closed : (pc address : ℕ) → Bool) → (bytes : List ℕ) → PollActs → (picks : List ℕ) → Type 0
+LoadsWhatIsOpen image closed bytes polls picks =
+    (n a : ℕ) → let s = runs image (bytes_to_come bytes) polls picks n in
     s.stop ≡ Going → (word : ℕ) → Contains (choices s.room.held s.pc) word → word_loads s.regs word ≡ Some a → closed s.pc a ≡ false
 
--- It does what the program means on each input of bytes, with any actions whose values are words and that fit the program, whatever is picked.
+-- In each hart it does what the program means on each input of bytes, with any acts whose values are words and that fit the program there, whatever is picked.
 abbrev pub BehavesAlways : Program → Fields → Type 0
 BehavesAlways p image =
-    (bytes : List ℕ) (actions : List Action) (picks : List ℕ) → All (λ b. b < 2 ^ 8) bytes → All IsOfWord actions → All (λ a. IsTrue (fits p a)) actions →
-    Behaves p image bytes actions picks
+    (bytes : List ℕ) (polls : PollActs) (picks : List ℕ) → All (λ b. b < 2 ^ 8) bytes → All IsActOfWord polls.acts → All (λ a. IsTrue (act_fits p polls.hart a)) polls.acts →
+    Behaves p image bytes polls picks

@@ -1,6 +1,5 @@
 -- What main comes to, in code and on a run that has entered it.
 use Rattle.std.specs.Prelude.{ℕ, ◌≡◌, ◌+◌, ◌≤◌, Bool, List, length, None}
-use Rattle.mv_ast.specs.declared.world.Action.{Action}
 use Rattle.mv_ast.specs.declared.program.Program.{Program}
 use Rattle.mv_image.specs.Spelling.{Fields}
 use Rattle.mv_ir.specs.World.{World}
@@ -8,8 +7,9 @@ use Rattle.mv_ir.specs.Outcome.{Call, Returned}
 use Rattle.mv_ir.specs.Programs.{execution_of}
 use Rattle.mv_ir.specs.Reached.{IsReached}
 use Rattle.mv_lower_correct.specs.Laws.{IsExecution}
+use Rattle.mv_machine.specs.Acts.{PollActs}
 use Rattle.mv_machine.specs.Runs.{bytes_to_come}
-use Rattle.mv_meaning.specs.Meaning.{mean}
+use Rattle.mv_meaning.specs.Meaning.{hart_mean}
 use Rattle.mv_select_control.specs.Placed.{Placed}
 use Rattle.mv_select_calls.specs.Convention.{Layout, FollowsCall}
 use Rattle.mv_refine_machine.specs.MachineRuns.{machine_text}
@@ -30,19 +30,19 @@ pub record HasStubs (attributed : List ℕ) (image : Fields) (y : Layout) : Type
 abbrev pub main_cost : ℕ
 main_cost = 44
 
-module _ (attributed : List ℕ) (closed : (pc address : ℕ) → Bool) (p : Program) (image : Fields) (bytes : List ℕ) (actions : List Action) (picks : List ℕ) (y : Layout) (first : World) where
-  -- At a bound, with so much paid and asked for, a call of main comes to what the program means with the actions, and it returns a value where it returns;
+module _ (attributed : List ℕ) (closed : (pc address : ℕ) → Bool) (p : Program) (image : Fields) (bytes : List ℕ) (polls : PollActs) (picks : List ℕ) (y : Layout) (first : World) where
+  -- At a bound, with so much paid and asked for, a call of main comes to what the program means in the hart with the acts, and it returns a value where it returns;
   -- and after the three instructions of the start stub, the run, also while commits are made, does what that call does.
   pub record CallsMain (budget far k : ℕ) : Type 0 where
     pub call : Call
-    pub means : IsExecution (mean p bytes actions k) (execution_of first call.cost call.end)
+    pub means : IsExecution (hart_mean p polls.hart bytes polls.acts k) (execution_of first call.cost call.end)
     pub reached : IsReached first call.end
     pub returns : (w : World) → call.end ≡ Returned None w → ⊥
     pub follows : (spare : ℕ) → 3 + (spare + main_cost + call.cost) ≤ budget → far ≤ 3 + k →
-        FollowsCall access y (watched_machine attributed closed image (bytes_to_come bytes) actions picks) budget far spare k 3 return_address call.end
+        FollowsCall access y (watched_machine attributed closed image (bytes_to_come bytes) polls picks) budget far spare k 3 return_address call.end
 
 -- The run calls main at every bound, whatever is paid and asked for, from a world that has the input.
-pub record RunsMain (attributed : List ℕ) (closed : (pc address : ℕ) → Bool) (p : Program) (image : Fields) (bytes : List ℕ) (actions : List Action) (picks : List ℕ) (y : Layout) : Type 0 where
+pub record RunsMain (attributed : List ℕ) (closed : (pc address : ℕ) → Bool) (p : Program) (image : Fields) (bytes : List ℕ) (polls : PollActs) (picks : List ℕ) (y : Layout) : Type 0 where
   pub first : World
   pub input : first.taken + length first.input ≡ length bytes
-  pub calls : (budget far k : ℕ) → CallsMain attributed closed p image bytes actions picks y first budget far k
+  pub calls : (budget far k : ℕ) → CallsMain attributed closed p image bytes polls picks y first budget far k

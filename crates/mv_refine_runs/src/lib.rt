@@ -1,12 +1,12 @@
 //! What the run of an image does, by what the program means.
 //!
 //! - `images_behave`: where the stubs stand in an image that keeps the rules, and the run does what a call of `main` does,
-//!   the run of the image does what the program means with the same actions of the operator (`Behaves`), on each input,
-//!   whatever the fetches pick: after n instructions it has written, logged and taken no more than the meaning has at bound
+//!   the run of the image does what the program means in the same hart, with the same acts of its polls (`Behaves`), on
+//!   each input, whatever the fetches pick: after n instructions it has written, logged and taken no more than the meaning has at bound
 //!   n, and it has ended, by an exit or a trap and never by a fault, only as that meaning has, with all its output; it has
 //!   done all of the meaning at each bound at which 100 times one more than the work is at most n; each of its fetches has
-//!   one choice, and no instruction wants memory. While no commit is under way, as in a run that has ended, text is that of
-//!   the present bindings and nothing older may be fetched; while one is, each word of text is that of the bindings before
+//!   one choice, and no instruction wants memory. While no commit is under way, as in a run that has ended and where an
+//!   environment call is made, text is that of the present bindings and nothing older may be fetched; while one is, each word of text is that of the bindings before
 //!   or that of those behind, and pc stands at no word that the commit changes. And no instruction loads from an address
 //!   that is closed to its place (`LoadsWhatIsOpen`), where `main` keeps to that.
 //! - `unchanged_text_law`: a commit, a revert or a poll that is asked for while a frame of an attributed function is live

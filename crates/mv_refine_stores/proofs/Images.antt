@@ -19,7 +19,8 @@ use Rattle.mv_image.proofs.Limits.{is_within}
 use Rattle.mv_fetch.specs.Held.{Room, choices}
 use Rattle.mv_patch.specs.declared.prepared.Pair.{Pair}
 use Rattle.mv_patch.specs.Pairs.{place, pairs_between, IsDifference}
-use Rattle.mv_refine_stores.specs.Stores.{stored_all, AreTexts}
+use Rattle.mv_patch.specs.Stores.{stored_all}
+use Rattle.mv_refine_stores.specs.Stores.{AreTexts}
 use Rattle.mv_refine_stores.specs.Between.{IsSettled}
 use Rattle.mv_refine_stores.specs.Laws.{IsNeverPatched}
 use Rattle.mv_patch.specs.Tables.{patchable}

@@ -7,7 +7,7 @@ use Rattle.mv_fetch.specs.Stores.{spared}
 use Rattle.mv_fetch.proofs.Parts.{joined_4}
 use Rattle.mv_rv32.specs.Stepping.{access}
 use Rattle.mv_patch.specs.Pairs.{place, pair_of}
-use Rattle.mv_refine_stores.specs.Stores.{stored}
+use Rattle.mv_patch.specs.Stores.{stored}
 
 -- ---- addresses
 

@@ -12,7 +12,8 @@ use Rattle.std.proofs.lemmas.Bool.{cond_both, le-ltb}
 use Rattle.mv_rv32.specs.Stepping.{access}
 use Rattle.mv_patch.specs.declared.prepared.Pair.{Pair}
 use Rattle.mv_patch.specs.Pairs.{pair_of, place, text_start, pairs_between}
-use Rattle.mv_refine_stores.specs.Stores.{stored, stored_all, AreTexts}
+use Rattle.mv_patch.specs.Stores.{stored, stored_all}
+use Rattle.mv_refine_stores.specs.Stores.{AreTexts}
 use Rattle.mv_refine_stores.specs.Between.{IsWhole, IsSettled, IsWordBetween, IsBetween, IsStored}
 use Rattle.mv_refine_stores.proofs.Places.{choices_at, store_is}
 use Rattle.mv_patch.proofs.Pairs.{Marches, pairs_march, front_marches, back_marches, at_least, difference_has_pair}

@@ -8,7 +8,8 @@ use Rattle.std.proofs.lemmas.Option.{slice_get_within, get_or_from_slice_get}
 use Rattle.mv_fetch.specs.Held.{Room, index_of, remember, older_at}
 use Rattle.mv_patch.specs.declared.prepared.Pair.{Pair}
 use Rattle.mv_patch.specs.Pairs.{pair_of, place}
-use Rattle.mv_refine_stores.specs.Stores.{stored, stored_all, AreTexts}
+use Rattle.mv_patch.specs.Stores.{stored, stored_all}
+use Rattle.mv_refine_stores.specs.Stores.{AreTexts}
 use Rattle.mv_refine_stores.proofs.Places.{index_at}
 use Rattle.mv_patch.proofs.Pairs.{Marches, at_least}
 use Rattle.mv_num.proofs.Lists.{get_set_same, get_set_other}

@@ -6,7 +6,7 @@ use Rattle.mv_fetch.specs.Held.{Held, Room, choices, choices_of, older_at}
 use Rattle.mv_rv32.specs.Stepping.{access}
 use Rattle.mv_patch.specs.declared.prepared.Pair.{Pair}
 use Rattle.mv_patch.specs.Pairs.{pair_of, place, pairs_between}
-use Rattle.mv_refine_stores.specs.Stores.{stored_all}
+use Rattle.mv_patch.specs.Stores.{stored_all}
 
 -- how many older words there are
 abbrev pub count_older : List (List ℕ) → ℕ

@@ -10,7 +10,8 @@ use Rattle.mv_image.specs.Patched.{Bindings, entry_at, site_at, site_before, tex
 use Rattle.mv_patch.specs.declared.prepared.Pair.{Pair}
 use Rattle.mv_patch.specs.Pairs.{place, pairs_between}
 use Rattle.mv_patch.specs.Tables.{patchable}
-use Rattle.mv_refine_stores.specs.Stores.{stored_all, AreTexts, IsInRange}
+use Rattle.mv_patch.specs.Stores.{stored_all}
+use Rattle.mv_refine_stores.specs.Stores.{AreTexts, IsInRange}
 use Rattle.mv_refine_stores.specs.Between.{count_older, IsWhole, IsSettled, IsBetween, is_between, IsStored}
 
 abbrev pub PairsAreInRange : Type 0

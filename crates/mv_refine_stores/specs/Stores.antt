@@ -1,24 +1,10 @@
--- Stores of whole words into text, one after the other.
-use Rattle.std.specs.Prelude.{ℕ, ◌≡◌, ◌-◌, ◌%◌, ◌^◌, ◌<◌, ◌≤◌, List, [], ◌∷◌, length, slice_index, slice_set}
+-- Texts between which words are stored, and pairs that lie in text.
+use Rattle.std.specs.Prelude.{ℕ, ◌≡◌, ◌%◌, ◌^◌, ◌<◌, ◌≤◌, List, length}
 use Rattle.mv_num.specs.Bytes.{AreWords}
 use Rattle.mv_num.specs.Regions.{data_start}
-use Rattle.mv_fetch.specs.Held.{Room, IsInText, index_of, remember}
+use Rattle.mv_fetch.specs.Held.{IsInText}
 use Rattle.mv_patch.specs.declared.prepared.Pair.{Pair}
 use Rattle.mv_patch.specs.Pairs.{place}
-
--- a word is put at an address of text, where the present word gets the newest of the older ones
-unfoldable pub stored : Room → Pair → Room
-stored room pair =
-    let k = index_of pair.address in
-    record {
-      held = record room.held { text = slice_set room.held.text k pair.word; older = remember room.held.older k (slice_index room.held.text k) };
-      spare = room.spare - 1;
-      reserve = room.reserve;
-    }
-
-unfoldable pub stored_all : Room → List Pair → Room
-stored_all room [] = room
-stored_all room (pair ∷ pairs) = stored_all (stored room pair) pairs
 
 -- Two texts of one length, of words, that lie where text may stand.
 pub record AreTexts (old new : List ℕ) : Type 0 where

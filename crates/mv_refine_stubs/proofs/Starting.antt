@@ -1,6 +1,6 @@
 -- A run that begins at the start stub comes to main.
 use Rattle.std.proofs.Common.{◌≡◌, ℕ, Bool, true, false, cond, eqb, List, replicate, refl, sym, ap, ◌∙◌, subst, arith}
-use Rattle.mv_ast.specs.declared.world.Action.{Action}
+use Rattle.mv_machine.specs.Acts.{PollActs}
 use Rattle.mv_ast.specs.Traps.{depth_limit}
 use Rattle.mv_isa.specs.Execution.{reg}
 use Rattle.mv_fetch.specs.Held.{first as first_memory}
@@ -33,48 +33,48 @@ zeros : (n q : ℕ) → reg (replicate n 0) q ≡ 0
 unfolding reg
 zeros n q = ap (cond (eqb q 0) 0) (zeros_at n q) ∙ either_way (eqb q 0) 0
 
-first_zero : (image : Fields) (bytes : List ℕ) (actions : List Action) (q : ℕ) → reg (first image (bytes_to_come bytes) actions).regs q ≡ 0
+first_zero : (image : Fields) (bytes : List ℕ) (polls : PollActs) (q : ℕ) → reg (first image (bytes_to_come bytes) polls).regs q ≡ 0
 unfolding first
-first_zero image bytes actions q = zeros 32 q
+first_zero image bytes polls q = zeros 32 q
 
-pub first_entry : (image : Fields) (bytes : List ℕ) (actions : List Action) → (first image (bytes_to_come bytes) actions).pc ≡ image.entry
+pub first_entry : (image : Fields) (bytes : List ℕ) (polls : PollActs) → (first image (bytes_to_come bytes) polls).pc ≡ image.entry
 unfolding first
-first_entry image bytes actions = refl
+first_entry image bytes polls = refl
 
-first_data : (image : Fields) (bytes : List ℕ) (actions : List Action) → (first image (bytes_to_come bytes) actions).room.held.globals ≡ image.globals
+first_data : (image : Fields) (bytes : List ℕ) (polls : PollActs) → (first image (bytes_to_come bytes) polls).room.held.globals ≡ image.globals
 unfolding first first_memory
-first_data image bytes actions = refl
+first_data image bytes polls = refl
 
 -- ---- the walk
 
 module _ (tested : CalmIsTested) (are_runs : RunsAreRuns) (begin_in_calm : RunsBeginInCalm)
-    (attributed : List ℕ) (closed : (pc address : ℕ) → Bool) (image : Fields) (bytes : List ℕ) (actions : List Action) (picks : List ℕ) (y : Layout) (budget far : ℕ) (w : World)
+    (attributed : List ℕ) (closed : (pc address : ℕ) → Bool) (image : Fields) (bytes : List ℕ) (polls : PollActs) (picks : List ℕ) (y : Layout) (budget far : ℕ) (w : World)
     (begins : IsFirst image bytes w) (held : HoldsData y image w) (entry_is : image.entry ≡ start_address)
     (place entry : ℕ → ℕ) (main_label end : ℕ) (p : Placed (machine_text attributed image) place entry (start_lines main_label) start_address end) where
   abbrev machine : Machine Rest
-  machine = machine_of attributed closed image (bytes_to_come bytes) actions picks
+  machine = machine_of attributed closed image (bytes_to_come bytes) polls picks
 
   ok : IsRun access (no_frame entry) machine
-  ok = walked.ok tested are_runs attributed closed image (bytes_to_come bytes) actions picks place entry
+  ok = walked.ok tested are_runs attributed closed image (bytes_to_come bytes) polls picks place entry
 
   abbrev start : State
-  start = first image (bytes_to_come bytes) actions
+  start = first image (bytes_to_come bytes) polls
 
-  none : runs image (bytes_to_come bytes) actions picks 0 ≡ start
+  none : runs image (bytes_to_come bytes) polls picks 0 ≡ start
   none = runs_none start picks
 
   open machine.run 0 use {memory as m, regs as regs0}
 
   zero0 : (q : ℕ) → reg regs0 q ≡ 0
-  zero0 q = ap (λ (s : State). reg s.regs q) none ∙ first_zero image bytes actions q
+  zero0 q = ap (λ (s : State). reg s.regs q) none ∙ first_zero image bytes polls q
 
   are0 : AreRegisters regs0
   are0 = record { count = ok.registers 0; words = λ q. let e = zero0 q in omega (arith, e) }
 
   at0 : At access machine place entry ok w start_address regs0 m 0
   at0 = record {
-    is = ap (λ (a : ℕ). record (machine.run 0) { pc = a }) (ap (λ (s : State). s.pc) none ∙ first_entry image bytes actions ∙ entry_is);
-    calm = begin_in_calm attributed closed image bytes actions picks (no_frame entry) w begins;
+    is = ap (λ (a : ℕ). record (machine.run 0) { pc = a }) (ap (λ (s : State). s.pc) none ∙ first_entry image bytes polls ∙ entry_is);
+    calm = begin_in_calm attributed closed image bytes polls picks (no_frame entry) w begins;
     sound = λ t lt. absurd (omega (arith, lt));
   }
 
@@ -85,7 +85,7 @@ module _ (tested : CalmIsTested) (are_runs : RunsAreRuns) (begin_in_calm : RunsB
   holds q v e = subst (λ (x : Spot Rest). reg x.regs q ≡ v) (sym at3.is) e
 
   globals0 : HoldsGlobals access y machine budget far w m
-  globals0 = data_held y image w held m (ap (λ (s : State). s.room.held.globals) none ∙ first_data image bytes actions) machine budget far
+  globals0 = data_held y image w held m (ap (λ (s : State). s.room.held.globals) none ∙ first_data image bytes polls) machine budget far
 
   stands : Stands access y machine budget far (place main_label) w 3
   stands = record {

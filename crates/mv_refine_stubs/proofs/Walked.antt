@@ -1,6 +1,6 @@
 -- Lines of stubs that a run walks.
 use Rattle.std.proofs.Common.{◌≡◌, inl, ℕ, ◌+◌, ◌^◌, ◌<◌, Bool, false, true, List, length, pos, Option, refl, sym, ap, ◌∙◌, subst, arith}
-use Rattle.mv_ast.specs.declared.world.Action.{Action}
+use Rattle.mv_machine.specs.Acts.{PollActs}
 use Rattle.mv_ast.specs.Traps.{depth_limit}
 use Rattle.mv_num.specs.Words.{add, shl}
 use Rattle.mv_isa.specs.declared.instr.Instr.{Instr}
@@ -187,17 +187,17 @@ unfolding execute
 call_is regs pc m = refl
 
 module _ (tested : CalmIsTested) (are_runs : RunsAreRuns)
-    (attributed : List ℕ) (closed : (pc address : ℕ) → Bool) (image : Fields) (input : List (Option ℕ)) (actions : List Action) (picks : List ℕ) (place entry : ℕ → ℕ) where
+    (attributed : List ℕ) (closed : (pc address : ℕ) → Bool) (image : Fields) (input : List (Option ℕ)) (polls : PollActs) (picks : List ℕ) (place entry : ℕ → ℕ) where
   abbrev pub machine : Machine Rest
-  machine = machine_of attributed closed image input actions picks
+  machine = machine_of attributed closed image input polls picks
 
   abbrev pub run : ℕ → Spot Rest
   run = machine.run
 
   pub ok : IsRun access (no_frame entry) machine
-  ok = are_runs attributed closed image input actions picks (no_frame entry) (none_inside entry) (λ pc a may. absurd cc)
+  ok = are_runs attributed closed image input polls picks (no_frame entry) (none_inside entry) (λ pc a may. absurd cc)
 
-  pub comes : (pc i : ℕ) (w : World) → ComesTo closed image input actions picks pc w i → At access machine place entry ok w pc (run i).regs (run i).memory i
+  pub comes : (pc i : ℕ) (w : World) → ComesTo closed image input polls picks pc w i → At access machine place entry ok w pc (run i).regs (run i).memory i
   comes pc i w h = record {
     is = ap (λ (a : ℕ). record (run i) { pc = a }) h.at;
     calm = (tested image (outside w) (run i).memory).1 (calm_outside image w (run i).memory h.calm);
@@ -215,7 +215,7 @@ module _ (tested : CalmIsTested) (are_runs : RunsAreRuns)
 
   -- one instruction on, the run stands at an environment call, with the argument that it had
   pub record Requests (number : ℕ) (w : World) (regs : List ℕ) (t : ℕ) : Type 0 where
-    pub call : AtCall image input actions picks number (t + 1) w
+    pub call : AtCall image input polls picks number (t + 1) w
     pub argument : reg (run (t + 1)).regs 10 ≡ reg regs 10
     pub sound : (s : ℕ) → s < t + 1 → machine.is_sound (run s) ≡ true
 

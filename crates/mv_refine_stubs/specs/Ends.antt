@@ -1,6 +1,6 @@
 -- How a run ends.
 use Rattle.std.specs.Prelude.{ℕ, ◌≡◌, ◌<◌, ◌≤◌, Bool, true, List, Option}
-use Rattle.mv_ast.specs.declared.world.Action.{Action}
+use Rattle.mv_machine.specs.Acts.{PollActs}
 use Rattle.mv_image.specs.Spelling.{Fields}
 use Rattle.mv_ir.specs.World.{World}
 use Rattle.mv_machine.specs.Runs.{Stop, bytes_to_come}
@@ -16,9 +16,9 @@ pub record HasStopped (w : World) (stop : Stop) (m : Rest) : Type 0 where
   pub bindings : m.bindings ≡ w.bindings
   pub log : m.log ≡ w.log
 
-module _ (closed : (pc address : ℕ) → Bool) (image : Fields) (input : List (Option ℕ)) (actions : List Action) (picks : List ℕ) where
+module _ (closed : (pc address : ℕ) → Bool) (image : Fields) (input : List (Option ℕ)) (polls : PollActs) (picks : List ℕ) where
   abbrev run : ℕ → Spot Rest
-  run = run_of image input actions picks
+  run = run_of image input polls picks
 
   -- a time of the run stands at a place and is calm, and so far each place was sound
   pub record ComesTo (pc : ℕ) (w : World) (i : ℕ) : Type 0 where

@@ -2,7 +2,7 @@
 use Rattle.std.specs.Prelude.{ℕ, ◌≡◌, ◌+◌, ◌*◌, ◌%◌, ◌^◌, ◌<◌, ◌≤◌, Bool, List, length, map, sum, take, slice_index_or, [], Option}
 use Rattle.std.specs.List.{All, flat_map}
 use Rattle.mv_num.specs.Regions.{data_start}
-use Rattle.mv_ast.specs.declared.world.Action.{Action}
+use Rattle.mv_machine.specs.Acts.{PollActs}
 use Rattle.mv_ast.specs.Traps.{depth_limit}
 use Rattle.mv_isa.specs.Execution.{reg}
 use Rattle.mv_image.specs.Spelling.{Fields}
@@ -39,23 +39,23 @@ pub record EntersMain (y : Layout) (machine : Machine Rest) (budget far place : 
 -- Where the start stub stands at an image's entry, the run is at main after three instructions.
 abbrev pub StartIsRight : Type 0
 StartIsRight =
-    (attributed : List ℕ) (closed : (pc address : ℕ) → Bool) (image : Fields) (bytes : List ℕ) (actions : List Action) (picks : List ℕ) (y : Layout) (budget far : ℕ) (w : World) →
+    (attributed : List ℕ) (closed : (pc address : ℕ) → Bool) (image : Fields) (bytes : List ℕ) (polls : PollActs) (picks : List ℕ) (y : Layout) (budget far : ℕ) (w : World) →
     IsFirst image bytes w → HoldsData y image w → image.entry ≡ start_address →
     (place entry : ℕ → ℕ) (main_label end : ℕ) → Placed (machine_text attributed image) place entry (start_lines main_label) start_address end →
-    EntersMain y (machine_of attributed closed image (bytes_to_come bytes) actions picks) budget far (place main_label) w 3
+    EntersMain y (machine_of attributed closed image (bytes_to_come bytes) polls picks) budget far (place main_label) w 3
 
 -- Behind it, where main returns to, two instructions end the run with what main returned, modulo 256.
 abbrev pub ExitIsRight : Type 0
 ExitIsRight =
-    (attributed : List ℕ) (closed : (pc address : ℕ) → Bool) (image : Fields) (input : List (Option ℕ)) (actions : List Action) (picks : List ℕ) →
+    (attributed : List ℕ) (closed : (pc address : ℕ) → Bool) (image : Fields) (input : List (Option ℕ)) (polls : PollActs) (picks : List ℕ) →
     (place entry : ℕ → ℕ) (main_label end : ℕ) → Placed (machine_text attributed image) place entry (start_lines main_label) start_address end →
-    (i : ℕ) (w : World) → ComesTo closed image input actions picks return_address w i →
-    EndsAfter closed image input actions picks w (i + 1) (Exit (reg (run_of image input actions picks i).regs first % 2 ^ 8))
+    (i : ℕ) (w : World) → ComesTo closed image input polls picks return_address w i →
+    EndsAfter closed image input polls picks w (i + 1) (Exit (reg (run_of image input polls picks i).regs first % 2 ^ 8))
 
 -- Where the stub of a trap stands, three instructions end the run with its code.
 abbrev pub TrapIsRight : Type 0
 TrapIsRight =
-    (attributed : List ℕ) (closed : (pc address : ℕ) → Bool) (image : Fields) (input : List (Option ℕ)) (actions : List Action) (picks : List ℕ) (code : ℕ) → 1 ≤ code → code ≤ 4 →
+    (attributed : List ℕ) (closed : (pc address : ℕ) → Bool) (image : Fields) (input : List (Option ℕ)) (polls : PollActs) (picks : List ℕ) (code : ℕ) → 1 ≤ code → code ≤ 4 →
     (place entry : ℕ → ℕ) (at end : ℕ) → Placed (machine_text attributed image) place entry (trap_lines code) at end →
-    (i : ℕ) (w : World) → ComesTo closed image input actions picks (place (trap_label code)) w i →
-    EndsAfter closed image input actions picks w (i + 2) (Trap code)
+    (i : ℕ) (w : World) → ComesTo closed image input polls picks (place (trap_label code)) w i →
+    EndsAfter closed image input polls picks w (i + 2) (Trap code)

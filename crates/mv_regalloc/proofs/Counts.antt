@@ -13,9 +13,9 @@ use Rattle.mv_ir.specs.declared.stm.Stm.TheOpen as stm
 use Rattle.mv_ir.specs.declared.stm.Stm.TheViews.{roll-Stm}
 use Rattle.mv_ir.specs.declared.stm.Stm.TheFolds.{map-Stm}
 use Rattle.mv_ir.specs.Trees.{node_count, nodes, node_depth, depth, nodes_of_all}
-use Rattle.mv_ir.specs.Measures.{joined, total, layer_reads, tree_reads, callee_trees, layer_trees, stm_trees, trees, layer_arrays, stm_arrays, arrays_read, layer_size, stm_size, statements, layer_calls, stm_calls, calls, tree_nodes, scalars_read, deepest, deepest_of}
+use Rattle.mv_ir.specs.Measures.{joined, total, layer_reads, tree_reads, callee_trees, layer_trees, stm_trees, trees, callee_read, layer_arrays, stm_arrays, arrays_read, layer_size, stm_size, statements, layer_calls, stm_calls, calls, tree_nodes, scalars_read, deepest, deepest_of}
 use Rattle.mv_ir.specs.declared.stm.Array.{Array}
-use Rattle.mv_ir.specs.WellFormed.{layer_targets, stm_targets, layer_named, stm_named, named, known_arguments, layer_arguments, stm_arguments}
+use Rattle.mv_ir.specs.WellFormed.{layer_targets, stm_targets, callee_named, layer_named, stm_named, named, known_arguments, layer_arguments, stm_arguments}
 use Rattle.mv_ir.proofs.Induction.{Each, TreeChildren, tree_ind, StmChildren, stm_ind, stms_ind}
 use Rattle.mv_ir.proofs.Rolls.{nodes_roll, depth_roll, reads_roll, trees_roll, arrays_roll, size_roll, calls_roll, targets_roll, named_roll, arguments_roll}
 use Rattle.mv_ir.proofs.Keeping.{map_append}
@@ -84,6 +84,7 @@ module _ (c : ℕ → ℕ) where
   callee_trees_renamed : (f : Callee) → callee_trees (renamed_callee c f) ≡ map (renamed_tree c) (callee_trees f)
   callee_trees_renamed (callee.Direct f) = refl
   callee_trees_renamed (callee.Through t) = refl
+  callee_trees_renamed (callee.Switched g) = refl
 
   trees_layer : (x : Stm-F Stm) → StmChildren HasTrees x → layer_trees (map-Stm Stm (List Tree) stm_trees (renamed_layer c (map-Stm Stm Stm (renamed_stm c) x))) ≡ map (renamed_tree c) (layer_trees (map-Stm Stm (List Tree) stm_trees x))
   trees_layer (stm.Set t v) h = refl
@@ -176,6 +177,11 @@ module _ (c : ℕ → ℕ) where
   blind_calls (stm.Known r k args) = refl
   blind_calls (stm.Return v) = refl
 
+  callee_read_renamed : (f : Callee) → callee_read (renamed_callee c f) ≡ callee_read f
+  callee_read_renamed (callee.Direct f) = refl
+  callee_read_renamed (callee.Through t) = refl
+  callee_read_renamed (callee.Switched g) = refl
+
   blind_arrays : (x : Stm-F (List ℕ)) → layer_arrays (renamed_layer c x) ≡ layer_arrays x
   blind_arrays (stm.Set t v) = refl
   blind_arrays (stm.SetGlobal k v) = refl
@@ -189,7 +195,7 @@ module _ (c : ℕ → ℕ) where
   blind_arrays (stm.Block b) = refl
   blind_arrays (stm.Break n) = refl
   blind_arrays (stm.Back n) = refl
-  blind_arrays (stm.Call r f args) = refl
+  blind_arrays (stm.Call r f args) = callee_read_renamed f
   blind_arrays (stm.Known r k args) = refl
   blind_arrays (stm.Return v) = refl
 
@@ -214,6 +220,11 @@ module _ (c : ℕ → ℕ) where
   blind_targets (stm.Known r k args) = refl
   blind_targets (stm.Return v) = refl
 
+  callee_named_renamed : (f : Callee) → callee_named (renamed_callee c f) ≡ callee_named f
+  callee_named_renamed (callee.Direct f) = refl
+  callee_named_renamed (callee.Through t) = refl
+  callee_named_renamed (callee.Switched g) = refl
+
   blind_named : (x : Stm-F (List Array)) → layer_named (renamed_layer c x) ≡ layer_named x
   blind_named (stm.Set t v) = refl
   blind_named (stm.SetGlobal k v) = refl
@@ -227,7 +238,7 @@ module _ (c : ℕ → ℕ) where
   blind_named (stm.Block b) = refl
   blind_named (stm.Break n) = refl
   blind_named (stm.Back n) = refl
-  blind_named (stm.Call r f args) = refl
+  blind_named (stm.Call r f args) = callee_named_renamed f
   blind_named (stm.Known r k args) = refl
   blind_named (stm.Return v) = refl
 

@@ -50,6 +50,7 @@ fn read_callee(temps: &mut List<u32>, callee: &Callee) -> Result<(), AllocError>
     match callee {
         Callee::Direct(_) => Ok(()),
         Callee::Through(t) => read_tree(temps, t),
+        Callee::Switched(_) => Ok(()),
     }
 }
 

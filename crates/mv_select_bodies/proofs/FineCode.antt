@@ -8,19 +8,21 @@ use Rattle.mv_ir.specs.declared.tree.Tree.TheOpen as tree
 use Rattle.mv_ir.specs.declared.tree.Tree.TheViews.{roll-Tree}
 use Rattle.mv_ir.specs.declared.stm.Array.{Array}
 use Rattle.mv_ir.specs.declared.stm.Array.TheVariants as array
+use Rattle.mv_ir.specs.declared.stm.Callee.{Callee}
+use Rattle.mv_ir.specs.declared.stm.Callee.TheVariants as callee
 use Rattle.mv_ir.specs.declared.stm.Stm.{Stm}
 use Rattle.mv_ir.specs.declared.stm.Stm.TheOpen.{Stm-F}
 use Rattle.mv_ir.specs.declared.stm.Stm.TheOpen as stm
 use Rattle.mv_ir.specs.declared.stm.Stm.TheViews.{roll-Stm}
 use Rattle.mv_ir.specs.declared.stm.Stm.TheFolds.{fold-roll-Stm, map-Stm}
-use Rattle.mv_ir.specs.Measures.{joined, callee_trees, layer_trees, stm_trees, array_read, layer_arrays, stm_arrays}
+use Rattle.mv_ir.specs.Measures.{joined, callee_trees, layer_trees, stm_trees, array_read, callee_read, layer_arrays, stm_arrays}
 use Rattle.mv_ir.specs.Live.{reads_temp, any_reads, is, Around, Flow, with_after, around_block, around_loop, live_in_order, marks_in_order, live_at_loop, layer_flow, flow, mark_at}
 use Rattle.mv_ir.specs.WellFormed.{known_arguments, layer_named, stm_named, layer_arguments, stm_arguments, all_true}
 use Rattle.mv_ir.proofs.Induction.{Each, TreeChildren, tree_ind, StmChildren, stm_ind, stms_ind}
 use Rattle.mv_ir.proofs.Rolls.{reads_temp_roll, trees_roll, named_roll, arrays_roll, arguments_roll, flow_roll}
 use Rattle.mv_select_trees.specs.TreeCode.{temps_of}
 use Rattle.mv_select_trees.proofs.Rolls.{temps_roll}
-use Rattle.mv_select_control.specs.FlowCode.{Uses, may_read, may_write, fine_target, fine_known, fine_layer, is_fine_statement, are_fine}
+use Rattle.mv_select_control.specs.FlowCode.{Uses, may_read, may_write, fine_target, fine_callee, fine_known, fine_layer, is_fine_statement, are_fine}
 use Rattle.mv_select_control.proofs.StatementsDo.{fine_roll}
 use Rattle.mv_select_bodies.specs.SelectedBodies.{knowns_layer, stm_knowns, written_layer, stm_written}
 use Rattle.mv_select_bodies.proofs.Lists.{each_both, true_each, each_weaker}
@@ -251,6 +253,11 @@ module _ (is_fine : Tree → Bool) (may_ask : Known → Bool) (limit : ℕ) (use
   element_written (array.Global g) h = h.0
   element_written (array.Local a) h = refl
 
+  callee_fine : (c : Callee) → Each P (callee_trees c) → Each (ReadsBelow limit) (callee_trees c) → Each IsRead (callee_read c) → fine_callee is_fine may_ask limit uses c ≡ true
+  callee_fine (callee.Direct f) h r k = refl
+  callee_fine (callee.Through t) h r k = tree_fine t h.0 r.0
+  callee_fine (callee.Switched g) h r k = k.0
+
   layer : (x : Stm-F Stm) → StmChildren IsFineStm x → LayerFine x
   layer (stm.Set t v) f r h m =
       let on = λ (t : ℕ). (r t).next in
@@ -280,11 +287,11 @@ module _ (is_fine : Tree → Bool) (may_ask : Known → Bool) (limit : ℕ) (use
       let on = λ (t : ℕ). (r t).next in
       let reads = callee_trees c ++ args in
       let below = trees_below limit reads w on (λ t. (m t).0) in
-      let of_callee = fine_trees (callee_trees c) (each_first P (callee_trees c) args h.trees) (each_first (ReadsBelow limit) (callee_trees c) args below) in
+      let of_callee = callee_fine c (each_first P (callee_trees c) args h.trees) (each_first (ReadsBelow limit) (callee_trees c) args below) h.arrays in
       let of_args = fine_trees args (each_right P (callee_trees c) args h.trees) (each_right (ReadsBelow limit) (callee_trees c) args below) in
       let target = target_fine w (target_below limit reads w on (λ t. (m t).0)) in
-      let trees = and_from (all_true (map is_fine (callee_trees c))) (all_true (map is_fine args)) of_callee of_args in
-      let callee_and_args = all_true (map is_fine (callee_trees c)) && all_true (map is_fine args) in
+      let trees = and_from (fine_callee is_fine may_ask limit uses c) (all_true (map is_fine args)) of_callee of_args in
+      let callee_and_args = fine_callee is_fine may_ask limit uses c && all_true (map is_fine args) in
       let is_target = fine_target is_fine may_ask limit uses w in
       and_from (ltb (length args) 9) (is_target && callee_and_args) h.arguments (and_from is_target callee_and_args target trees)
   layer (stm.Known w k args) f r h m =

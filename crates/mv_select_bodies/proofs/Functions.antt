@@ -6,15 +6,17 @@ use Rattle.mv_ir.specs.declared.tree.Tree.{Tree}
 use Rattle.mv_ir.specs.declared.stm.Array.{Array}
 use Rattle.mv_ir.specs.declared.stm.Array.TheVariants as array
 use Rattle.mv_ir.specs.declared.body.Body.{Body}
+use Rattle.mv_ir.specs.declared.stm.Callee.{Callee}
+use Rattle.mv_ir.specs.declared.stm.Callee.TheVariants as callee
 use Rattle.mv_ir.specs.declared.stm.Stm.{Stm}
 use Rattle.mv_ir.specs.declared.stm.Stm.TheOpen.{Stm-F}
 use Rattle.mv_ir.specs.declared.stm.Stm.TheOpen as stm
 use Rattle.mv_ir.specs.declared.stm.Stm.TheFolds.{map-Stm}
 use Rattle.mv_ir.specs.Trees.{found, depth}
 use Rattle.mv_ir.specs.World as ir
-use Rattle.mv_ir.specs.Measures.{trees, tree_reads, scalars_read, array_read, layer_arrays, stm_arrays, arrays_read}
+use Rattle.mv_ir.specs.Measures.{trees, tree_reads, scalars_read, array_read, callee_read, layer_arrays, stm_arrays, arrays_read}
 use Rattle.mv_ir.specs.Live.{live_at_start, HasTemps, nowhere}
-use Rattle.mv_ir.specs.WellFormed.{has_room, layer_named, stm_named, named}
+use Rattle.mv_ir.specs.WellFormed.{has_room, callee_named, layer_named, stm_named, named}
 use Rattle.mv_ir.proofs.Induction.{Each, each_append, StmChildren, stm_ind, stms_ind}
 use Rattle.mv_ir.proofs.Rolls.{named_roll, arrays_roll}
 use Rattle.mv_select_statements.specs.Frames.{Reach, view_of, IsFine}
@@ -105,6 +107,11 @@ module _ (is_known : ℕ → Bool) where
   array_known (array.Global g) h = (h, tt)
   array_known (array.Local l) h = tt
 
+  callee_known : (f : Callee) → Each (IsKnownArray is_known) (callee_named f) → Each (λ g. is_known g ≡ true) (callee_read f)
+  callee_known (callee.Direct f) h = tt
+  callee_known (callee.Through t) h = tt
+  callee_known (callee.Switched g) h = (h.0, tt)
+
   inner : (code : List Stm) → Each ReadsKnownArrays code → Each (IsKnownArray is_known) (named code) → Each (λ g. is_known g ≡ true) (arrays_read code)
   inner [] c h = tt
   inner (s ∷ code) c h =
@@ -119,6 +126,7 @@ module _ (is_known : ℕ → Bool) where
       (inner b c.1 (each_right (IsKnownArray is_known) (named a) (named b) h))
   layer (stm.Loop b) c h = inner b c h
   layer (stm.Block b) c h = inner b c h
+  layer (stm.Call r f args) c h = callee_known f h
   layer _ c h = tt
 
   arrays_known : (code : List Stm) → Each (IsKnownArray is_known) (named code) → Each (λ g. is_known g ≡ true) (arrays_read code)

@@ -92,7 +92,10 @@ words_direct f = no_words
 pub words_through : (t : Tree) → AreWords (tree_constants t) → AreWords (constants_of_all (callee_trees (callee.Through t)))
 words_through t h = one_tree t h
 
-pub ruleset callees = (words_direct, words_through)
+pub words_switched : (g : ℕ) → AreWords (constants_of_all (callee_trees (callee.Switched g)))
+words_switched g = no_words
+
+pub ruleset callees = (words_direct, words_through, words_switched)
 
 code_both : (a b : List Stm) → HasWords a → HasWords b → HasWords (a ++ b)
 code_both a b h k = record {

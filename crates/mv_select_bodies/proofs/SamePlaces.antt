@@ -19,7 +19,7 @@ use Rattle.mv_ir.specs.declared.stm.Stm.TheViews.{roll-Stm}
 use Rattle.mv_ir.specs.declared.stm.Stm.TheFolds.{map-Stm}
 use Rattle.mv_ir.specs.declared.body.Body.{Body}
 use Rattle.mv_ir.specs.Measures.{callee_trees, layer_trees, stm_trees, trees, layer_reads, tree_reads, scalars_read}
-use Rattle.mv_ir.specs.WellFormed.{layer_named, stm_named, named, has_room, is_there, IsWellFormed}
+use Rattle.mv_ir.specs.WellFormed.{callee_named, layer_named, stm_named, named, has_room, is_there, IsWellFormed}
 use Rattle.mv_ir.proofs.Induction.{Each, TreeChildren, tree_ind, StmChildren, stm_ind, stms_ind}
 use Rattle.mv_ir.proofs.Rolls.{reads_roll, trees_roll, named_roll}
 use Rattle.mv_select_trees.specs.TreeCode.{one, two, upper_bits, lower_bits, load_lines, unary_lines, operator_lines, keeps_words, narrow_lines, own_register, unless, tree_into, tree_lines, operand_lines, operand_register, immediate_of}
@@ -32,7 +32,7 @@ use Rattle.mv_select_control.specs.FlowCode.{Plan, Emitted, both, branch_code, i
 use Rattle.mv_select_control.specs.FlowCode as flow_code
 use Rattle.mv_select_control.specs.Layouts.{size_in}
 use Rattle.mv_select_control.proofs.StatementsDo.{code_roll}
-use Rattle.mv_select_calls.specs.CallCode.{scratch_register, request_register, request_of, guarded_lines, jump_lines, argument_lines, transfer_lines, call_lines, order_lines, ask_lines, result_lines, known_lines}
+use Rattle.mv_select_calls.specs.CallCode.{scratch_register, request_register, request_of, pointer_lines, argument_lines, transfer_lines, call_lines, order_lines, ask_lines, result_lines, known_lines}
 use Rattle.mv_select_functions.specs.FunctionCode.{end_label, Shape, bytes_of, plan, prologue_lines, epilogue_lines, function_lines}
 use Rattle.mv_select_functions.specs.Functions.{shape_of}
 use Rattle.mv_select_bodies.specs.SelectedBodies.{CodeIsTheSame}
@@ -91,15 +91,17 @@ module _ (is_known : ℕ → Bool) where
         ap (λ l. l ++ argument_lines place (suc n) ts) (same_into t h.0 n scratch_register) ∙
         ap (λ l. tree_into place' t n scratch_register ++ l) (same_arguments (suc n) ts h.1)
 
-    same_transfer : (is_attributed : ℕ → Bool) (f : Callee) (r : Option ℕ) → Each ReadsKnown (callee_trees f) → transfer_lines place is_attributed f r ≡ transfer_lines place' is_attributed f r
-    same_transfer is_attributed (callee.Direct f) r h = refl
-    same_transfer is_attributed (callee.Through t) r h = ap (λ l. l ++ (Branch 0 scratch_register 0 (trap_label 3) ∷ guarded_lines jump_lines r)) (same_tree t h.0 scratch_register)
+    same_transfer : (is_attributed : ℕ → Bool) (f : Callee) (r : Option ℕ) → Each ReadsKnown (callee_trees f) → Each IsKnownArray (callee_named f) →
+        transfer_lines place is_attributed f r ≡ transfer_lines place' is_attributed f r
+    same_transfer is_attributed (callee.Direct f) r h k = refl
+    same_transfer is_attributed (callee.Through t) r h k = ap (λ l. l ++ pointer_lines r) (same_tree t h.0 scratch_register)
+    same_transfer is_attributed (callee.Switched g) r h k = ap (λ a. load_lines a scratch_register ++ pointer_lines r) (same_place g k.0)
 
-    same_call : (is_attributed : ℕ → Bool) (r : Option ℕ) (f : Callee) (args : List Tree) → Each ReadsKnown (callee_trees f ++ args) →
+    same_call : (is_attributed : ℕ → Bool) (r : Option ℕ) (f : Callee) (args : List Tree) → Each ReadsKnown (callee_trees f ++ args) → Each IsKnownArray (callee_named f) →
         call_lines place is_attributed r f args ≡ call_lines place' is_attributed r f args
-    same_call is_attributed r f args h =
+    same_call is_attributed r f args h k =
         ap (λ l. l ++ transfer_lines place is_attributed f r) (same_arguments first args (each_right ReadsKnown (callee_trees f) args h)) ∙
-        ap (λ l. argument_lines place' first args ++ l) (same_transfer is_attributed f r (each_first ReadsKnown (callee_trees f) args h))
+        ap (λ l. argument_lines place' first args ++ l) (same_transfer is_attributed f r (each_first ReadsKnown (callee_trees f) args h) k)
 
     same_known_call : (r : Option ℕ) (k : Known) (args : List Tree) → Each ReadsKnown args → known_lines place r k args ≡ known_lines place' r k args
     same_known_call r k args h =
@@ -182,7 +184,7 @@ module _ (is_known : ℕ → Bool) where
       layer (stm.Block b) c h k = ap block_code (same_code b c h k)
       layer (stm.Break n) c h k = refl
       layer (stm.Back n) c h k = refl
-      layer (stm.Call r f args) c h k = ap plain (same_call is_attributed r f args h)
+      layer (stm.Call r f args) c h k = ap plain (same_call is_attributed r f args h k)
       layer (stm.Known r f args) c h k = ap plain (same_known_call r f args h)
       layer (stm.Return v) c h k = ap (λ l. plain (l ++ (Jump 0 end_label ∷ []))) (same_tree v h.0 first)
 

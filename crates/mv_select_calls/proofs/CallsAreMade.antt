@@ -3,18 +3,18 @@ use Rattle.std.proofs.Common.{◌≡◌, ℕ, suc, Bool, true, false, cond, List
 use Rattle.std.proofs.lemmas.List.Elements.{All-head}
 use Rattle.mv_ast.specs.declared.program.Known.{Known}
 use Rattle.mv_ast.specs.declared.program.Known.TheVariants.{Getchar, Putchar, Poll, Plan}
-use Rattle.mv_isa.specs.declared.instr.Instr.TheVariants.{Addi, Jalr, Ecall}
+use Rattle.mv_isa.specs.declared.instr.Instr.TheVariants.{Addi, Lui, Lw, Jalr, Ecall}
 use Rattle.mv_isa.specs.declared.labelled.Line.{Line}
 use Rattle.mv_isa.specs.declared.labelled.Line.TheVariants.{Word, Jump, Branch, Entry}
 use Rattle.mv_ir.specs.declared.tree.Tree.{Tree}
 use Rattle.mv_ir.specs.declared.stm.Callee.{Callee}
 use Rattle.mv_ir.specs.declared.stm.Callee.TheVariants as callee
-use Rattle.mv_select_trees.specs.TreeCode.{one, number_lines, minus_one, tree_into, tree_lines}
+use Rattle.mv_select_trees.specs.TreeCode.{one, upper_bits, lower_bits, number_lines, load_lines, minus_one, tree_into, tree_lines}
 use Rattle.mv_select_statements.specs.StatementCode.{first, second, trap_label, write_temp}
 use Rattle.mv_select_control.specs.Labels.{tree_functions, callee_functions, functions_of_all}
 use Rattle.mv_select_control.proofs.TreeNames.{all_front, all_back}
 use Rattle.mv_select_control.proofs.StatementsAreMade.{LineByLine, number_made, tree_made, into_made}
-use Rattle.mv_select_calls.specs.CallCode.{link_register, left_register, request_register, scratch_register, request_of, commit_label, result_lines, back_lines, guarded_lines, slot_lines, jump_lines, argument_lines, transfer_lines, call_lines, order_lines, ask_lines, known_lines}
+use Rattle.mv_select_calls.specs.CallCode.{link_register, left_register, request_register, scratch_register, request_of, commit_label, result_lines, back_lines, guarded_lines, slot_lines, jump_lines, pointer_lines, argument_lines, transfer_lines, call_lines, order_lines, ask_lines, known_lines}
 
 module _ {P : List Line → Type 0} {L J Q : ℕ → Type 0} (made : LineByLine P L J Q) where
   pub result_made : (r : Option ℕ) → P (result_lines r)
@@ -66,6 +66,10 @@ module _ {P : List Line → Type 0} {L J Q : ℕ → Type 0} (made : LineByLine 
         let less = Addi left_register left_register minus_one in
         guarded_made jump_lines r (made.after (one less) jump_lines (made.word less) (made.word (Jalr link_register scratch_register (pos 0))))
 
+    pointer_made : (r : Option ℕ) → P (pointer_lines r)
+    pointer_made r =
+        made.after (Branch 0 scratch_register 0 (trap_label 3) ∷ []) (guarded_lines jump_lines r) (made.branch 0 scratch_register 0 (trap_label 3) null) (jumped_made r)
+
     direct_made : (is_slot : Bool) (f : ℕ) (r : Option ℕ) → Q f → (is_slot ≡ true → S f)
         → P (cond is_slot (guarded_lines (slot_lines f) r) (Entry scratch_register f ∷ guarded_lines jump_lines r))
     direct_made true f r h is = guarded_made (slot_lines f) r (slot f (is refl))
@@ -74,11 +78,11 @@ module _ {P : List Line → Type 0} {L J Q : ℕ → Type 0} (made : LineByLine 
     module _ (place : ℕ → ℕ) (is_attributed : ℕ → Bool) (slots : (f : ℕ) → Q f → is_attributed f ≡ true → S f) where
       transfer_made : (f : Callee) (r : Option ℕ) → All Q (callee_functions f) → P (transfer_lines place is_attributed f r)
       transfer_made (callee.Direct f) r h = let named = All-head Q f [] h in direct_made (is_attributed f) f r named (slots f named)
-      transfer_made (callee.Through t) r h =
-          let test = Branch 0 scratch_register 0 (trap_label 3) ∷ [] in
-          let go = guarded_lines jump_lines r in
-          made.after (tree_lines place t scratch_register) (test ++ go) (tree_made made place t h scratch_register)
-          (made.after test go (made.branch 0 scratch_register 0 (trap_label 3) null) (jumped_made r))
+      transfer_made (callee.Through t) r h = made.after (tree_lines place t scratch_register) (pointer_lines r) (tree_made made place t h scratch_register) (pointer_made r)
+      transfer_made (callee.Switched g) r h =
+          let upper = Lui scratch_register (pos (upper_bits (place g))) in
+          let load = Lw scratch_register scratch_register (lower_bits (place g)) in
+          made.after (load_lines (place g) scratch_register) (pointer_lines r) (made.after (one upper) (one load) (made.word upper) (made.word load)) (pointer_made r)
 
       pub call_made : (r : Option ℕ) (f : Callee) (args : List Tree) → All Q (callee_functions f ++ functions_of_all args) → P (call_lines place is_attributed r f args)
       call_made r f args h =

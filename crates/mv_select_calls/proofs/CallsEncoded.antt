@@ -5,7 +5,7 @@ use Rattle.std.proofs.lemmas.Int.{ints}
 use Rattle.std.proofs.lemmas.List.Elements.{All-cons, All-nil, All-head, All-tail}
 use Rattle.mv_ast.specs.declared.program.Known.{Known}
 use Rattle.mv_ast.specs.declared.program.Known.TheVariants.{Getchar, Putchar, Poll, Plan}
-use Rattle.mv_isa.specs.declared.instr.Instr.TheVariants.{Addi, Jalr, Ecall}
+use Rattle.mv_isa.specs.declared.instr.Instr.TheVariants.{Addi, Lui, Lw, Jalr, Ecall}
 use Rattle.mv_isa.specs.declared.labelled.Line.{Line}
 use Rattle.mv_isa.specs.declared.labelled.Line.TheVariants.{Jump, Branch, Entry, Slot}
 use Rattle.mv_isa.specs.Code.{LineFits}
@@ -14,15 +14,15 @@ use Rattle.mv_ir.specs.declared.stm.Callee.{Callee}
 use Rattle.mv_ir.specs.declared.stm.Callee.TheVariants as callee
 use Rattle.mv_ir.specs.Measures.{callee_trees}
 use Rattle.mv_ir.specs.Trees.{nodes, nodes_of_all}
-use Rattle.mv_select_trees.specs.TreeCode.{one, number_lines, minus_one, tree_into, tree_lines}
+use Rattle.mv_select_trees.specs.TreeCode.{one, upper_bits, lower_bits, number_lines, load_lines, minus_one, tree_into, tree_lines}
 use Rattle.mv_select_trees.proofs.TreesAreShort.{number_size, into_short}
-use Rattle.mv_select_trees.proofs.TreesFit.{small_fits, number_fits, into_fits}
+use Rattle.mv_select_trees.proofs.TreesFit.{lower_fits, upper_fits, small_fits, number_fits, into_fits}
 use Rattle.mv_select_statements.specs.StatementCode.{first, second, trap_label, write_temp}
 use Rattle.mv_select_statements.specs.Encoded.{IsCode, IsSmall}
 use Rattle.mv_select_statements.proofs.EncodedCode.{both, wider, single, branch, write_fits, tree_code}
 use Rattle.mv_select_control.specs.FlowCode.{fine_known}
 use Rattle.mv_select_control.specs.Layouts.{any_global, any_known, is_small}
-use Rattle.mv_select_calls.specs.CallCode.{link_register, left_register, request_register, scratch_register, request_of, commit_label, result_lines, guard_lines, back_lines, guarded_lines, slot_lines, jump_lines, argument_lines, transfer_lines, call_lines, order_lines, ask_lines, known_lines}
+use Rattle.mv_select_calls.specs.CallCode.{link_register, left_register, request_register, scratch_register, request_of, commit_label, result_lines, guard_lines, back_lines, guarded_lines, slot_lines, jump_lines, pointer_lines, argument_lines, transfer_lines, call_lines, order_lines, ask_lines, known_lines}
 use Rattle.mv_select_calls.specs.Lines.{CallsHaveCode}
 use Rattle.mv_select_calls.proofs.Small.{HasRoom, FineParts, call_callee, call_parts, known_order, known_parts}
 use Rattle.mv_num.proofs.Booleans.{and_left}
@@ -61,6 +61,16 @@ guarded_code n go r room h =
 jump_code : (r : Option ℕ) → HasRoom r → IsCode 6 (guarded_lines jump_lines r)
 jump_code r room = guarded_code 1 jump_lines r room (single (Jalr link_register scratch_register (pos 0)) (omega arith, omega arith, small_fits 0 (omega arith)))
 
+pointer_code : (r : Option ℕ) → HasRoom r → IsCode 8 (pointer_lines r)
+pointer_code r room =
+    both 2 6 (Branch 0 scratch_register 0 (trap_label 3) ∷ []) (guarded_lines jump_lines r) (branch 0 scratch_register 0 (trap_label 3) (inl (omega arith)) (omega arith) (omega arith)) (jump_code r room)
+
+load_code : (at : ℕ) → IsCode 2 (load_lines at scratch_register)
+load_code at =
+    let upper = Lui scratch_register (pos (upper_bits at)) in
+    let load = Lw scratch_register scratch_register (lower_bits at) in
+    both 1 1 (one upper) (one load) (single upper (omega arith, upper_fits at)) (single load (omega arith, omega arith, lower_fits at))
+
 direct_code : (is_slot : Bool) (f : ℕ) (r : Option ℕ) → HasRoom r
     → IsCode 8 (cond is_slot (guarded_lines (slot_lines f) r) (Entry scratch_register f ∷ guarded_lines jump_lines r))
 direct_code true f r room = wider 7 8 (guarded_lines (slot_lines f) r) (omega arith) (guarded_code 2 (slot_lines f) r room (slot f))
@@ -79,25 +89,25 @@ module _ (place : ℕ → ℕ) where
       (arguments_code (suc n) ts (omega (arith, le)) (All-tail IsSmall t ts h)))
 
   module _ (is_attributed : ℕ → Bool) where
-    transfer_code : (f : Callee) (r : Option ℕ) → HasRoom r → All IsSmall (callee_trees f) → IsCode (2 * nodes_of_all (callee_trees f) + 8) (transfer_lines place is_attributed f r)
-    transfer_code (callee.Direct f) r room h = wider 8 (2 * nodes_of_all (callee_trees (callee.Direct f)) + 8) _ (omega arith) (direct_code (is_attributed f) f r room)
+    transfer_code : (f : Callee) (r : Option ℕ) → HasRoom r → All IsSmall (callee_trees f) → IsCode (2 * nodes_of_all (callee_trees f) + 10) (transfer_lines place is_attributed f r)
+    transfer_code (callee.Direct f) r room h = wider 8 (2 * nodes_of_all (callee_trees (callee.Direct f)) + 10) _ (omega arith) (direct_code (is_attributed f) f r room)
     transfer_code (callee.Through t) r room h =
         let tree = tree_lines place t scratch_register in
-        let test = Branch 0 scratch_register 0 (trap_label 3) ∷ [] in
-        wider (2 * nodes t + 8) (2 * nodes_of_all (t ∷ []) + 8) (tree ++ (test ++ guarded_lines jump_lines r)) (omega arith)
-        (both (2 * nodes t) 8 tree (test ++ guarded_lines jump_lines r) (tree_code place t scratch_register (omega arith) (All-head IsSmall t [] h))
-        (both 2 6 test (guarded_lines jump_lines r) (branch 0 scratch_register 0 (trap_label 3) (inl (omega arith)) (omega arith) (omega arith)) (jump_code r room)))
+        wider (2 * nodes t + 8) (2 * nodes_of_all (t ∷ []) + 10) (tree ++ pointer_lines r) (omega arith)
+        (both (2 * nodes t) 8 tree (pointer_lines r) (tree_code place t scratch_register (omega arith) (All-head IsSmall t [] h)) (pointer_code r room))
+    transfer_code (callee.Switched g) r room h = both 2 8 (load_lines (place g) scratch_register) (pointer_lines r) (load_code (place g)) (pointer_code r room)
 
     callee_nodes : (f : Callee) (args : List Tree) → nodes_of_all (callee_trees f ++ args) ≡ nodes_of_all (callee_trees f) + nodes_of_all args
     callee_nodes (callee.Direct f) args = omega arith
     callee_nodes (callee.Through t) args = omega arith
+    callee_nodes (callee.Switched g) args = omega arith
 
     call_code : (r : Option ℕ) (f : Callee) (args : List Tree) → FineParts 8 r args → All IsSmall (callee_trees f)
         → IsCode (2 * nodes_of_all (callee_trees f ++ args) + 16) (call_lines place is_attributed r f args)
     call_code r f args fine h =
         let few = fine.few in
         let total = callee_nodes f args in
-        let k = 2 * nodes_of_all (callee_trees f) + 8 in
+        let k = 2 * nodes_of_all (callee_trees f) + 10 in
         let n = 2 * nodes_of_all args in
         let go = transfer_lines place is_attributed f r in
         wider (n + k) (2 * nodes_of_all (callee_trees f ++ args) + 16) (argument_lines place first args ++ go) (omega (arith, few, total))

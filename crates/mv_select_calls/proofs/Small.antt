@@ -6,10 +6,11 @@ use Rattle.mv_ast.specs.declared.program.Known.{Known}
 use Rattle.mv_ast.specs.declared.program.Known.TheVariants.{Getchar, Putchar, Poll, Plan}
 use Rattle.mv_ir.specs.declared.tree.Tree.{Tree}
 use Rattle.mv_ir.specs.declared.stm.Callee.{Callee}
+use Rattle.mv_ir.specs.declared.stm.Callee.TheVariants as callee
 use Rattle.mv_ir.specs.Measures.{callee_trees}
 use Rattle.mv_ir.specs.WellFormed.{known_arguments, all_true}
 use Rattle.mv_select_statements.specs.Encoded.{IsSmall}
-use Rattle.mv_select_control.specs.FlowCode.{fine_target, fine_known}
+use Rattle.mv_select_control.specs.FlowCode.{fine_target, fine_callee, fine_known}
 use Rattle.mv_select_control.specs.Layouts.{any_global, any_known, is_small, small_call, small_known}
 use Rattle.mv_select_control.proofs.Small.{small_tree}
 use Rattle.mv_num.proofs.Booleans.{and_right, and_left}
@@ -36,24 +37,32 @@ pub record FineParts (most : ℕ) (r : Option ℕ) (args : List Tree) : Type 0 w
 abbrev target : Option ℕ → Bool
 target r = fine_target is_small any_known 507 any_global r
 
+abbrev small_callee : Callee → Bool
+small_callee f = fine_callee is_small any_known 507 any_global f
+
+callee_small : (f : Callee) → small_callee f ≡ true → All IsSmall (callee_trees f)
+callee_small (callee.Direct f) h = All-nil IsSmall
+callee_small (callee.Through t) h = All-cons IsSmall t [] (small_tree t h) (All-nil IsSmall)
+callee_small (callee.Switched g) h = All-nil IsSmall
+
 abbrev smalls : List Tree → Bool
 smalls ts = all_true (map is_small ts)
 
 module _ (r : Option ℕ) (f : Callee) (args : List Tree) (small : small_call r f args ≡ true) where
-  others : (target r && (smalls (callee_trees f) && smalls args)) ≡ true
-  others = and_right (ltb (length args) 9) (target r && (smalls (callee_trees f) && smalls args)) small
+  others : (target r && (small_callee f && smalls args)) ≡ true
+  others = and_right (ltb (length args) 9) (target r && (small_callee f && smalls args)) small
 
-  trees : (smalls (callee_trees f) && smalls args) ≡ true
-  trees = and_right (target r) (smalls (callee_trees f) && smalls args) others
+  trees : (small_callee f && smalls args) ≡ true
+  trees = and_right (target r) (small_callee f && smalls args) others
 
   pub call_callee : All IsSmall (callee_trees f)
-  call_callee = all_small (callee_trees f) (and_left (smalls (callee_trees f)) (smalls args) trees)
+  call_callee = callee_small f (and_left (small_callee f) (smalls args) trees)
 
   pub call_parts : FineParts 8 r args
   call_parts = record {
-    few = let lt = ltb-true (length args) 9 (and_left (ltb (length args) 9) (target r && (smalls (callee_trees f) && smalls args)) small) in omega (arith, lt);
-    room = has_room r (and_left (target r) (smalls (callee_trees f) && smalls args) others);
-    trees = all_small args (and_right (smalls (callee_trees f)) (smalls args) trees);
+    few = let lt = ltb-true (length args) 9 (and_left (ltb (length args) 9) (target r && (small_callee f && smalls args)) small) in omega (arith, lt);
+    room = has_room r (and_left (target r) (small_callee f && smalls args) others);
+    trees = all_small args (and_right (small_callee f) (smalls args) trees);
   }
 
 pub few_arguments : (k : Known) → known_arguments k ≤ 1

@@ -12,7 +12,7 @@ use Rattle.mv_isa.specs.Requests as requests
 use Rattle.mv_ir.specs.declared.tree.Tree.{Tree}
 use Rattle.mv_ir.specs.declared.stm.Callee.{Callee}
 use Rattle.mv_ir.specs.declared.stm.Callee.TheVariants as callee
-use Rattle.mv_select_trees.specs.TreeCode.{one, number_lines, minus_one, tree_into, tree_lines}
+use Rattle.mv_select_trees.specs.TreeCode.{one, number_lines, load_lines, minus_one, tree_into, tree_lines}
 use Rattle.mv_select_statements.specs.StatementCode.{first, second, trap_label, write_temp}
 use Rattle.mv_select_control.specs.FlowCode.{CallLines}
 
@@ -70,18 +70,23 @@ slot_lines f = Slot f ∷ []
 abbrev pub jump_lines : List Line
 jump_lines = one (Jalr link_register scratch_register (pos 0))
 
+-- with a trap where it is null
+abbrev pub pointer_lines : Option ℕ → List Line
+pointer_lines result = Branch 0 scratch_register 0 (trap_label traps.null_call) ∷ guarded_lines jump_lines result
+
 module _ (place : ℕ → ℕ) where
   -- arguments into registers from one on
   abbrev pub argument_lines : ℕ → List Tree → List Line
   argument_lines r [] = []
   argument_lines r (t ∷ ts) = tree_into place t r scratch_register ++ argument_lines (suc r) ts
 
-  -- A call of a function: of an attributed one by a slot; through a pointer, with a trap where it is null.
+  -- A call of a function: of an attributed one by a slot; through a pointer, with a trap where it is null. A pointer switch is a pointer like any other.
   abbrev pub transfer_lines : (ℕ → Bool) → Callee → Option ℕ → List Line
   transfer_lines is_attributed (callee.Direct f) result =
       cond (is_attributed f) (guarded_lines (slot_lines f) result) (Entry scratch_register f ∷ guarded_lines jump_lines result)
   transfer_lines is_attributed (callee.Through t) result =
-      tree_lines place t scratch_register ++ (Branch 0 scratch_register 0 (trap_label traps.null_call) ∷ guarded_lines jump_lines result)
+      tree_lines place t scratch_register ++ pointer_lines result
+  transfer_lines is_attributed (callee.Switched g) result = load_lines (place g) scratch_register ++ pointer_lines result
 
   abbrev pub call_lines : (ℕ → Bool) → Option ℕ → Callee → List Tree → List Line
   call_lines is_attributed result f args = argument_lines first args ++ transfer_lines is_attributed f result

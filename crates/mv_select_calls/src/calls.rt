@@ -4,7 +4,7 @@ ghost use Rattle.std.specs.Prelude.{◌≡◌, ◌+◌, ◌<◌, ◌≤◌, ◌+
 ghost use Rattle.mv_ir.specs.Measures.{callee_trees};
 ghost use Rattle.mv_select_trees.specs.Rooms.{place_in};
 ghost use Rattle.mv_select_statements.specs.Encoded.{IsSmall};
-ghost use Rattle.mv_select_calls.specs.CallCode.{result_lines, argument_lines, guard_lines, back_lines, slot_lines, guarded_lines, jump_lines, transfer_lines, call_lines, order_lines, ask_lines, known_lines, request_of, is_marked};
+ghost use Rattle.mv_select_calls.specs.CallCode.{result_lines, argument_lines, guard_lines, back_lines, slot_lines, guarded_lines, jump_lines, pointer_lines, transfer_lines, call_lines, order_lines, ask_lines, known_lines, request_of, is_marked};
 
 use mv_ast::program::Known;
 use mv_ast::traps::{CALL_TOO_DEEP, NULL_CALL};
@@ -17,7 +17,7 @@ use mv_isa::labels::{COMMIT, TRAPS};
 use mv_isa::requests::{PLAN, POLL, READ, WRITE};
 use mv_num::list::List;
 use mv_select_statements::write_temp;
-use mv_select_trees::{push_into, push_number, push_one, push_tree};
+use mv_select_trees::{place_of, push_into, push_load, push_number, push_one, push_tree};
 use std::alloc::AllocError;
 
 /// The return address, ra.
@@ -118,6 +118,15 @@ fn push_jump(code: &mut List<Line>, temp: Option<u32>) -> Result<(), AllocError>
     push_back(code, temp)
 }
 
+// A call to the address in t3, with a trap where it is null.
+fn push_pointer(code: &mut List<Line>, temp: Option<u32>) -> Result<(), AllocError>
+    requires { IfSome temp (λ t. t < 507) }
+    ensures { OnOk result (code.new ≡ code.old ++ pointer_lines temp) }
+{
+    code.push(Line::Branch(0, SCRATCH, 0, TRAPS + u32::from(NULL_CALL)))?;
+    push_jump(code, temp)
+}
+
 // The call, its arguments in their registers.
 fn push_transfer(
     code: &mut List<Line>,
@@ -141,8 +150,11 @@ fn push_transfer(
         }
         Callee::Through(pointer) => {
             push_tree(code, rooms, pointer, SCRATCH)?;
-            code.push(Line::Branch(0, SCRATCH, 0, TRAPS + u32::from(NULL_CALL)))?;
-            push_jump(code, temp)
+            push_pointer(code, temp)
+        }
+        Callee::Switched(global) => {
+            push_load(code, place_of(rooms, *global), SCRATCH)?;
+            push_pointer(code, temp)
         }
     }
 }

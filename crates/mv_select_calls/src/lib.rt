@@ -2,8 +2,8 @@
 //!
 //! - `push_call` and `push_known` put exactly the lines of `specs/CallCode.antt` behind some code: the arguments, the
 //!   test of the depth, and the call of a function (of an attributed one by a slot, of another one by its address,
-//!   through a pointer with its null test) or of a known function, with its answer put into its temporary. `Calls` is
-//!   that code of calls for `push_statements`.
+//!   through a pointer with its null test, and through a pointer switch as through the pointer in memory) or of a known
+//!   function, with its answer put into its temporary. `Calls` is that code of calls for `push_statements`.
 //! - `specs/Convention.antt` is the calling convention: arguments in a0 to a7, the result in a0; s10 counts the live
 //!   attributed frames and s11 the calls that are left, each of which has room for a frame below sp; a callee sets back
 //!   sp and s1 to s11, and leaves the stack from sp up as it was.

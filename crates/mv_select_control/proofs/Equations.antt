@@ -8,10 +8,9 @@ use Rattle.mv_ir.specs.declared.stm.Stm.{Stm}
 use Rattle.mv_ir.specs.declared.stm.Stm as at
 use Rattle.mv_ir.specs.declared.stm.Stm.TheOpen as stm
 use Rattle.mv_ir.specs.declared.stm.Stm.TheVariants.{rolls-Set, rolls-SetGlobal, rolls-Divide, rolls-Check, rolls-Read, rolls-Write, rolls-Zero, rolls-If, rolls-Loop, rolls-Block, rolls-Break, rolls-Back, rolls-Call, rolls-Known, rolls-Return}
-use Rattle.mv_ir.specs.Measures.{callee_trees}
 use Rattle.mv_ir.specs.WellFormed.{known_arguments, all_true}
 use Rattle.mv_select_statements.specs.StatementCode.{set_lines, set_global_lines, divide_lines, check_lines, read_lines, write_lines, return_lines}
-use Rattle.mv_select_control.specs.FlowCode.{Plan, plain, home, size, zero_code, if_code, loop_code, block_code, break_code, back_code, statement_code, code_of, Uses, may_read, may_write, fine_target, fine_known, is_fine_statement, are_fine}
+use Rattle.mv_select_control.specs.FlowCode.{Plan, plain, home, size, zero_code, if_code, loop_code, block_code, break_code, back_code, statement_code, code_of, Uses, may_read, may_write, fine_target, fine_callee, fine_known, is_fine_statement, are_fine}
 use Rattle.mv_select_control.proofs.StatementsDo.{code_roll, fine_roll}
 
 module _ (plan : Plan) where
@@ -89,7 +88,7 @@ module _ (is_fine : Tree → Bool) (may_ask : Known → Bool) (temps : ℕ) (use
   fine_block b = ap (is_fine_statement is_fine may_ask temps uses) (sym (rolls-Block b)) ∙ fine_roll is_fine may_ask temps uses (stm.Block b)
 
   pub fine_call : (r : Option ℕ) (f : Callee) (args : List Tree) → is_fine_statement is_fine may_ask temps uses (at.Call r f args)
-      ≡ (ltb (length args) 9 && (fine_target is_fine may_ask temps uses r && (all_true (map is_fine (callee_trees f)) && all_true (map is_fine args))))
+      ≡ (ltb (length args) 9 && (fine_target is_fine may_ask temps uses r && (fine_callee is_fine may_ask temps uses f && all_true (map is_fine args))))
   fine_call r f args = ap (is_fine_statement is_fine may_ask temps uses) (sym (rolls-Call r f args)) ∙ fine_roll is_fine may_ask temps uses (stm.Call r f args)
 
   pub fine_known_call : (r : Option ℕ) (k : Known) (args : List Tree) → is_fine_statement is_fine may_ask temps uses (at.Known r k args)

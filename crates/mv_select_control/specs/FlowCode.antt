@@ -8,11 +8,11 @@ use Rattle.mv_ir.specs.declared.tree.Tree.{Tree}
 use Rattle.mv_ir.specs.declared.stm.Array.{Array}
 use Rattle.mv_ir.specs.declared.stm.Array.TheVariants as array
 use Rattle.mv_ir.specs.declared.stm.Callee.{Callee}
+use Rattle.mv_ir.specs.declared.stm.Callee.TheVariants as callee
 use Rattle.mv_ir.specs.declared.stm.Stm.{Stm}
 use Rattle.mv_ir.specs.declared.stm.Stm.TheOpen.{Stm-F}
 use Rattle.mv_ir.specs.declared.stm.Stm.TheOpen as stm
 use Rattle.mv_ir.specs.declared.stm.Stm.TheFolds.{fold-Stm}
-use Rattle.mv_ir.specs.Measures.{callee_trees}
 use Rattle.mv_ir.specs.WellFormed.{all_true, known_arguments}
 use Rattle.mv_select_trees.specs.TreeCode.{operand_lines, operand_register}
 use Rattle.mv_select_statements.specs.declared.elements.Home.{Home}
@@ -165,7 +165,8 @@ pub record Uses : Type 0 where
   pub is_written : ℕ → Bool
 
 -- Trees are fine by a test, each temporary that is written is below a number, and each array that is read or written may be; so may a global that is written
--- as a scalar, and it has a word. A call has at most eight arguments, and a known function its own number; and the code may ask for it.
+-- as a scalar, and it has a word. A pointer switch through which a call goes may be read. A call has at most eight arguments, and a known function its own
+-- number; and the code may ask for it.
 module _ (is_fine : Tree → Bool) (may_ask : Known → Bool) (temps : ℕ) (uses : Uses) where
   abbrev pub may_read : Array → Bool
   may_read (array.Global g) = uses.is_read g
@@ -178,6 +179,11 @@ module _ (is_fine : Tree → Bool) (may_ask : Known → Bool) (temps : ℕ) (use
   abbrev pub fine_target : Option ℕ → Bool
   fine_target None = true
   fine_target (Some t) = ltb t temps
+
+  abbrev pub fine_callee : Callee → Bool
+  fine_callee (callee.Direct f) = true
+  fine_callee (callee.Through t) = is_fine t
+  fine_callee (callee.Switched g) = uses.is_read g
 
   -- the code may ask for it, and an order's numbers are a byte and a word
   abbrev pub fine_known : Known → Bool
@@ -197,7 +203,7 @@ module _ (is_fine : Tree → Bool) (may_ask : Known → Bool) (temps : ℕ) (use
   fine_layer (stm.Block b) = all_true b
   fine_layer (stm.Break n) = true
   fine_layer (stm.Back n) = true
-  fine_layer (stm.Call r f args) = ltb (length args) 9 && (fine_target r && (all_true (map is_fine (callee_trees f)) && all_true (map is_fine args)))
+  fine_layer (stm.Call r f args) = ltb (length args) 9 && (fine_target r && (fine_callee f && all_true (map is_fine args)))
   fine_layer (stm.Known r k args) = eqb (length args) (known_arguments k) && (fine_known k && (fine_target r && all_true (map is_fine args)))
   fine_layer (stm.Return v) = is_fine v
 

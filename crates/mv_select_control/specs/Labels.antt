@@ -38,6 +38,7 @@ tree_functions = fold-Tree (List ℕ) functions_layer
 abbrev pub callee_functions : Callee → List ℕ
 callee_functions (callee.Direct f) = f ∷ []
 callee_functions (callee.Through t) = tree_functions t
+callee_functions (callee.Switched g) = []
 
 abbrev pub functions_of_all : List Tree → List ℕ
 functions_of_all trees = joined (map tree_functions trees)

@@ -5,14 +5,13 @@ use Rattle.mv_ir.specs.declared.body.Room.{Room}
 use Rattle.mv_ir.specs.declared.tree.Tree.{Tree}
 use Rattle.mv_ir.specs.declared.stm.Callee.{Callee}
 use Rattle.mv_ir.specs.declared.stm.Stm.{Stm}
-use Rattle.mv_ir.specs.Measures.{callee_trees}
 use Rattle.mv_ir.specs.Trees.{depth}
 use Rattle.mv_ir.specs.WellFormed.{known_arguments, all_true}
 use Rattle.mv_select_trees.specs.TreeCode.{temps_of}
 use Rattle.mv_select_trees.specs.Rooms.{place_in}
 use Rattle.mv_select_control.specs.declared.layout.Space.{Space}
 use Rattle.mv_select_control.specs.declared.layout.Layout.{Layout}
-use Rattle.mv_select_control.specs.FlowCode.{Uses, CallLines, Plan, fine_target, fine_known, is_fine_statement, are_fine}
+use Rattle.mv_select_control.specs.FlowCode.{Uses, CallLines, Plan, fine_target, fine_callee, fine_known, is_fine_statement, are_fine}
 
 -- how many words a global has, and 0 where it has no room
 abbrev pub size_in : List Room → ℕ → ℕ
@@ -56,7 +55,7 @@ any_known k = true
 -- likewise for the trees of a call, which has at most eight arguments, and of a known function, which has its own number
 abbrev pub small_call : Option ℕ → Callee → List Tree → Bool
 small_call r f args =
-    ltb (length args) 9 && (fine_target is_small any_known 507 any_global r && (all_true (map is_small (callee_trees f)) && all_true (map is_small args)))
+    ltb (length args) 9 && (fine_target is_small any_known 507 any_global r && (fine_callee is_small any_known 507 any_global f && all_true (map is_small args)))
 
 abbrev pub small_known : Option ℕ → Known → List Tree → Bool
 small_known r k args =

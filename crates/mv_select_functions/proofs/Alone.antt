@@ -158,6 +158,7 @@ module _ {M : Type 0} (access : Access M) (y : Layout) (machine : Machine M) (fr
           let s = serves.stub k args back i may indirect count target ra spare bound w (stands_back y.commit w i stands)
           (record { number = asks.number; arguments = asks.arguments; order = asks.order; high = asks.high }) paid asked in
           (s.0, returns_alone spare bound i back _ s.0 s.1, s.2);
+      free = serves.free;
     }
 
 -- ---- functions

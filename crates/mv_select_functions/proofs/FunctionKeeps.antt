@@ -165,7 +165,7 @@ module _ {M : Type 0} (access : Access M) (y : Layout) (laid : IsLaid y) (machin
 
   calls_do : CallsDo access S setting frame machine place end_label budget far is_fine levels (calls_of y.place is_attributed)
   calls_do = record {
-    call = call_done access y S setting frame fit calls machine okS budget far place end_label linked is_fine fine_trees is_attributed levels keep;
+    call = call_done access y S setting frame fit calls machine okS budget far place end_label linked is_fine fine_trees is_attributed serves.free levels keep;
     known = known_done access y S setting frame fit calls machine okS budget far place end_label linked is_fine fine_trees serves levels;
   }
 

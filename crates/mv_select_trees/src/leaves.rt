@@ -58,7 +58,7 @@ pub fn push_number(code: &mut List<Line>, n: u32, rd: u8) -> Result<(), AllocErr
 }
 
 /// Puts code at the end that leaves the word at an address in a register, and changes no other.
-pub(crate) fn push_load(code: &mut List<Line>, address: u32, rd: u8) -> Result<(), AllocError>
+pub fn push_load(code: &mut List<Line>, address: u32, rd: u8) -> Result<(), AllocError>
     ensures { OnOk result (code.new ≡ code.old ++ load_lines address rd) }
 {
     let imm = lower_bits(address);

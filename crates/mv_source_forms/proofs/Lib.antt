@@ -1,6 +1,7 @@
 pub mod ExpressionFolds
 pub mod ExpressionInduction
 pub mod Naming
+pub mod Sites
 pub mod StatementFolds
 pub mod StatementInduction
 pub mod Tests

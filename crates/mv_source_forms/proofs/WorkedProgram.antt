@@ -72,7 +72,7 @@ abbrev main : Function
 main = record { name = []; attributed = false; result = int; params = 0; locals = []; switches = []; body = roll-Stmt (stmt.Return (Some call_f)) ∷ [] }
 
 abbrev program : Program
-program = record { signatures = []; globals = []; functions = f ∷ main ∷ []; switches = []; main = 1 }
+program = record { signatures = []; globals = []; functions = f ∷ main ∷ []; switches = []; pointers = []; main = 1 }
 
 -- ---- the tests at one node
 
@@ -300,12 +300,15 @@ pub worked_program : IsWellFormed program
 worked_program = record {
   typed = record {
     functions = All-cons (IsTypedFunction program) f (main ∷ []) f_typed (All-cons (IsTypedFunction program) main [] main_typed (All-nil _));
+    pointers = All-nil _;
     globals = All-nil _;
     entry = record { main = main; defined = refl; bare = refl; result = tt };
   };
   functions = formed;
   globals = All-nil _;
   switches = All-nil _;
+  pointers = All-nil _;
+  different_pointers = λ i j d lt within. absurd (omega (arith, within));
   entry = λ g e. let same : main ≡ g = cc in ap (λ (x : Function). x.attributed) (sym same);
   limits = record {
     functions = omega arith;
@@ -313,6 +316,7 @@ worked_program = record {
     parameters = All-cons (λ (g : Function). g.params ≤ 8) f (main ∷ []) (omega arith) (All-cons (λ (g : Function). g.params ≤ 8) main [] (omega arith) (All-nil _));
     pointed_parameters = All-nil _;
     switches = omega arith;
+    pointers = omega arith;
     domains = All-nil _;
     own_switches = All-nil _;
     assignments = All-nil _;

@@ -54,11 +54,11 @@ is_own_switch p None g = false
 is_own_switch p (Some f) g = is_among g (map (switch_global p) f.switches)
 
 module _ (p : Program) (function locals : ℕ) (sizes : ℕ → Option ℕ) (free : ℕ → Bool) where
-  -- a local is named as the scalar or the array that it is, and none that is being declared, and no switch of the function as an array
+  -- a local is named as the scalar or the array that it is, and none that is being declared, and no switch of the function nor a pointer switch as an array
   abbrev pub names_target : Target-F (CType → Bool) Bool Bool → Bool
   names_target (form.Global g) = true
   names_target (form.Local l) = nat_lt l locals && (free l && is_scalar (sizes l))
-  names_target (form.GlobalAt g e) = not (is_own_switch p (slice_get p.functions function) g) && e
+  names_target (form.GlobalAt g e) = not (is_own_switch p (slice_get p.functions function) g) && (not (is_among g p.pointers) && e)
   names_target (form.LocalAt l e) = nat_lt l locals && (free l && (not (is_scalar (sizes l)) && e))
 
   -- a called function takes as many arguments, and is void where the call is

@@ -150,6 +150,11 @@ pub record IsIntegerSwitch (p : Program) (s : ℕ) : Type 0 where
   pub global : slice_get (global_types p) switch.global ≡ Some ctype
   pub integer : IsInteger ctype
 
+-- a pointer switch is a global function pointer
+pub record IsPointerSwitch (p : Program) (g : ℕ) : Type 0 where
+  pub signature : ℕ
+  pub global : slice_get (global_types p) g ≡ Some (Pointer signature)
+
 pub record IsTypedFunction (p : Program) (f : Function) : Type 0 where
   pub switches : All (IsIntegerSwitch p) f.switches
   pub body : All (IsTypedStmt p f) f.body
@@ -167,8 +172,9 @@ pub record HasTypedMain (p : Program) : Type 0 where
   pub bare : main.params ≡ 0
   pub result : IsInteger main.result
 
--- A program is well typed where its functions, the first values of its globals and its `main` are.
+-- A program is well typed where its functions, its pointer switches, the first values of its globals and its `main` are.
 pub record IsTyped (p : Program) : Type 0 where
   pub functions : All (IsTypedFunction p) p.functions
+  pub pointers : All (IsPointerSwitch p) p.pointers
   pub globals : All (λ g. All (IsFirstValue p g.ctype) g.first) p.globals
   pub entry : HasTypedMain p

@@ -1,5 +1,5 @@
 -- What the expressions of a function name, beside its locals: known functions with their arguments, and switches.
-use Rattle.std.specs.Prelude.{ℕ, Bool, true, ◌&&◌, ◌||◌, not, if◌then◌else◌, length, map, nat_eq, nat_lt}
+use Rattle.std.specs.Prelude.{ℕ, ◌+◌, Bool, true, ◌&&◌, ◌||◌, not, if◌then◌else◌, length, map, nat_eq, nat_lt}
 use Rattle.mv_ast.specs.declared.program.Program.{Program}
 use Rattle.mv_ast.specs.declared.program.Function.{Function}
 use Rattle.mv_ast.specs.declared.program.Known.{Known}
@@ -35,12 +35,12 @@ known_parameters Putchar = 1
 known_parameters Poll = 0
 known_parameters (Plan code index) = 0
 
--- an order's function or switch is there
+-- an order's function is there, or its switch or pointer switch, whose indexes count on behind the switches
 abbrev pub order_is_there : Program → (code index : ℕ) → Bool
 order_is_there p code index =
     if nat_lt code orders.commit_function then true
     else if nat_lt code orders.commit_references then nat_lt index (length (attributed_functions p))
-    else nat_lt code orders.count && nat_lt index (length p.switches)
+    else nat_lt code orders.count && nat_lt index (length p.switches + length p.pointers)
 
 abbrev pub known_is_there : Program → Known → Bool
 known_is_there p (Plan code index) = order_is_there p code index

@@ -44,6 +44,12 @@ pub record IsWellFormedSwitch (p : Program) (s : Switch) : Type 0 where
   pub values : All (λ v. is_value_of global.ctype v ≡ true) s.values
   pub different : AllPairs (λ m n. m ≢ n) s.values
 
+-- a pointer switch is a global scalar
+pub record IsWellFormedPointer (p : Program) (g : ℕ) : Type 0 where
+  pub global : Global
+  pub there : slice_get p.globals g ≡ Some global
+  pub scalar : global.size ≡ None
+
 -- expressions, statements, labels, declared names, parameters and given values
 abbrev pub program_nodes : Program → ℕ
 program_nodes p = length p.functions + sum (map nodes p.functions) + (length p.globals + sum (map (λ g. length g.first) p.globals))
@@ -55,6 +61,7 @@ pub record IsWithinLimits (p : Program) : Type 0 where
   pub parameters : All (λ g. g.params ≤ 8) p.functions
   pub pointed_parameters : All (λ s. length s.params ≤ 8) p.signatures
   pub switches : length p.switches ≤ 64
+  pub pointers : length p.pointers ≤ 64
   pub domains : All (λ s. length s.values ≤ 16) p.switches
   pub own_switches : All (λ g. length g.switches ≤ 6) (attributed_functions p)
   pub assignments : All (λ g. assignments p g ≤ 64) (attributed_functions p)
@@ -62,11 +69,14 @@ pub record IsWithinLimits (p : Program) : Type 0 where
   pub local_elements : All (λ g. All (λ l. words_of_size l.size ≤ 262144) g.locals) p.functions
   pub nodes : program_nodes p ≤ 16777216
 
--- A program is well formed where it is well typed, its functions, globals and switches are well formed, `main` isn't attributed, and it is within the limits.
+-- A program is well formed where it is well typed, its functions, globals, switches and pointer switches are well formed, no pointer switch stands twice, `main`
+-- isn't attributed, and it is within the limits.
 pub record IsWellFormed (p : Program) : Type 0 where
   pub typed : IsTyped p
   pub functions : (f : ℕ) (g : Function) → slice_get p.functions f ≡ Some g → IsWellFormedFunction p f g
   pub globals : All IsWellFormedGlobal p.globals
   pub switches : All (IsWellFormedSwitch p) p.switches
+  pub pointers : All (IsWellFormedPointer p) p.pointers
+  pub different_pointers : AllPairs (λ g h. g ≢ h) p.pointers
   pub entry : (g : Function) → slice_get p.functions p.main ≡ Some g → g.attributed ≡ false
   pub limits : IsWithinLimits p

@@ -12,6 +12,7 @@ use Rattle.mv_command.specs.declared.command.RunOptions.{RunOptions}
 use Rattle.mv_command.specs.declared.items.Item.{Item}
 use Rattle.mv_command.specs.declared.options.TheConstants.{DEFAULT_STEPS}
 use Rattle.mv_eval.specs.Grown.{Grew, GrewLess}
+use Rattle.mv_machine.specs.Acts.{polls_of}
 use Rattle.mv_machine.specs.Snapshots.{Snapshot}
 use Rattle.mv_machine.specs.declared.machine.Stopped.{Stopped}
 use Rattle.mv_machine.specs.declared.machine.Stopped.TheVariants as stop
@@ -46,7 +47,7 @@ module _ (was is : Writing) (way way' : Option Way) (Heard : List Event → Type
 
   -- no read fails where there is no input, and the machine never faults
   stop_is : (p : Program) (image : Fields) (actions : List Action) (steps : ℕ) (machine : Snapshot) (s : Stopped) →
-      Runs image actions (environment no_input was way) (environment no_input is way') Heard machine steps s →
+      Runs image (polls_of actions) (environment no_input was way) (environment no_input is way') Heard machine steps s →
       meant.Does p image actions steps (environment no_input was way) (environment no_input is way') Heard machine s →
       IsTrue (is_summed_up (status_of_stop s) || is_cut_short (status_of_stop s))
   stop_is p image actions steps machine (stop.Ended s) runs does = refl

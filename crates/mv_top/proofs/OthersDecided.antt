@@ -23,6 +23,7 @@ use Rattle.mv_eval.specs.declared.error.EvalError.{EvalError}
 use Rattle.mv_eval.specs.declared.error.EvalError.TheVariants as fault
 use Rattle.mv_command.specs.declared.command.RunOptions.{RunOptions}
 use Rattle.mv_command.specs.declared.options.TheConstants.{DEFAULT_STEPS}
+use Rattle.mv_machine.specs.Acts.{polls_of}
 use Rattle.mv_operator.specs.Operator.{IsImageActions, IsImageFirstWrong}
 use Rattle.mv_operator.proofs.Acting as operator
 use Rattle.mv_notes.specs.declared.status.Status.{Status}
@@ -125,7 +126,7 @@ module _ (before after : Environment) (no_input_fault : ReadFailed before after 
     exec_stands (executing.wrong_item other n there first unused) actions are =
         absurd (operator.not_both_in image options.items actions n are (subst (λ z. IsImageFirstWrong z options.items n) (one_image bytes other image there spells) first))
     exec_stands (executing.ran other taken e there are_taken runs) actions are =
-        stands before after Heard no_input_fault no_output_fault other taken e.machine options.steps e.stopped runs
+        stands before after Heard no_input_fault no_output_fault other (polls_of taken) e.machine options.steps e.stopped runs
 
 -- ---- a listing
 

@@ -9,6 +9,7 @@ use Rattle.mv_front.specs.declared.refusal.Refusal.{Refusal}
 use Rattle.mv_front.proofs.OneVerdict.{one_program, one_refusal, not_both}
 use Rattle.mv_build.specs.Verdicts as build
 use Rattle.mv_build.specs.Verdicts.{HasNoImage, PassesLimit}
+use Rattle.mv_machine.specs.Acts.{PollActs, polls_of}
 use Rattle.mv_machine.specs.declared.machine.Stopped.{Stopped}
 use Rattle.mv_machine.specs.declared.machine.Stopped.TheVariants as stop
 use Rattle.mv_refine.specs.Environment.{Environment, ReadFailed, WriteFailed}
@@ -63,15 +64,15 @@ status_of_answer More stopped is = absurd is
 
 -- a run in which no read and no write failed stands, unless memory was wanting
 pub stands : (before after : Environment) (Heard : List Event → Type 0) → (ReadFailed before after → ⊥) → (WriteFailed before after → ⊥) →
-    (image : Fields) (actions : List Action) (machine : Snapshot) (steps : ℕ) (s : Stopped) → Runs image actions before after Heard machine steps s →
+    (image : Fields) (polls : PollActs) (machine : Snapshot) (steps : ℕ) (s : Stopped) → Runs image polls before after Heard machine steps s →
     Stands (status_of_stop s)
-stands before after Heard no_input_fault no_output_fault image actions machine steps (stop.Ended s) runs = inl tt
-stands before after Heard no_input_fault no_output_fault image actions machine steps (stop.Trapped c) runs = inl tt
-stands before after Heard no_input_fault no_output_fault image actions machine steps stop.Steps runs = inl tt
-stands before after Heard no_input_fault no_output_fault image actions machine steps stop.InputFault runs = absurd (no_input_fault runs.1)
-stands before after Heard no_input_fault no_output_fault image actions machine steps stop.OutputFault runs = absurd (no_output_fault runs.1)
-stands before after Heard no_input_fault no_output_fault image actions machine steps (stop.Fault pc why) runs = inl tt
-stands before after Heard no_input_fault no_output_fault image actions machine steps stop.Memory runs = inr refl
+stands before after Heard no_input_fault no_output_fault image polls machine steps (stop.Ended s) runs = inl tt
+stands before after Heard no_input_fault no_output_fault image polls machine steps (stop.Trapped c) runs = inl tt
+stands before after Heard no_input_fault no_output_fault image polls machine steps stop.Steps runs = inl tt
+stands before after Heard no_input_fault no_output_fault image polls machine steps stop.InputFault runs = absurd (no_input_fault runs.1)
+stands before after Heard no_input_fault no_output_fault image polls machine steps stop.OutputFault runs = absurd (no_output_fault runs.1)
+stands before after Heard no_input_fault no_output_fault image polls machine steps (stop.Fault pc why) runs = inl tt
+stands before after Heard no_input_fault no_output_fault image polls machine steps stop.Memory runs = inr refl
 
 module _ (before after : Environment) (no_input_fault : ReadFailed before after → ⊥) (no_output_fault : WriteFailed before after → ⊥) (text : List ℕ) (Heard : List Event → Type 0)
     (options : RunOptions) where
@@ -128,4 +129,4 @@ module _ (before after : Environment) (no_input_fault : ReadFailed before after 
       run_stands (running.unread unused) = inl (inr refl)
       run_stands (running.not_run s none unused) = inr (s, limit_cause s (limit_or_item text options.items p is s none), refl)
       run_stands (running.ran b taken x good are_taken is_one words) =
-          inl (stands before after Heard no_input_fault no_output_fault b.image taken x.machine options.steps x.stopped is_one.runs)
+          inl (stands before after Heard no_input_fault no_output_fault b.image (polls_of taken) x.machine options.steps x.stopped is_one.runs)

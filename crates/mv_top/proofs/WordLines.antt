@@ -9,6 +9,7 @@ use Rattle.mv_build.specs.Verdicts.{IsBuiltFrom}
 use Rattle.mv_image.specs.Patched.{text_of}
 use Rattle.mv_image.specs.Spelling.{Fields}
 use Rattle.mv_list.specs.Changes.{patched_text}
+use Rattle.mv_machine.specs.Acts.{polls_of}
 use Rattle.mv_machine.specs.Runs.{Stop, runs}
 use Rattle.mv_machine.specs.Snapshots.{Snapshot}
 use Rattle.mv_machine.specs.declared.machine.Stopped.{Stopped}
@@ -28,17 +29,17 @@ use Rattle.mv_count_words.specs.Owed.{CountsWords}
 use Rattle.mv_top.specs.WordLines.{CountsLines, CountsOn, CountsFrom}
 
 module _ (p : Program) (image : Fields) (shows : ShowsBindings p image) (actions : List Action) (steps : ℕ) (before after : Environment) (Heard : List Event → Type 0) (machine : Snapshot) where
-  counted : (bytes : List ℕ) (stop : Stop) (e : End) → RanTo image actions before after Heard machine stop steps → DoesAll before after Heard machine bytes (mean p bytes actions steps) image e →
+  counted : (bytes : List ℕ) (stop : Stop) (e : End) → RanTo image (polls_of actions) before after Heard machine stop steps → DoesAll before after Heard machine bytes (mean p bytes actions steps) image e →
       CountsLines p image actions steps machine bytes
   counted bytes stop e ran all =
       let input = ran.stands.input in
       let picks = ran.stands.picks in
-      let same = kept_bindings machine (runs image input actions picks steps) ran.stands.done.state in
+      let same = kept_bindings machine (runs image input (polls_of actions) picks steps) ran.stands.done.state in
       let meant = sym same ∙ all.bindings in
       let text = all.text ∙ ap (λ (bs : List Binding). text_of image (values_of bs)) (sym meant) in
       subst (λ (bs : List Binding). CountsWords p bs (line_count (patched_text image machine.room.held))) meant (shows input actions picks steps machine.room.held text)
 
-  counts_on : (bytes : List ℕ) (stopped : Stopped) → Runs image actions before after Heard machine steps stopped → DoesOn p image actions steps before after Heard machine bytes stopped →
+  counts_on : (bytes : List ℕ) (stopped : Stopped) → Runs image (polls_of actions) before after Heard machine steps stopped → DoesOn p image actions steps before after Heard machine bytes stopped →
       CountsOn p image actions steps machine bytes stopped
   counts_on bytes (Ended status) ran does = counted bytes _ _ ran does
   counts_on bytes (Trapped code) ran does = counted bytes _ _ ran does
@@ -48,7 +49,7 @@ module _ (p : Program) (image : Fields) (shows : ShowsBindings p image) (actions
   counts_on bytes (Fault pc why) ran does = tt
   counts_on bytes Memory ran does = tt
 
-  counts_from : (left : Option (List ℕ)) (stopped : Stopped) → Runs image actions before after Heard machine steps stopped → DoesFrom p image actions steps before after Heard machine left stopped →
+  counts_from : (left : Option (List ℕ)) (stopped : Stopped) → Runs image (polls_of actions) before after Heard machine steps stopped → DoesFrom p image actions steps before after Heard machine left stopped →
       CountsFrom p image actions steps machine left stopped
   counts_from None stopped ran does = tt
   counts_from (Some bytes) stopped ran does = λ are. counts_on bytes stopped ran (does are)

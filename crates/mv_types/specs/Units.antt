@@ -113,6 +113,7 @@ program_of c main =
       globals = map (λ o. o.global) c.objects;
       functions = map (with_switches switches) (present c.functions);
       switches = switches;
+      pointers = [];
       main = main;
     }
 

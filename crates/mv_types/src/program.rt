@@ -181,6 +181,7 @@ pub fn program_of(alloc: Global, contents: Contents, main: u32) -> Result<Progra
         globals,
         functions,
         switches,
+        pointers: List::new(alloc),
         main,
     })
 }

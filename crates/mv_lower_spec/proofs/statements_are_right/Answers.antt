@@ -10,5 +10,5 @@ is_strict p numbers zero = record { numbers_are = refl; lets_are = refl; stray_i
 is_strict p numbers (suc k) = record { numbers_are = refl; lets_are = refl; stray_is = refl }
 
 pub returns : goal.returns
-returns c = λ ground void limit calls room agree knows body formed labelled jumps top k up.
-    body_correct ground void limit calls (strict_context ground.p ground.setting.numbers) room (is_strict ground.p ground.setting.numbers) (λ s. refl) (λ k s. refl) agree knows body formed labelled jumps top k up
+returns c = λ ground void limit calls room agree knows switched body formed labelled jumps top k up.
+    body_correct ground void limit calls (strict_context ground.p ground.setting.numbers) room (is_strict ground.p ground.setting.numbers) (λ s. refl) (λ k s. refl) agree knows switched body formed labelled jumps top k up

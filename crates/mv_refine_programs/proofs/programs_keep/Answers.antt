@@ -23,7 +23,7 @@ returns-clause-functions g c access y machine words closed budget far p numbers 
     }) bound
 
 pub returns-clause-main : goal.returns-clause-main
-returns-clause-main g c access y machine words closed budget far p numbers loaded numbering input actions fit back i target ra begins stands bound =
+returns-clause-main g c access y machine words closed budget far p numbers loaded numbering hart input actions fit back i target ra begins stands bound =
     main_follows access y machine words closed budget far p numbers loaded
     (record {
       each = c.function_code_law.ensures.each;
@@ -41,4 +41,4 @@ returns-clause-main g c access y machine words closed budget far p numbers loade
       firsts = c.narrow_runs_law.ensures.firsts;
       inlines = c.inline_law.ensures.answers;
     }) c.function_code_law.ensures.main c.main_is_right.ensures c.main_ends_alike.ensures
-    numbering input actions fit back i target ra begins stands bound
+    numbering hart input actions fit back i target ra begins stands bound

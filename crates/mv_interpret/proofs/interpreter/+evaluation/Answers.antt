@@ -16,17 +16,17 @@ use Rattle.mv_ast.specs.declared.program.Stmt.{out-Stmt, roll-Stmt}
 use Rattle.mv_ast.specs.declared.program.Stmt.TheOpen as stmt
 use Rattle.mv_ast.specs.declared.program.Stmt.TheVariants.{outs-Block, outs-Clear, outs-Express, outs-If, outs-While, outs-Do, outs-For, outs-Switch, outs-Break, outs-Continue, outs-Return}
 use Rattle.mv_ast.specs.Numbering.{own_numbers}
-use Rattle.mv_ast.specs.Worlds.{give, counted}
+use Rattle.mv_ast.specs.Worlds.{bind, give, counted}
 use Rattle.mv_meaning.specs.declared.state.Lvalue.TheVariants as lvalue
 use Rattle.mv_interpret.specs.declared.state.Halt.TheVariants as halt
 use Rattle.mv_meaning.specs.declared.state.Flow.TheVariants.{Goes, Breaks, Continues}
-use Rattle.mv_meaning.specs.Meaning.{Evaluation, global_element, local_element, value_of, optional_value, then_on, unless_zero, flow_of_all, put_values}
+use Rattle.mv_meaning.specs.Meaning.{Evaluation, read_as, known_value, global_element, local_element, value_of, lvalue_of, values_of_all, optional_value, then_on, unless_zero, flow_of_all, put_values}
 use Rattle.mv_interpret.specs.Runs.{IsOutcome, world_of, goes_back, optional_outcome}
 use Rattle.mv_meaning.specs.Loops.{own_context, for_from, arms_from}
 use Rattle.mv_interpret.proofs.Calls.{too_deep, out_of_bound, missing, went_through, failed_inside, through_null, through_some, through_none}
 use Rattle.mv_meaning.proofs.Contexts.{numbers_at}
 use Rattle.mv_interpret.proofs.Depths.{stmt_within, arm_within, arms_within, stmts_depth, arms_depth, below-Block, below-Clear, below-Express, below-If, below-While, below-Do, below-For, below-Switch, below-Return, less_spent, spent_less}
-use Rattle.mv_meaning.proofs.Equations.{value_of-Number, value_of-Read, value_of-Function, value_of-Unary, value_of-Binary, value_of-Both, value_of-Either, value_of-Choose, value_of-Convert, value_of-Set, value_of-Change, value_of-After, value_of-Direct, value_of-Through, value_of-Known, lvalue_of-Global, lvalue_of-Local, lvalue_of-GlobalAt, lvalue_of-LocalAt, flow_of-Block, flow_of-Clear, flow_of-Express, flow_of-If, flow_of-While, flow_of-Do, flow_of-For, flow_of-Switch, flow_of-Break, flow_of-Continue, flow_of-Return}
+use Rattle.mv_meaning.proofs.Equations.{value_of-Number, value_of-Read, value_of-Function, value_of-Unary, value_of-Binary, value_of-Both, value_of-Either, value_of-Choose, value_of-Convert, value_of-Set, value_of-Change, value_of-After, value_of-Direct, value_of-Through, value_of-Known, callee_of-Read, callee_of-value, lvalue_of-Global, lvalue_of-Local, lvalue_of-GlobalAt, lvalue_of-LocalAt, flow_of-Block, flow_of-Clear, flow_of-Express, flow_of-If, flow_of-While, flow_of-Do, flow_of-For, flow_of-Switch, flow_of-Break, flow_of-Continue, flow_of-Return}
 use Rattle.mv_interpret.proofs.Lists.{values_init, values_step, values_fail, values_end}
 use Rattle.mv_interpret.proofs.Orders.{flows_step, flows_left, flows_fail, then_on-other}
 use Rattle.mv_interpret.proofs.Steps.{within, reached, in_range, out_of_range, on, failed, gave, halted, begun, zero_way, other_way, truth-zero, truth-one, stored_in, changed, unchanged, stepped_after}
@@ -133,13 +133,28 @@ pub value_of-returns-in-Through : goal.value_of-returns-in-Through
 value_of-returns-in-Through t c =
     let a = c.args in
     begun a.here a.frame.now a.state.now _ (value_of-Through a.program.now (own_context a.program.now a.here.bound) a.e.now c.in-Through.args c.in-Through.callee
-    (ap out-Form c.in-Through.is ∙ outs-Through c.in-Through.args c.in-Through.callee)) c.count.ensures (λ le0. rw c.get-in-Through.ensures at (c.value_of_call_through.ensures a.e.now.ctype))
+    (ap out-Form c.in-Through.is ∙ outs-Through c.in-Through.args c.in-Through.callee)) c.count.ensures (λ le0. c.value_of_call_through.ensures a.e.now.ctype)
 
 pub value_of-returns-in-Known : goal.value_of-returns-in-Known
 value_of-returns-in-Known t c =
     let a = c.args in
-    begun a.here a.frame.now a.state.now _ (value_of-Known a.program.now (own_context a.program.now a.here.bound) a.e.now c.in-Known.known c.in-Known.args
-    (ap out-Form c.in-Known.is ∙ outs-Known c.in-Known.known c.in-Known.args)) c.count.ensures (λ le0. c.value_of_known.ensures)
+    let p = a.program.now in
+    let around = own_context p a.here.bound in
+    begun a.here a.frame.now a.state.now _
+    (value_of-Known p around a.e.now c.in-Known.known c.in-Known.args (ap out-Form c.in-Known.is ∙ outs-Known c.in-Known.known c.in-Known.args) ∙
+    ap (λ ns. counted 1 (bind (values_of_all p around c.in-Known.args) (known_value p ns c.in-Known.known))) (numbers_at p (own_numbers p) a.here.bound))
+    c.count.ensures (λ le0. c.value_of_known.ensures)
+
+pub callee_of-returns-in-Read : goal.callee_of-returns-in-Read
+callee_of-returns-in-Read t c =
+    let a = c.args in
+    let p = a.program.now in
+    let around = own_context p a.here.bound in
+    rw (c.read_callee.ensures)
+    (begun a.here a.frame.now a.state.now _
+    (callee_of-Read p around a.e.now c.in-Read.target (ap (λ e. out-Form e.what) (sym c.get.ensures) ∙ ap out-Form c.in-Read.is ∙ outs-Read c.in-Read.target) ∙
+    ap (λ ns. counted 1 (bind (lvalue_of p around c.in-Read.target) (read_as p ns true))) (numbers_at p (own_numbers p) a.here.bound))
+    c.count.ensures (λ le0. on _ _ c.in_ok-lvalue.ensures (λ le1. gave le1)))
 
 pub value_of_binary-returns-in_err-x : goal.value_of_binary-returns-in_err-x
 value_of_binary-returns-in_err-x t c =
@@ -295,21 +310,21 @@ pub value_of_call_through-returns-then-v-eq0 : goal.value_of_call_through-return
 value_of_call_through-returns-then-v-eq0 t c =
     λ type.
     let a = c.args in
-    on _ _ c.in_ok-values.ensures (λ le1. on _ _ c.in_ok-v.ensures (λ le2. through_null a.program.now a.here type c.in_ok-values.values c.value_of.new.frame c.value_of.new.state c.in_ok-v.v c.if-v-eq0.true le2))
+    on _ _ c.in_ok-values.ensures (λ le1. on _ _ c.in_ok-v.ensures (λ le2. through_null a.program.now a.here type c.in_ok-values.values c.callee_of.new.frame c.callee_of.new.state c.in_ok-v.v c.if-v-eq0.true le2))
 
 pub value_of_call_through-returns-in-Some : goal.value_of_call_through-returns-in-Some
 value_of_call_through-returns-in-Some t c =
     λ type.
     let a = c.args in
     let found = sym c.function_of_number.ensures ∙ c.in-Some.is in
-    on _ _ c.in_ok-values.ensures (λ le1. on _ _ c.in_ok-v.ensures (λ le2. through_some a.program.now a.here type c.in_ok-values.values c.value_of.new.frame c.value_of.new.state c.in_ok-v.v c.in-Some.f c.if-v-eq0.false found c.call.ensures))
+    on _ _ c.in_ok-values.ensures (λ le1. on _ _ c.in_ok-v.ensures (λ le2. through_some a.program.now a.here type c.in_ok-values.values c.callee_of.new.frame c.callee_of.new.state c.in_ok-v.v c.in-Some.f c.if-v-eq0.false found c.call.ensures))
 
 pub value_of_call_through-returns : goal.value_of_call_through-returns
 value_of_call_through-returns t c =
     λ type.
     let a = c.args in
     let found = sym c.function_of_number.ensures ∙ c.in-None.is in
-    on _ _ c.in_ok-values.ensures (λ le1. on _ _ c.in_ok-v.ensures (λ le2. through_none a.program.now a.here type c.in_ok-values.values c.value_of.new.frame c.value_of.new.state c.in_ok-v.v c.if-v-eq0.false found le2))
+    on _ _ c.in_ok-values.ensures (λ le1. on _ _ c.in_ok-v.ensures (λ le2. through_none a.program.now a.here type c.in_ok-values.values c.callee_of.new.frame c.callee_of.new.state c.in_ok-v.v c.if-v-eq0.false found le2))
 
 pub lvalue_of-returns-in-Global : goal.lvalue_of-returns-in-Global
 lvalue_of-returns-in-Global t c =

@@ -47,6 +47,9 @@ decreases-value_of_call l = spent l.program.now l.here.bound + (3 * exprs_depth 
 abbrev pub decreases-value_of_call_through : goal.decreases-value_of_call_through
 decreases-value_of_call_through l = spent l.program.now l.here.bound + (3 * max (exprs_depth l.args.now) (size-Expr l.callee.now) + 2)
 
+abbrev pub decreases-callee_of : goal.decreases-callee_of
+decreases-callee_of l = spent l.program.now l.here.bound + (3 * size-Expr l.e.now + 1)
+
 abbrev pub decreases-value_of_known : goal.decreases-value_of_known
 decreases-value_of_known l = spent l.program.now l.here.bound + (3 * exprs_depth l.args.now + 2)
 

@@ -17,13 +17,13 @@ use Rattle.mv_lower.specs.Statements.{seen_code, seen_jumps, stmts_at, stmt_at, 
 use Rattle.mv_lower.proofs.statement.+statement.Goals as goal
 use Rattle.mv_num.proofs.Lists.{length_map}
 
-as_many : (vs : List Value) (es : List Expr) (n : ℕ) → map seen vs ≡ each_at es n → length vs ≡ length es
-as_many vs es n e = sym (length_map seen vs) ∙ (ap (λ (l : List Lowered). length l) e ∙ length_map (λ (x : Expr). expr_at x n) es)
+as_many : (ps : List ℕ) (vs : List Value) (es : List Expr) (n : ℕ) → map seen vs ≡ each_at ps es n → length vs ≡ length es
+as_many ps vs es n e = sym (length_map seen vs) ∙ (ap (λ (l : List Lowered). length l) e ∙ length_map (λ (x : Expr). expr_at ps x n) es)
 
 pub lower_stmt-declare-requires : goal.lower_stmt-declare-requires
 lower_stmt-declare-requires t c =
     let e = ap stmt_size c.in-Clear.is ∙ size_clear c.in-Clear.l c.in-Clear.values in
-    let many = as_many c.in_ok-given-in-Clear.given c.in-Clear.values _ c.in_ok-given-in-Clear.ensures in
+    let many = as_many c.args.pointers.now c.in_ok-given-in-Clear.given c.in-Clear.values _ c.in_ok-given-in-Clear.ensures in
     omega (arith, e, many)
 
 pub lower_stmt-lower_stmts-requires : goal.lower_stmt-lower_stmts-requires
@@ -164,8 +164,8 @@ pub lower_arms-loop-arm-init : goal.lower_arms-loop-arm-init
 lower_arms-loop-arm-init t c =
     let g = c.args.function.now in
     let j = seen_jumps c.args.jumps in
-    let low = arms_least g j c.args.arms.now in
-    (refl, omega arith, ap (λ (x : List Stm). x ++ arms_code (length g.locals) 0 (map (arm_at g) c.args.arms.now) j) c.new-code.ensures, omega (arith, low))
+    let low = arms_least c.args.pointers.now g j c.args.arms.now in
+    (refl, omega arith, ap (λ (x : List Stm). x ++ arms_code (length g.locals) 0 (map (arm_at c.args.pointers.now g) c.args.arms.now) j) c.new-code.ensures, omega (arith, low))
 
 pub lower_arms-loop-arm-preserved : goal.lower_arms-loop-arm-preserved
 lower_arms-loop-arm-preserved t c =
@@ -178,17 +178,17 @@ lower_arms-loop-arm-preserved t c =
     let rest = drop (i + 1) arms in
     let inv = c.loop-arm.invariant in
     let nx : drop i arms ≡ a ∷ rest = subst (λ (xs : List Arm). drop i xs ≡ a ∷ drop (i + 1) xs) c.as_slice-arm-items.ensures (next_item c.as_slice-arm-items.result.now i a c.loop-arm-test.true c.arm-item.is) in
-    let body : seen_code c.in_ok-body.body ≡ stmts_at g a.body (in_arm j) = c.in_ok-body.ensures ∙ ap (λ k. stmts_at g a.body k) c.in_arm-inside.ensures in
+    let body : seen_code c.in_ok-body.body ≡ stmts_at c.args.pointers.now g a.body (in_arm j) = c.in_ok-body.ensures ∙ ap (λ k. stmts_at c.args.pointers.now g a.body k) c.in_arm-inside.ensures in
     let code = ap (λ (x : Code). x.code) body in
     let top = ap (λ (x : Code). x.top) body in
     let s : suc i ≡ i + 1 = omega arith in
-    let codes = ap (λ (l : List Arm). arms_code n i (map (arm_at g) l) j) nx ∙ code_step g j i a rest ∙ ap (λ k. arm_code n i (stmts_at g a.body (in_arm j)).code ++ arms_code n k (map (arm_at g) rest) j) s in
+    let codes = ap (λ (l : List Arm). arms_code n i (map (arm_at c.args.pointers.now g) l) j) nx ∙ code_step c.args.pointers.now g j i a rest ∙ ap (λ k. arm_code n i (stmts_at c.args.pointers.now g a.body (in_arm j)).code ++ arms_code n k (map (arm_at c.args.pointers.now g) rest) j) s in
     let added = c.in_ok-arm_code.ensures ∙ (ap (λ m. arm_code m c.loop-arm.place c.in_ok-body.body.code) c.len-n.ensures ∙ (ap (λ k. arm_code n k c.in_ok-body.body.code) inv.0 ∙ ap (λ (x : List Stm). arm_code n i x) code)) in
-    let tops = ap (λ (l : List Arm). arms_top n (map (arm_at g) l) j) nx ∙ top_step g j a rest in (
+    let tops = ap (λ (l : List Arm). arms_top n (map (arm_at c.args.pointers.now g) l) j) nx ∙ top_step c.args.pointers.now g j a rest in (
       omega (arith, inv.0),
       omega (arith, inv.1),
-      ap (λ (x : List Stm). x ++ arms_code n (i + 1) (map (arm_at g) rest) j) (c.in_ok-append.ensures.ok ∙ ap (λ (x : List Stm). c.loop-arm.code ++ x) added) ∙
-          (append_assoc c.loop-arm.code (arm_code n i (stmts_at g a.body (in_arm j)).code) (arms_code n (i + 1) (map (arm_at g) rest) j) ∙ (ap (λ (x : List Stm). c.loop-arm.code ++ x) (sym codes) ∙ inv.2)),
+      ap (λ (x : List Stm). x ++ arms_code n (i + 1) (map (arm_at c.args.pointers.now g) rest) j) (c.in_ok-append.ensures.ok ∙ ap (λ (x : List Stm). c.loop-arm.code ++ x) added) ∙
+          (append_assoc c.loop-arm.code (arm_code n i (stmts_at c.args.pointers.now g a.body (in_arm j)).code) (arms_code n (i + 1) (map (arm_at c.args.pointers.now g) rest) j) ∙ (ap (λ (x : List Stm). c.loop-arm.code ++ x) (sym codes) ∙ inv.2)),
       omega (arith, inv.3, tops, top),
     )
 
@@ -198,7 +198,7 @@ lower_arms-returns t c =
     let arms = c.args.arms.now in
     let inv = c.loop-arm.invariant in
     let past : length arms ≤ i = subst (λ (xs : List Arm). length xs ≤ i) c.as_slice-arm-items.ensures c.loop-arm-test.false in
-    arms_end c.args.function.now (seen_jumps c.args.jumps) c.loop-arm.code arms i c.loop-arm.top past inv.1 inv.2 inv.3
+    arms_end c.args.pointers.now c.args.function.now (seen_jumps c.args.jumps) c.loop-arm.code arms i c.loop-arm.top past inv.1 inv.2 inv.3
 
 pub lower_stmts-loop-s-preserved : goal.lower_stmts-loop-s-preserved
 lower_stmts-loop-s-preserved t c =
@@ -206,10 +206,10 @@ lower_stmts-loop-s-preserved t c =
     let a = c.s-item.result in
     let g = c.args.function.now in
     let j = seen_jumps c.args.jumps in
-    let more = subst (λ (xs : List Stmt). stmts_at g (take (i + 1) xs) j ≡ with_stmt g j (take i xs) a) c.as_slice-s-items.ensures (stmts_push g j c.as_slice-s-items.result.now i a c.loop-s-test.true c.s-item.is) in
+    let more = subst (λ (xs : List Stmt). stmts_at c.args.pointers.now g (take (i + 1) xs) j ≡ with_stmt c.args.pointers.now g j (take i xs) a) c.as_slice-s-items.ensures (stmts_push c.args.pointers.now g j c.as_slice-s-items.result.now i a c.loop-s-test.true c.s-item.is) in
     let old = c.loop-s.invariant in
     let part = c.in_ok-part.ensures in
-    let code = c.in_ok-append.ensures.ok ∙ (ap (λ (x : Code). x.code ++ c.in_ok-part.part.code) old ∙ ap (λ (x : Code). (stmts_at g (take i c.args.body.now) j).code ++ x.code) part) in
-    let both = ap (λ (x : Code). max x.top c.in_ok-part.part.top) old ∙ ap (λ (x : Code). max (stmts_at g (take i c.args.body.now) j).top x.top) part in
-    let top : c.max-top.result ≡ max (stmts_at g (take i c.args.body.now) j).top (stmt_at g a j).top = omega (arith, both) in
+    let code = c.in_ok-append.ensures.ok ∙ (ap (λ (x : Code). x.code ++ c.in_ok-part.part.code) old ∙ ap (λ (x : Code). (stmts_at c.args.pointers.now g (take i c.args.body.now) j).code ++ x.code) part) in
+    let both = ap (λ (x : Code). max x.top c.in_ok-part.part.top) old ∙ ap (λ (x : Code). max (stmts_at c.args.pointers.now g (take i c.args.body.now) j).top x.top) part in
+    let top : c.max-top.result ≡ max (stmts_at c.args.pointers.now g (take i c.args.body.now) j).top (stmt_at c.args.pointers.now g a j).top = omega (arith, both) in
     same_code code top ∙ sym more

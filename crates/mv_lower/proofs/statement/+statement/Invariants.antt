@@ -4,13 +4,13 @@ use Rattle.mv_lower.specs.Statements.{stmts_at, arm_at, seen_jumps, stmt_size, s
 use Rattle.mv_lower.proofs.statement.+statement.Given as goal
 
 abbrev pub invariant-lower_stmts-loop-s : goal.invariant-lower_stmts-loop-s
-invariant-lower_stmts-loop-s l = (let c : Code = record { code = l.code; top = l.top } in c) ≡ stmts_at l.function (take l.s-index l.body) (seen_jumps l.jumps)
+invariant-lower_stmts-loop-s l = (let c : Code = record { code = l.code; top = l.top } in c) ≡ stmts_at l.pointers l.function (take l.s-index l.body) (seen_jumps l.jumps)
 
 abbrev pub invariant-lower_arms-loop-arm : goal.invariant-lower_arms-loop-arm
 invariant-lower_arms-loop-arm l =
     (l.place ≡ l.arm-index) × (length l.function.locals ≤ l.top) ×
-    (l.code ++ arms_code (length l.function.locals) l.arm-index (map (arm_at l.function) (drop l.arm-index l.arms)) (seen_jumps l.fn.jumps) ≡ arms_code (length l.function.locals) 0 (map (arm_at l.function) l.arms) (seen_jumps l.fn.jumps)) ×
-    (max l.top (arms_top (length l.function.locals) (map (arm_at l.function) (drop l.arm-index l.arms)) (seen_jumps l.fn.jumps)) ≡ arms_top (length l.function.locals) (map (arm_at l.function) l.arms) (seen_jumps l.fn.jumps))
+    (l.code ++ arms_code (length l.function.locals) l.arm-index (map (arm_at l.pointers l.function) (drop l.arm-index l.arms)) (seen_jumps l.fn.jumps) ≡ arms_code (length l.function.locals) 0 (map (arm_at l.pointers l.function) l.arms) (seen_jumps l.fn.jumps)) ×
+    (max l.top (arms_top (length l.function.locals) (map (arm_at l.pointers l.function) (drop l.arm-index l.arms)) (seen_jumps l.fn.jumps)) ≡ arms_top (length l.function.locals) (map (arm_at l.pointers l.function) l.arms) (seen_jumps l.fn.jumps))
 
 abbrev pub decreases-lower_stmts : goal.decreases-lower_stmts
 decreases-lower_stmts l = 3 * stmts_size l.body.now + 1

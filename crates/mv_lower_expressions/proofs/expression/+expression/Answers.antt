@@ -34,7 +34,7 @@ lower_form-lower_read-requires t c =
     (omega (arith, e, c.decreases), omega (arith, e))
 
 pub lower_form-returns-in-Read : goal.lower_form-returns-in-Read
-lower_form-returns-in-Read t c = shown _ (ap (λ (f : Form). form_at f c.args.ctype c.args.n) c.in-Read.is ∙ form_read c.in-Read.target c.args.ctype c.args.n) c.lower_read.ensures
+lower_form-returns-in-Read t c = shown _ (ap (λ (f : Form). form_at c.args.pointers.now f c.args.ctype c.args.n) c.in-Read.is ∙ form_read c.args.pointers.now c.in-Read.target c.args.ctype c.args.n) c.lower_read.ensures
 
 pub lower_form-lower_unary-requires : goal.lower_form-lower_unary-requires
 lower_form-lower_unary-requires t c =
@@ -42,7 +42,7 @@ lower_form-lower_unary-requires t c =
     (omega (arith, e, c.decreases), omega (arith, e))
 
 pub lower_form-returns-in-Unary : goal.lower_form-returns-in-Unary
-lower_form-returns-in-Unary t c = shown _ (ap (λ (f : Form). form_at f c.args.ctype c.args.n) c.in-Unary.is ∙ form_unary c.in-Unary.op c.in-Unary.a c.args.ctype c.args.n) c.lower_unary.ensures
+lower_form-returns-in-Unary t c = shown _ (ap (λ (f : Form). form_at c.args.pointers.now f c.args.ctype c.args.n) c.in-Unary.is ∙ form_unary c.args.pointers.now c.in-Unary.op c.in-Unary.a c.args.ctype c.args.n) c.lower_unary.ensures
 
 pub lower_form-lower_binary-requires : goal.lower_form-lower_binary-requires
 lower_form-lower_binary-requires t c =
@@ -50,7 +50,7 @@ lower_form-lower_binary-requires t c =
     (omega (arith, e, c.decreases), omega (arith, e))
 
 pub lower_form-returns-in-Binary : goal.lower_form-returns-in-Binary
-lower_form-returns-in-Binary t c = shown _ (ap (λ (f : Form). form_at f c.args.ctype c.args.n) c.in-Binary.is ∙ form_binary c.in-Binary.op c.in-Binary.a c.in-Binary.b c.args.ctype c.args.n) c.lower_binary.ensures
+lower_form-returns-in-Binary t c = shown _ (ap (λ (f : Form). form_at c.args.pointers.now f c.args.ctype c.args.n) c.in-Binary.is ∙ form_binary c.args.pointers.now c.in-Binary.op c.in-Binary.a c.in-Binary.b c.args.ctype c.args.n) c.lower_binary.ensures
 
 pub lower_form-lower_both-requires : goal.lower_form-lower_both-requires
 lower_form-lower_both-requires t c =
@@ -58,7 +58,7 @@ lower_form-lower_both-requires t c =
     (omega (arith, e, c.decreases), omega (arith, e))
 
 pub lower_form-returns-in-Both : goal.lower_form-returns-in-Both
-lower_form-returns-in-Both t c = shown _ (ap (λ (f : Form). form_at f c.args.ctype c.args.n) c.in-Both.is ∙ form_both c.in-Both.a c.in-Both.b c.args.ctype c.args.n) c.lower_both.ensures
+lower_form-returns-in-Both t c = shown _ (ap (λ (f : Form). form_at c.args.pointers.now f c.args.ctype c.args.n) c.in-Both.is ∙ form_both c.args.pointers.now c.in-Both.a c.in-Both.b c.args.ctype c.args.n) c.lower_both.ensures
 
 pub lower_form-lower_either-requires : goal.lower_form-lower_either-requires
 lower_form-lower_either-requires t c =
@@ -66,7 +66,7 @@ lower_form-lower_either-requires t c =
     (omega (arith, e, c.decreases), omega (arith, e))
 
 pub lower_form-returns-in-Either : goal.lower_form-returns-in-Either
-lower_form-returns-in-Either t c = shown _ (ap (λ (f : Form). form_at f c.args.ctype c.args.n) c.in-Either.is ∙ form_either c.in-Either.a c.in-Either.b c.args.ctype c.args.n) c.lower_either.ensures
+lower_form-returns-in-Either t c = shown _ (ap (λ (f : Form). form_at c.args.pointers.now f c.args.ctype c.args.n) c.in-Either.is ∙ form_either c.args.pointers.now c.in-Either.a c.in-Either.b c.args.ctype c.args.n) c.lower_either.ensures
 
 pub lower_form-lower_choice-requires : goal.lower_form-lower_choice-requires
 lower_form-lower_choice-requires t c =
@@ -74,7 +74,7 @@ lower_form-lower_choice-requires t c =
     (omega (arith, e, c.decreases), omega (arith, e))
 
 pub lower_form-returns-in-Choose : goal.lower_form-returns-in-Choose
-lower_form-returns-in-Choose t c = shown _ (ap (λ (f : Form). form_at f c.args.ctype c.args.n) c.in-Choose.is ∙ form_choose c.in-Choose.c c.in-Choose.a c.in-Choose.b c.args.ctype c.args.n) c.lower_choice.ensures
+lower_form-returns-in-Choose t c = shown _ (ap (λ (f : Form). form_at c.args.pointers.now f c.args.ctype c.args.n) c.in-Choose.is ∙ form_choose c.args.pointers.now c.in-Choose.c c.in-Choose.a c.in-Choose.b c.args.ctype c.args.n) c.lower_choice.ensures
 
 pub lower_form-lower_converted-requires : goal.lower_form-lower_converted-requires
 lower_form-lower_converted-requires t c =
@@ -82,7 +82,7 @@ lower_form-lower_converted-requires t c =
     (omega (arith, e, c.decreases), omega (arith, e))
 
 pub lower_form-returns-in-Convert : goal.lower_form-returns-in-Convert
-lower_form-returns-in-Convert t c = shown _ (ap (λ (f : Form). form_at f c.args.ctype c.args.n) c.in-Convert.is ∙ form_convert c.in-Convert.a c.args.ctype c.args.n) c.lower_converted.ensures
+lower_form-returns-in-Convert t c = shown _ (ap (λ (f : Form). form_at c.args.pointers.now f c.args.ctype c.args.n) c.in-Convert.is ∙ form_convert c.args.pointers.now c.in-Convert.a c.args.ctype c.args.n) c.lower_converted.ensures
 
 pub lower_form-lower_set-requires : goal.lower_form-lower_set-requires
 lower_form-lower_set-requires t c =
@@ -90,7 +90,7 @@ lower_form-lower_set-requires t c =
     (omega (arith, e, c.decreases), omega (arith, e))
 
 pub lower_form-returns-in-Set : goal.lower_form-returns-in-Set
-lower_form-returns-in-Set t c = shown _ (ap (λ (f : Form). form_at f c.args.ctype c.args.n) c.in-Set.is ∙ form_set c.in-Set.target c.in-Set.a c.args.ctype c.args.n) c.lower_set.ensures
+lower_form-returns-in-Set t c = shown _ (ap (λ (f : Form). form_at c.args.pointers.now f c.args.ctype c.args.n) c.in-Set.is ∙ form_set c.args.pointers.now c.in-Set.target c.in-Set.a c.args.ctype c.args.n) c.lower_set.ensures
 
 pub lower_form-lower_change-requires : goal.lower_form-lower_change-requires
 lower_form-lower_change-requires t c =
@@ -98,7 +98,7 @@ lower_form-lower_change-requires t c =
     (omega (arith, e, c.decreases), omega (arith, e))
 
 pub lower_form-returns-in-Change : goal.lower_form-returns-in-Change
-lower_form-returns-in-Change t c = shown _ (ap (λ (f : Form). form_at f c.args.ctype c.args.n) c.in-Change.is ∙ form_change c.in-Change.op c.in-Change.kind c.in-Change.target c.in-Change.a c.args.ctype c.args.n) c.lower_change.ensures
+lower_form-returns-in-Change t c = shown _ (ap (λ (f : Form). form_at c.args.pointers.now f c.args.ctype c.args.n) c.in-Change.is ∙ form_change c.args.pointers.now c.in-Change.op c.in-Change.kind c.in-Change.target c.in-Change.a c.args.ctype c.args.n) c.lower_change.ensures
 
 pub lower_form-lower_after-requires : goal.lower_form-lower_after-requires
 lower_form-lower_after-requires t c =
@@ -106,7 +106,7 @@ lower_form-lower_after-requires t c =
     (omega (arith, e, c.decreases), omega (arith, e))
 
 pub lower_form-returns-in-After : goal.lower_form-returns-in-After
-lower_form-returns-in-After t c = shown _ (ap (λ (f : Form). form_at f c.args.ctype c.args.n) c.in-After.is ∙ form_after c.in-After.up c.in-After.target c.args.ctype c.args.n) c.lower_after.ensures
+lower_form-returns-in-After t c = shown _ (ap (λ (f : Form). form_at c.args.pointers.now f c.args.ctype c.args.n) c.in-After.is ∙ form_after c.args.pointers.now c.in-After.up c.in-After.target c.args.ctype c.args.n) c.lower_after.ensures
 
 pub lower_form-lower_direct-requires : goal.lower_form-lower_direct-requires
 lower_form-lower_direct-requires t c =
@@ -114,7 +114,7 @@ lower_form-lower_direct-requires t c =
     (omega (arith, e, c.decreases), omega (arith, e))
 
 pub lower_form-returns-in-Direct : goal.lower_form-returns-in-Direct
-lower_form-returns-in-Direct t c = shown _ (ap (λ (f : Form). form_at f c.args.ctype c.args.n) c.in-Direct.is ∙ form_direct c.in-Direct.f c.in-Direct.args c.args.ctype c.args.n) c.lower_direct.ensures
+lower_form-returns-in-Direct t c = shown _ (ap (λ (f : Form). form_at c.args.pointers.now f c.args.ctype c.args.n) c.in-Direct.is ∙ form_direct c.args.pointers.now c.in-Direct.f c.in-Direct.args c.args.ctype c.args.n) c.lower_direct.ensures
 
 pub lower_form-lower_through-requires : goal.lower_form-lower_through-requires
 lower_form-lower_through-requires t c =
@@ -122,7 +122,7 @@ lower_form-lower_through-requires t c =
     (omega (arith, e, c.decreases), omega (arith, e))
 
 pub lower_form-returns-in-Through : goal.lower_form-returns-in-Through
-lower_form-returns-in-Through t c = shown _ (ap (λ (f : Form). form_at f c.args.ctype c.args.n) c.in-Through.is ∙ form_through c.in-Through.args c.in-Through.callee c.args.ctype c.args.n) c.lower_through.ensures
+lower_form-returns-in-Through t c = shown _ (ap (λ (f : Form). form_at c.args.pointers.now f c.args.ctype c.args.n) c.in-Through.is ∙ form_through c.args.pointers.now c.in-Through.args c.in-Through.callee c.args.ctype c.args.n) c.lower_through.ensures
 
 pub lower_form-lower_known-requires : goal.lower_form-lower_known-requires
 lower_form-lower_known-requires t c =
@@ -130,7 +130,7 @@ lower_form-lower_known-requires t c =
     (omega (arith, e, c.decreases), omega (arith, e))
 
 pub lower_form-returns-in-Known : goal.lower_form-returns-in-Known
-lower_form-returns-in-Known t c = shown _ (ap (λ (f : Form). form_at f c.args.ctype c.args.n) c.in-Known.is ∙ form_known c.in-Known.k c.in-Known.args c.args.ctype c.args.n) c.lower_known.ensures
+lower_form-returns-in-Known t c = shown _ (ap (λ (f : Form). form_at c.args.pointers.now f c.args.ctype c.args.n) c.in-Known.is ∙ form_known c.args.pointers.now c.in-Known.k c.in-Known.args c.args.ctype c.args.n) c.lower_known.ensures
 
 pub lower_read-lower_target-requires : goal.lower_read-lower_target-requires
 lower_read-lower_target-requires t c = (omega (arith, c.decreases), omega arith)
@@ -188,29 +188,32 @@ lower_choice-lower_boxed-requires-3 t c = (omega (arith, c.decreases), omega ari
 
 pub lower_set-lower_boxed-requires : goal.lower_set-lower_boxed-requires
 lower_set-lower_boxed-requires t c =
-    let s : c.start-at.result ≡ start_of (place_at c.args.target.now c.args.n) c.args.n = c.start-at.ensures ∙ ap (λ (p : Place). start_of p c.args.n) c.in_ok-place.ensures in
-    (omega (arith, c.decreases), omega (arith, s, start_small c.args.target.now c.args.n))
+    let s : c.start-at.result ≡ start_of (place_at c.args.pointers.now c.args.target.now c.args.n) c.args.n = c.start-at.ensures ∙ ap (λ (p : Place). start_of p c.args.n) c.in_ok-place.ensures in
+    (omega (arith, c.decreases), omega (arith, s, start_small c.args.pointers.now c.args.target.now c.args.n))
 
 pub lower_change-lower_boxed-requires : goal.lower_change-lower_boxed-requires
 lower_change-lower_boxed-requires t c =
-    let s : c.start-at.result ≡ start_of (place_at c.args.target.now c.args.n) c.args.n = c.start-at.ensures ∙ ap (λ (p : Place). start_of p c.args.n) c.in_ok-place.ensures in
-    (omega (arith, c.decreases), omega (arith, s, start_small c.args.target.now c.args.n))
+    let s : c.start-at.result ≡ start_of (place_at c.args.pointers.now c.args.target.now c.args.n) c.args.n = c.start-at.ensures ∙ ap (λ (p : Place). start_of p c.args.n) c.in_ok-place.ensures in
+    (omega (arith, c.decreases), omega (arith, s, start_small c.args.pointers.now c.args.target.now c.args.n))
 
 pub lower_change-change-requires : goal.lower_change-change-requires
 lower_change-change-requires t c =
     let target = c.args.target.now in
     let same = ap (λ (p : declared.Place). start_of (seen_place p) c.args.n) c.in_ok-place-2.ensures.first in
-    let s : start_of (seen_place c.in_ok-place.place) c.args.n ≡ start_of (place_at target c.args.n) c.args.n = ap (λ (p : Place). start_of p c.args.n) c.in_ok-place.ensures in
-    omega (arith, same, s, start_small target c.args.n, size_expr c.args.a.now)
+    let s : start_of (seen_place c.in_ok-place.place) c.args.n ≡ start_of (place_at c.args.pointers.now target c.args.n) c.args.n = ap (λ (p : Place). start_of p c.args.n) c.in_ok-place.ensures in
+    omega (arith, same, s, start_small c.args.pointers.now target c.args.n, size_expr c.args.a.now)
 
 pub lower_direct-direct-requires : goal.lower_direct-direct-requires
-lower_direct-direct-requires t c = omega (arith, few_values c.in_ok-values.values c.args.args.now c.args.n c.in_ok-values.ensures)
+lower_direct-direct-requires t c = omega (arith, few_values c.args.pointers.now c.in_ok-values.values c.args.args.now c.args.n c.in_ok-values.ensures)
 
 pub lower_known-known-requires : goal.lower_known-known-requires
-lower_known-known-requires t c = omega (arith, few_values c.in_ok-values.values c.args.args.now c.args.n c.in_ok-values.ensures)
+lower_known-known-requires t c = omega (arith, few_values c.args.pointers.now c.in_ok-values.values c.args.args.now c.args.n c.in_ok-values.ensures)
+
+pub lower_through-switched-requires : goal.lower_through-switched-requires
+lower_through-switched-requires t c = omega (arith, few_values c.args.pointers.now c.in_ok-values-in-Some.values c.args.args.now c.args.n c.in_ok-values-in-Some.ensures)
 
 pub lower_through-through-requires : goal.lower_through-through-requires
-lower_through-through-requires t c = omega (arith, few_with_callee c.in_ok-values.values c.args.args.now c.args.callee.now c.args.n c.in_ok-values.ensures)
+lower_through-through-requires t c = omega (arith, few_with_callee c.args.pointers.now c.in_ok-values-in-None.values c.args.args.now c.args.callee.now c.args.n c.in_ok-values-in-None.ensures)
 
 pub lower_target-lower_boxed-requires : goal.lower_target-lower_boxed-requires
 lower_target-lower_boxed-requires t c =
@@ -254,9 +257,9 @@ lower_exprs-overflow_add-at t c =
 
 pub lower_exprs-loop-e-preserved : goal.lower_exprs-loop-e-preserved
 lower_exprs-loop-e-preserved t c =
-    let p = subst (λ (xs : List Expr). MoreAt xs c.loop-e.e-index c.e-item.result c.args.n) c.as_slice-e-items.ensures (exprs_push c.as_slice-e-items.result.now c.loop-e.e-index c.e-item.result c.args.n c.loop-e-test.true c.e-item.is) in
+    let p = subst (λ (xs : List Expr). MoreAt c.args.pointers.now xs c.loop-e.e-index c.e-item.result c.args.n) c.as_slice-e-items.ensures (exprs_push c.args.pointers.now c.as_slice-e-items.result.now c.loop-e.e-index c.e-item.result c.args.n c.loop-e-test.true c.e-item.is) in
     let one = size_expr c.e-item.result in
     let m = map_push seen c.loop-e.values c.in_ok-lower_expr.field-0 in
     let pushed = ap (map seen) c.in_ok-push.ensures.ok in
-    let at = ap (λ k. expr_at c.e-item.result k) c.loop-e.invariant.0 in
-    (omega arith, omega (arith, one, p.size), pushed ∙ (m ∙ (ap (λ l. l ++ seen c.in_ok-lower_expr.field-0 ∷ []) c.loop-e.invariant.2 ∙ (ap (λ x. exprs_at (take c.loop-e.e-index c.args.es.now) c.args.n ++ x ∷ []) (c.in_ok-lower_expr.ensures ∙ at) ∙ sym p.values))))
+    let at = ap (λ k. expr_at c.args.pointers.now c.e-item.result k) c.loop-e.invariant.0 in
+    (omega arith, omega (arith, one, p.size), pushed ∙ (m ∙ (ap (λ l. l ++ seen c.in_ok-lower_expr.field-0 ∷ []) c.loop-e.invariant.2 ∙ (ap (λ x. exprs_at c.args.pointers.now (take c.loop-e.e-index c.args.es.now) c.args.n ++ x ∷ []) (c.in_ok-lower_expr.ensures ∙ at) ∙ sym p.values))))

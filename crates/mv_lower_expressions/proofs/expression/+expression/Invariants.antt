@@ -4,7 +4,7 @@ use Rattle.mv_lower_expressions.specs.Expressions.{exprs_at, expr_size, form_siz
 use Rattle.mv_lower_expressions.proofs.expression.+expression.Given as goal
 
 abbrev pub invariant-lower_exprs-loop-e : goal.invariant-lower_exprs-loop-e
-invariant-lower_exprs-loop-e l = (l.at ≡ l.n + l.e-index) × (l.e-index ≤ exprs_size (take l.e-index l.es)) × (map seen l.values ≡ exprs_at (take l.e-index l.es) l.n)
+invariant-lower_exprs-loop-e l = (l.at ≡ l.n + l.e-index) × (l.e-index ≤ exprs_size (take l.e-index l.es)) × (map seen l.values ≡ exprs_at l.pointers (take l.e-index l.es) l.n)
 
 abbrev pub decreases-lower_expr : goal.decreases-lower_expr
 decreases-lower_expr l = 6 * expr_size l.e.now

@@ -1,11 +1,16 @@
-use Rattle.std.proofs.Common.{arith, refl}
-use Rattle.mv_front.proofs.Few.{few_functions}
+use Rattle.std.proofs.Common.{◌≡◌, length, arith, ap, refl}
+use Rattle.mv_front.proofs.Few.{few_functions, no_pointers}
 use Rattle.mv_top.proofs.Texts.{evaluation_done, not_evaluated}
 use Rattle.mv_check_limits.proofs.Orders.{none_exceeded}
 use Rattle.mv_top.proofs.eval.eval_text.Goals as goal
 
 pub eval-requires : goal.eval-requires
-eval-requires g c = omega (arith, few_functions c.in-Ok.program (none_exceeded c.in-Ok.ensures.accepted.unit c.in-Ok.program c.in-Ok.ensures.accepted.within))
+eval-requires g c =
+    let p = c.in-Ok.program in
+    let is = c.in-Ok.ensures.accepted in
+    let few = few_functions p (none_exceeded is.unit p is.within) in
+    let none : length p.pointers ≡ 0 = ap length (no_pointers is.unit p is.good) in
+    omega (arith, few, none)
 
 pub returns-in-Ok : goal.returns-in-Ok
 returns-in-Ok g c way =
