@@ -73,7 +73,7 @@ class Launcher(unittest.TestCase):
         shutil.copy(os.path.join(TOP, "docs", "refusals.ini"), os.path.join(self.top, "docs"))
         shutil.copy(os.path.join(TOP, ".ci", "run"), os.path.join(self.top, ".ci"))
         shutil.copy(LAUNCHER, os.path.join(self.top, "multiverse"))
-        for name in ("check_headers.py", "check_documents.py", "definitions.py", "test_launcher.py"):
+        for name in ("check_headers.py", "check_families.py", "check_documents.py", "definitions.py", "test_launcher.py"):
             self.write(f"top/tools/{name}", "")
         for name, text in (("crates.txt", "mv_cli:\n"), ("HANDLES", ""), ("crates/mv_cli/src/main.rt", "//\n"), ("crates/mv_cli/src/more.rt", "//\n")):
             self.write(f"top/{name}", text)

@@ -5,7 +5,7 @@
 set -e
 here=$(cd "$(dirname "$0")" && pwd)
 . "$here/../scratch.sh"
-scratch_of rename.rt.in 'mv_num mv_ast mv_ir mv_regalloc' 'mv_num mv_ir mv_regalloc'
+scratch_of rename.rt.in 'mv_num mv_bindings mv_ast mv_ir mv_regalloc' 'mv_num mv_ir mv_regalloc'
 # The bodies of the bench aren't shown to be whole, as `rename` asks: so it calls the three passes that `rename` consists of.
 sed -i -E 's/^mod (apply|number|spans|table);/pub mod \1;/' "$scratch/crates/mv_regalloc/src/lib.rt"
 build kept 10

@@ -9,12 +9,12 @@ use Rattle.mv_ast.specs.declared.program.Function.{Function}
 use Rattle.mv_ast.specs.declared.program.Local.{Local}
 use Rattle.mv_ast.specs.declared.program.Expr.{Expr}
 use Rattle.mv_ast.specs.Names.{any_of}
-use Rattle.mv_ast.specs.Plans.{same_truth}
+use Rattle.mv_bindings.specs.Bindings.{same_truth}
 use Rattle.mv_check_scope.specs.Conversions as conversions
 use Rattle.mv_source_forms.specs.Typing.{types_of, parameter_types}
 use Rattle.mv_source_forms.specs.Names.{is_void, takes, is_callable}
 use Rattle.mv_accepts_bodies.specs.Formed.{HasParameters}
-use Rattle.mv_ast.proofs.Common.{truth_same}
+use Rattle.mv_bindings.proofs.Common.{truth_same}
 
 pub any_last : (bs : List Bool) (b : Bool) → any_of (bs ++ b ∷ []) ≡ false → (any_of bs ≡ false) × (b ≡ false)
 any_last [] b h = (refl, (or_parts b false h).0)

@@ -3,7 +3,7 @@ use Rattle.std.proofs.Common.{refl, List, length}
 use Rattle.std.specs.List.{AllByRecursion}
 use Rattle.std.proofs.lemmas.Bool.{not-false}
 use Rattle.mv_ast.specs.declared.program.CType.TheVariants.{Scalar}
-use Rattle.mv_ast.specs.declared.unit.Node.{Node}
+use Rattle.mv_syntax.specs.declared.unit.Node.{Node}
 use Rattle.mv_check_scope.specs.Scoped.{meaning_of}
 use Rattle.mv_check_expressions.specs.declared.seen.Seen.{Seen}
 use Rattle.mv_check_expressions.specs.declared.seen.Use.{Use}

@@ -14,7 +14,7 @@ use Rattle.mv_check_statements.specs.SwitchBodies.{arms_of}
 use Rattle.mv_check_expressions.specs.Judgements.{value_judgement, effect_judgement}
 use Rattle.mv_check_declarations.specs.Locals.{local_values}
 use Rattle.mv_source_forms.specs.Jumps.{Jumping, all_jump, jumps_layer, arm_jumps_layer, stmt_jumps, arm_jumps}
-use Rattle.mv_ast.specs.declared.unit.Line.{Line}
+use Rattle.mv_syntax.specs.declared.unit.Line.{Line}
 use Rattle.mv_check_scope.specs.declared.scope.Scope.{Scope}
 use Rattle.mv_check_expressions.specs.Judged.{Good}
 use Rattle.mv_check_statements.specs.Statements.{body_judgement}

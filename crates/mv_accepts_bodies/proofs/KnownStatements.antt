@@ -10,7 +10,7 @@ use Rattle.mv_ast.specs.declared.program.Stmt.{Stmt, Stmt-F, map-Stmt, out-Stmt,
 use Rattle.mv_ast.specs.declared.program.Stmt.TheVariants as stmt
 use Rattle.mv_ast.specs.declared.program.Stmt.TheVariants.{outs-Block, outs-Clear, outs-Express, outs-If, outs-While, outs-Do, outs-For, outs-Switch, outs-Break, outs-Continue, outs-Return}
 use Rattle.mv_ast.specs.declared.program.Stmt.TheOpen as open_stmt
-use Rattle.mv_ast.specs.declared.unit.Line.{Line}
+use Rattle.mv_syntax.specs.declared.unit.Line.{Line}
 use Rattle.mv_check_scope.specs.declared.scope.Scope.{Scope}
 use Rattle.mv_check_scope.specs.Conversions.{promotion, promoted, converted_to}
 use Rattle.mv_check_statements.specs.SwitchBodies.{arms_of}
@@ -20,7 +20,7 @@ use Rattle.mv_source_forms.specs.Lists.{all_of}
 use Rattle.mv_source_forms.specs.Uses.{all_layer, all_arm_layer, all_expressions, calls_known}
 use Rattle.mv_accepts_expressions.specs.Soundness.{Fits}
 use Rattle.mv_accepts_statements.specs.Bodies.{Keeps}
-use Rattle.mv_ast.specs.declared.unit.Param.{Param}
+use Rattle.mv_syntax.specs.declared.unit.Param.{Param}
 use Rattle.mv_check_declarations.specs.Parameters.{parameters_judgement}
 use Rattle.mv_accepts_statements.proofs.Judging.{of_good}
 use Rattle.mv_accepts_statements.proofs.Leading.{Leads}

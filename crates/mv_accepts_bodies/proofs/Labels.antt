@@ -18,7 +18,7 @@ use Rattle.mv_check_expressions.specs.Judgements.{value_judgement, effect_judgem
 use Rattle.mv_check_declarations.specs.Locals.{local_values}
 use Rattle.mv_source_forms.specs.Lists.{all_of}
 use Rattle.mv_source_forms.specs.Labels.{at_most_one, has_label, ArmLabels, later_arms, arms_labelled, labels_layer, arm_labels_layer, stmt_labelled, arm_labels}
-use Rattle.mv_ast.specs.declared.unit.Line.{Line}
+use Rattle.mv_syntax.specs.declared.unit.Line.{Line}
 use Rattle.mv_check_scope.specs.declared.scope.Scope.{Scope}
 use Rattle.mv_check_expressions.specs.Judged.{Good}
 use Rattle.mv_check_statements.specs.Statements.{body_judgement}

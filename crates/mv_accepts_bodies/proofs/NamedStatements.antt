@@ -13,8 +13,8 @@ use Rattle.mv_ast.specs.declared.program.Stmt.{Stmt, Stmt-F, map-Stmt, out-Stmt,
 use Rattle.mv_ast.specs.declared.program.Stmt.TheVariants as stmt
 use Rattle.mv_ast.specs.declared.program.Stmt.TheVariants.{outs-Block, outs-Clear, outs-Express, outs-If, outs-While, outs-Do, outs-For, outs-Switch, outs-Break, outs-Continue, outs-Return}
 use Rattle.mv_ast.specs.declared.program.Stmt.TheOpen as open_stmt
-use Rattle.mv_ast.specs.declared.unit.Line.{Line}
-use Rattle.mv_ast.specs.declared.unit.Node.{Node}
+use Rattle.mv_syntax.specs.declared.unit.Line.{Line}
+use Rattle.mv_syntax.specs.declared.unit.Node.{Node}
 use Rattle.mv_ast.specs.Counts.{words_of_size}
 use Rattle.mv_ast.specs.Names.{any_of, names_local}
 use Rattle.mv_check_scope.specs.declared.scope.Scope.{Scope}

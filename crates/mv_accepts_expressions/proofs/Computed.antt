@@ -6,7 +6,8 @@ use Rattle.mv_ast.specs.declared.program.Expr.{Expr, Expr-F, roll-Expr, map-Expr
 use Rattle.mv_ast.specs.declared.program.Form.{Form, Form-F, roll-Form, out-Form, out-roll-Form, map-Form, fold-Form, fold_out-Form}
 use Rattle.mv_ast.specs.declared.program.Form.TheOpen as form
 use Rattle.mv_ast.specs.declared.program.Target.{Target, Target-F, roll-Target, map-Target, fold-Target}
-use Rattle.mv_ast.specs.Operators.{unary_value, binary_value, converted, as_word}
+use Rattle.mv_ast.specs.Operators.{unary_value, binary_value, converted}
+use Rattle.mv_num.specs.Words.{as_word}
 use Rattle.mv_check_scope.specs.Constants.{Evaluated, of_one, of_two, by_test, truth, value_form, value_target, value_expr, evaluated, computed}
 use Rattle.mv_check_scope.proofs.Types.{type_of}
 use Rattle.mv_meaning.specs.Meaning.{truth_of}

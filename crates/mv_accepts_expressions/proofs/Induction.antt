@@ -2,13 +2,13 @@
 use Rattle.std.proofs.Common.{◌≡◌, ℕ, Bool, sym, ◌∙◌, ap, subst, List, [], ◌∷◌, map}
 use Rattle.mv_num.specs.declared.kind.Kind.{Kind}
 use Rattle.mv_ast.specs.declared.program.CType.{CType}
-use Rattle.mv_ast.specs.declared.unit.Node.{Node, Node-F, roll-Node, out-Node, map-Node, ind-Node}
-use Rattle.mv_ast.specs.declared.unit.What.{What, What-F, roll-What, out-What, out-roll-What, map-What}
-use Rattle.mv_ast.specs.declared.unit.What.TheOpen as what
-use Rattle.mv_ast.specs.declared.unit.EnumSpec.{EnumSpec}
-use Rattle.mv_ast.specs.declared.unit.Mark.{Mark}
-use Rattle.mv_ast.specs.declared.unit.Member.{Member}
-use Rattle.mv_ast.specs.declared.unit.Specs.{Specs}
+use Rattle.mv_syntax.specs.declared.unit.Node.{Node, Node-F, roll-Node, out-Node, map-Node, ind-Node}
+use Rattle.mv_syntax.specs.declared.unit.What.{What, What-F, roll-What, out-What, out-roll-What, map-What}
+use Rattle.mv_syntax.specs.declared.unit.What.TheOpen as what
+use Rattle.mv_syntax.specs.declared.unit.EnumSpec.{EnumSpec}
+use Rattle.mv_syntax.specs.declared.unit.Mark.{Mark}
+use Rattle.mv_syntax.specs.declared.unit.Member.{Member}
+use Rattle.mv_syntax.specs.declared.unit.Specs.{Specs}
 use Rattle.mv_check_scope.specs.declared.scope.Scope.{Scope}
 use Rattle.mv_check_expressions.specs.declared.seen.Seen.{Seen}
 use Rattle.mv_check_expressions.specs.declared.seen.Use.{Use}

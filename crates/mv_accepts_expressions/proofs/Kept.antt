@@ -1,6 +1,6 @@
 -- A good judgement: what its parts are, and which rules were kept.
 use Rattle.std.proofs.Common.{◌≡◌, ℕ, Bool, true, false, refl, Option, Some, None, is_none}
-use Rattle.mv_ast.specs.declared.place.Place.{Place}
+use Rattle.mv_syntax.specs.declared.place.Place.{Place}
 use Rattle.mv_check_expressions.specs.declared.breaches.Breaches.{Breaches}
 use Rattle.mv_check_expressions.specs.declared.seen.Seen.{Seen}
 use Rattle.mv_check_expressions.specs.Judged.{Judged, Good, Broken, and_then}

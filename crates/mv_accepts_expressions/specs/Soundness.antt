@@ -6,7 +6,7 @@ use Rattle.mv_ast.specs.declared.program.Program.{Program}
 use Rattle.mv_ast.specs.declared.program.Function.{Function}
 use Rattle.mv_ast.specs.declared.program.Signature.{Signature}
 use Rattle.mv_ast.specs.declared.program.Expr.{Expr}
-use Rattle.mv_ast.specs.declared.unit.Node.{Node}
+use Rattle.mv_syntax.specs.declared.unit.Node.{Node}
 use Rattle.mv_check_scope.specs.declared.meaning.Storage.{Storage}
 use Rattle.mv_check_scope.specs.declared.meaning.Storage.TheVariants as storage
 use Rattle.mv_check_scope.specs.declared.meaning.Meaning.{Meaning}

@@ -2,10 +2,10 @@
 use Rattle.std.proofs.Common.{◌≡◌, ℕ, zero, suc, ◌++◌, arith, refl, Bool, true, false, not, if◌then◌else◌, ◌||◌, is_some, List, [], ◌∷◌, length-append, Option, Some, None, take, drop}
 use Rattle.std.specs.List.{AllByRecursion}
 use Rattle.mv_num.specs.declared.kind.Kind.{Kind}
-use Rattle.mv_ast.specs.declared.place.Place.{Place}
-use Rattle.mv_ast.specs.declared.unit.Mark.{Mark, out-Mark}
-use Rattle.mv_ast.specs.declared.unit.Node.{Node}
-use Rattle.mv_ast.specs.Plans.{is_among}
+use Rattle.mv_syntax.specs.declared.place.Place.{Place}
+use Rattle.mv_syntax.specs.declared.unit.Mark.{Mark, out-Mark}
+use Rattle.mv_syntax.specs.declared.unit.Node.{Node}
+use Rattle.mv_num.specs.Lists.{is_among}
 use Rattle.mv_check_scope.specs.declared.scope.Scope.{Scope}
 use Rattle.mv_check_expressions.specs.declared.constant.Constant.{Constant}
 use Rattle.mv_check_expressions.specs.Judged.{Good}

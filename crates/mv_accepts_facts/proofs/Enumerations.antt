@@ -4,12 +4,12 @@ use Rattle.std.specs.Cmp.Lexicographic.{pointwise}
 use Rattle.std.specs.List.{AllByRecursion}
 use Rattle.std.proofs.lemmas.Option.{same_Some}
 use Rattle.mv_num.specs.declared.kind.Kind.{Kind}
-use Rattle.mv_ast.specs.declared.place.Place.{Place}
-use Rattle.mv_ast.specs.declared.unit.Declarator.{Declarator}
-use Rattle.mv_ast.specs.declared.unit.EnumSpec.{EnumSpec, out-EnumSpec}
-use Rattle.mv_ast.specs.declared.unit.Mark.{Mark}
-use Rattle.mv_ast.specs.declared.unit.Member.{Member, out-Member}
-use Rattle.mv_ast.specs.declared.unit.Specs.{Specs, out-Specs}
+use Rattle.mv_syntax.specs.declared.place.Place.{Place}
+use Rattle.mv_syntax.specs.declared.unit.Declarator.{Declarator}
+use Rattle.mv_syntax.specs.declared.unit.EnumSpec.{EnumSpec, out-EnumSpec}
+use Rattle.mv_syntax.specs.declared.unit.Mark.{Mark}
+use Rattle.mv_syntax.specs.declared.unit.Member.{Member, out-Member}
+use Rattle.mv_syntax.specs.declared.unit.Specs.{Specs, out-Specs}
 use Rattle.mv_check_scope.specs.declared.meaning.Meaning.{Meaning}
 use Rattle.mv_check_scope.specs.declared.meaning.Meaning.TheVariants as meaning
 use Rattle.mv_check_scope.specs.declared.scope.Scope.{Scope}
@@ -28,7 +28,7 @@ use Rattle.mv_check_declarations.specs.Enumerators.{is_taken, given_value, enume
 use Rattle.mv_check_declarations.specs.Globals.{values_of_enumeration, default_domain}
 use Rattle.mv_check_declarations.specs.Specifiers.{number_of_tag, named_enumeration, with_enumeration, tagged, enumeration_of, count_before_list, nothing_said, enum_specifier, enum_specifiers, kind_of, type_by_rules, specifiers}
 use Rattle.mv_check_declarations.specs.Turns.{through}
-use Rattle.mv_ast.specs.Plans.{is_among}
+use Rattle.mv_num.specs.Lists.{is_among}
 use Rattle.mv_accepts_statements.specs.Bodies.{Keeps}
 use Rattle.mv_accepts_statements.proofs.Judging.{IfGood, if_any, if_then, if_kept, if_more, if_through}
 use Rattle.mv_accepts_statements.proofs.Lists.{each_any}

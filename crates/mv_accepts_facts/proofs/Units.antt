@@ -1,10 +1,10 @@
 -- The objects and functions that the declarations of a unit come to are written as the grammar has them.
 use Rattle.std.proofs.Common.{ℕ, zero, suc, refl, List, [], replicate, length, Option, None}
 use Rattle.std.specs.List.{AllByRecursion}
-use Rattle.mv_ast.specs.declared.unit.Declarator.{Declarator}
-use Rattle.mv_ast.specs.declared.unit.Item.{Item}
-use Rattle.mv_ast.specs.declared.unit.Line.{Line}
-use Rattle.mv_ast.specs.declared.unit.Specs.{out-Specs}
+use Rattle.mv_syntax.specs.declared.unit.Declarator.{Declarator}
+use Rattle.mv_syntax.specs.declared.unit.Item.{Item}
+use Rattle.mv_syntax.specs.declared.unit.Line.{Line}
+use Rattle.mv_syntax.specs.declared.unit.Specs.{out-Specs}
 use Rattle.mv_check_declarations.specs.declared.attributes.Position.TheVariants as position
 use Rattle.mv_check_declarations.specs.declared.specifiers.Specified.{Specified}
 use Rattle.mv_check_declarations.specs.Specifiers.{specifiers}

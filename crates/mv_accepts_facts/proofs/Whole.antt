@@ -15,7 +15,7 @@ use Rattle.mv_ast.specs.declared.program.Program.{Program}
 use Rattle.mv_ast.specs.declared.program.Switch.{Switch}
 use Rattle.mv_ast.specs.Actions.{is_value_of}
 use Rattle.mv_ast.specs.Counts.{assignments, product_of, words_of_size}
-use Rattle.mv_ast.specs.Plans.{attributed_functions, switch_global, switch_domain, global_or_none, values_or_none}
+use Rattle.mv_ast.specs.Switches.{attributed_functions, switch_global, switch_domain, global_or_none, values_or_none}
 use Rattle.mv_check_declarations.specs.Turns.{through}
 use Rattle.mv_source_forms.specs.Typing.{IsInteger, global_types}
 use Rattle.mv_source_forms.specs.WellFormed.{IsWellFormed, IsWellFormedSwitch}

@@ -2,7 +2,7 @@
 use Rattle.std.specs.Prelude.{◌≡◌, ℕ, ◌<◌, All, length}
 use Rattle.mv_ast.specs.declared.program.Program.{Program}
 use Rattle.mv_ast.specs.declared.program.Global.{Global}
-use Rattle.mv_ast.specs.declared.unit.Unit as unit
+use Rattle.mv_syntax.specs.declared.unit.Unit as unit
 use Rattle.mv_ast.specs.Counts.{words_of_size}
 use Rattle.mv_check_expressions.specs.Judged.{Good}
 use Rattle.mv_source_forms.specs.Typing.{IsIntegerSwitch}

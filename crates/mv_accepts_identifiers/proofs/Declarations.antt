@@ -2,16 +2,16 @@
 use Rattle.std.proofs.Common.{◌≡◌, ℕ, ap, sym, ◌∙◌, subst, Option, Some, None, List, []}
 use Rattle.std.specs.List.{AllByRecursion}
 use Rattle.std.proofs.lemmas.Option.{same_Some}
-use Rattle.mv_ast.specs.declared.place.Place.{Place}
-use Rattle.mv_ast.specs.declared.unit.Declarator.{Declarator}
-use Rattle.mv_ast.specs.declared.unit.EnumSpec.{EnumSpec, EnumSpec-F, roll-EnumSpec, out-roll-EnumSpec}
-use Rattle.mv_ast.specs.declared.unit.Item.{Item}
-use Rattle.mv_ast.specs.declared.unit.Mark.{Mark, Mark-F, out-roll-Mark}
-use Rattle.mv_ast.specs.declared.unit.Member.{Member}
-use Rattle.mv_ast.specs.declared.unit.Node.{Node}
-use Rattle.mv_ast.specs.declared.unit.Shape.{Shape}
-use Rattle.mv_ast.specs.declared.unit.Specs.{Specs, Specs-F, roll-Specs, out-Specs, out-roll-Specs}
-use Rattle.mv_ast.specs.declared.unit.What.{What}
+use Rattle.mv_syntax.specs.declared.place.Place.{Place}
+use Rattle.mv_syntax.specs.declared.unit.Declarator.{Declarator}
+use Rattle.mv_syntax.specs.declared.unit.EnumSpec.{EnumSpec, EnumSpec-F, roll-EnumSpec, out-roll-EnumSpec}
+use Rattle.mv_syntax.specs.declared.unit.Item.{Item}
+use Rattle.mv_syntax.specs.declared.unit.Mark.{Mark, Mark-F, out-roll-Mark}
+use Rattle.mv_syntax.specs.declared.unit.Member.{Member}
+use Rattle.mv_syntax.specs.declared.unit.Node.{Node}
+use Rattle.mv_syntax.specs.declared.unit.Shape.{Shape}
+use Rattle.mv_syntax.specs.declared.unit.Specs.{Specs, Specs-F, roll-Specs, out-Specs, out-roll-Specs}
+use Rattle.mv_syntax.specs.declared.unit.What.{What}
 use Rattle.mv_parse_grammar.specs.Terminals.{Terminal}
 use Rattle.mv_parse_grammar.specs.Expressions.{Expressions, phrase, no_specs}
 use Rattle.mv_parse_grammar.specs.Declarations as D

@@ -2,9 +2,9 @@
 use Rattle.std.proofs.Common.{◌≡◌, ℕ, ◌+◌, ◌-◌, Bool, true, refl, sym, ◌∙◌, ap, subst, List, [], ◌∷◌, ◌++◌, length, take, drop, arith}
 use Rattle.std.specs.List.{AllByRecursion}
 use Rattle.std.proofs.lemmas.List.{drop-drop}
-use Rattle.mv_ast.specs.declared.unit.Unit as unit
-use Rattle.mv_ast.specs.declared.token.Token.{Token}
-use Rattle.mv_ast.specs.declared.token.Piece.{Piece}
+use Rattle.mv_syntax.specs.declared.unit.Unit as unit
+use Rattle.mv_syntax.specs.declared.token.Token.{Token}
+use Rattle.mv_syntax.specs.declared.token.Piece.{Piece}
 use Rattle.mv_lexer.specs.Include.{IsFrontLexeme, include_line, longest_lexeme}
 use Rattle.mv_lexer.specs.Lexemes.{IsIdentifier}
 use Rattle.mv_lexer.specs.Place.{start, after}

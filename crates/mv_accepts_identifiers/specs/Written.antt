@@ -1,14 +1,14 @@
 -- What the grammar gives to the declarations of a unit: their names are names, and their domains and enumerations have members.
 use Rattle.std.specs.Prelude.{◌≡◌, ◌≤◌, ℕ, Some, List, length}
 use Rattle.std.specs.List.{AllByRecursion}
-use Rattle.mv_ast.specs.declared.unit.Declarator.{Declarator}
-use Rattle.mv_ast.specs.declared.unit.EnumSpec.{EnumSpec, out-EnumSpec}
-use Rattle.mv_ast.specs.declared.unit.Item.{Item}
-use Rattle.mv_ast.specs.declared.unit.Mark.{Mark, out-Mark}
-use Rattle.mv_ast.specs.declared.unit.Member.{Member}
-use Rattle.mv_ast.specs.declared.unit.Node.{Node}
-use Rattle.mv_ast.specs.declared.unit.Specs.{Specs, out-Specs}
-use Rattle.mv_ast.specs.declared.unit.Unit as unit
+use Rattle.mv_syntax.specs.declared.unit.Declarator.{Declarator}
+use Rattle.mv_syntax.specs.declared.unit.EnumSpec.{EnumSpec, out-EnumSpec}
+use Rattle.mv_syntax.specs.declared.unit.Item.{Item}
+use Rattle.mv_syntax.specs.declared.unit.Mark.{Mark, out-Mark}
+use Rattle.mv_syntax.specs.declared.unit.Member.{Member}
+use Rattle.mv_syntax.specs.declared.unit.Node.{Node}
+use Rattle.mv_syntax.specs.declared.unit.Specs.{Specs, out-Specs}
+use Rattle.mv_syntax.specs.declared.unit.Unit as unit
 use Rattle.mv_parse_reading.specs.Texts.{ReadsAs}
 use Rattle.mv_source_facts.specs.Facts.{IsName}
 

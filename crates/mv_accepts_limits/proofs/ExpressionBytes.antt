@@ -1,8 +1,8 @@
 -- An expression has at most as many nodes as tokens: by induction over the productions.
 use Rattle.std.proofs.Common.{ℕ, zero, suc, ◌+◌, arith, List}
-use Rattle.mv_ast.specs.declared.place.Place.{Place}
-use Rattle.mv_ast.specs.declared.unit.Node.{Node}
-use Rattle.mv_ast.specs.declared.unit.Specs.{Specs}
+use Rattle.mv_syntax.specs.declared.place.Place.{Place}
+use Rattle.mv_syntax.specs.declared.unit.Node.{Node}
+use Rattle.mv_syntax.specs.declared.unit.Specs.{Specs}
 use Rattle.mv_parse_grammar.specs.Terminals.{Terminal, mark, keyword, is_mark}
 use Rattle.mv_parse_grammar.specs.Expressions as G
 use Rattle.mv_parse_grammar.specs.Expressions.{Nonterminal, Expressions, Assign, Cond, Cast, Unary, no_specs, tag_of}

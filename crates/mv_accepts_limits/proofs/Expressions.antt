@@ -4,12 +4,12 @@ use Rattle.std.specs.Prelude.{sum}
 use Rattle.std.proofs.lemmas.List.Sums.{sum_by-cons}
 use Rattle.mv_ast.specs.declared.program.CType.TheVariants.{Scalar}
 use Rattle.mv_ast.specs.declared.program.Expr.{Expr}
-use Rattle.mv_ast.specs.declared.unit.Node.{Node, out-Node, fold_out-Node}
-use Rattle.mv_ast.specs.declared.unit.What.{What, What-F, out-What, fold_out-What}
-use Rattle.mv_ast.specs.declared.unit.EnumSpec.{EnumSpec}
-use Rattle.mv_ast.specs.declared.unit.Mark.{Mark}
-use Rattle.mv_ast.specs.declared.unit.Member.{Member}
-use Rattle.mv_ast.specs.declared.unit.Specs.{Specs}
+use Rattle.mv_syntax.specs.declared.unit.Node.{Node, out-Node, fold_out-Node}
+use Rattle.mv_syntax.specs.declared.unit.What.{What, What-F, out-What, fold_out-What}
+use Rattle.mv_syntax.specs.declared.unit.EnumSpec.{EnumSpec}
+use Rattle.mv_syntax.specs.declared.unit.Mark.{Mark}
+use Rattle.mv_syntax.specs.declared.unit.Member.{Member}
+use Rattle.mv_syntax.specs.declared.unit.Specs.{Specs}
 use Rattle.mv_ast.specs.Counts.{expr_nodes}
 use Rattle.mv_check_scope.specs.declared.scope.Scope.{Scope}
 use Rattle.mv_check_scope.specs.Scoped.{meaning_of}

@@ -1,12 +1,12 @@
 -- What each form of a statement counts.
 use Rattle.std.proofs.Common.{◌≡◌, ℕ, ◌+◌, ◌≤◌, ◌∙◌, ap, arith, Option, Some, None, List}
-use Rattle.mv_ast.specs.declared.place.Place.{Place}
-use Rattle.mv_ast.specs.declared.unit.Act.{Act, Act-F, out-Act, map-Act, fold-Act, fold_out-Act}
-use Rattle.mv_ast.specs.declared.unit.Act.TheVariants as a
-use Rattle.mv_ast.specs.declared.unit.Declarator.{Declarator}
-use Rattle.mv_ast.specs.declared.unit.Line.{Line, fold_out-Line}
-use Rattle.mv_ast.specs.declared.unit.Node.{Node}
-use Rattle.mv_ast.specs.declared.unit.Specs.{Specs}
+use Rattle.mv_syntax.specs.declared.place.Place.{Place}
+use Rattle.mv_syntax.specs.declared.unit.Act.{Act, Act-F, out-Act, map-Act, fold-Act, fold_out-Act}
+use Rattle.mv_syntax.specs.declared.unit.Act.TheVariants as a
+use Rattle.mv_syntax.specs.declared.unit.Declarator.{Declarator}
+use Rattle.mv_syntax.specs.declared.unit.Line.{Line, fold_out-Line}
+use Rattle.mv_syntax.specs.declared.unit.Node.{Node}
+use Rattle.mv_syntax.specs.declared.unit.Specs.{Specs}
 use Rattle.mv_parse_grammar.specs.Statements.{line_at, express}
 use Rattle.mv_accepts_limits.specs.Nodes.{act_count, line_count, node_nodes, optional_nodes, specs_nodes, declarator_nodes, line_nodes}
 use Rattle.mv_accepts_limits.proofs.Phrases.{of_some, of_all}

@@ -3,16 +3,16 @@ use Rattle.std.proofs.Common.{◌≡◌, ℕ, ◌+◌, ◌∙◌, ap, arith, tru
 use Rattle.std.specs.Prelude.{sum, Bool}
 use Rattle.mv_num.specs.declared.kind.Kind.{Kind}
 use Rattle.mv_num.specs.declared.kind.Kind.TheVariants.{Int}
-use Rattle.mv_ast.specs.declared.place.Place.{Place}
-use Rattle.mv_ast.specs.declared.unit.Node.{Node, fold_out-Node}
-use Rattle.mv_ast.specs.declared.unit.What.{What, What-F, out-What, map-What, fold-What, fold_out-What}
-use Rattle.mv_ast.specs.declared.unit.What.TheVariants as w
-use Rattle.mv_ast.specs.declared.unit.EnumSpec.{EnumSpec, fold-EnumSpec, fold-roll-EnumSpec}
-use Rattle.mv_ast.specs.declared.unit.Mark.{Mark, fold-roll-Mark}
-use Rattle.mv_ast.specs.declared.unit.Member.{Member, fold-Member, fold-roll-Member}
-use Rattle.mv_ast.specs.declared.unit.Specs.{Specs, out-Specs, fold_out-Specs, fold-roll-Specs}
-use Rattle.mv_ast.specs.declared.token.Piece.{Piece}
-use Rattle.mv_ast.specs.declared.token.Piece.TheVariants as piece
+use Rattle.mv_syntax.specs.declared.place.Place.{Place}
+use Rattle.mv_syntax.specs.declared.unit.Node.{Node, fold_out-Node}
+use Rattle.mv_syntax.specs.declared.unit.What.{What, What-F, out-What, map-What, fold-What, fold_out-What}
+use Rattle.mv_syntax.specs.declared.unit.What.TheVariants as w
+use Rattle.mv_syntax.specs.declared.unit.EnumSpec.{EnumSpec, fold-EnumSpec, fold-roll-EnumSpec}
+use Rattle.mv_syntax.specs.declared.unit.Mark.{Mark, fold-roll-Mark}
+use Rattle.mv_syntax.specs.declared.unit.Member.{Member, fold-Member, fold-roll-Member}
+use Rattle.mv_syntax.specs.declared.unit.Specs.{Specs, out-Specs, fold_out-Specs, fold-roll-Specs}
+use Rattle.mv_syntax.specs.declared.token.Piece.{Piece}
+use Rattle.mv_syntax.specs.declared.token.Piece.TheVariants as piece
 use Rattle.mv_parse_grammar.specs.Terminals.{Terminal}
 use Rattle.mv_parse_grammar.specs.Expressions.{node_at, piece_value, no_specs, specs_of, specs_at, with_const, with_word, with_tag, tag_of}
 use Rattle.mv_parse_grammar.specs.Declarations.{with_static, with_mark, member_of, enum_of, mark_at}

@@ -1,8 +1,8 @@
 -- A statement has at most as many nodes as tokens and characters of strings: by induction over the productions.
 use Rattle.std.proofs.Common.{◌≡◌, ℕ, zero, suc, ◌+◌, arith, Option}
-use Rattle.mv_ast.specs.declared.place.Place.{Place}
-use Rattle.mv_ast.specs.declared.unit.Act.{Act}
-use Rattle.mv_ast.specs.declared.unit.Node.{Node}
+use Rattle.mv_syntax.specs.declared.place.Place.{Place}
+use Rattle.mv_syntax.specs.declared.unit.Act.{Act}
+use Rattle.mv_syntax.specs.declared.unit.Node.{Node}
 use Rattle.mv_parse_grammar.specs.Expressions.{Nonterminal, Expressions, Assign, Cond, phrase}
 use Rattle.mv_parse_grammar.specs.Declarations.{Parameters, params, place_of_specs}
 use Rattle.mv_parse_grammar.specs.Statements as T

@@ -1,7 +1,7 @@
 -- The tokens of a text, with the characters of its strings, are no more than its bytes.
 use Rattle.std.proofs.Common.{◌≡◌, ℕ, ◌+◌, ◌<◌, ◌≤◌, List, [], ◌∷◌, ◌++◌, length, drop, ap, arith, length-drop}
-use Rattle.mv_ast.specs.declared.unit.Unit as unit
-use Rattle.mv_ast.specs.declared.token.Token.{Token}
+use Rattle.mv_syntax.specs.declared.unit.Unit as unit
+use Rattle.mv_syntax.specs.declared.token.Token.{Token}
 use Rattle.mv_lexer.specs.Characters.{IsCharacter, plain, escape, Spells, IsQuoted}
 use Rattle.mv_lexer.specs.Place.{start, after}
 use Rattle.mv_lexer.specs.Reading as R

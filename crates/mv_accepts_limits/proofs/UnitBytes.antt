@@ -1,9 +1,9 @@
 -- A unit has at most as many nodes as tokens and characters of strings.
 use Rattle.std.proofs.Common.{◌≡◌, ℕ, ◌+◌, ◌≤◌, arith, Option, Some, None, List, [], ◌∷◌}
-use Rattle.mv_ast.specs.declared.unit.Declarator.{Declarator}
-use Rattle.mv_ast.specs.declared.unit.Item.{Item}
-use Rattle.mv_ast.specs.declared.unit.Line.{Line}
-use Rattle.mv_ast.specs.declared.unit.Specs.{Specs}
+use Rattle.mv_syntax.specs.declared.unit.Declarator.{Declarator}
+use Rattle.mv_syntax.specs.declared.unit.Item.{Item}
+use Rattle.mv_syntax.specs.declared.unit.Line.{Line}
+use Rattle.mv_syntax.specs.declared.unit.Specs.{Specs}
 use Rattle.mv_parse_grammar.specs.Terminals.{Terminal}
 use Rattle.mv_parse_grammar.specs.Language as L
 use Rattle.mv_parse_grammar.specs.Expressions.{phrase}

@@ -1,9 +1,9 @@
 -- The function `main` of a unit.
 use Rattle.std.specs.Prelude.{◌≡◌, false, List, codes}
-use Rattle.mv_ast.specs.declared.place.Place.{Place}
+use Rattle.mv_syntax.specs.declared.place.Place.{Place}
 use Rattle.mv_ast.specs.declared.program.Function.{Function}
 use Rattle.mv_ast.specs.declared.program.Program.{Program}
-use Rattle.mv_ast.specs.declared.unit.Item.{Item}
+use Rattle.mv_syntax.specs.declared.unit.Item.{Item}
 use Rattle.mv_check_expressions.specs.Judged.{Good}
 use Rattle.mv_check_declarations.specs.Turns.{through}
 use Rattle.mv_source_forms.specs.Typing.{HasTypedMain}

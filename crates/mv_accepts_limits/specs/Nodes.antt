@@ -1,24 +1,24 @@
 -- The nodes of a unit: expressions, statements, labels, declared names, parameters and given values, each counted once.
 use Rattle.std.specs.Prelude.{◌≡◌, ℕ, ◌+◌, ◌≤◌, List, map, length, sum, Option, Some, None}
 use Rattle.mv_ast.specs.declared.program.Program.{Program}
-use Rattle.mv_ast.specs.declared.unit.Unit as unit
-use Rattle.mv_ast.specs.declared.unit.Item.{Item}
-use Rattle.mv_ast.specs.declared.unit.Initial.{Initial}
-use Rattle.mv_ast.specs.declared.unit.Initial.TheVariants as initial
-use Rattle.mv_ast.specs.declared.unit.Node.{Node, Node-F, fold-Node}
-use Rattle.mv_ast.specs.declared.unit.What.{What-F}
-use Rattle.mv_ast.specs.declared.unit.What.TheOpen as what
-use Rattle.mv_ast.specs.declared.unit.EnumSpec.{EnumSpec-F}
-use Rattle.mv_ast.specs.declared.unit.Mark.{Mark, Mark-F, fold-Mark}
-use Rattle.mv_ast.specs.declared.unit.Member.{Member-F}
-use Rattle.mv_ast.specs.declared.unit.Specs.{Specs, Specs-F, fold-Specs}
-use Rattle.mv_ast.specs.declared.unit.Shape.{Shape-F}
-use Rattle.mv_ast.specs.declared.unit.Shape.TheOpen as shape
-use Rattle.mv_ast.specs.declared.unit.Declarator.{Declarator, Declarator-F, fold-Declarator}
-use Rattle.mv_ast.specs.declared.unit.Param.{Param-F}
-use Rattle.mv_ast.specs.declared.unit.Line.{Line, Line-F, fold-Line}
-use Rattle.mv_ast.specs.declared.unit.Act.{Act-F}
-use Rattle.mv_ast.specs.declared.unit.Act.TheOpen as act
+use Rattle.mv_syntax.specs.declared.unit.Unit as unit
+use Rattle.mv_syntax.specs.declared.unit.Item.{Item}
+use Rattle.mv_syntax.specs.declared.unit.Initial.{Initial}
+use Rattle.mv_syntax.specs.declared.unit.Initial.TheVariants as initial
+use Rattle.mv_syntax.specs.declared.unit.Node.{Node, Node-F, fold-Node}
+use Rattle.mv_syntax.specs.declared.unit.What.{What-F}
+use Rattle.mv_syntax.specs.declared.unit.What.TheOpen as what
+use Rattle.mv_syntax.specs.declared.unit.EnumSpec.{EnumSpec-F}
+use Rattle.mv_syntax.specs.declared.unit.Mark.{Mark, Mark-F, fold-Mark}
+use Rattle.mv_syntax.specs.declared.unit.Member.{Member-F}
+use Rattle.mv_syntax.specs.declared.unit.Specs.{Specs, Specs-F, fold-Specs}
+use Rattle.mv_syntax.specs.declared.unit.Shape.{Shape-F}
+use Rattle.mv_syntax.specs.declared.unit.Shape.TheOpen as shape
+use Rattle.mv_syntax.specs.declared.unit.Declarator.{Declarator, Declarator-F, fold-Declarator}
+use Rattle.mv_syntax.specs.declared.unit.Param.{Param-F}
+use Rattle.mv_syntax.specs.declared.unit.Line.{Line, Line-F, fold-Line}
+use Rattle.mv_syntax.specs.declared.unit.Act.{Act-F}
+use Rattle.mv_syntax.specs.declared.unit.Act.TheOpen as act
 use Rattle.mv_check_expressions.specs.Judged.{Good}
 use Rattle.mv_check_expressions.specs.Seen.{number_or_zero}
 use Rattle.mv_types.specs.Units.{unit_judgement}

@@ -1,6 +1,6 @@
 -- The unit of a source has no more nodes than the source has bytes.
 use Rattle.std.specs.Prelude.{◌≤◌, ℕ, List, length}
-use Rattle.mv_ast.specs.declared.unit.Unit as unit
+use Rattle.mv_syntax.specs.declared.unit.Unit as unit
 use Rattle.mv_parse_reading.specs.Texts.{ReadsAs}
 use Rattle.mv_accepts_limits.specs.Nodes.{unit_nodes}
 

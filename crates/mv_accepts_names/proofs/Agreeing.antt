@@ -2,14 +2,14 @@
 use Rattle.std.proofs.Common.{◌≡◌, ℕ, refl, sym, ◌∙◌, ap, subst, Bool, List, [], ◌∷◌, ◌++◌, map, Option, Some, None}
 use Rattle.std.specs.List.{AllByRecursion}
 use Rattle.std.proofs.lemmas.Option.{same_Some}
-use Rattle.mv_ast.specs.declared.place.Place.{Place}
+use Rattle.mv_syntax.specs.declared.place.Place.{Place}
 use Rattle.mv_ast.specs.declared.program.CType.{CType}
 use Rattle.mv_ast.specs.declared.program.CType.TheVariants.{Pointer}
-use Rattle.mv_ast.specs.declared.unit.Declarator.{Declarator, Declarator-F}
-use Rattle.mv_ast.specs.declared.unit.Param.{Param, Param-F}
-use Rattle.mv_ast.specs.declared.unit.Shape.{Shape, Shape-F}
-use Rattle.mv_ast.specs.declared.unit.Shape.TheOpen as shape
-use Rattle.mv_ast.specs.declared.unit.Specs.{Specs}
+use Rattle.mv_syntax.specs.declared.unit.Declarator.{Declarator, Declarator-F}
+use Rattle.mv_syntax.specs.declared.unit.Param.{Param, Param-F}
+use Rattle.mv_syntax.specs.declared.unit.Shape.{Shape, Shape-F}
+use Rattle.mv_syntax.specs.declared.unit.Shape.TheOpen as shape
+use Rattle.mv_syntax.specs.declared.unit.Specs.{Specs}
 use Rattle.mv_check_scope.specs.declared.scope.Scope.{Scope}
 use Rattle.mv_check_scope.specs.Conversions.{is_void}
 use Rattle.mv_check_scope.specs.Scoped.{block_entered, block_left}

@@ -2,12 +2,12 @@
 use Rattle.std.proofs.Common.{◌≡◌, ℕ, refl, sym, ◌∙◌, ap, subst, Bool, List, [], ◌∷◌, ◌++◌, map, Option, Some, None}
 use Rattle.std.proofs.lemmas.List.{append_assoc, append-nil}
 use Rattle.std.proofs.lemmas.Option.{same_Some}
-use Rattle.mv_ast.specs.declared.place.Place.{Place}
+use Rattle.mv_syntax.specs.declared.place.Place.{Place}
 use Rattle.mv_ast.specs.declared.program.CType.{CType}
 use Rattle.mv_ast.specs.declared.program.Local.{Local}
-use Rattle.mv_ast.specs.declared.unit.Declarator.{Declarator, Declarator-F, fold-roll-Declarator}
-use Rattle.mv_ast.specs.declared.unit.Param.{Param, Param-F, fold-roll-Param}
-use Rattle.mv_ast.specs.declared.unit.Shape.{Shape}
+use Rattle.mv_syntax.specs.declared.unit.Declarator.{Declarator, Declarator-F, fold-roll-Declarator}
+use Rattle.mv_syntax.specs.declared.unit.Param.{Param, Param-F, fold-roll-Param}
+use Rattle.mv_syntax.specs.declared.unit.Shape.{Shape}
 use Rattle.mv_check_scope.specs.declared.scope.Scope.{Scope}
 use Rattle.mv_check_scope.specs.Conversions.{is_void}
 use Rattle.mv_check_expressions.specs.Judged.{Good, and_then}

@@ -1,6 +1,6 @@
 -- What holds of a unit that keeps the rules, through its declarations.
 use Rattle.std.specs.Prelude.{◌≡◌, List}
-use Rattle.mv_ast.specs.declared.unit.Item.{Item}
+use Rattle.mv_syntax.specs.declared.unit.Item.{Item}
 use Rattle.mv_check_expressions.specs.Judged.{Good}
 use Rattle.mv_types.specs.declared.contents.Contents.{Contents}
 use Rattle.mv_types.specs.declared.contents.Foreknown.{Foreknown}

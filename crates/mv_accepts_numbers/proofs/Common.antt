@@ -1,6 +1,6 @@
 -- Lemmas on this crate's words that the crates above share.
 use Rattle.std.proofs.Common.{◌≡◌, ℕ, ap, List, Some}
-use Rattle.mv_ast.specs.declared.unit.Declarator.{Declarator}
+use Rattle.mv_syntax.specs.declared.unit.Declarator.{Declarator}
 use Rattle.mv_check_outline.specs.Outlined.{name_of}
 use Rattle.mv_accepts_numbers.proofs.NameLists.{or_nothing}
 

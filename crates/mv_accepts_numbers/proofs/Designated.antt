@@ -1,11 +1,11 @@
 -- A declarator designates a function where its form is that of one.
 use Rattle.std.proofs.Common.{◌≡◌, refl, sym, ◌∙◌, ap, subst, Bool, true, false}
 use Rattle.mv_ast.specs.declared.program.CType.{CType}
-use Rattle.mv_ast.specs.declared.unit.Declarator.{Declarator}
-use Rattle.mv_ast.specs.declared.unit.Param.{Param}
-use Rattle.mv_ast.specs.declared.unit.Shape.{Shape, Shape-F, out-Shape, map-Shape, fold-roll-Shape}
-use Rattle.mv_ast.specs.declared.unit.Shape.TheOpen as shape
-use Rattle.mv_ast.specs.declared.unit.Shape.TheViews.{roll-out-Shape}
+use Rattle.mv_syntax.specs.declared.unit.Declarator.{Declarator}
+use Rattle.mv_syntax.specs.declared.unit.Param.{Param}
+use Rattle.mv_syntax.specs.declared.unit.Shape.{Shape, Shape-F, out-Shape, map-Shape, fold-roll-Shape}
+use Rattle.mv_syntax.specs.declared.unit.Shape.TheOpen as shape
+use Rattle.mv_syntax.specs.declared.unit.Shape.TheViews.{roll-out-Shape}
 use Rattle.mv_check_scope.specs.declared.scope.Scope.{Scope}
 use Rattle.mv_check_outline.specs.Outlined.{is_function, is_function_form}
 use Rattle.mv_check_declarations.specs.declared.declarators.Entity.{Entity}

@@ -12,7 +12,8 @@ use Rattle.mv_ast.specs.declared.program.Global.{Global}
 use Rattle.mv_ast.specs.declared.program.Known.{Known}
 use Rattle.mv_ast.specs.declared.program.Known.TheVariants as known
 use Rattle.mv_ast.specs.declared.program.Program.{Program}
-use Rattle.mv_ast.specs.Plans.{attributed_functions, is_among, switch_global, global_or_none}
+use Rattle.mv_ast.specs.Switches.{attributed_functions, switch_global, global_or_none}
+use Rattle.mv_num.specs.Lists.{is_among}
 use Rattle.mv_check_scope.specs.declared.meaning.Meaning.{Meaning}
 use Rattle.mv_check_scope.specs.declared.meaning.Meaning.TheVariants as meaning
 use Rattle.mv_check_scope.specs.declared.meaning.Routine.{Routine}

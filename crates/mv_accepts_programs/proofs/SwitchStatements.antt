@@ -9,7 +9,8 @@ use Rattle.mv_ast.specs.declared.program.Stmt.{Stmt, Stmt-F, map-Stmt}
 use Rattle.mv_ast.specs.declared.program.Stmt.TheOpen as stmt
 use Rattle.mv_ast.specs.declared.program.Arm.{Arm, fold-Arm}
 use Rattle.mv_ast.specs.Layers.{stmt_parts, stmt_expressions}
-use Rattle.mv_ast.specs.Plans.{is_among, switch_global}
+use Rattle.mv_num.specs.Lists.{is_among}
+use Rattle.mv_ast.specs.Switches.{switch_global}
 use Rattle.std.specs.List.{AllByRecursion}
 use Rattle.mv_source_forms.specs.Lists.{all_of}
 use Rattle.mv_source_forms.specs.Uses.{all_layer, all_arm_layer, all_expressions, is_switch, is_own, names_own}

@@ -4,8 +4,8 @@ use Rattle.std.specs.Prelude.{◌≢◌, All, AllPairs}
 use Rattle.mv_ast.specs.declared.program.Function.{Function}
 use Rattle.mv_ast.specs.declared.program.Global.{Global}
 use Rattle.mv_ast.specs.declared.program.Program.{Program}
-use Rattle.mv_ast.specs.declared.unit.Unit as unit
-use Rattle.mv_ast.specs.Plans.{attributed_functions}
+use Rattle.mv_syntax.specs.declared.unit.Unit as unit
+use Rattle.mv_ast.specs.Switches.{attributed_functions}
 use Rattle.std.specs.List.{AllByRecursion}
 use Rattle.std.proofs.lemmas.List.Elements.{All-nil, recursion_from_All}
 use Rattle.mv_check_expressions.specs.Judged.{Good}

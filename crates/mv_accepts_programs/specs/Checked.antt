@@ -1,7 +1,7 @@
 -- Checked programs are well formed.
 use Rattle.std.specs.Prelude.{◌≡◌, ◌≤◌, ℕ, List, None}
 use Rattle.mv_ast.specs.declared.program.Program.{Program}
-use Rattle.mv_ast.specs.declared.unit.Unit as unit
+use Rattle.mv_syntax.specs.declared.unit.Unit as unit
 use Rattle.mv_front.specs.Verdicts.{IsProgram}
 use Rattle.mv_check_expressions.specs.Judged.{Good}
 use Rattle.mv_check_limits.specs.Limits.{first_exceeded}

@@ -1,13 +1,13 @@
 -- Each line of a body leads to the scope behind it, and its statements have a property: by the forms of its statements.
 use Rattle.std.proofs.Common.{◌≡◌, refl, subst, true, false, not, List, [], ◌∷◌, ◌++◌, None}
 use Rattle.std.specs.List.{AllByRecursion}
-use Rattle.mv_ast.specs.declared.place.Place.{Place}
+use Rattle.mv_syntax.specs.declared.place.Place.{Place}
 use Rattle.mv_ast.specs.declared.program.CType.{CType}
 use Rattle.mv_ast.specs.declared.program.Stmt.{Stmt}
-use Rattle.mv_ast.specs.declared.unit.Act.TheOpen as act
-use Rattle.mv_ast.specs.declared.unit.Line.{Line}
+use Rattle.mv_syntax.specs.declared.unit.Act.TheOpen as act
+use Rattle.mv_syntax.specs.declared.unit.Line.{Line}
 use Rattle.mv_ast.specs.Operators.{converted}
-use Rattle.mv_ast.specs.Plans.{is_among}
+use Rattle.mv_num.specs.Lists.{is_among}
 use Rattle.mv_check_scope.specs.declared.scope.Scope.{Scope}
 use Rattle.mv_check_scope.specs.Scoped.{block_entered, block_left}
 use Rattle.mv_check_expressions.specs.declared.constant.Constant.{Constant}

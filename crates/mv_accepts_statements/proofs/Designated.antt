@@ -1,14 +1,14 @@
 -- What declarators designate, and how scopes grow by them.
 use Rattle.std.proofs.Common.{◌≡◌, ℕ, refl, Bool, List, [], Option, Some, None}
 use Rattle.std.specs.List.{AllByRecursion}
-use Rattle.mv_ast.specs.declared.place.Place.{Place}
+use Rattle.mv_syntax.specs.declared.place.Place.{Place}
 use Rattle.mv_ast.specs.declared.program.CType.{CType}
 use Rattle.mv_ast.specs.declared.program.CType.TheVariants.{Pointer}
 use Rattle.mv_ast.specs.declared.program.Signature.{Signature}
-use Rattle.mv_ast.specs.declared.unit.Declarator.{Declarator-F}
-use Rattle.mv_ast.specs.declared.unit.Param.{Param-F}
-use Rattle.mv_ast.specs.declared.unit.Shape.{Shape, Shape-F}
-use Rattle.mv_ast.specs.declared.unit.Shape.TheOpen as shape
+use Rattle.mv_syntax.specs.declared.unit.Declarator.{Declarator-F}
+use Rattle.mv_syntax.specs.declared.unit.Param.{Param-F}
+use Rattle.mv_syntax.specs.declared.unit.Shape.{Shape, Shape-F}
+use Rattle.mv_syntax.specs.declared.unit.Shape.TheOpen as shape
 use Rattle.mv_check_scope.specs.declared.meaning.Meaning.TheVariants as meaning
 use Rattle.mv_check_scope.specs.declared.meaning.Storage.TheVariants as storage
 use Rattle.mv_check_scope.specs.declared.scope.Scope.{Scope}

@@ -1,10 +1,10 @@
 -- What holds of how each statement is judged, where it holds by its parts: by induction over the lines of a body.
 use Rattle.std.proofs.Common.{List, [], ◌∷◌, map, Some, None}
 use Rattle.std.specs.List.{AllByRecursion}
-use Rattle.mv_ast.specs.declared.place.Place.{Place}
-use Rattle.mv_ast.specs.declared.unit.Line.{Line}
-use Rattle.mv_ast.specs.declared.unit.Act.{Act, Act-F, map-Act, fold-Act}
-use Rattle.mv_ast.specs.declared.unit.Act.TheOpen as act
+use Rattle.mv_syntax.specs.declared.place.Place.{Place}
+use Rattle.mv_syntax.specs.declared.unit.Line.{Line}
+use Rattle.mv_syntax.specs.declared.unit.Act.{Act, Act-F, map-Act, fold-Act}
+use Rattle.mv_syntax.specs.declared.unit.Act.TheOpen as act
 use Rattle.mv_accepts_statements.proofs.LineInduction.{LinesWith, ActOver, whole_act, folded_line}
 use Rattle.mv_accepts_statements.proofs.Property.{OfOption}
 use Rattle.mv_check_statements.specs.Statements.{Judges, Layer, act_step, line_step, judges_of}

@@ -1,7 +1,7 @@
 -- By induction over the lines of a body: what an act and a line have, where their parts have it, each line has.
 use Rattle.std.proofs.Common.{subst, sym}
-use Rattle.mv_ast.specs.declared.unit.Act.{Act, Act-F, roll-Act, map-Act, fold-Act, fold-roll-Act}
-use Rattle.mv_ast.specs.declared.unit.Line.{Line, Line-F, roll-Line, map-Line, fold-Line, fold-roll-Line, ind-Line}
+use Rattle.mv_syntax.specs.declared.unit.Act.{Act, Act-F, roll-Act, map-Act, fold-Act, fold-roll-Act}
+use Rattle.mv_syntax.specs.declared.unit.Line.{Line, Line-F, roll-Line, map-Line, fold-Line, fold-roll-Line, ind-Line}
 
 module _ (OfAct : Act → Type 0) (OfLine : Line → Type 0) where
   abbrev pub ActsWith : Type 0

@@ -1,8 +1,8 @@
 -- By induction over declarators: what a shape, a declarator and a parameter have, where their parts have it, each of them has.
 use Rattle.std.proofs.Common.{subst}
-use Rattle.mv_ast.specs.declared.unit.Declarator.{Declarator, Declarator-F, roll-Declarator, map-Declarator}
-use Rattle.mv_ast.specs.declared.unit.Param.{Param, Param-F, roll-Param, map-Param, ind-Param}
-use Rattle.mv_ast.specs.declared.unit.Shape.{Shape, Shape-F, roll-Shape, map-Shape, ind-Shape}
+use Rattle.mv_syntax.specs.declared.unit.Declarator.{Declarator, Declarator-F, roll-Declarator, map-Declarator}
+use Rattle.mv_syntax.specs.declared.unit.Param.{Param, Param-F, roll-Param, map-Param, ind-Param}
+use Rattle.mv_syntax.specs.declared.unit.Shape.{Shape, Shape-F, roll-Shape, map-Shape, ind-Shape}
 
 module _ (OfShape : Shape → Type 0) (OfDeclarator : Declarator → Type 0) (OfParam : Param → Type 0) where
   abbrev pub ShapesWith : Type 0

@@ -1,10 +1,10 @@
 -- By induction over declarators: what each step of designating has, where its parts have it, is had by what each shape and each parameter comes to.
 use Rattle.std.proofs.Common.{sym, subst, List, [], ◌∷◌, map}
 use Rattle.std.specs.List.{AllByRecursion}
-use Rattle.mv_ast.specs.declared.unit.Declarator.{Declarator, Declarator-F, roll-Declarator, map-Declarator, fold-roll-Declarator}
-use Rattle.mv_ast.specs.declared.unit.Param.{Param, Param-F, roll-Param, map-Param, fold-roll-Param}
-use Rattle.mv_ast.specs.declared.unit.Shape.{Shape, Shape-F, roll-Shape, map-Shape, fold-roll-Shape}
-use Rattle.mv_ast.specs.declared.unit.Shape.TheOpen as shape
+use Rattle.mv_syntax.specs.declared.unit.Declarator.{Declarator, Declarator-F, roll-Declarator, map-Declarator, fold-roll-Declarator}
+use Rattle.mv_syntax.specs.declared.unit.Param.{Param, Param-F, roll-Param, map-Param, fold-roll-Param}
+use Rattle.mv_syntax.specs.declared.unit.Shape.{Shape, Shape-F, roll-Shape, map-Shape, fold-roll-Shape}
+use Rattle.mv_syntax.specs.declared.unit.Shape.TheOpen as shape
 use Rattle.mv_check_declarations.specs.Declarators.{Shapes, Declarators, Params, shape_step, declarator_step, param_step, designated, parameter, parameter_declarator}
 use Rattle.mv_accepts_statements.proofs.ShapeInduction.{ParamsWith, ShapeOver, DeclaratorOver, ParamOver, whole_shape, whole_declarator, whole_param, each_shape, each_param}
 

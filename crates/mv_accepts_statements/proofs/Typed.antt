@@ -8,8 +8,8 @@ use Rattle.mv_ast.specs.declared.program.Function.{Function}
 use Rattle.mv_ast.specs.declared.program.Local.{Local}
 use Rattle.mv_ast.specs.declared.program.Expr.{Expr}
 use Rattle.mv_ast.specs.declared.program.Stmt.{Stmt}
-use Rattle.mv_ast.specs.declared.unit.Line.{Line}
-use Rattle.mv_ast.specs.declared.unit.Param.{Param}
+use Rattle.mv_syntax.specs.declared.unit.Line.{Line}
+use Rattle.mv_syntax.specs.declared.unit.Param.{Param}
 use Rattle.mv_ast.specs.declared.program.CType.TheVariants.{Void}
 use Rattle.mv_check_declarations.specs.Parameters.{parameters_judgement}
 use Rattle.mv_accepts_statements.proofs.Parameters.{Adds, parameters_lead, parameters_add}

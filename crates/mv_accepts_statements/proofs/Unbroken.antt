@@ -1,9 +1,9 @@
 -- What holds of a declared object that breaks none of its rules.
 use Rattle.std.proofs.Common.{◌≡◌, ℕ, refl, Bool, true, false, not, ◌&&◌, ◌||◌, is_some, List, Option, Some, None}
 use Rattle.std.proofs.lemmas.Bool.{not-false, or_parts}
-use Rattle.mv_ast.specs.declared.place.Place.{Place}
+use Rattle.mv_syntax.specs.declared.place.Place.{Place}
 use Rattle.mv_ast.specs.declared.program.Local.{Local}
-use Rattle.mv_ast.specs.declared.unit.Initial.{Initial}
+use Rattle.mv_syntax.specs.declared.unit.Initial.{Initial}
 use Rattle.mv_check_scope.specs.Conversions.{is_void}
 use Rattle.mv_check_expressions.specs.Breaches.{if_broken}
 use Rattle.mv_check_declarations.specs.declared.initials.Converted.{Converted}

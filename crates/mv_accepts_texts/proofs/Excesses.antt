@@ -7,10 +7,10 @@ use Rattle.std.proofs.lemmas.List.Folds.{find-append}
 use Rattle.mv_ast.specs.declared.program.Function.{Function}
 use Rattle.mv_ast.specs.declared.program.Global as program_global
 use Rattle.mv_ast.specs.declared.program.Program.{Program}
-use Rattle.mv_ast.specs.declared.unit.Declarator.{Declarator}
-use Rattle.mv_ast.specs.declared.unit.Item.{Item}
-use Rattle.mv_ast.specs.declared.unit.Line.{Line}
-use Rattle.mv_ast.specs.declared.unit.Unit as tree
+use Rattle.mv_syntax.specs.declared.unit.Declarator.{Declarator}
+use Rattle.mv_syntax.specs.declared.unit.Item.{Item}
+use Rattle.mv_syntax.specs.declared.unit.Line.{Line}
+use Rattle.mv_syntax.specs.declared.unit.Unit as tree
 use Rattle.mv_ast.specs.Counts.{elements_of}
 use Rattle.mv_check_expressions.specs.Judged.{Good}
 use Rattle.mv_check_limits.specs.declared.excess.Exceeded.{Exceeded}

@@ -9,13 +9,13 @@ use Rattle.mv_ast.specs.declared.program.CType.TheVariants.{Void, Pointer, Scala
 use Rattle.mv_ast.specs.declared.program.Expr.{Expr}
 use Rattle.mv_ast.specs.declared.program.Known.{Known}
 use Rattle.mv_ast.specs.declared.program.Known.TheVariants as known
-use Rattle.mv_ast.specs.declared.unit.Node.{Node, out-Node, fold_out-Node}
-use Rattle.mv_ast.specs.declared.unit.What.{What, What-F, out-What, map-What, fold-What, fold_out-What}
-use Rattle.mv_ast.specs.declared.unit.What.TheOpen as what
-use Rattle.mv_ast.specs.declared.unit.EnumSpec.{EnumSpec, fold-EnumSpec}
-use Rattle.mv_ast.specs.declared.unit.Mark.{Mark, fold-Mark}
-use Rattle.mv_ast.specs.declared.unit.Member.{Member, fold-Member}
-use Rattle.mv_ast.specs.declared.unit.Specs.{Specs, fold-Specs}
+use Rattle.mv_syntax.specs.declared.unit.Node.{Node, out-Node, fold_out-Node}
+use Rattle.mv_syntax.specs.declared.unit.What.{What, What-F, out-What, map-What, fold-What, fold_out-What}
+use Rattle.mv_syntax.specs.declared.unit.What.TheOpen as what
+use Rattle.mv_syntax.specs.declared.unit.EnumSpec.{EnumSpec, fold-EnumSpec}
+use Rattle.mv_syntax.specs.declared.unit.Mark.{Mark, fold-Mark}
+use Rattle.mv_syntax.specs.declared.unit.Member.{Member, fold-Member}
+use Rattle.mv_syntax.specs.declared.unit.Specs.{Specs, fold-Specs}
 use Rattle.mv_check_scope.specs.Conversions.{int, typed, is_integer, is_pointer, promoted}
 use Rattle.mv_check_scope.specs.Scoped.{meaning_of}
 use Rattle.mv_check_scope.specs.declared.meaning.Meaning.{Meaning}

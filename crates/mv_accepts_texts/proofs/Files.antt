@@ -4,7 +4,7 @@ use Rattle.std.specs.Cmp.Lexicographic.{pointwise}
 use Rattle.std.specs.List.{AllByRecursion}
 use Rattle.std.proofs.lemmas.Bool.{and_parts}
 use Rattle.mv_ast.specs.declared.program.Function.{Function}
-use Rattle.mv_ast.specs.declared.unit.Item.{Item}
+use Rattle.mv_syntax.specs.declared.unit.Item.{Item}
 use Rattle.mv_check_scope.specs.Known.{known_function}
 use Rattle.mv_check_scope.specs.Scoped.{unless_declared, meaning_of, declared}
 use Rattle.mv_check_scope.specs.Spaces.{named, or_else, meaning_in}

@@ -10,7 +10,7 @@ use Rattle.mv_ast.specs.declared.program.Expr.{Expr}
 use Rattle.mv_ast.specs.declared.program.Stmt.{Stmt, Stmt-F, out-Stmt}
 use Rattle.mv_ast.specs.declared.program.Stmt.TheVariants as stmt
 use Rattle.mv_ast.specs.declared.program.Stmt.TheVariants.{outs-Block, outs-Clear, outs-Express, outs-If, outs-While, outs-Do, outs-For, outs-Switch, outs-Break, outs-Continue, outs-Return}
-use Rattle.mv_ast.specs.Plans.{is_among}
+use Rattle.mv_num.specs.Lists.{is_among}
 use Rattle.mv_check_uses.specs.Uses.{expr_globals, stmt_globals}
 use Rattle.mv_check_uses.specs.Flags.{arm_globals}
 use Rattle.mv_check_uses.proofs.Statements.{of_layer, stmt_is, arm_is}

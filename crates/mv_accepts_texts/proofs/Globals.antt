@@ -12,7 +12,7 @@ use Rattle.mv_ast.specs.declared.program.Form.TheVariants.{outs-Number, outs-Rea
 use Rattle.mv_ast.specs.declared.program.Known.{Known}
 use Rattle.mv_ast.specs.declared.program.Target.{Target}
 use Rattle.mv_ast.specs.declared.program.Target.TheVariants.{outs-Global, outs-Local, outs-GlobalAt, outs-LocalAt}
-use Rattle.mv_ast.specs.Plans.{is_among}
+use Rattle.mv_num.specs.Lists.{is_among}
 use Rattle.mv_check_scope.specs.Conversions.{int, typed, same_type, promotion, promoted, converted_to}
 use Rattle.mv_check_scope.specs.declared.meaning.Storage.{Storage}
 use Rattle.mv_check_scope.specs.declared.meaning.Storage.TheVariants as storage

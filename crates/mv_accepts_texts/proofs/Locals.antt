@@ -2,16 +2,16 @@
 use Rattle.std.proofs.Common.{◌≡◌, ℕ, Bool, true, false, ◌||◌, refl, sym, ◌∙◌, ap, subst, is_some, if◌then◌else◌, length, List, [], ◌∷◌, ◌++◌, map, append-nil, append_assoc, Option, Some, None}
 use Rattle.std.specs.List.{concat, flat_map}
 use Rattle.std.proofs.lemmas.List.Folds.{list_any-append}
-use Rattle.mv_ast.specs.declared.place.Place.{Place}
+use Rattle.mv_syntax.specs.declared.place.Place.{Place}
 use Rattle.mv_ast.specs.declared.program.CType.{CType}
 use Rattle.mv_ast.specs.declared.program.Expr.{Expr}
 use Rattle.mv_ast.specs.declared.program.Stmt.{Stmt}
-use Rattle.mv_ast.specs.declared.unit.Declarator.{Declarator}
-use Rattle.mv_ast.specs.declared.unit.Initial.{Initial}
-use Rattle.mv_ast.specs.declared.unit.Initial.TheVariants as initial
-use Rattle.mv_ast.specs.declared.unit.Node.{Node}
-use Rattle.mv_ast.specs.declared.unit.Param.{Param}
-use Rattle.mv_ast.specs.declared.unit.Specs.{Specs}
+use Rattle.mv_syntax.specs.declared.unit.Declarator.{Declarator}
+use Rattle.mv_syntax.specs.declared.unit.Initial.{Initial}
+use Rattle.mv_syntax.specs.declared.unit.Initial.TheVariants as initial
+use Rattle.mv_syntax.specs.declared.unit.Node.{Node}
+use Rattle.mv_syntax.specs.declared.unit.Param.{Param}
+use Rattle.mv_syntax.specs.declared.unit.Specs.{Specs}
 use Rattle.mv_check_scope.specs.Conversions.{is_void, converted_to}
 use Rattle.mv_check_scope.specs.Scoped.{with_local}
 use Rattle.mv_check_scope.specs.Spaces.{named}

@@ -3,10 +3,10 @@ use Rattle.std.proofs.Common.{◌≡◌, ℕ, ◌+◌, Bool, true, false, refl, 
 use Rattle.std.specs.List.{concat}
 use Rattle.mv_ast.specs.declared.program.CType.{CType}
 use Rattle.mv_ast.specs.declared.program.Signature.{Signature}
-use Rattle.mv_ast.specs.declared.unit.Declarator.{Declarator, roll-Declarator, map-Declarator, fold-roll-Declarator}
-use Rattle.mv_ast.specs.declared.unit.Param.{Param, roll-Param, map-Param, fold-roll-Param}
-use Rattle.mv_ast.specs.declared.unit.Shape.{Shape, roll-Shape, map-Shape, fold-roll-Shape}
-use Rattle.mv_ast.specs.declared.unit.Shape.TheOpen as shape
+use Rattle.mv_syntax.specs.declared.unit.Declarator.{Declarator, roll-Declarator, map-Declarator, fold-roll-Declarator}
+use Rattle.mv_syntax.specs.declared.unit.Param.{Param, roll-Param, map-Param, fold-roll-Param}
+use Rattle.mv_syntax.specs.declared.unit.Shape.{Shape, roll-Shape, map-Shape, fold-roll-Shape}
+use Rattle.mv_syntax.specs.declared.unit.Shape.TheOpen as shape
 use Rattle.mv_check_scope.specs.declared.scope.Scope.{Scope}
 use Rattle.mv_check_scope.specs.Conversions.{same_signature}
 use Rattle.mv_check_scope.specs.Scoped.{block_entered}

@@ -1,15 +1,15 @@
 -- What a statement names is what its text names, and it adds no type of more parameters than its text has: by induction over the lines of a body.
 use Rattle.std.proofs.Common.{◌≡◌, ℕ, Bool, true, false, not, refl, sym, ◌∙◌, ap, subst, List, [], ◌∷◌, ◌++◌, map, append-nil, append_assoc, Option, Some, None}
 use Rattle.std.specs.List.{concat}
-use Rattle.mv_ast.specs.declared.place.Place.{Place}
+use Rattle.mv_syntax.specs.declared.place.Place.{Place}
 use Rattle.mv_ast.specs.declared.program.CType.{CType}
 use Rattle.mv_ast.specs.declared.program.Expr.{Expr}
 use Rattle.mv_ast.specs.declared.program.Stmt.{Stmt}
 use Rattle.mv_ast.specs.declared.program.Stmt.TheVariants as stmt
-use Rattle.mv_ast.specs.declared.unit.Act.{Act, map-Act, fold-Act}
-use Rattle.mv_ast.specs.declared.unit.Act.TheOpen as act
-use Rattle.mv_ast.specs.declared.unit.Line.{Line}
-use Rattle.mv_ast.specs.declared.unit.Node.{Node}
+use Rattle.mv_syntax.specs.declared.unit.Act.{Act, map-Act, fold-Act}
+use Rattle.mv_syntax.specs.declared.unit.Act.TheOpen as act
+use Rattle.mv_syntax.specs.declared.unit.Line.{Line}
+use Rattle.mv_syntax.specs.declared.unit.Node.{Node}
 use Rattle.mv_ast.specs.Operators.{converted}
 use Rattle.mv_check_scope.specs.Conversions.{is_integer, promotion, promoted, converted_to}
 use Rattle.mv_check_scope.specs.Scoped.{block_entered, block_left}

@@ -1,13 +1,13 @@
 -- Which names stand in an expression, by the tree of the unit alone.
 use Rattle.std.specs.Prelude.{ℕ, Bool, false, List, [], ◌∷◌, ◌++◌, if◌then◌else◌, Option, Some, None}
 use Rattle.std.specs.List.{flat_map}
-use Rattle.mv_ast.specs.declared.unit.EnumSpec.{EnumSpec-F}
-use Rattle.mv_ast.specs.declared.unit.Mark.{Mark-F}
-use Rattle.mv_ast.specs.declared.unit.Member.{Member-F}
-use Rattle.mv_ast.specs.declared.unit.Node.{Node, Node-F, fold-Node}
-use Rattle.mv_ast.specs.declared.unit.Specs.{Specs-F}
-use Rattle.mv_ast.specs.declared.unit.What.{What-F}
-use Rattle.mv_ast.specs.declared.unit.What.TheOpen as what
+use Rattle.mv_syntax.specs.declared.unit.EnumSpec.{EnumSpec-F}
+use Rattle.mv_syntax.specs.declared.unit.Mark.{Mark-F}
+use Rattle.mv_syntax.specs.declared.unit.Member.{Member-F}
+use Rattle.mv_syntax.specs.declared.unit.Node.{Node, Node-F, fold-Node}
+use Rattle.mv_syntax.specs.declared.unit.Specs.{Specs-F}
+use Rattle.mv_syntax.specs.declared.unit.What.{What-F}
+use Rattle.mv_syntax.specs.declared.unit.What.TheOpen as what
 use Rattle.mv_check_expressions.specs.Found.{is_address}
 
 abbrev pub NameList : Type 0

@@ -2,8 +2,8 @@
 use Rattle.std.specs.Prelude.{◌≡◌, ℕ, Bool, false, All, if◌then◌else◌, List, [], Option, Some, None, slice_get}
 use Rattle.mv_ast.specs.declared.program.Global.{Global}
 use Rattle.mv_ast.specs.declared.program.Program.{Program}
-use Rattle.mv_ast.specs.declared.unit.Item.{Item}
-use Rattle.mv_ast.specs.declared.unit.Unit as tree
+use Rattle.mv_syntax.specs.declared.unit.Item.{Item}
+use Rattle.mv_syntax.specs.declared.unit.Unit as tree
 use Rattle.mv_check_expressions.specs.Judged.{Good}
 use Rattle.mv_check_outline.specs.Names.{is_among}
 use Rattle.mv_check_rules.specs.Units.{judged_by_rules}

@@ -1,7 +1,7 @@
 -- The limits on a program by what the text of its unit tells alone.
 use Rattle.std.specs.Prelude.{◌≡◌, List, [], ◌∷◌, map, Option}
 use Rattle.mv_ast.specs.declared.program.Program.{Program}
-use Rattle.mv_ast.specs.declared.unit.Unit as tree
+use Rattle.mv_syntax.specs.declared.unit.Unit as tree
 use Rattle.mv_check_expressions.specs.Judged.{Good}
 use Rattle.mv_check_limits.specs.declared.excess.Exceeded.{Exceeded}
 use Rattle.mv_check_limits.specs.Limits.{Limit, functions_limit, globals_limit, parameters_limit, switches_limit, values_limit, switches_of_function_limit, assignments_limit, elements_limit, excess, first_some}

@@ -2,27 +2,14 @@
 use Rattle.std.proofs.Common.{◌≡◌, ℕ, zero, suc, ◌+◌, List, [], ◌∷◌, ◌++◌, length, drop, ap, ◌∙◌, slice_get, slice_index_or, refl, Bool, true, false, sym, subst, arith, nat_eq, Some, if◌then◌else◌}
 use Rattle.mv_ast.specs.Numbering.{place_from}
 use Rattle.std.proofs.lemmas.Bool.{eqb-true}
-use Rattle.mv_ast.specs.Plans.{words_or_none, same_truth, ordered_from, events_from}
-use Rattle.mv_num.proofs.Booleans.{from_falsity}
-use Rattle.mv_ast.specs.declared.world.Binding.{Binding}
+use Rattle.mv_ast.specs.Switches.{words_or_none}
+use Rattle.mv_ast.specs.Orders.{ordered_from}
+use Rattle.mv_bindings.specs.declared.binding.Binding.{Binding}
 
 pub objects_at : (objects : List (List ℕ)) (k : ℕ) → words_or_none (slice_get objects k) ≡ slice_index_or objects k []
 objects_at [] k = refl
 objects_at (x ∷ objects) zero = refl
 objects_at (x ∷ objects) (suc k) = objects_at objects k
-
-pub truth_same : (a : Bool) → same_truth a a ≡ true
-truth_same true = refl
-truth_same false = refl
-
-pub truth_told : (a b : Bool) → same_truth a b ≡ true → a ≡ b
-truth_told true b q = sym q
-truth_told false true q = from_falsity q
-truth_told false false q = refl
-
-pub events_from-end : (i : ℕ) (old : List Binding) → events_from i old [] ≡ []
-events_from-end i [] = refl
-events_from-end i (b ∷ old) = refl
 
 -- which function has a number, by the first of the numbers
 module _ (v : ℕ) where

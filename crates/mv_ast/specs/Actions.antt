@@ -1,16 +1,16 @@
 -- Which actions of the operator fit a program, and which a poll may take in a hart.
-use Rattle.std.specs.Prelude.{ℕ, ◌<◌, ◌^◌, Bool, true, false, ◌&&◌, not, Option, Some, None, nat_eq, slice_get}
+use Rattle.std.specs.Prelude.{ℕ, Bool, true, false, ◌&&◌, not, Option, Some, None, nat_eq, slice_get}
 use Rattle.mv_num.specs.Kinds.{kind_number, is_value}
 use Rattle.mv_ast.specs.declared.program.CType.{CType}
 use Rattle.mv_ast.specs.declared.program.CType.TheVariants.{Void, Scalar, Pointer}
 use Rattle.mv_ast.specs.declared.program.Program.{Program}
 use Rattle.mv_ast.specs.declared.program.Global.{Global}
 use Rattle.mv_ast.specs.declared.program.Switch.{Switch}
-use Rattle.mv_ast.specs.declared.world.Action.{Action}
-use Rattle.mv_ast.specs.declared.world.Action.TheVariants.{Skip, Flip}
+use Rattle.mv_bindings.specs.declared.action.Action.{Action}
+use Rattle.mv_bindings.specs.declared.action.Action.TheVariants.{Skip, Flip}
 use Rattle.mv_ast.specs.Bindings.{are_bindings, are_typed_bindings}
-use Rattle.mv_ast.specs.Worlds as world
-use Rattle.mv_ast.specs.Worlds.{Act}
+use Rattle.mv_bindings.specs.Acts as world
+use Rattle.mv_bindings.specs.Acts.{Act}
 
 -- whether a word is a value of an integer type
 abbrev pub is_value_of : CType → ℕ → Bool
@@ -37,14 +37,3 @@ abbrev pub act_fits : Program → (hart : ℕ) → Act → Bool
 act_fits p hart world.Skip = true
 act_fits p hart (world.Flip s v) = nat_eq hart 0 && fits p (Flip s v)
 act_fits p hart (world.Adopt bs) = not (nat_eq hart 0) && (are_bindings p bs && are_typed_bindings p bs)
-
--- the value of an action, if it has one, is a word
-abbrev pub IsOfWord : Action → Type 0
-IsOfWord Skip = Unit {0}
-IsOfWord (Flip switch value) = value < 2 ^ 32
-
--- the same of what a poll takes: the value of a flip is a word
-abbrev pub IsActOfWord : Act → Type 0
-IsActOfWord world.Skip = Unit {0}
-IsActOfWord (world.Flip switch value) = value < 2 ^ 32
-IsActOfWord (world.Adopt bs) = Unit {0}

@@ -7,8 +7,9 @@ use Rattle.mv_ast.specs.declared.program.Program.{Program}
 use Rattle.mv_ast.specs.declared.program.Global.{Global}
 use Rattle.mv_ast.specs.declared.program.Signature.{Signature}
 use Rattle.mv_ast.specs.declared.program.Function.{Function}
-use Rattle.mv_ast.specs.declared.world.Binding.{Binding}
-use Rattle.mv_ast.specs.Plans.{attributed_functions, switch_domain, bound_to, is_same_binding, pointer_bindings}
+use Rattle.mv_bindings.specs.declared.binding.Binding.{Binding}
+use Rattle.mv_ast.specs.Switches.{attributed_functions, switch_domain, pointer_bindings}
+use Rattle.mv_bindings.specs.Bindings.{bound_to, is_same_binding}
 
 -- whether one of some values passes
 abbrev pub some_value : (ℕ → Bool) → List ℕ → Bool

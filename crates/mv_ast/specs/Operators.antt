@@ -2,14 +2,10 @@
 use Rattle.std.specs.Prelude.{ℕ, Bool, true, false, not, Option, Some, None, if◌then◌else◌, nat_eq, nat_lt, bit_and, bit_or, bit_xor}
 use Rattle.mv_num.specs.declared.kind.Kind.{Kind}
 use Rattle.mv_num.specs.declared.kind.Kind.TheVariants.{UInt}
-use Rattle.mv_num.specs.Words.{add, sub, mul, div_s, div_u, rem_s, rem_u, shl, shr_s, shr_u, lt_s, lt_u, narrow}
+use Rattle.mv_num.specs.Words.{add, sub, mul, div_s, div_u, rem_s, rem_u, shl, shr_s, shr_u, lt_s, lt_u, narrow, as_word}
 use Rattle.mv_ast.specs.Marks as marks
 use Rattle.mv_ast.specs.declared.program.CType.{CType}
 use Rattle.mv_ast.specs.declared.program.CType.TheVariants.{Void, Scalar, Pointer}
-
--- 1 for true and 0 for false
-abbrev pub as_word : Bool → ℕ
-as_word b = if b then 1 else 0
 
 abbrev pub is_unsigned_kind : Kind → Bool
 is_unsigned_kind UInt = true

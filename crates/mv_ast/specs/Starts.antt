@@ -4,8 +4,9 @@ use Rattle.mv_ast.specs.declared.program.CType.{CType}
 use Rattle.mv_ast.specs.declared.program.CType.TheVariants.{Void, Scalar, Pointer}
 use Rattle.mv_ast.specs.declared.program.Program.{Program}
 use Rattle.mv_ast.specs.declared.program.Global.{Global}
-use Rattle.mv_ast.specs.Worlds.{World, Act}
-use Rattle.mv_ast.specs.Plans.{all_free}
+use Rattle.mv_ast.specs.Worlds.{World}
+use Rattle.mv_bindings.specs.Acts.{Act}
+use Rattle.mv_ast.specs.Switches.{all_free}
 use Rattle.mv_ast.specs.Counts.{words_of_size}
 
 -- the first words of a global: its given values, and then 0

@@ -108,7 +108,7 @@ pub enum Target {
     LocalAt(u32, Boxed<Expr>),
 }
 
-/// A function that is known without declaration. A plan is a commit or a revert, by its code (`orders`): of all attributed
+/// A function that is known without declaration. A plan is a commit or a revert, by its code (`mv_bindings::orders`): of all attributed
 /// functions and pointer switches, of the attributed function with this index among the attributed ones, or of what refers to the
 /// switch with this index: the functions that have it, or the pointer switch, whose index counts on behind the switches.
 #[derive(Clone, Copy, PartialEq, Eq, Debug)]

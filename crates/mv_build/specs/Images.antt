@@ -2,7 +2,7 @@
 use Rattle.std.specs.Prelude.{ℕ, ◌≡◌, ◌≤◌, ◌<◌, ◌^◌, IsTrue, List, length, Some, slice_get, All}
 use Rattle.mv_ast.specs.declared.program.Program.{Program}
 use Rattle.mv_ast.specs.declared.program.Function.{Function}
-use Rattle.mv_ast.specs.declared.world.Action.{Action}
+use Rattle.mv_bindings.specs.declared.action.Action.{Action}
 use Rattle.mv_ast.specs.Actions as source
 use Rattle.mv_ir.specs.declared.body.Body.{Body}
 use Rattle.mv_variants.specs.declared.variant.Variant.{Variant}
@@ -13,7 +13,8 @@ use Rattle.mv_link_data.specs.FirstData.{data_words}
 use Rattle.mv_parts.specs.Codes.{FramesFit}
 use Rattle.mv_parts.specs.Numbers.{attributed_numbers}
 use Rattle.mv_parts.specs.Parts.{ArePartsOf}
-use Rattle.mv_ast.specs.Actions.{IsActOfWord, act_fits}
+use Rattle.mv_bindings.specs.Acts.{IsActOfWord}
+use Rattle.mv_ast.specs.Actions.{act_fits}
 use Rattle.mv_machine.specs.Actions as machine
 use Rattle.mv_machine.specs.Acts.{PollActs}
 use Rattle.mv_refine_runs.specs.Behaves.{BehavesAlways, LoadsWhatIsOpen}

@@ -1,7 +1,7 @@
 -- How the judgement on parts in their order comes from those on each.
 use Rattle.std.proofs.Common.{◌≡◌, ℕ, ◌+◌, ◌<◌, List, ◌∷◌, length, get_or, drop, sym, ◌∙◌, ap, Err}
 use Rattle.std.proofs.lemmas.List.{drop_more}
-use Rattle.mv_ast.specs.declared.place.Place.{Place}
+use Rattle.mv_syntax.specs.declared.place.Place.{Place}
 use Rattle.mv_check_scope.specs.declared.scope.Scope.{Scope}
 use Rattle.mv_check_expressions.specs.declared.error.RuleError.{RuleError}
 use Rattle.mv_check_expressions.specs.declared.error.RuleError.TheVariants as error

@@ -1,13 +1,13 @@
 -- The attribute `multiverse`: what may hold it, and the values of a domain.
 use Rattle.std.specs.Prelude.{ℕ, Bool, false, ◌&&◌, ◌||◌, not, is_some, if◌then◌else◌, List, [], ◌∷◌, ◌++◌, Option, Some, None, codes}
 use Rattle.mv_num.specs.declared.kind.Kind.{Kind}
-use Rattle.mv_ast.specs.declared.place.Place.{Place}
-use Rattle.mv_ast.specs.declared.unit.Declarator.{Declarator}
-use Rattle.mv_ast.specs.declared.unit.Mark.{Mark, out-Mark}
-use Rattle.mv_ast.specs.declared.unit.Node.{Node}
-use Rattle.mv_ast.specs.declared.unit.Shape.{Shape-F, out-Shape}
-use Rattle.mv_ast.specs.declared.unit.Shape.TheOpen as shape
-use Rattle.mv_ast.specs.Plans.{is_among}
+use Rattle.mv_syntax.specs.declared.place.Place.{Place}
+use Rattle.mv_syntax.specs.declared.unit.Declarator.{Declarator}
+use Rattle.mv_syntax.specs.declared.unit.Mark.{Mark, out-Mark}
+use Rattle.mv_syntax.specs.declared.unit.Node.{Node}
+use Rattle.mv_syntax.specs.declared.unit.Shape.{Shape-F, out-Shape}
+use Rattle.mv_syntax.specs.declared.unit.Shape.TheOpen as shape
+use Rattle.mv_num.specs.Lists.{is_among}
 use Rattle.mv_check_scope.specs.declared.scope.Scope.{Scope}
 use Rattle.mv_check_scope.specs.Known.{is_named}
 use Rattle.mv_check_expressions.specs.RuleNumbers as rules

@@ -1,15 +1,15 @@
 -- Objects at file scope: their first words and the domains of switches (C11 6.7.9, 6.9.2).
 use Rattle.std.specs.Prelude.{ℕ, ◌+◌, Bool, true, false, ◌&&◌, nat_lt, if◌then◌else◌, List, [], ◌∷◌, ◌++◌, map, length, Option, Some, None, slice_get}
-use Rattle.mv_ast.specs.declared.place.Place.{Place}
+use Rattle.mv_syntax.specs.declared.place.Place.{Place}
 use Rattle.mv_ast.specs.declared.program.CType.{CType}
 use Rattle.mv_ast.specs.declared.program.Expr.{Expr}
 use Rattle.mv_ast.specs.declared.program.Form.{Form-F, out-Form}
 use Rattle.mv_ast.specs.declared.program.Form.TheOpen as form
 use Rattle.mv_ast.specs.declared.program.Local.{Local}
-use Rattle.mv_ast.specs.declared.unit.Declarator.{Declarator}
-use Rattle.mv_ast.specs.declared.unit.Initial.{Initial}
-use Rattle.mv_ast.specs.declared.unit.Initial.TheVariants as initial
-use Rattle.mv_ast.specs.declared.unit.Node.{Node}
+use Rattle.mv_syntax.specs.declared.unit.Declarator.{Declarator}
+use Rattle.mv_syntax.specs.declared.unit.Initial.{Initial}
+use Rattle.mv_syntax.specs.declared.unit.Initial.TheVariants as initial
+use Rattle.mv_syntax.specs.declared.unit.Node.{Node}
 use Rattle.mv_ast.specs.Operators.{converted}
 use Rattle.mv_check_scope.specs.declared.scope.Scope.{Scope}
 use Rattle.mv_check_scope.specs.Constants.{constant_value, converts}

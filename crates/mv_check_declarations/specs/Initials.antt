@@ -3,9 +3,9 @@ use Rattle.std.specs.Prelude.{ℕ, ◌+◌, true, ◌&&◌, nat_eq, if◌then◌
 use Rattle.mv_ast.specs.declared.program.CType.{CType}
 use Rattle.mv_ast.specs.declared.program.CType.TheVariants.{Void}
 use Rattle.mv_ast.specs.declared.program.Expr.{Expr}
-use Rattle.mv_ast.specs.declared.unit.Initial.{Initial}
-use Rattle.mv_ast.specs.declared.unit.Initial.TheVariants as initial
-use Rattle.mv_ast.specs.declared.unit.Node.{Node}
+use Rattle.mv_syntax.specs.declared.unit.Initial.{Initial}
+use Rattle.mv_syntax.specs.declared.unit.Initial.TheVariants as initial
+use Rattle.mv_syntax.specs.declared.unit.Node.{Node}
 use Rattle.mv_check_scope.specs.declared.scope.Scope.{Scope}
 use Rattle.mv_check_scope.specs.Constants.{converts}
 use Rattle.mv_check_scope.specs.Conversions.{converted_to}

@@ -1,12 +1,12 @@
 -- The objects that declarators declare, and the rules that they break (C11 6.7, 6.7.9).
 use Rattle.std.specs.Prelude.{ℕ, Bool, true, false, ◌&&◌, ◌||◌, not, nat_eq, nat_le, is_some, length, Option, Some, None, unwrap_or}
 use Rattle.mv_num.specs.declared.kind.Kind.TheVariants as kind
-use Rattle.mv_ast.specs.declared.place.Place.{Place}
+use Rattle.mv_syntax.specs.declared.place.Place.{Place}
 use Rattle.mv_ast.specs.declared.program.CType.{CType}
 use Rattle.mv_ast.specs.declared.program.CType.TheVariants.{Scalar}
 use Rattle.mv_ast.specs.declared.program.Local.{Local}
-use Rattle.mv_ast.specs.declared.unit.Initial.{Initial}
-use Rattle.mv_ast.specs.declared.unit.Initial.TheVariants as initial
+use Rattle.mv_syntax.specs.declared.unit.Initial.{Initial}
+use Rattle.mv_syntax.specs.declared.unit.Initial.TheVariants as initial
 use Rattle.mv_check_scope.specs.Conversions.{is_void}
 use Rattle.mv_check_expressions.specs.Breaches.{if_broken}
 use Rattle.mv_check_expressions.specs.Judged.{Judged, Good, Broken}

@@ -6,8 +6,6 @@ ghost use Rattle.mv_check_declarations.specs.Attributes.{with_value, domain, giv
 
 use crate::constants::is_value_of;
 use crate::value_set::ValueSet;
-use mv_ast::place::Place;
-use mv_ast::unit::{Declarator, Mark, Node, Shape};
 use mv_check_expressions::constant::{Constant, needed};
 use mv_check_expressions::error::RuleError;
 use mv_check_expressions::rules;
@@ -15,6 +13,8 @@ use mv_check_scope::domain::Domain;
 use mv_check_scope::scope::Scope;
 use mv_num::kind::Kind;
 use mv_num::list::List;
+use mv_syntax::place::Place;
+use mv_syntax::unit::{Declarator, Mark, Node, Shape};
 use std::alloc::{AllocError, Global};
 
 /// Where a declaration stands (C11 6.2.1): at file scope, in a block, or among the parameters of a function.

@@ -8,9 +8,7 @@ ghost use Rattle.mv_check_declarations.specs.Declarators.{numbered, function_typ
 use crate::attributes::{NOTHING, Position, attributes};
 use crate::enumerators::is_taken;
 use crate::specifiers::{Specified, specifiers};
-use mv_ast::place::Place;
 use mv_ast::program::{CType, Signature};
-use mv_ast::unit::{Declarator, Node, Param, Shape};
 use mv_check_expressions::constant::{Constant, needed};
 use mv_check_expressions::error::RuleError;
 use mv_check_expressions::rules;
@@ -19,6 +17,8 @@ use mv_check_scope::meaning::{Meaning, Storage, Variable};
 use mv_check_scope::scope::Scope;
 use mv_num::list::List;
 use mv_num::text::Text;
+use mv_syntax::place::Place;
+use mv_syntax::unit::{Declarator, Node, Param, Shape};
 use std::alloc::Global;
 
 /// What a declarator designates (C11 6.7.6): a scalar or an array of a type, which may be `const`, with the size where it is written; or

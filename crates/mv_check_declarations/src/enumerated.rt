@@ -1,7 +1,7 @@
 //! Enumerated types with their domains.
 
 ghost use Rattle.std.specs.Prelude.{◌≡◌, IfOk};
-ghost use Rattle.mv_ast.specs.Plans.{is_among};
+ghost use Rattle.mv_num.specs.Lists.{is_among};
 ghost use Rattle.mv_check_scope.specs.Domains.{distinct};
 
 use crate::value_set::ValueSet;

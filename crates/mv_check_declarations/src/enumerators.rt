@@ -6,14 +6,14 @@ ghost use Rattle.mv_check_declarations.specs.Turns.{IsBehind};
 ghost use Rattle.mv_check_declarations.specs.Enumerators.{is_taken, given_value, new_enumerator, enumerators};
 
 use crate::constants::{int_of, next_int};
-use mv_ast::place::Place;
-use mv_ast::unit::{Member, Node};
 use mv_check_expressions::constant::needed;
 use mv_check_expressions::error::RuleError;
 use mv_check_expressions::rules;
 use mv_check_scope::meaning::Meaning;
 use mv_check_scope::scope::Scope;
 use mv_num::list::List;
+use mv_syntax::place::Place;
+use mv_syntax::unit::{Member, Node};
 use std::alloc::Global;
 
 /// Whether the innermost block has a name.

@@ -12,7 +12,6 @@ use crate::declarators::{Entity, designated};
 use crate::specifiers::{Specified, scalar_kind};
 use mv_ast::operators::converted;
 use mv_ast::program::{CType, Expr, Form, Local};
-use mv_ast::unit::{Declarator, Initial, Node};
 use mv_check_expressions::error::RuleError;
 use mv_check_expressions::judge::value;
 use mv_check_expressions::rules;
@@ -20,6 +19,7 @@ use mv_check_scope::constant::{constant_value, converts};
 use mv_check_scope::domain::Domain;
 use mv_check_scope::scope::Scope;
 use mv_num::list::List;
+use mv_syntax::unit::{Declarator, Initial, Node};
 use std::alloc::{AllocError, Global};
 
 /// What a declarator at file scope designates, and its attribute.

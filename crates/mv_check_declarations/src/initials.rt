@@ -7,7 +7,6 @@ ghost use Rattle.mv_check_declarations.specs.Initials.{unless_zero, size_of_valu
 use crate::constants::is_positive;
 use crate::steps::with_last;
 use mv_ast::program::{CType, Expr};
-use mv_ast::unit::{Initial, Node};
 use mv_check_expressions::constant::Constant;
 use mv_check_expressions::error::RuleError;
 use mv_check_expressions::judge::value;
@@ -16,6 +15,7 @@ use mv_check_scope::convert::converted_to;
 use mv_check_scope::scope::Scope;
 use mv_num::list::List;
 use mv_num::results::both;
+use mv_syntax::unit::{Initial, Node};
 use std::alloc::{AllocError, Global};
 
 /// Some values converted to a type, and whether all of them convert.

@@ -13,7 +13,6 @@ use crate::objects::{Breaches, breaks_extents, is_unconverted, least, scalar, si
 use crate::specifiers::{Specified, specifiers};
 use crate::steps::with_last;
 use mv_ast::program::{CType, Expr, Local, Stmt};
-use mv_ast::unit::{Declarator, Initial, Specs};
 use mv_check_expressions::error::RuleError;
 use mv_check_expressions::rules;
 use mv_check_scope::convert::is_void;
@@ -22,6 +21,7 @@ use mv_check_scope::scope::Scope;
 use mv_num::list::List;
 use mv_num::results::both;
 use mv_num::text::Text;
+use mv_syntax::unit::{Declarator, Initial, Specs};
 use std::alloc::{AllocError, Global};
 
 // Declares the name of a local, which is the next one, unless the name is declared in this scope already.

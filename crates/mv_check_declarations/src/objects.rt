@@ -5,10 +5,10 @@ ghost use Rattle.mv_check_expressions.specs.Breaches.{if_broken};
 ghost use Rattle.mv_check_declarations.specs.Objects.{scalar, sized, is_single, is_unconverted, has_room, is_char, string_fits, is_empty, is_overfull, breaks_extents, least};
 
 use mv_ast::program::{CType, Local};
-use mv_ast::unit::Initial;
 use mv_check_expressions::rules;
 use mv_check_scope::convert::is_void;
 use mv_num::kind::Kind;
+use mv_syntax::unit::Initial;
 
 /// Which of its rules a declared object breaks.
 #[derive(Clone, Copy)]

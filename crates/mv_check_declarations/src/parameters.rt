@@ -6,9 +6,7 @@ ghost use Rattle.mv_check_declarations.specs.Parameters.{new_defined, parameter_
 use crate::attributes::{NOTHING, Position, attributes};
 use crate::declarators::{Entity, designated, is_taken_by};
 use crate::specifiers::{Specified, specifiers};
-use mv_ast::place::Place;
 use mv_ast::program::Local;
-use mv_ast::unit::Param;
 use mv_check_expressions::error::RuleError;
 use mv_check_expressions::rules;
 use mv_check_scope::convert::is_void;
@@ -16,6 +14,8 @@ use mv_check_scope::meaning::{Meaning, Storage, Variable};
 use mv_check_scope::scope::Scope;
 use mv_num::list::List;
 use mv_num::text::Text;
+use mv_syntax::place::Place;
+use mv_syntax::unit::Param;
 use std::alloc::Global;
 
 // Declares a parameter as the next local. There is no memory for a 2^32nd.

@@ -10,9 +10,7 @@ ghost use Rattle.mv_check_declarations.specs.Specifiers.{named_enumeration, tagg
 use crate::attributes::{Attribute, Holder, Position, attributes, holder_of_all};
 use crate::enumerated::enumerated;
 use crate::enumerators::enumerators;
-use mv_ast::place::Place;
 use mv_ast::program::CType;
-use mv_ast::unit::{Declarator, EnumSpec, Mark, Member, Specs};
 use mv_check_expressions::error::RuleError;
 use mv_check_expressions::rules;
 use mv_check_expressions::type_names::type_of;
@@ -22,6 +20,8 @@ use mv_check_scope::scope::Scope;
 use mv_num::kind::Kind;
 use mv_num::list::List;
 use mv_num::text::Text;
+use mv_syntax::place::Place;
+use mv_syntax::unit::{Declarator, EnumSpec, Mark, Member, Specs};
 use std::alloc::Global;
 
 /// An enumeration: its number among those of the scope, and whether its tag was declared in the same scope before.

@@ -1,7 +1,7 @@
 //! Different values.
 
 ghost use Rattle.std.specs.Prelude.{◌≡◌, [], not, IfOk, OnOk};
-ghost use Rattle.mv_ast.specs.Plans.{is_among};
+ghost use Rattle.mv_num.specs.Lists.{is_among};
 ghost use Rattle.mv_check_declarations.specs.ValueSets.{with_member};
 
 use mv_num::list::List;

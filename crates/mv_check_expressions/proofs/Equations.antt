@@ -1,15 +1,15 @@
 -- The equations of the judgement: one for each form of expression, from what `out` opens it as.
 use Rattle.std.proofs.Common.{◌≡◌, ℕ, Bool, List, [], ◌∷◌, map, Option, Some, None, is_none, refl, ◌∙◌, ap}
 use Rattle.mv_num.specs.declared.kind.Kind.{Kind}
-use Rattle.mv_ast.specs.declared.place.Place.{Place}
+use Rattle.mv_syntax.specs.declared.place.Place.{Place}
 use Rattle.mv_ast.specs.declared.program.CType.{CType}
-use Rattle.mv_ast.specs.declared.unit.Node.{Node, out-Node, fold_out-Node}
-use Rattle.mv_ast.specs.declared.unit.What.{What, What-F, out-What, map-What, fold-What, fold_out-What}
-use Rattle.mv_ast.specs.declared.unit.What.TheOpen as what
-use Rattle.mv_ast.specs.declared.unit.EnumSpec.{EnumSpec, EnumSpec-F, out-EnumSpec, map-EnumSpec, fold-EnumSpec, fold_out-EnumSpec}
-use Rattle.mv_ast.specs.declared.unit.Mark.{Mark, fold-Mark}
-use Rattle.mv_ast.specs.declared.unit.Member.{Member, fold-Member}
-use Rattle.mv_ast.specs.declared.unit.Specs.{Specs, out-Specs, fold-Specs, fold_out-Specs}
+use Rattle.mv_syntax.specs.declared.unit.Node.{Node, out-Node, fold_out-Node}
+use Rattle.mv_syntax.specs.declared.unit.What.{What, What-F, out-What, map-What, fold-What, fold_out-What}
+use Rattle.mv_syntax.specs.declared.unit.What.TheOpen as what
+use Rattle.mv_syntax.specs.declared.unit.EnumSpec.{EnumSpec, EnumSpec-F, out-EnumSpec, map-EnumSpec, fold-EnumSpec, fold_out-EnumSpec}
+use Rattle.mv_syntax.specs.declared.unit.Mark.{Mark, fold-Mark}
+use Rattle.mv_syntax.specs.declared.unit.Member.{Member, fold-Member}
+use Rattle.mv_syntax.specs.declared.unit.Specs.{Specs, out-Specs, fold-Specs, fold_out-Specs}
 use Rattle.mv_check_scope.specs.declared.scope.Scope.{Scope}
 use Rattle.mv_check_expressions.specs.declared.seen.Use.{Use}
 use Rattle.mv_check_expressions.specs.declared.seen.Use.TheVariants as «use»

@@ -1,6 +1,6 @@
 -- The rules that a node breaks, and the least of them.
 use Rattle.std.specs.Prelude.{ℕ, Bool, false, if◌then◌else◌, Option, Some, None}
-use Rattle.mv_ast.specs.declared.place.Place.{Place}
+use Rattle.mv_syntax.specs.declared.place.Place.{Place}
 use Rattle.mv_check_scope.specs.declared.scope.Scope.{Scope}
 use Rattle.mv_check_expressions.specs.RuleNumbers as rules
 use Rattle.mv_check_expressions.specs.declared.breaches.Breaches.{Breaches}

@@ -10,7 +10,7 @@ use Rattle.mv_ast.specs.declared.program.Form.{Form, Form-F, out-Form}
 use Rattle.mv_ast.specs.declared.program.Form.TheVariants as form
 use Rattle.mv_ast.specs.declared.program.Form.TheOpen as open_form
 use Rattle.mv_ast.specs.declared.program.Target.{Target}
-use Rattle.mv_ast.specs.Orders as orders
+use Rattle.mv_bindings.specs.OrderNumbers as orders
 use Rattle.mv_check_scope.specs.Conversions.{int, typed, is_pointer, converted_to}
 use Rattle.mv_check_scope.specs.Constants.{converts}
 use Rattle.mv_check_expressions.specs.declared.seen.Seen.{Seen}

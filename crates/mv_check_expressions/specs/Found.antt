@@ -4,8 +4,8 @@ use Rattle.mv_ast.specs.declared.program.CType.{CType}
 use Rattle.mv_ast.specs.declared.program.CType.TheVariants.{Scalar}
 use Rattle.mv_ast.specs.declared.program.Expr.{Expr}
 use Rattle.mv_ast.specs.declared.program.Form.TheVariants as form
-use Rattle.mv_ast.specs.declared.unit.What.{What-F}
-use Rattle.mv_ast.specs.declared.unit.What.TheOpen as what
+use Rattle.mv_syntax.specs.declared.unit.What.{What-F}
+use Rattle.mv_syntax.specs.declared.unit.What.TheOpen as what
 use Rattle.mv_ast.specs.Marks as marks
 use Rattle.mv_check_scope.specs.declared.meaning.Elements.{Elements}
 use Rattle.mv_check_scope.specs.declared.scope.Scope.{Scope}

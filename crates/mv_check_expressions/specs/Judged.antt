@@ -1,6 +1,6 @@
 -- The judgement on a part of a unit: what it is found to be, or the first place at which a rule is broken, with the rule.
 use Rattle.std.specs.Prelude.{◌≡◌, ℕ, List, [], ◌∷◌, Result, Ok, Err}
-use Rattle.mv_ast.specs.declared.place.Place.{Place}
+use Rattle.mv_syntax.specs.declared.place.Place.{Place}
 use Rattle.mv_check_expressions.specs.declared.error.RuleError.{RuleError}
 use Rattle.mv_check_expressions.specs.declared.error.RuleError.TheVariants as error
 

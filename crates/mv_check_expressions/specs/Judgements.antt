@@ -1,15 +1,15 @@
 -- The judgement on an expression: its parts first, in their order, and then the node by itself.
 use Rattle.std.specs.Prelude.{ℕ, Bool, if◌then◌else◌, List, map, is_none}
-use Rattle.mv_ast.specs.declared.place.Place.{Place}
+use Rattle.mv_syntax.specs.declared.place.Place.{Place}
 use Rattle.mv_ast.specs.declared.program.CType.{CType}
 use Rattle.mv_ast.specs.declared.program.Expr.{Expr}
-use Rattle.mv_ast.specs.declared.unit.Node.{Node, Node-F, fold-Node}
-use Rattle.mv_ast.specs.declared.unit.What.{What-F}
-use Rattle.mv_ast.specs.declared.unit.What.TheOpen as what
-use Rattle.mv_ast.specs.declared.unit.EnumSpec.{EnumSpec-F}
-use Rattle.mv_ast.specs.declared.unit.Mark.{Mark-F}
-use Rattle.mv_ast.specs.declared.unit.Member.{Member-F}
-use Rattle.mv_ast.specs.declared.unit.Specs.{Specs-F}
+use Rattle.mv_syntax.specs.declared.unit.Node.{Node, Node-F, fold-Node}
+use Rattle.mv_syntax.specs.declared.unit.What.{What-F}
+use Rattle.mv_syntax.specs.declared.unit.What.TheOpen as what
+use Rattle.mv_syntax.specs.declared.unit.EnumSpec.{EnumSpec-F}
+use Rattle.mv_syntax.specs.declared.unit.Mark.{Mark-F}
+use Rattle.mv_syntax.specs.declared.unit.Member.{Member-F}
+use Rattle.mv_syntax.specs.declared.unit.Specs.{Specs-F}
 use Rattle.mv_check_scope.specs.declared.scope.Scope.{Scope}
 use Rattle.mv_check_scope.specs.Conversions.{is_void}
 use Rattle.mv_check_expressions.specs.declared.seen.Seen.{Seen}

@@ -1,9 +1,9 @@
 -- Where a constant is needed (C11 6.6).
 use Rattle.std.specs.Prelude.{ℕ, Option, Some, None}
-use Rattle.mv_ast.specs.declared.place.Place.{Place}
+use Rattle.mv_syntax.specs.declared.place.Place.{Place}
 use Rattle.mv_ast.specs.declared.program.CType.{CType}
 use Rattle.mv_ast.specs.declared.program.Expr.{Expr}
-use Rattle.mv_ast.specs.declared.unit.Node.{Node}
+use Rattle.mv_syntax.specs.declared.unit.Node.{Node}
 use Rattle.mv_check_scope.specs.declared.scope.Scope.{Scope}
 use Rattle.mv_check_scope.specs.Constants.{constant_value}
 use Rattle.mv_check_expressions.specs.RuleNumbers as rules

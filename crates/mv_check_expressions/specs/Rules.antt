@@ -2,7 +2,7 @@
 use Rattle.std.specs.Prelude.{ℕ, Bool, false, ◌&&◌, ◌||◌, not, nat_eq, if◌then◌else◌, length, is_none, is_some}
 use Rattle.mv_ast.specs.declared.program.CType.{CType}
 use Rattle.mv_ast.specs.declared.program.Expr.{Expr}
-use Rattle.mv_ast.specs.declared.unit.What.TheOpen as what
+use Rattle.mv_syntax.specs.declared.unit.What.TheOpen as what
 use Rattle.mv_ast.specs.Marks as marks
 use Rattle.mv_check_scope.specs.declared.scope.Scope.{Scope}
 use Rattle.mv_check_scope.specs.Conversions.{is_integer, is_pointer, is_void}

@@ -2,12 +2,12 @@
 use Rattle.std.specs.Prelude.{ℕ, Bool, true, false, ◌&&◌, ◌||◌, nat_eq, if◌then◌else◌, List, [], ◌∷◌, map, length, Option, Some, None, is_none}
 use Rattle.mv_num.specs.declared.kind.Kind.{Kind}
 use Rattle.mv_num.specs.declared.kind.Kind.TheVariants as kind
-use Rattle.mv_ast.specs.declared.place.Place.{Place}
+use Rattle.mv_syntax.specs.declared.place.Place.{Place}
 use Rattle.mv_ast.specs.declared.program.CType.{CType}
 use Rattle.mv_ast.specs.declared.program.CType.TheVariants.{Void, Scalar}
-use Rattle.mv_ast.specs.declared.unit.Specs.{Specs, out-Specs}
-use Rattle.mv_ast.specs.declared.unit.EnumSpec.{EnumSpec, out-EnumSpec}
-use Rattle.mv_ast.specs.Keywords as keywords
+use Rattle.mv_syntax.specs.declared.unit.Specs.{Specs, out-Specs}
+use Rattle.mv_syntax.specs.declared.unit.EnumSpec.{EnumSpec, out-EnumSpec}
+use Rattle.mv_syntax.specs.Keywords as keywords
 use Rattle.mv_ast.specs.Names.{any_of}
 use Rattle.mv_check_scope.specs.declared.scope.Scope.{Scope}
 use Rattle.mv_check_scope.specs.Scoped.{tag_of}

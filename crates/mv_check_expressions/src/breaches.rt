@@ -8,8 +8,8 @@ ghost use Rattle.mv_check_expressions.specs.Rules.{is_bare, is_valueless, is_mis
 use crate::error::RuleError;
 use crate::rules;
 use crate::seen::{Seen, Use, is_attributed};
-use mv_ast::place::Place;
 use mv_check_scope::convert::is_void;
+use mv_syntax::place::Place;
 
 /// Which of the rules of expressions a node breaks.
 #[derive(Clone, Copy)]

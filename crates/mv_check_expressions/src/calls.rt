@@ -1,7 +1,7 @@
 // Calls (C11 6.5.2.2).
 
 ghost use Rattle.std.specs.Prelude.{◌≡◌, IfOk, slice_get};
-ghost use Rattle.mv_ast.specs.declared.unit.What.TheOpen as what;
+ghost use Rattle.mv_syntax.specs.declared.unit.What.TheOpen as what;
 ghost use Rattle.mv_check_expressions.specs.Judged.{IsJudged};
 ghost use Rattle.mv_check_expressions.specs.Breaches.{by_itself};
 ghost use Rattle.mv_check_expressions.specs.Calls.{pointed, params_of, result_of, known_arity, planned_use, argument_use, callee_params, takes_count, passed, all_convert, named_index, named_function, direct_or_through, with_index, called_with};
@@ -9,15 +9,15 @@ ghost use Rattle.mv_check_expressions.specs.Calls.{pointed, params_of, result_of
 use crate::breaches::{Breaches, breaches_of_use, concluded};
 use crate::error::RuleError;
 use crate::seen::{Seen, Use, number_or_zero, type_of, value_of};
-use mv_ast::orders;
-use mv_ast::place::Place;
 use mv_ast::program::{CType, Expr, Form, Known, Signature};
+use mv_bindings::orders;
 use mv_check_scope::constant::converts;
 use mv_check_scope::convert::{converted_to, is_pointer};
 use mv_check_scope::scope::Scope;
 use mv_num::boxed::Boxed;
 use mv_num::kind::Kind;
 use mv_num::list::List;
+use mv_syntax::place::Place;
 use std::alloc::{AllocError, Global};
 
 const INT: CType = CType::Scalar(Kind::Int);

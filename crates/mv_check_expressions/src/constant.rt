@@ -7,9 +7,9 @@ use crate::error::RuleError;
 use crate::judge::value;
 use crate::rules;
 use mv_ast::program::CType;
-use mv_ast::unit::Node;
 use mv_check_scope::constant::constant_value;
 use mv_check_scope::scope::Scope;
+use mv_syntax::unit::Node;
 use std::alloc::Global;
 
 /// The value of a constant expression, with its type.

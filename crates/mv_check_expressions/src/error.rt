@@ -1,7 +1,7 @@
 ghost use Rattle.std.specs.Prelude.{◌≡◌};
 ghost use Rattle.mv_check_expressions.specs.declared.error.RuleError.TheVariants.{Memory};
 
-use mv_ast::place::Place;
+use mv_syntax::place::Place;
 use std::alloc::{AllocError, AllocFailed};
 
 /// Why a part of a unit has no meaning.

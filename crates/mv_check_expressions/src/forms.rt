@@ -3,7 +3,7 @@
 // allocator.
 
 ghost use Rattle.std.specs.Prelude.{◌≡◌, IfOk, Some};
-ghost use Rattle.mv_ast.specs.declared.unit.What.TheOpen as what;
+ghost use Rattle.mv_syntax.specs.declared.unit.What.TheOpen as what;
 ghost use Rattle.mv_check_expressions.specs.Judged.{IsJudged};
 ghost use Rattle.mv_check_expressions.specs.Breaches.{by_itself};
 ghost use Rattle.mv_check_expressions.specs.Seen.{element_at};
@@ -21,7 +21,6 @@ use crate::values::{
     takes_two, unary_of,
 };
 use mv_ast::marks::{AMPERSAND, ASSIGN, STAR};
-use mv_ast::place::Place;
 use mv_ast::program::{CType, Expr, Form, Target};
 use mv_check_scope::constant::converts;
 use mv_check_scope::convert::{converted_to, is_integer, is_pointer, is_void, promoted};
@@ -29,6 +28,7 @@ use mv_check_scope::meaning::{Elements, Storage};
 use mv_check_scope::scope::Scope;
 use mv_num::boxed::Boxed;
 use mv_num::kind::Kind;
+use mv_syntax::place::Place;
 use std::alloc::{AllocError, Global};
 
 /// A number (C11 6.5.1), which breaks no rule of its own.

@@ -11,10 +11,10 @@ use crate::seen::{Seen, Use, value_of};
 use crate::type_names::type_of;
 use mv_ast::marks::AMPERSAND;
 use mv_ast::program::{CType, Expr};
-use mv_ast::unit::{Node, What};
 use mv_check_scope::convert::is_void;
 use mv_check_scope::scope::Scope;
 use mv_num::list::List;
+use mv_syntax::unit::{Node, What};
 use std::alloc::Global;
 
 // What the operand of an operator is used as.

@@ -7,11 +7,11 @@ ghost use Rattle.mv_ast.specs.Names.{any_of};
 
 use crate::error::RuleError;
 use crate::rules;
-use mv_ast::keywords::{BOOL, CHAR, INT, SHORT, SIGNED, UNSIGNED, VOID};
 use mv_ast::program::CType;
-use mv_ast::unit::{EnumSpec, Specs};
 use mv_check_scope::scope::Scope;
 use mv_num::kind::Kind;
+use mv_syntax::keywords::{BOOL, CHAR, INT, SHORT, SIGNED, UNSIGNED, VOID};
+use mv_syntax::unit::{EnumSpec, Specs};
 
 fn stands_in(words: &[u8], word: u8) -> bool
     ensures { result ≡ stands_in words.now word }

@@ -3,7 +3,7 @@ use Rattle.std.proofs.Common.{◌≡◌, refl, List, [], ◌∷◌, ◌++◌, ma
 use Rattle.std.specs.Option.{option_or}
 use Rattle.mv_ast.specs.declared.program.Program.{Program}
 use Rattle.mv_check_limits.specs.declared.excess.Exceeded.{Exceeded}
-use Rattle.mv_ast.specs.declared.unit.Unit as unit
+use Rattle.mv_syntax.specs.declared.unit.Unit as unit
 use Rattle.mv_check_limits.specs.Limits.{excess, functions_limit, globals_limit, switches_limit, values_limit, switches_of_function_limit, assignments_limit, first_some, exceeded_by_counts}
 use Rattle.mv_check_limits.specs.Ordered.{ordered_parameters, ordered_elements, first_excess, counts_of, exceeded_by_contents}
 

@@ -4,17 +4,17 @@ use Rattle.std.proofs.lemmas.List.{length-map}
 use Rattle.std.proofs.lemmas.List.Folds.{find-append}
 use Rattle.std.specs.List.{concat}
 use Rattle.std.specs.Option.{option_or}
-use Rattle.mv_ast.specs.declared.unit.Node.{Node}
-use Rattle.mv_ast.specs.declared.unit.Specs.{Specs}
-use Rattle.mv_ast.specs.declared.unit.Declarator.{Declarator, fold_out-Declarator}
-use Rattle.mv_ast.specs.declared.unit.Shape.{Shape, Shape-F, out-Shape, map-Shape, fold_out-Shape}
-use Rattle.mv_ast.specs.declared.unit.Shape as form
-use Rattle.mv_ast.specs.declared.unit.Shape.TheVariants.{outs-Plain, outs-Array, outs-Function, outs-Pointer, outs-PointerArray}
-use Rattle.mv_ast.specs.declared.unit.Param.{Param, fold_out-Param}
-use Rattle.mv_ast.specs.declared.unit.Line.{Line, fold_out-Line}
-use Rattle.mv_ast.specs.declared.unit.Act.{Act, Act-F, out-Act, map-Act, fold_out-Act}
-use Rattle.mv_ast.specs.declared.unit.Act as at
-use Rattle.mv_ast.specs.declared.unit.Act.TheVariants.{outs-Block, outs-Declare, outs-Express, outs-If, outs-While, outs-Do, outs-For, outs-Switch, outs-Case, outs-Default, outs-Break, outs-Continue, outs-Return}
+use Rattle.mv_syntax.specs.declared.unit.Node.{Node}
+use Rattle.mv_syntax.specs.declared.unit.Specs.{Specs}
+use Rattle.mv_syntax.specs.declared.unit.Declarator.{Declarator, fold_out-Declarator}
+use Rattle.mv_syntax.specs.declared.unit.Shape.{Shape, Shape-F, out-Shape, map-Shape, fold_out-Shape}
+use Rattle.mv_syntax.specs.declared.unit.Shape as form
+use Rattle.mv_syntax.specs.declared.unit.Shape.TheVariants.{outs-Plain, outs-Array, outs-Function, outs-Pointer, outs-PointerArray}
+use Rattle.mv_syntax.specs.declared.unit.Param.{Param, fold_out-Param}
+use Rattle.mv_syntax.specs.declared.unit.Line.{Line, fold_out-Line}
+use Rattle.mv_syntax.specs.declared.unit.Act.{Act, Act-F, out-Act, map-Act, fold_out-Act}
+use Rattle.mv_syntax.specs.declared.unit.Act as at
+use Rattle.mv_syntax.specs.declared.unit.Act.TheVariants.{outs-Block, outs-Declare, outs-Express, outs-If, outs-While, outs-Do, outs-For, outs-Switch, outs-Case, outs-Default, outs-Break, outs-Continue, outs-Return}
 use Rattle.mv_check_limits.specs.Limits.{first_above}
 use Rattle.mv_check_limits.specs.Ordered.{of_type, shape_layer, declarator_layer, param_layer, shape_parameters, declarator_parameters, param_parameters, act_layer, line_layer, line_parameters, act_parameters, optional_parameters}
 

@@ -3,7 +3,7 @@ use Rattle.std.proofs.Common.{◌≡◌, ℕ, refl, sym, ap, ◌∙◌, List, []
 use Rattle.std.proofs.lemmas.List.Folds.{find-append}
 use Rattle.std.specs.Option.{option_or}
 use Rattle.mv_ast.specs.declared.program.Program.{Program}
-use Rattle.mv_ast.specs.declared.unit.Unit as unit
+use Rattle.mv_syntax.specs.declared.unit.Unit as unit
 use Rattle.mv_check_limits.specs.declared.excess.Exceeded.{Exceeded}
 use Rattle.mv_check_limits.specs.Limits.{Limit, functions_limit, globals_limit, parameters_limit, switches_limit, values_limit, switches_of_function_limit, assignments_limit, elements_limit, first_above, reported, excess, first_some, first_exceeded}
 use Rattle.mv_check_limits.specs.Ordered.{unit_parameters, unit_elements, in_text, ordered_parameters, ordered_elements, first_excess}

@@ -6,10 +6,10 @@ use Rattle.std.specs.Option.{option_or}
 use Rattle.mv_ast.specs.declared.program.Function.{Function}
 use Rattle.mv_ast.specs.declared.program.Global.{Global}
 use Rattle.mv_ast.specs.declared.program.Program.{Program}
-use Rattle.mv_ast.specs.declared.unit.Declarator.{Declarator}
-use Rattle.mv_ast.specs.declared.unit.Item.{Item}
-use Rattle.mv_ast.specs.declared.unit.Line.{Line}
-use Rattle.mv_ast.specs.declared.unit.Unit as unit
+use Rattle.mv_syntax.specs.declared.unit.Declarator.{Declarator}
+use Rattle.mv_syntax.specs.declared.unit.Item.{Item}
+use Rattle.mv_syntax.specs.declared.unit.Line.{Line}
+use Rattle.mv_syntax.specs.declared.unit.Unit as unit
 use Rattle.mv_ast.specs.Counts.{elements_of}
 use Rattle.mv_check_limits.specs.Limits.{first_above, elements_limit, global_sizes, local_sizes}
 use Rattle.mv_check_limits.specs.Ordered.{has_name, global_elements, local_elements, declarator_elements, item_elements, unit_elements, ordered_elements}

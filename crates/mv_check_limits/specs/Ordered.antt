@@ -5,15 +5,15 @@ use Rattle.std.specs.Cmp.Lexicographic.{pointwise}
 use Rattle.mv_ast.specs.declared.program.Function.{Function}
 use Rattle.mv_ast.specs.declared.program.Global.{Global}
 use Rattle.mv_ast.specs.declared.program.Program.{Program}
-use Rattle.mv_ast.specs.declared.unit.Unit as unit
-use Rattle.mv_ast.specs.declared.unit.Item.{Item}
-use Rattle.mv_ast.specs.declared.unit.Declarator.{Declarator, Declarator-F, fold-Declarator}
-use Rattle.mv_ast.specs.declared.unit.Shape.{Shape, Shape-F, fold-Shape}
-use Rattle.mv_ast.specs.declared.unit.Shape.TheOpen as shape
-use Rattle.mv_ast.specs.declared.unit.Param.{Param, Param-F, fold-Param}
-use Rattle.mv_ast.specs.declared.unit.Line.{Line, Line-F, fold-Line}
-use Rattle.mv_ast.specs.declared.unit.Act.{Act, Act-F, fold-Act}
-use Rattle.mv_ast.specs.declared.unit.Act.TheOpen as act
+use Rattle.mv_syntax.specs.declared.unit.Unit as unit
+use Rattle.mv_syntax.specs.declared.unit.Item.{Item}
+use Rattle.mv_syntax.specs.declared.unit.Declarator.{Declarator, Declarator-F, fold-Declarator}
+use Rattle.mv_syntax.specs.declared.unit.Shape.{Shape, Shape-F, fold-Shape}
+use Rattle.mv_syntax.specs.declared.unit.Shape.TheOpen as shape
+use Rattle.mv_syntax.specs.declared.unit.Param.{Param, Param-F, fold-Param}
+use Rattle.mv_syntax.specs.declared.unit.Line.{Line, Line-F, fold-Line}
+use Rattle.mv_syntax.specs.declared.unit.Act.{Act, Act-F, fold-Act}
+use Rattle.mv_syntax.specs.declared.unit.Act.TheOpen as act
 use Rattle.mv_ast.specs.Counts.{elements_of}
 use Rattle.mv_check_limits.specs.declared.counts.Counts.{Counts}
 use Rattle.mv_check_limits.specs.declared.excess.Exceeded.{Exceeded}

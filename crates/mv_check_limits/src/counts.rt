@@ -2,13 +2,13 @@
 
 ghost use Rattle.std.specs.Prelude.{◌≡◌, ◌≤◌, [], ◌∷◌, None, map, IsTrue, length, nat_lt};
 ghost use Rattle.mv_ast.specs.Counts.{assignments, product_of, elements_of};
-ghost use Rattle.mv_ast.specs.Plans.{switch_domain};
+ghost use Rattle.mv_ast.specs.Switches.{switch_domain};
 ghost use Rattle.mv_check_limits.specs.Limits.{first_above, own_switches, global_sizes, local_sizes, parameters_limit, values_limit, switches_of_function_limit, assignments_limit, elements_limit};
 ghost use Rattle.mv_check_limits.specs.Ordered.{counts_of, ordered_parameters};
 
 use crate::parameters::parameters_of_unit;
 use mv_ast::program::{Function, Local, Program};
-use mv_ast::unit::Unit;
+use mv_syntax::unit::Unit;
 
 /// The counts of a unit and its program that decide the first four limits.
 #[derive(Clone, Copy, Debug, PartialEq, Eq)]

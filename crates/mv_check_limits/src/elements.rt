@@ -7,8 +7,8 @@ ghost use Rattle.mv_check_limits.specs.Ordered.{has_name, global_elements, local
 
 use crate::counts::{all_elements, elements, elements_of};
 use mv_ast::program::{Function, Global, Program};
-use mv_ast::unit::{Declarator, Item, Line, Unit};
 use mv_num::text::Text;
+use mv_syntax::unit::{Declarator, Item, Line, Unit};
 
 fn has_name(name: &Text, declared: &Option<Text>) -> bool
     ensures { result ≡ has_name name.now declared.now }

@@ -9,7 +9,7 @@ use crate::counts::{Counts, above};
 use crate::elements::ordered_elements;
 use crate::excess::Exceeded;
 use mv_ast::program::Program;
-use mv_ast::unit::Unit;
+use mv_syntax::unit::Unit;
 
 fn reported(limit: u8, count: Option<u64>) -> Option<Exceeded>
     ensures { result ≡ reported limit count }

@@ -6,8 +6,8 @@ ghost use Rattle.mv_check_limits.specs.Limits.{first_above};
 ghost use Rattle.mv_check_limits.specs.Ordered.{shape_parameters, declarator_parameters, line_parameters, act_parameters, optional_parameters, item_parameters, unit_parameters};
 
 use crate::counts::are_too_many_parameters;
-use mv_ast::unit::{Act, Declarator, Item, Line, Param, Shape, Unit};
 use mv_num::boxed::Boxed;
+use mv_syntax::unit::{Act, Declarator, Item, Line, Param, Shape, Unit};
 
 // ---- declarators
 

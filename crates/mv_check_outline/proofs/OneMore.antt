@@ -3,7 +3,7 @@ use Rattle.std.proofs.Common.{◌≡◌, ◌∙◌, ℕ, ap, sym, ◌+◌, ◌<�
 use Rattle.std.proofs.lemmas.List.{take_more, append-nil}
 use Rattle.std.proofs.lemmas.Grind.{flat_map-append}
 use Rattle.std.proofs.lemmas.List.Sums.{fold-append}
-use Rattle.mv_ast.specs.declared.unit.Item.{Item}
+use Rattle.mv_syntax.specs.declared.unit.Item.{Item}
 use Rattle.mv_check_outline.specs.declared.outline.Wanted.{Wanted}
 use Rattle.mv_check_outline.specs.Names.{with_name, with_names, each_once}
 use Rattle.mv_check_outline.specs.Outlined.{names_in, all_names}

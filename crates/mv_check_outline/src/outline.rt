@@ -4,7 +4,7 @@ ghost use Rattle.mv_check_outline.specs.Outlined as spec;
 ghost use Rattle.mv_check_outline.specs.Outlined.{IsOutlineOf};
 
 use crate::names::Names;
-use mv_ast::unit::{Declarator, Item, Shape, Unit};
+use mv_syntax::unit::{Declarator, Item, Shape, Unit};
 use std::alloc::{AllocError, Global};
 
 /// Which of the declared names are looked for.

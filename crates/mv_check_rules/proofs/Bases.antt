@@ -3,11 +3,11 @@ use Rattle.std.proofs.Common.{◌≡◌, ℕ, refl, sym, ◌∙◌, ap, Bool, tr
 use Rattle.std.specs.List.{list_any}
 use Rattle.std.proofs.lemmas.List.{append_assoc, append-nil, length-map}
 use Rattle.mv_num.specs.declared.kind.Kind.{Kind}
-use Rattle.mv_ast.specs.declared.place.Place.{Place}
+use Rattle.mv_syntax.specs.declared.place.Place.{Place}
 use Rattle.mv_ast.specs.declared.program.CType.{CType}
 use Rattle.mv_ast.specs.declared.program.CType.TheVariants as ctype
-use Rattle.mv_ast.specs.declared.unit.Declarator.{Declarator}
-use Rattle.mv_ast.specs.declared.unit.Specs.{Specs, out-Specs}
+use Rattle.mv_syntax.specs.declared.unit.Declarator.{Declarator}
+use Rattle.mv_syntax.specs.declared.unit.Specs.{Specs, out-Specs}
 use Rattle.mv_ast.specs.Names.{any_of}
 use Rattle.mv_check_scope.specs.declared.scope.Scope.{Scope}
 use Rattle.mv_check_expressions.specs.Judged.{Judged, Good, Broken, and_then}

@@ -1,6 +1,6 @@
 -- Judgements on parts in their order agree where those on each part do.
 use Rattle.std.proofs.Common.{◌≡◌, ℕ, refl, sym, ◌∙◌, ap, Bool, true, false, not, ◌&&◌, ◌||◌, if◌then◌else◌, List, [], ◌∷◌, ◌++◌, map}
-use Rattle.mv_ast.specs.declared.place.Place.{Place}
+use Rattle.mv_syntax.specs.declared.place.Place.{Place}
 use Rattle.mv_check_scope.specs.declared.scope.Scope.{Scope}
 use Rattle.mv_check_expressions.specs.Judged.{Judged, Good, Broken, and_then}
 use Rattle.mv_check_declarations.specs.Turns.{through, next_part, in_turn}

@@ -1,16 +1,16 @@
 -- Statements agree, by induction over the lines of a body.
 use Rattle.std.proofs.Common.{◌≡◌, ℕ, refl, sym, ◌∙◌, ap, subst, Bool, true, false, ◌&&◌, not, if◌then◌else◌, Option, Some, None, List, [], ◌∷◌, ◌++◌, map}
-use Rattle.mv_ast.specs.declared.place.Place.{Place}
+use Rattle.mv_syntax.specs.declared.place.Place.{Place}
 use Rattle.mv_ast.specs.declared.program.CType.{CType}
 use Rattle.mv_ast.specs.declared.program.Expr.{Expr}
 use Rattle.mv_ast.specs.declared.program.Stmt.{Stmt}
 use Rattle.mv_ast.specs.declared.program.Stmt.TheVariants as stmt
-use Rattle.mv_ast.specs.declared.unit.Act.{Act, Act-F, roll-Act, map-Act, fold-Act, fold-roll-Act}
-use Rattle.mv_ast.specs.declared.unit.Act.TheOpen as act
-use Rattle.mv_ast.specs.declared.unit.Line.{Line, Line-F, roll-Line, map-Line, ind-Line, fold-roll-Line}
-use Rattle.mv_ast.specs.declared.unit.Node.{Node}
+use Rattle.mv_syntax.specs.declared.unit.Act.{Act, Act-F, roll-Act, map-Act, fold-Act, fold-roll-Act}
+use Rattle.mv_syntax.specs.declared.unit.Act.TheOpen as act
+use Rattle.mv_syntax.specs.declared.unit.Line.{Line, Line-F, roll-Line, map-Line, ind-Line, fold-roll-Line}
+use Rattle.mv_syntax.specs.declared.unit.Node.{Node}
 use Rattle.mv_ast.specs.Operators.{converted}
-use Rattle.mv_ast.specs.Plans.{is_among}
+use Rattle.mv_num.specs.Lists.{is_among}
 use Rattle.mv_check_scope.specs.declared.scope.Scope.{Scope}
 use Rattle.mv_check_scope.specs.Constants.{converts}
 use Rattle.mv_check_scope.specs.Conversions.{is_integer, is_void, promotion, promoted, converted_to}

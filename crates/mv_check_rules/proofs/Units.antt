@@ -1,8 +1,8 @@
 -- Declarations and units agree.
 use Rattle.std.proofs.Common.{◌≡◌, refl, sym, ◌∙◌, ap, Bool, true, false, ◌&&◌, not, if◌then◌else◌, List, [], ◌∷◌}
-use Rattle.mv_ast.specs.declared.unit.Item.{Item}
-use Rattle.mv_ast.specs.declared.unit.Specs.{out-Specs}
-use Rattle.mv_ast.specs.declared.unit.Unit as tree
+use Rattle.mv_syntax.specs.declared.unit.Item.{Item}
+use Rattle.mv_syntax.specs.declared.unit.Specs.{out-Specs}
+use Rattle.mv_syntax.specs.declared.unit.Unit as tree
 use Rattle.mv_check_scope.specs.declared.scope.Scope.{Scope}
 use Rattle.mv_check_expressions.specs.Judged.{Judged, Good, Broken, and_then}
 use Rattle.mv_check_outline.specs.Outlined.{is_filled}

@@ -1,6 +1,6 @@
 -- The judgement by rules, and the judgement in the order in which the checker works.
 use Rattle.std.specs.Prelude.{◌≡◌}
-use Rattle.mv_ast.specs.declared.unit.Unit as tree
+use Rattle.mv_syntax.specs.declared.unit.Unit as tree
 use Rattle.mv_types.specs.Units.{unit_judgement}
 use Rattle.mv_check_rules.specs.Units.{judged_by_rules}
 

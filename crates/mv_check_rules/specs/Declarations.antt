@@ -2,7 +2,7 @@
 use Rattle.std.specs.Prelude.{ℕ, Bool, true, false, ◌&&◌, ◌||◌, not, nat_eq, nat_lt, is_some, unwrap_or, if◌then◌else◌, List, [], ◌∷◌, ◌++◌, map, length, Option, Some, None}
 use Rattle.std.specs.List.{list_any}
 use Rattle.mv_num.specs.declared.kind.Kind.{Kind}
-use Rattle.mv_ast.specs.declared.place.Place.{Place}
+use Rattle.mv_syntax.specs.declared.place.Place.{Place}
 use Rattle.mv_ast.specs.declared.program.CType.{CType}
 use Rattle.mv_ast.specs.declared.program.CType.TheVariants as ctype
 use Rattle.mv_ast.specs.declared.program.Expr.{Expr}
@@ -10,17 +10,17 @@ use Rattle.mv_ast.specs.declared.program.Local.{Local}
 use Rattle.mv_ast.specs.declared.program.Signature.{Signature}
 use Rattle.mv_ast.specs.declared.program.Stmt.{Stmt}
 use Rattle.mv_ast.specs.declared.program.Stmt.TheVariants as stmt
-use Rattle.mv_ast.specs.declared.unit.Declarator.{Declarator, Declarator-F}
-use Rattle.mv_ast.specs.declared.unit.EnumSpec.{EnumSpec, out-EnumSpec}
-use Rattle.mv_ast.specs.declared.unit.Initial.{Initial}
-use Rattle.mv_ast.specs.declared.unit.Initial.TheVariants as initial
-use Rattle.mv_ast.specs.declared.unit.Mark.{Mark, out-Mark}
-use Rattle.mv_ast.specs.declared.unit.Member.{Member, out-Member}
-use Rattle.mv_ast.specs.declared.unit.Node.{Node}
-use Rattle.mv_ast.specs.declared.unit.Param.{Param, Param-F}
-use Rattle.mv_ast.specs.declared.unit.Shape.{Shape, Shape-F, fold-Shape}
-use Rattle.mv_ast.specs.declared.unit.Shape.TheOpen as shape
-use Rattle.mv_ast.specs.declared.unit.Specs.{Specs, out-Specs}
+use Rattle.mv_syntax.specs.declared.unit.Declarator.{Declarator, Declarator-F}
+use Rattle.mv_syntax.specs.declared.unit.EnumSpec.{EnumSpec, out-EnumSpec}
+use Rattle.mv_syntax.specs.declared.unit.Initial.{Initial}
+use Rattle.mv_syntax.specs.declared.unit.Initial.TheVariants as initial
+use Rattle.mv_syntax.specs.declared.unit.Mark.{Mark, out-Mark}
+use Rattle.mv_syntax.specs.declared.unit.Member.{Member, out-Member}
+use Rattle.mv_syntax.specs.declared.unit.Node.{Node}
+use Rattle.mv_syntax.specs.declared.unit.Param.{Param, Param-F}
+use Rattle.mv_syntax.specs.declared.unit.Shape.{Shape, Shape-F, fold-Shape}
+use Rattle.mv_syntax.specs.declared.unit.Shape.TheOpen as shape
+use Rattle.mv_syntax.specs.declared.unit.Specs.{Specs, out-Specs}
 use Rattle.mv_check_scope.specs.declared.meaning.Meaning.{Meaning}
 use Rattle.mv_check_scope.specs.declared.meaning.Meaning.TheVariants as meaning
 use Rattle.mv_check_scope.specs.declared.meaning.Storage.TheVariants as storage

@@ -1,15 +1,15 @@
 -- What statements are found to be, by where they stand, and the scope behind them (C11 6.8).
 use Rattle.std.specs.Prelude.{ℕ, Bool, true, false, List, [], ◌∷◌, ◌++◌, if◌then◌else◌, Option, Some, None}
-use Rattle.mv_ast.specs.declared.place.Place.{Place}
+use Rattle.mv_syntax.specs.declared.place.Place.{Place}
 use Rattle.mv_ast.specs.declared.program.Arm.{Arm}
 use Rattle.mv_ast.specs.declared.program.CType.{CType}
 use Rattle.mv_ast.specs.declared.program.Expr.{Expr}
 use Rattle.mv_ast.specs.declared.program.Stmt.{Stmt}
 use Rattle.mv_ast.specs.declared.program.Stmt.TheVariants as stmt
-use Rattle.mv_ast.specs.declared.unit.Act.{Act-F}
-use Rattle.mv_ast.specs.declared.unit.Act.TheOpen as act
-use Rattle.mv_ast.specs.declared.unit.Line.{Line, Line-F, fold-Line}
-use Rattle.mv_ast.specs.declared.unit.Node.{Node}
+use Rattle.mv_syntax.specs.declared.unit.Act.{Act-F}
+use Rattle.mv_syntax.specs.declared.unit.Act.TheOpen as act
+use Rattle.mv_syntax.specs.declared.unit.Line.{Line, Line-F, fold-Line}
+use Rattle.mv_syntax.specs.declared.unit.Node.{Node}
 use Rattle.mv_ast.specs.Operators.{converted}
 use Rattle.mv_check_scope.specs.declared.scope.Scope.{Scope}
 use Rattle.mv_check_scope.specs.Conversions.{promotion, promoted, converted_to}

@@ -1,7 +1,7 @@
 -- What declarations at file scope come to, and the program that a unit is where it breaks no rule (C11 6.9).
 use Rattle.std.specs.Prelude.{ℕ, suc, ◌+◌, Bool, true, false, ◌&&◌, ◌||◌, not, nat_lt, is_some, unwrap_or, if◌then◌else◌, List, [], ◌∷◌, ◌++◌, map, filter, fold, length, replicate, Option, Some, None, slice_get, slice_set, codes}
 use Rattle.std.specs.List.{flat_map}
-use Rattle.mv_ast.specs.declared.place.Place.{Place}
+use Rattle.mv_syntax.specs.declared.place.Place.{Place}
 use Rattle.mv_ast.specs.declared.program.CType.{CType}
 use Rattle.mv_ast.specs.declared.program.Expr.{Expr}
 use Rattle.mv_ast.specs.declared.program.Function as program_function
@@ -10,15 +10,15 @@ use Rattle.mv_ast.specs.declared.program.Program.{Program}
 use Rattle.mv_ast.specs.declared.program.Signature.{Signature}
 use Rattle.mv_ast.specs.declared.program.Stmt.{Stmt}
 use Rattle.mv_ast.specs.declared.program.Switch.{Switch}
-use Rattle.mv_ast.specs.declared.unit.Declarator.{Declarator}
-use Rattle.mv_ast.specs.declared.unit.Item.{Item}
-use Rattle.mv_ast.specs.declared.unit.Line.{Line}
-use Rattle.mv_ast.specs.declared.unit.Node.{Node}
-use Rattle.mv_ast.specs.declared.unit.Param.{Param}
-use Rattle.mv_ast.specs.declared.unit.Shape.{Shape-F, out-Shape}
-use Rattle.mv_ast.specs.declared.unit.Shape.TheOpen as shape
-use Rattle.mv_ast.specs.declared.unit.Specs.{out-Specs}
-use Rattle.mv_ast.specs.declared.unit.Unit as tree
+use Rattle.mv_syntax.specs.declared.unit.Declarator.{Declarator}
+use Rattle.mv_syntax.specs.declared.unit.Item.{Item}
+use Rattle.mv_syntax.specs.declared.unit.Line.{Line}
+use Rattle.mv_syntax.specs.declared.unit.Node.{Node}
+use Rattle.mv_syntax.specs.declared.unit.Param.{Param}
+use Rattle.mv_syntax.specs.declared.unit.Shape.{Shape-F, out-Shape}
+use Rattle.mv_syntax.specs.declared.unit.Shape.TheOpen as shape
+use Rattle.mv_syntax.specs.declared.unit.Specs.{out-Specs}
+use Rattle.mv_syntax.specs.declared.unit.Unit as tree
 use Rattle.mv_ast.specs.Operators.{converted}
 use Rattle.mv_check_scope.specs.declared.meaning.Meaning.{Meaning}
 use Rattle.mv_check_scope.specs.declared.meaning.Meaning.TheVariants as meaning

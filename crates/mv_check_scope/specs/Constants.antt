@@ -5,7 +5,8 @@ use Rattle.mv_ast.specs.declared.program.Expr.{Expr, Expr-F, fold-Expr}
 use Rattle.mv_ast.specs.declared.program.Form.{Form-F}
 use Rattle.mv_ast.specs.declared.program.Form.TheOpen as form
 use Rattle.mv_ast.specs.declared.program.Target.{Target-F}
-use Rattle.mv_ast.specs.Operators.{unary_value, binary_value, converted, as_word}
+use Rattle.mv_ast.specs.Operators.{unary_value, binary_value, converted}
+use Rattle.mv_num.specs.Words.{as_word}
 use Rattle.mv_check_scope.specs.Conversions.{is_integer, is_pointer, same_type}
 
 -- whether an expression is built of numbers and operators alone

@@ -1,6 +1,6 @@
 -- The values of domains.
 use Rattle.std.specs.Prelude.{ℕ, List, [], ◌∷◌, ◌++◌, if◌then◌else◌}
-use Rattle.mv_ast.specs.Plans.{is_among}
+use Rattle.mv_num.specs.Lists.{is_among}
 
 abbrev pub distinct_behind : List ℕ → List ℕ → List ℕ
 distinct_behind done [] = done

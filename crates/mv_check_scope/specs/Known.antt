@@ -3,7 +3,7 @@ use Rattle.std.specs.Prelude.{ℕ, List, Option, Some, None, nat_eq, if◌then�
 use Rattle.std.specs.Cmp.Lexicographic.{pointwise}
 use Rattle.mv_ast.specs.declared.program.Known.{Known}
 use Rattle.mv_ast.specs.declared.program.Known.TheVariants.{Getchar, Putchar, Poll, Plan}
-use Rattle.mv_ast.specs.Orders as orders
+use Rattle.mv_bindings.specs.OrderNumbers as orders
 
 abbrev pub is_named : List ℕ → List ℕ → Bool
 is_named = pointwise nat_eq

@@ -3,7 +3,7 @@
 ghost use Rattle.std.specs.Prelude.{◌≡◌};
 ghost use Rattle.mv_check_scope.specs.Constants.{is_constant, computed, constant_value, is_null, converts};
 ghost use Rattle.std.specs.Prelude.{nat_eq, not};
-ghost use Rattle.mv_ast.specs.Operators.{as_word};
+ghost use Rattle.mv_num.specs.Words.{as_word};
 
 use crate::convert::{is_integer, is_pointer, same_type};
 use mv_ast::operators::{binary_value, converted, unary_value};

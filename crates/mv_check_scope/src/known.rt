@@ -1,8 +1,8 @@
 ghost use Rattle.std.specs.Prelude.{◌≡◌};
 ghost use Rattle.mv_check_scope.specs.Known.{known_function};
 
-use mv_ast::orders;
 use mv_ast::program::Known;
+use mv_bindings::orders;
 
 /// The function that is known by this name without a declaration.
 pub fn known_function(name: &[u8]) -> Option<Known>

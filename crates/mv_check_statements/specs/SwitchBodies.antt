@@ -1,12 +1,12 @@
 -- The arms of a `switch` (C11 6.8.4.2): how they come from the labels and the statements in its block.
 use Rattle.std.specs.Prelude.{ℕ, Bool, true, false, not, if◌then◌else◌, List, [], ◌∷◌, ◌++◌}
-use Rattle.mv_ast.specs.declared.place.Place.{Place}
+use Rattle.mv_syntax.specs.declared.place.Place.{Place}
 use Rattle.mv_ast.specs.declared.program.Arm.{Arm}
 use Rattle.mv_ast.specs.declared.program.CType.{CType}
 use Rattle.mv_ast.specs.declared.program.Form.TheVariants as form
 use Rattle.mv_ast.specs.declared.program.Stmt.{Stmt}
 use Rattle.mv_ast.specs.Operators.{converted}
-use Rattle.mv_ast.specs.Plans.{is_among}
+use Rattle.mv_num.specs.Lists.{is_among}
 use Rattle.mv_check_scope.specs.Constants.{converts}
 use Rattle.mv_check_scope.specs.Conversions.{typed}
 use Rattle.mv_check_expressions.specs.RuleNumbers as rules

@@ -1,12 +1,11 @@
 // The arms of a `switch` (C11 6.8.4.2).
 
 ghost use Rattle.std.specs.Prelude.{◌≡◌, Some, None, IfOk, if◌then◌else◌};
-ghost use Rattle.mv_ast.specs.Plans.{is_among};
+ghost use Rattle.mv_num.specs.Lists.{is_among};
 ghost use Rattle.mv_check_expressions.specs.Judged.{IsJudged};
 ghost use Rattle.mv_check_statements.specs.SwitchBodies.{no_arm, no_arms, has_statements, at_label, with_case, with_default, with_statement, arms_of, converts_constant, case_label, default_label};
 
 use mv_ast::operators::converted;
-use mv_ast::place::Place;
 use mv_ast::program::{Arm, CType, Expr, Form, Stmt};
 use mv_check_declarations::steps::with_last;
 use mv_check_declarations::value_set::ValueSet;
@@ -16,6 +15,7 @@ use mv_check_expressions::rules;
 use mv_check_scope::constant::converts;
 use mv_num::list::List;
 use mv_num::results::both;
+use mv_syntax::place::Place;
 use std::alloc::{AllocError, Global};
 
 /// The arms of a `switch` so far: all labels, whether `default` is one of them, the arms behind which a label stands, and the last one.

@@ -17,9 +17,7 @@ use crate::forms::{
     misplaced_case, misplaced_declaration, optional_effect, optional_value, return_statement,
     switched,
 };
-use mv_ast::place::Place;
 use mv_ast::program::{CType, Expr, Stmt};
-use mv_ast::unit::{Act, Line, Node};
 use mv_check_declarations::steps::with_last;
 use mv_check_expressions::error::RuleError;
 use mv_check_expressions::judge::value;
@@ -29,6 +27,8 @@ use mv_check_scope::scope::Scope;
 use mv_num::boxed::Boxed;
 use mv_num::list::List;
 use mv_num::results::both;
+use mv_syntax::place::Place;
+use mv_syntax::unit::{Act, Line, Node};
 use std::alloc::Global;
 
 /// The statements of a function's body, by the type of the function's result, in a scope that has its parameters. The scope behind it has

@@ -11,9 +11,7 @@ ghost use Rattle.mv_check_statements.specs.Statements.{misplaced_declaration, mi
 
 use crate::arms::Arms;
 use crate::around::Around;
-use mv_ast::place::Place;
 use mv_ast::program::{CType, Expr, Stmt};
-use mv_ast::unit::{Declarator, Node, Specs};
 use mv_check_declarations::locals::declare_locals;
 use mv_check_expressions::constant::needed;
 use mv_check_expressions::error::RuleError;
@@ -24,6 +22,8 @@ use mv_check_scope::convert::{converted_to, is_integer, is_void, promoted};
 use mv_check_scope::scope::Scope;
 use mv_num::list::List;
 use mv_num::results::both;
+use mv_syntax::place::Place;
+use mv_syntax::unit::{Declarator, Node, Specs};
 use std::alloc::Global;
 
 /// A declaration where none may stand.

@@ -4,7 +4,7 @@ use Rattle.std.proofs.lemmas.List.{take_more, length-take-le}
 use Rattle.mv_ast.specs.declared.program.Switch.{Switch}
 use Rattle.mv_ast.specs.declared.program.Stmt.{Stmt}
 use Rattle.mv_ast.specs.Counts.{greatest}
-use Rattle.mv_ast.specs.Plans.{is_among}
+use Rattle.mv_num.specs.Lists.{is_among}
 use Rattle.mv_ast.specs.Flags.{is_set, flagged}
 use Rattle.mv_ast.proofs.Flags.{set_from_none}
 use Rattle.mv_check_uses.specs.Uses.{numbers_from, switches_named}

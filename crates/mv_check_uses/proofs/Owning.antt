@@ -5,7 +5,8 @@ use Rattle.std.specs.List.{concat}
 use Rattle.std.proofs.lemmas.Bool.{eqb-true}
 use Rattle.mv_ast.specs.declared.program.Switch.{Switch}
 use Rattle.mv_ast.specs.declared.program.Stmt.{Stmt}
-use Rattle.mv_ast.specs.Plans.{is_among, global_or_none}
+use Rattle.mv_num.specs.Lists.{is_among}
+use Rattle.mv_ast.specs.Switches.{global_or_none}
 use Rattle.mv_check_uses.specs.Uses.{numbers_from, switches_named, stmt_globals}
 use Rattle.mv_num.proofs.Booleans.{or_true}
 

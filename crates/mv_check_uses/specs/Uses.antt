@@ -9,7 +9,7 @@ use Rattle.mv_ast.specs.declared.program.Target.{Target-F}
 use Rattle.mv_ast.specs.declared.program.Stmt.{Stmt, Stmt-F, fold-Stmt}
 use Rattle.mv_ast.specs.declared.program.Arm.{Arm-F}
 use Rattle.mv_ast.specs.Layers.{form_parts, stmt_parts, stmt_expressions}
-use Rattle.mv_ast.specs.Plans.{is_among}
+use Rattle.mv_num.specs.Lists.{is_among}
 
 -- ---- the globals that a tree names, in the order of its parts
 

@@ -1,7 +1,7 @@
 // All assignments of a function's switches.
 
 ghost use Rattle.std.specs.Prelude.{◌≡◌, [], ◌∷◌, ◌++◌, true, length, map, slice_get, IfOk, OnOk};
-ghost use Rattle.mv_ast.specs.Plans.{switch_domain};
+ghost use Rattle.mv_ast.specs.Switches.{switch_domain};
 ghost use Rattle.mv_ast.specs.Counts.{is_attributed, product_of};
 ghost use Rattle.mv_ir.specs.Measures.{joined};
 ghost use Rattle.mv_ir.specs.Combinations.{combinations, values_of, AreDomains, AreAllCombinations};

@@ -4,7 +4,7 @@ use Rattle.mv_num.specs.Regions.{text_limit}
 use Rattle.mv_ast.specs.declared.program.Program.{Program}
 use Rattle.mv_ast.specs.declared.program.Function.{Function}
 use Rattle.mv_ast.specs.Counts.{nodes, calls, assignments, patchable}
-use Rattle.mv_ast.specs.Plans.{attributed_functions}
+use Rattle.mv_ast.specs.Switches.{attributed_functions}
 use Rattle.mv_isa.specs.declared.labelled.Labelled.{Labelled}
 use Rattle.mv_isa.specs.Code.{text_start}
 use Rattle.mv_asm.specs.Outcome.{PassesText}

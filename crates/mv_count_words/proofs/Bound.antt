@@ -4,10 +4,11 @@ use Rattle.std.specs.Prelude.{option_and_then, slice_get}
 use Rattle.std.specs.List.{list_any}
 use Rattle.std.proofs.lemmas.List.{length-map, length-take, length-drop, length-replicate}
 use Rattle.std.proofs.lemmas.Option.{slice_get-get_or, slice_get_within, get_or_from_slice_get}
-use Rattle.mv_ast.specs.declared.world.Action.{Action}
-use Rattle.mv_ast.specs.declared.world.Action.TheVariants.{Skip, Flip}
-use Rattle.mv_ast.specs.declared.world.Binding.{Binding}
-use Rattle.mv_ast.specs.Plans.{free, bound_to, is_commit}
+use Rattle.mv_bindings.specs.declared.action.Action.{Action}
+use Rattle.mv_bindings.specs.declared.action.Action.TheVariants.{Skip, Flip}
+use Rattle.mv_bindings.specs.declared.binding.Binding.{Binding}
+use Rattle.mv_bindings.specs.Bindings.{free, bound_to}
+use Rattle.mv_bindings.specs.OrderNumbers.{is_commit}
 use Rattle.mv_descriptors.specs.declared.rows.FunctionRow.{FunctionRow}
 use Rattle.mv_descriptors.specs.declared.rows.GuardRow.{GuardRow}
 use Rattle.mv_descriptors.specs.declared.rows.VariantRow.{VariantRow}
@@ -17,7 +18,8 @@ use Rattle.mv_fetch.specs.Held.{Held}
 use Rattle.mv_image.specs.Patched.{variants_before, guards_before, kinds_of, fitting_in, fitting_variant, variant_under}
 use Rattle.mv_image.specs.Spelling.{Fields}
 use Rattle.mv_image.proofs.RowsFit.{functions_fit}
-use Rattle.mv_patch.specs.Orders.{bound_values, bound_now, next_binding, words_now, word_in, ordered_rows, is_ordered, is_known_order, bindings_after, plan_of}
+use Rattle.mv_patch.specs.Orders.{bound_values, bound_now, next_binding, words_now, word_in, ordered_rows, is_ordered, is_known_order, bindings_after}
+use Rattle.mv_patch.specs.Plans.{plan_of}
 use Rattle.mv_patch.proofs.Rebinding.{ordered_count}
 use Rattle.mv_machine.specs.Runs.{State, Fault, answered, stopped, live_frames, refused, ordered, planned, act, acted, polled, with_value, runs_from, first}
 use Rattle.mv_refine_machine.proofs.Keeping.{runs_keep, plans_keep}

@@ -1,7 +1,7 @@
 -- Bindings by which each bound function has a variant, as those of a run.
 use Rattle.std.specs.Prelude.{ℕ, ◌≡◌, true, List, length, is_some, Option, Some, slice_get}
-use Rattle.mv_ast.specs.declared.world.Action.{Action}
-use Rattle.mv_ast.specs.declared.world.Binding.{Binding}
+use Rattle.mv_bindings.specs.declared.action.Action.{Action}
+use Rattle.mv_bindings.specs.declared.binding.Binding.{Binding}
 use Rattle.mv_image.specs.Faults.{Rules}
 use Rattle.mv_image.specs.Patched.{variant_under}
 use Rattle.mv_image.specs.Spelling.{Fields}

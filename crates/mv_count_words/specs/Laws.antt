@@ -1,8 +1,8 @@
 -- How many words of its text the bindings of an image change.
 use Rattle.std.specs.Prelude.{ℕ, ◌≡◌, List, Option}
 use Rattle.mv_ast.specs.declared.program.Program.{Program}
-use Rattle.mv_ast.specs.declared.world.Action.{Action}
-use Rattle.mv_ast.specs.declared.world.Binding.{Binding}
+use Rattle.mv_bindings.specs.declared.action.Action.{Action}
+use Rattle.mv_bindings.specs.declared.binding.Binding.{Binding}
 use Rattle.mv_ir.specs.declared.body.Body.{Body}
 use Rattle.mv_source_forms.specs.WellFormed.{IsWellFormed}
 use Rattle.mv_fetch.specs.Held.{Held}

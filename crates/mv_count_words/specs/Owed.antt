@@ -2,7 +2,7 @@
 use Rattle.std.specs.Prelude.{ℕ, ◌≡◌, ◌↔◌, ◌+◌, ◌≤◌, if◌then◌else◌, false, List, [], ◌∷◌, map, sum, All}
 use Rattle.mv_ast.specs.declared.program.Program.{Program}
 use Rattle.mv_ast.specs.declared.program.Function.{Function}
-use Rattle.mv_ast.specs.declared.world.Binding.{Binding}
+use Rattle.mv_bindings.specs.declared.binding.Binding.{Binding}
 use Rattle.mv_lower_shape.specs.Calls.{function_weight}
 use Rattle.mv_parts.specs.Numbers.{attributed_numbers}
 use Rattle.mv_count_slots.specs.Calls.{once_for}

@@ -1,7 +1,7 @@
 -- Bytes and items have one answer.
 use Rattle.std.proofs.Common.{◌≡◌, ℕ, List, refl, sym, ap, ap₂, ◌∙◌, subst}
 use Rattle.mv_command.specs.declared.items.Item.{Item}
-use Rattle.mv_ast.specs.declared.world.Action.{Action}
+use Rattle.mv_bindings.specs.declared.action.Action.{Action}
 use Rattle.mv_image.specs.Faults.{Spells, Spelled, FirstFault}
 use Rattle.mv_image.specs.Faults as image
 use Rattle.mv_image.specs.Spelling.{Fields}

@@ -1,6 +1,6 @@
 //! An image that was loaded.
 
-use mv_ast::world::Action;
+use mv_bindings::action::Action;
 use mv_image::Image;
 
 /// An image, and what the operator does at its polls.

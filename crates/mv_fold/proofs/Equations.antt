@@ -16,7 +16,7 @@ use Rattle.mv_ir.specs.declared.stm.Stm.{Stm}
 use Rattle.mv_ir.specs.declared.stm.Stm as at
 use Rattle.mv_ir.specs.declared.stm.Stm.TheOpen as stm
 use Rattle.mv_ir.specs.declared.stm.Stm.TheVariants.{rolls-Set, rolls-SetGlobal, rolls-Divide, rolls-Check, rolls-Read, rolls-Write, rolls-Zero, rolls-If, rolls-Loop, rolls-Block, rolls-Break, rolls-Back, rolls-Call, rolls-Known, rolls-Return}
-use Rattle.mv_ast.specs.Operators.{as_word}
+use Rattle.mv_num.specs.Words.{as_word}
 use Rattle.mv_ir.specs.Trees.{unary, binary, divide}
 use Rattle.mv_fold.specs.Simple.{constant, one_or, two_or, simple_tree, simple_callee, simple_stm, simple_code, jumps, ended, division, choice}
 use Rattle.mv_fold.proofs.SimpleKept.{not_zero, constant_roll, jumps_roll, simple_tree_roll, simple_stm_roll}

@@ -5,7 +5,7 @@ use Rattle.std.proofs.lemmas.List.{get_or_past, take_more, take_all, length_push
 use Rattle.std.proofs.lemmas.List.Elements.{All-more, All-map, All-weaker, All-filter, Contains-push_cases, Contains-append_left, Contains-push, Contains-get_or}
 use Rattle.std.proofs.lemmas.List.Sums.{sum_by-le, sum_by-set}
 use Rattle.std.specs.Ordering.{ord_max}
-use Rattle.mv_ast.specs.Operators.{as_word}
+use Rattle.mv_num.specs.Words.{as_word}
 use Rattle.mv_fold.specs.declared.uses.Use.{Use}
 use Rattle.mv_fold.specs.Needed.{counts, used_in, IsNeeded}
 use Rattle.mv_fold.specs.Reaching.{row, Fits, read_by, IsReached, IsVisited}

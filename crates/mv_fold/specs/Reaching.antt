@@ -1,7 +1,7 @@
 -- The search for the needed temporaries: from what the body reads, along what each temporary found is computed from.
 use Rattle.std.specs.Prelude.{ℕ, ◌+◌, ◌≡◌, ◌<◌, ◌≤◌, ◌⊎◌, Bool, true, eqb, List, ◌++◌, map, length, Option, Some, None, Contains, filter, sum_by, slice_index_or, Vec}
 use Rattle.std.specs.Global.{Global}
-use Rattle.mv_ast.specs.Operators.{as_word}
+use Rattle.mv_num.specs.Words.{as_word}
 use Rattle.mv_fold.specs.declared.uses.Use.{Use}
 use Rattle.mv_ast.specs.Flags.{is_set}
 

@@ -1,9 +1,9 @@
 -- A source is one program, or is refused for one cause, and never both.
 use Rattle.std.proofs.Common.{◌≡◌, ℕ, ◌<◌, List, length, ◌⊎◌, inl, inr, refl, sym, ap, subst, ◌∙◌, arith, Option, Some, None}
-use Rattle.mv_ast.specs.declared.place.Place.{Place}
+use Rattle.mv_syntax.specs.declared.place.Place.{Place}
 use Rattle.mv_ast.specs.declared.program.Program.{Program}
-use Rattle.mv_ast.specs.declared.token.Tokens.{Tokens}
-use Rattle.mv_ast.specs.declared.unit.Unit as tree
+use Rattle.mv_syntax.specs.declared.token.Tokens.{Tokens}
+use Rattle.mv_syntax.specs.declared.unit.Unit as tree
 use Rattle.mv_lexer.specs.Reading as lexing
 use Rattle.mv_lexer.specs.Reading.{AreTokens, IsFirstRefused}
 use Rattle.mv_lexer.proofs.OneReading.{refused_same, tokens_or_refused}

@@ -1,7 +1,7 @@
 -- Refusals, and how they are printed.
 use Rattle.std.specs.Prelude.{ℕ, Bool, ◌||◌, nat_eq, if◌then◌else◌, List, ◌++◌, codes}
 use Rattle.std.specs.Fmt.{decimal}
-use Rattle.mv_ast.specs.declared.place.Place.{Place}
+use Rattle.mv_syntax.specs.declared.place.Place.{Place}
 use Rattle.mv_front.specs.declared.refusal.Refusal.{Refusal}
 
 -- ---- the refusals of a source

@@ -1,9 +1,9 @@
 -- What a source is: a program, or a text that is refused, with the cause of each refusal.
 use Rattle.std.specs.Prelude.{ℕ, ◌≡◌, ◌<◌, List, length, Some, None, Result, Ok, Err}
-use Rattle.mv_ast.specs.declared.place.Place.{Place}
+use Rattle.mv_syntax.specs.declared.place.Place.{Place}
 use Rattle.mv_ast.specs.declared.program.Program.{Program}
-use Rattle.mv_ast.specs.declared.token.Tokens.{Tokens}
-use Rattle.mv_ast.specs.declared.unit.Unit as tree
+use Rattle.mv_syntax.specs.declared.token.Tokens.{Tokens}
+use Rattle.mv_syntax.specs.declared.unit.Unit as tree
 use Rattle.mv_lexer.specs.Reading as lexing
 use Rattle.mv_lexer.specs.Reading.{AreTokens, IsFirstRefused}
 use Rattle.mv_parse_reading.specs.Texts.{ReadsAs}

@@ -16,9 +16,9 @@ ghost use Rattle.mv_front.specs.declared.refusal.Refusal.{Refusal};
 mod refusal;
 
 use mv_ast::program::Program;
-use mv_ast::unit::Unit;
 use mv_lexer::lex;
 use mv_parser::parse;
+use mv_syntax::unit::Unit;
 use mv_types::check::check;
 pub use refusal::{FrontError, Refusal};
 use std::alloc::Global;

@@ -4,9 +4,9 @@ ghost use Rattle.std.specs.Prelude.{◌≡◌, Some};
 ghost use Rattle.mv_front.specs.Errors.{of_checking, of_lexing, of_parsing};
 ghost use Rattle.mv_front.specs.Refusals.{at_place, counted, of_rule, refusal_text};
 
-use mv_ast::place::Place;
 use mv_lexer::error::LexError;
 use mv_parser::error::ParseError;
+use mv_syntax::place::Place;
 use mv_types::error::TypeError;
 use std::alloc::AllocError;
 use std::fmt;

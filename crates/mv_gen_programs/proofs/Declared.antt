@@ -4,12 +4,12 @@ use Rattle.std.specs.Prelude.{codes, slice_get, slice_set}
 use Rattle.mv_ast.specs.declared.program.Function.{Function}
 use Rattle.mv_ast.specs.declared.program.Signature.{Signature}
 use Rattle.mv_ast.specs.declared.program.Stmt.TheVariants as stmt
-use Rattle.mv_ast.specs.declared.unit.Declarator.{fold_out-Declarator}
-use Rattle.mv_ast.specs.declared.unit.Mark.{out-roll-Mark}
-use Rattle.mv_ast.specs.declared.unit.Param.{fold_out-Param}
-use Rattle.mv_ast.specs.declared.unit.Shape.{fold_out-Shape}
-use Rattle.mv_ast.specs.declared.unit.Shape.TheVariants as shape
-use Rattle.mv_ast.specs.declared.unit.Specs.{out-roll-Specs}
+use Rattle.mv_syntax.specs.declared.unit.Declarator.{fold_out-Declarator}
+use Rattle.mv_syntax.specs.declared.unit.Mark.{out-roll-Mark}
+use Rattle.mv_syntax.specs.declared.unit.Param.{fold_out-Param}
+use Rattle.mv_syntax.specs.declared.unit.Shape.{fold_out-Shape}
+use Rattle.mv_syntax.specs.declared.unit.Shape.TheVariants as shape
+use Rattle.mv_syntax.specs.declared.unit.Specs.{out-roll-Specs}
 use Rattle.mv_check_scope.specs.declared.meaning.Meaning.TheVariants as meaning
 use Rattle.mv_check_scope.specs.declared.scope.Scope.{Scope}
 use Rattle.mv_check_scope.specs.Conversions.{int}

@@ -3,20 +3,20 @@ use Rattle.std.proofs.Common.{◌≡◌, ℕ, zero, suc, ◌+◌, ◌<◌, ◌�
 use Rattle.std.specs.Prelude.{codes, slice_get, slice_set}
 use Rattle.std.proofs.Math.Seq.{set-append_seam}
 use Rattle.mv_num.specs.Words.{narrow}
-use Rattle.mv_ast.specs.declared.place.Place.{Place}
+use Rattle.mv_syntax.specs.declared.place.Place.{Place}
 use Rattle.mv_ast.specs.declared.program.CType.{CType}
 use Rattle.mv_ast.specs.declared.program.Expr.{fold_out-Expr}
 use Rattle.mv_ast.specs.declared.program.Form.{fold-Form, fold_out-Form}
 use Rattle.mv_ast.specs.declared.program.Form.TheVariants as form
 use Rattle.mv_ast.specs.declared.program.Function.{Function}
 use Rattle.mv_ast.specs.declared.program.Signature.{Signature}
-use Rattle.mv_ast.specs.declared.unit.Act.TheVariants as a
-use Rattle.mv_ast.specs.declared.unit.Declarator.{Declarator}
-use Rattle.mv_ast.specs.declared.unit.Item.{Item}
-use Rattle.mv_ast.specs.declared.unit.Mark.{out-roll-Mark}
-use Rattle.mv_ast.specs.declared.unit.Shape.{fold_out-Shape}
-use Rattle.mv_ast.specs.declared.unit.Shape.TheVariants as shape
-use Rattle.mv_ast.specs.declared.unit.Specs.{out-roll-Specs}
+use Rattle.mv_syntax.specs.declared.unit.Act.TheVariants as a
+use Rattle.mv_syntax.specs.declared.unit.Declarator.{Declarator}
+use Rattle.mv_syntax.specs.declared.unit.Item.{Item}
+use Rattle.mv_syntax.specs.declared.unit.Mark.{out-roll-Mark}
+use Rattle.mv_syntax.specs.declared.unit.Shape.{fold_out-Shape}
+use Rattle.mv_syntax.specs.declared.unit.Shape.TheVariants as shape
+use Rattle.mv_syntax.specs.declared.unit.Specs.{out-roll-Specs}
 use Rattle.mv_parse_grammar.specs.Statements.{line_at}
 use Rattle.mv_check_scope.specs.declared.meaning.Meaning.TheVariants as meaning
 use Rattle.mv_check_scope.specs.declared.meaning.Routine.{Routine}

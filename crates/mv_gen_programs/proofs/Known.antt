@@ -1,10 +1,10 @@
 -- What is known of the names of generated texts beforehand.
 use Rattle.std.proofs.Common.{◌≡◌, ℕ, zero, suc, ◌<◌, ◌≤◌, List, [], ◌∷◌, ◌++◌, length, refl, sym, ap, ◌∙◌, arith, append-nil, append_assoc}
 use Rattle.std.specs.Prelude.{codes}
-use Rattle.mv_ast.specs.declared.unit.Item.{Item}
-use Rattle.mv_ast.specs.declared.unit.Line.{Line}
-use Rattle.mv_ast.specs.declared.unit.Shape.TheVariants as shape
-use Rattle.mv_ast.specs.declared.unit.Specs.{out-roll-Specs}
+use Rattle.mv_syntax.specs.declared.unit.Item.{Item}
+use Rattle.mv_syntax.specs.declared.unit.Line.{Line}
+use Rattle.mv_syntax.specs.declared.unit.Shape.TheVariants as shape
+use Rattle.mv_syntax.specs.declared.unit.Specs.{out-roll-Specs}
 use Rattle.mv_check_outline.specs.declared.outline.Wanted.{Wanted}
 use Rattle.mv_check_outline.specs.declared.outline.Wanted.TheVariants as wanted
 use Rattle.mv_check_outline.specs.Names.{each_once, among, is_among, place_of}

@@ -9,7 +9,7 @@ use Rattle.std.specs.Fmt.{decimal}
 use Rattle.std.specs.List.{list_all}
 use Rattle.std.specs.Char.{is_ascii_digit}
 use Rattle.mv_num.specs.declared.kind.Kind.TheVariants.{Int}
-use Rattle.mv_ast.specs.declared.token.Piece.TheVariants as piece
+use Rattle.mv_syntax.specs.declared.token.Piece.TheVariants as piece
 use Rattle.mv_lexer.specs.Bytes.{is_white_space, is_nondigit, is_identifier_byte, begins_comment}
 use Rattle.mv_lexer.specs.Characters.{NoClosing}
 use Rattle.mv_lexer.specs.Include.{IsIncludeLine, longest_lexeme}

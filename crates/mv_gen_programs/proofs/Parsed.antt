@@ -1,16 +1,16 @@
 -- How the lines of generated texts are read.
 use Rattle.std.proofs.Common.{◌≡◌, ℕ, zero, suc, true, false, List, [], ◌∷◌, ◌++◌, Some, refl}
 use Rattle.std.specs.Prelude.{codes}
-use Rattle.mv_ast.specs.declared.token.Piece.TheVariants as piece
-use Rattle.mv_ast.specs.declared.unit.Item.{Item}
-use Rattle.mv_ast.specs.declared.unit.Line.{Line}
-use Rattle.mv_ast.specs.declared.unit.Act.TheVariants as a
-use Rattle.mv_ast.specs.declared.unit.Specs.{out-roll-Specs}
+use Rattle.mv_syntax.specs.declared.token.Piece.TheVariants as piece
+use Rattle.mv_syntax.specs.declared.unit.Item.{Item}
+use Rattle.mv_syntax.specs.declared.unit.Line.{Line}
+use Rattle.mv_syntax.specs.declared.unit.Act.TheVariants as a
+use Rattle.mv_syntax.specs.declared.unit.Specs.{out-roll-Specs}
 use Rattle.mv_parse_grammar.specs.Terminals.{Terminal, is_keyword, is_specifier, is_no_end}
 use Rattle.mv_parse_grammar.specs.Reader.{Read, Ends, next, chain, pushed}
 use Rattle.mv_parse_grammar.specs.Declarations.{place_of_specs, is_void, is_plain}
-use Rattle.mv_ast.specs.declared.place.Place.{Place}
-use Rattle.mv_ast.specs.declared.unit.Shape.TheVariants as shape
+use Rattle.mv_syntax.specs.declared.place.Place.{Place}
+use Rattle.mv_syntax.specs.declared.unit.Shape.TheVariants as shape
 use Rattle.mv_parse_grammar.specs.Statements.{line_at}
 use Rattle.mv_parse_grammar.specs.StatementReader.{LineReader, block_item, block, statement, locals, statements}
 use Rattle.mv_parse_grammar.specs.UnitReader.{item, items}

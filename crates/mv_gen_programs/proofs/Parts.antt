@@ -5,8 +5,8 @@ use Rattle.std.specs.Fmt.{decimal}
 use Rattle.std.specs.List.{list_all}
 use Rattle.std.specs.Char.{is_ascii_digit}
 use Rattle.mv_num.specs.declared.kind.Kind.TheVariants.{Int}
-use Rattle.mv_ast.specs.declared.token.Piece.{Piece}
-use Rattle.mv_ast.specs.declared.token.Piece.TheVariants as piece
+use Rattle.mv_syntax.specs.declared.token.Piece.{Piece}
+use Rattle.mv_syntax.specs.declared.token.Piece.TheVariants as piece
 use Rattle.mv_lexer.specs.Bytes.{is_white_space, is_nondigit, is_identifier_byte, begins_comment}
 use Rattle.mv_lexer.specs.Numbers.{digits, base, value, suffix, short_suffix, are_digits}
 use Rattle.mv_lexer.specs.Reading.{Lexeme, Evaluation, skipped, token}

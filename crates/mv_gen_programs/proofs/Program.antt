@@ -2,7 +2,7 @@
 use Rattle.std.proofs.Common.{◌≡◌, ℕ, zero, suc, ◌+◌, ◌<◌, ◌≤◌, ◌%◌, true, List, [], ◌∷◌, ◌++◌, map, Option, Some, refl, ap, subst, ◌∙◌, arith, append-nil}
 use Rattle.std.specs.Prelude.{codes}
 use Rattle.std.specs.List.{concat}
-use Rattle.mv_ast.specs.declared.place.Place.{Place}
+use Rattle.mv_syntax.specs.declared.place.Place.{Place}
 use Rattle.mv_ast.specs.declared.program.Expr.{Expr, fold_out-Expr}
 use Rattle.mv_ast.specs.declared.program.Form.{Form, Form-F, out-Form, map-Form, fold-Form, fold_out-Form}
 use Rattle.mv_ast.specs.declared.program.Form.TheVariants as form
@@ -16,9 +16,9 @@ use Rattle.mv_ast.specs.declared.program.Stmt.TheVariants as stmt
 use Rattle.mv_ast.specs.declared.program.Switch.{Switch}
 use Rattle.mv_ast.specs.declared.program.Target.{Target, Target-F, out-Target, map-Target, fold-Target, fold_out-Target}
 use Rattle.mv_ast.specs.declared.program.Target.TheVariants as target
-use Rattle.mv_ast.specs.Plans.{is_among}
+use Rattle.mv_num.specs.Lists.{is_among}
 use Rattle.mv_check_scope.specs.Conversions.{int, typed}
-use Rattle.mv_ast.specs.declared.unit.Act.TheVariants as a
+use Rattle.mv_syntax.specs.declared.unit.Act.TheVariants as a
 use Rattle.mv_parse_grammar.specs.Statements.{line_at}
 use Rattle.mv_check_expressions.specs.Judged.{Judged, Good, and_then}
 use Rattle.mv_check_declarations.specs.Objects.{scalar}

@@ -4,10 +4,10 @@ use Rattle.std.proofs.lemmas.Bool.{and_parts}
 use Rattle.std.proofs.Math.ListN.{get_or-append}
 use Rattle.std.proofs.Math.Seq.{take-append_seam, drop-append_seam}
 use Rattle.mv_num.specs.declared.kind.Kind.TheVariants.{Int}
-use Rattle.mv_ast.specs.declared.place.Place.{Place}
-use Rattle.mv_ast.specs.declared.token.Piece.{Piece}
-use Rattle.mv_ast.specs.declared.token.Piece.TheVariants as piece
-use Rattle.mv_ast.specs.declared.token.Token.{Token}
+use Rattle.mv_syntax.specs.declared.place.Place.{Place}
+use Rattle.mv_syntax.specs.declared.token.Piece.{Piece}
+use Rattle.mv_syntax.specs.declared.token.Piece.TheVariants as piece
+use Rattle.mv_syntax.specs.declared.token.Token.{Token}
 use Rattle.mv_parse_grammar.specs.Terminals.{Terminal, terminals}
 use Rattle.mv_lexer.specs.Place.{after}
 use Rattle.mv_lexer.specs.Reading.{Scans, StandsInFront, tokens_of}

@@ -2,8 +2,8 @@
 use Rattle.std.proofs.Common.{◌≡◌, ℕ, zero, suc, ◌≤◌, Bool, true, false, List, [], ◌∷◌, ◌++◌, refl, ap, subst, ◌∙◌, append_assoc, arith}
 use Rattle.std.specs.Prelude.{◌&&◌, nat_le, All}
 use Rattle.std.proofs.lemmas.Bool.{and_parts, leb-true}
-use Rattle.mv_ast.specs.declared.token.Piece.{Piece}
-use Rattle.mv_ast.specs.declared.token.Token.{Token}
+use Rattle.mv_syntax.specs.declared.token.Piece.{Piece}
+use Rattle.mv_syntax.specs.declared.token.Token.{Token}
 use Rattle.mv_parse_grammar.specs.Terminals.{terminals}
 use Rattle.mv_parse_nesting.specs.Nesting.{Pairs, start, level_of, after_piece, continues, goes_on, levels_from}
 use Rattle.mv_parser.specs.Verdict.{IsShallow}

@@ -2,14 +2,14 @@
 use Rattle.std.proofs.Common.{◌≡◌, ℕ, Bool, false, List, [], ◌∷◌, Option, Some, refl, ap, ◌∙◌}
 use Rattle.std.specs.Prelude.{is_none}
 use Rattle.mv_num.specs.declared.kind.Kind.TheVariants.{Int}
-use Rattle.mv_ast.specs.declared.place.Place.{Place}
+use Rattle.mv_syntax.specs.declared.place.Place.{Place}
 use Rattle.mv_ast.specs.declared.program.Expr.{Expr}
 use Rattle.mv_ast.specs.declared.program.Form.TheVariants as form
 use Rattle.mv_ast.specs.declared.program.Known.{Known}
 use Rattle.mv_ast.specs.declared.program.Target.TheVariants as target
-use Rattle.mv_ast.specs.declared.unit.Node.{Node}
-use Rattle.mv_ast.specs.declared.unit.What.TheVariants as w
-use Rattle.mv_ast.specs.declared.unit.What.TheOpen as what
+use Rattle.mv_syntax.specs.declared.unit.Node.{Node}
+use Rattle.mv_syntax.specs.declared.unit.What.TheVariants as w
+use Rattle.mv_syntax.specs.declared.unit.What.TheOpen as what
 use Rattle.mv_parse_grammar.specs.Expressions.{node_at}
 use Rattle.mv_check_scope.specs.declared.meaning.Routine.{Routine}
 use Rattle.mv_check_scope.specs.declared.meaning.Variable.{Variable}

@@ -3,8 +3,8 @@ use Rattle.std.proofs.Common.{◌≡◌, ℕ, zero, suc, ◌+◌, ◌-◌, ◌^�
 use Rattle.mv_ast.specs.declared.program.CType.{CType}
 use Rattle.mv_ast.specs.declared.program.Program.{Program}
 use Rattle.mv_ast.specs.declared.program.Function.{Function}
-use Rattle.mv_ast.specs.declared.world.Stop.{Stop}
-use Rattle.mv_ast.specs.declared.world.Stop.TheVariants.{Trapped, Unfinished}
+use Rattle.mv_bindings.specs.declared.stop.Stop.{Stop}
+use Rattle.mv_bindings.specs.declared.stop.Stop.TheVariants.{Trapped, Unfinished}
 use Rattle.mv_ast.specs.Worlds.{Outcome, Came, Stopped, Computation, stop}
 use Rattle.mv_ast.specs.Numbering.{own_numbers, function_of_number}
 use Rattle.mv_meaning.specs.declared.state.Frame.{Frame}

@@ -3,9 +3,10 @@ use Rattle.std.proofs.Common.{◌≡◌, ℕ, suc, ◌+◌, ◌≤◌, ◌<◌, 
 use Rattle.std.proofs.lemmas.List.{drop_more, drop_all}
 use Rattle.mv_ast.specs.declared.program.Program.{Program}
 use Rattle.mv_ast.specs.declared.program.Function.{Function}
-use Rattle.mv_ast.specs.declared.world.Binding.{Binding}
+use Rattle.mv_bindings.specs.declared.binding.Binding.{Binding}
 use Rattle.mv_ast.specs.Numbering.{own_numbers}
-use Rattle.mv_ast.specs.Plans.{all_in_domain, bound_from, ordered_from, ordered_function, ordered_pointer, pointer_bindings, bindings_after, attributed_functions, is_addressed, is_pointer_addressed}
+use Rattle.mv_ast.specs.Switches.{all_in_domain, pointer_bindings, attributed_functions}
+use Rattle.mv_ast.specs.Orders.{bound_from, ordered_from, ordered_function, ordered_pointer, bindings_after, is_addressed, is_pointer_addressed}
 
 pub all_in_domain-end : (p : Program) (ss vs : List ℕ) (i : ℕ) → i < length ss → length vs ≤ i →
     all_in_domain p (drop i ss) (drop i vs) ≡ true

@@ -4,8 +4,8 @@ use Rattle.std.proofs.lemmas.List.{drop_all}
 use Rattle.mv_num.specs.Words.{add, sub}
 use Rattle.mv_ast.specs.declared.program.CType.{CType}
 use Rattle.mv_ast.specs.declared.program.Program.{Program}
-use Rattle.mv_ast.specs.declared.world.Stop.{Stop}
-use Rattle.mv_ast.specs.declared.world.Stop.TheVariants.{Trapped}
+use Rattle.mv_bindings.specs.declared.stop.Stop.{Stop}
+use Rattle.mv_bindings.specs.declared.stop.Stop.TheVariants.{Trapped}
 use Rattle.mv_ast.specs.Worlds.{World, Outcome, Came, Stopped, after, and_then, bind, give, stop, counted}
 use Rattle.mv_meaning.specs.declared.state.Frame.{Frame}
 use Rattle.mv_interpret.specs.declared.state.Here.{Here}
@@ -16,7 +16,7 @@ use Rattle.mv_meaning.specs.declared.state.Flow.{Flow}
 use Rattle.mv_meaning.specs.declared.state.Flow.TheVariants.{Goes}
 use Rattle.mv_meaning.specs.declared.state.Lvalue.{Lvalue}
 use Rattle.mv_meaning.specs.declared.state.Lvalue.TheVariants as lvalue
-use Rattle.mv_ast.specs.Plans.{with_word}
+use Rattle.mv_ast.specs.Switches.{with_word}
 use Rattle.mv_ast.specs.Operators.{converted, binary_value}
 use Rattle.mv_meaning.specs.Meaning.{Evaluation, unless_zero, truth_of, read_lvalue, store_lvalue, value_in, value_or_trap, element_below}
 use Rattle.mv_meaning.specs.Growth.{capped}

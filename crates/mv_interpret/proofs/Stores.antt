@@ -4,7 +4,7 @@ use Rattle.std.specs.Prelude.{slice_set}
 use Rattle.std.proofs.lemmas.List.{drop_more}
 use Rattle.mv_ast.specs.declared.program.Program.{Program}
 use Rattle.mv_ast.specs.declared.program.Expr.{Expr}
-use Rattle.mv_ast.specs.Plans.{with_word}
+use Rattle.mv_ast.specs.Switches.{with_word}
 use Rattle.mv_ast.specs.Worlds.{Outcome, bind}
 use Rattle.mv_meaning.specs.declared.state.Frame.{Frame}
 use Rattle.mv_interpret.specs.declared.state.Here.{Here}

@@ -4,7 +4,7 @@ use Rattle.mv_ast.specs.declared.program.Program.{Program}
 use Rattle.mv_ast.specs.declared.program.Expr.{Expr}
 use Rattle.mv_ast.specs.declared.program.Stmt.{Stmt, roll-Stmt, out-roll-Stmt}
 use Rattle.mv_ast.specs.declared.program.Stmt.TheOpen as stmt
-use Rattle.mv_ast.specs.declared.world.Stop.TheVariants.{Unfinished}
+use Rattle.mv_bindings.specs.declared.stop.Stop.TheVariants.{Unfinished}
 use Rattle.mv_ast.specs.Worlds.{World, Outcome, Came, Stopped, and_then, bind, give, counted}
 use Rattle.mv_meaning.specs.declared.state.Frame.{Frame}
 use Rattle.mv_interpret.specs.declared.state.Here.{Here}

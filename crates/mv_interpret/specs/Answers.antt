@@ -2,7 +2,9 @@
 use Rattle.std.specs.Prelude.{◌≡◌, ℕ, ◌++◌, if◌then◌else◌}
 use Rattle.mv_ast.specs.declared.program.Program.{Program}
 use Rattle.mv_ast.specs.Numbering.{own_numbers}
-use Rattle.mv_ast.specs.Plans.{Answered, is_commit, bound_after, bindings_after, events_from}
+use Rattle.mv_ast.specs.Orders.{Answered, bound_after, bindings_after}
+use Rattle.mv_bindings.specs.OrderNumbers.{is_commit}
+use Rattle.mv_bindings.specs.Bindings.{events_from}
 use Rattle.mv_interpret.specs.declared.state.Here.{Here}
 use Rattle.mv_interpret.specs.declared.state.State.{State}
 use Rattle.mv_interpret.specs.Runs.{world_of}

@@ -1,9 +1,9 @@
 -- How the interpreter's own values show a whole program.
 use Rattle.std.specs.Prelude.{◌≡◌, ℕ, ◌%◌, List, [], map, Result, Ok, Err, slice_get}
 use Rattle.mv_ast.specs.declared.program.Program.{Program}
-use Rattle.mv_ast.specs.declared.world.Action.{Action}
+use Rattle.mv_bindings.specs.declared.action.Action.{Action}
 use Rattle.mv_ast.specs.Starts.{first_world}
-use Rattle.mv_ast.specs.Worlds.{act_of}
+use Rattle.mv_bindings.specs.Acts.{act_of}
 use Rattle.mv_meaning.specs.declared.state.Frame.{Frame}
 use Rattle.mv_interpret.specs.declared.state.Here.{Here}
 use Rattle.mv_interpret.specs.declared.state.State.{State}

@@ -5,8 +5,9 @@ use Rattle.mv_ast.specs.declared.program.Expr.{Expr}
 use Rattle.mv_ast.specs.declared.program.Target.{Target}
 use Rattle.mv_ast.specs.declared.program.Stmt.{Stmt}
 use Rattle.mv_ast.specs.declared.program.Arm.{Arm}
-use Rattle.mv_ast.specs.Worlds.{World, act_of, Outcome, Came, Stopped}
-use Rattle.mv_ast.specs.Plans.{with_word}
+use Rattle.mv_ast.specs.Worlds.{World, Outcome, Came, Stopped}
+use Rattle.mv_bindings.specs.Acts.{act_of}
+use Rattle.mv_ast.specs.Switches.{with_word}
 use Rattle.mv_ast.specs.Counts.{patchable}
 use Rattle.mv_meaning.specs.declared.state.Frame.{Frame}
 use Rattle.mv_interpret.specs.declared.state.Here.{Here}
@@ -17,7 +18,7 @@ use Rattle.mv_interpret.specs.declared.state.Halt.{Halt}
 use Rattle.mv_interpret.specs.declared.state.Halt.TheVariants as halt
 use Rattle.mv_meaning.specs.declared.state.Flow.{Flow}
 use Rattle.mv_meaning.specs.declared.state.Flow.TheVariants.{Goes, Breaks, Continues, Returns}
-use Rattle.mv_ast.specs.Traps as traps
+use Rattle.mv_bindings.specs.Traps as traps
 use Rattle.mv_meaning.specs.Growth.{capped}
 use Rattle.mv_meaning.specs.Loops.{own_context, while_from, do_from, for_from, arms_from}
 use Rattle.mv_meaning.specs.Meaning.{value_of, callee_of, values_of_all, lvalue_of, optional_value, call_at, flow_of, flow_of_all, put_values}

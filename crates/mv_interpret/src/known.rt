@@ -4,7 +4,7 @@ ghost use Rattle.mv_ast.specs.Numbering.{own_numbers};
 ghost use Rattle.mv_meaning.specs.Meaning.{get_byte, put_byte, known_value};
 ghost use Rattle.mv_interpret.specs.Runs.{IsReady, IsOutcome, world_of};
 
-use crate::plans::{ordered, polled};
+use crate::commits::{ordered, polled};
 use crate::state::{Halt, Here, State, count};
 use mv_ast::program::{Known, Program};
 use mv_meaning::state::Frame;

@@ -9,11 +9,11 @@
 #![tactic(auto)]
 
 pub mod arms;
+pub mod commits;
 pub mod interpreter;
 pub mod known;
 pub mod numbers;
 pub mod objects;
-pub mod plans;
 pub mod program;
 pub mod reads;
 pub mod state;

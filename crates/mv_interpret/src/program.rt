@@ -6,13 +6,14 @@ ghost use Rattle.mv_meaning.specs.Growth.{Extends, with_capped_work};
 ghost use Rattle.mv_interpret.specs.Runs.{IsReady};
 ghost use Rattle.mv_interpret.specs.Programs.{IsStart, HasRun, HasEnd};
 
+use crate::commits::all_free;
 use crate::interpreter::{flow_of_all, returned_value};
 use crate::objects::{first_globals, frame_of};
-use crate::plans::all_free;
 use crate::state::{Halt, Here, State};
 use crate::work::plan_work;
 use mv_ast::program::Program;
-use mv_ast::world::{Action, Stop};
+use mv_bindings::action::Action;
+use mv_bindings::stop::Stop;
 use mv_meaning::meant::{End, Meant};
 use mv_meaning::state::Flow;
 use mv_num::list::List;

@@ -2,7 +2,7 @@
 
 ghost use Rattle.std.specs.Prelude.{◌≡◌, ◌+◌, ◌<◌, ◌^◌, Some, length, slice_get};
 ghost use Rattle.mv_ast.specs.Numbering.{own_numbers, place_from};
-ghost use Rattle.mv_ast.specs.Plans.{attributed_before, switch_global, value_among, bound_value, global_read, pointer_number, bound_function, called_word};
+ghost use Rattle.mv_ast.specs.Switches.{attributed_before, switch_global, value_among, bound_value, global_read, pointer_number, bound_function, called_word};
 ghost use Rattle.mv_meaning.specs.Meaning.{called_global};
 ghost use Rattle.mv_interpret.specs.Runs.{world_of};
 
@@ -10,7 +10,7 @@ use crate::numbers::number_of;
 use crate::state::{Here, State, word_at};
 use crate::work::count_attributed;
 use mv_ast::program::{Function, Program};
-use mv_ast::world::Binding;
+use mv_bindings::binding::Binding;
 use mv_meaning::state::Frame;
 use mv_num::list::List;
 

@@ -1,11 +1,13 @@
 // What an evaluation works on.
 
 ghost use Rattle.std.specs.Prelude.{◌≡◌, ◌+◌, length, slice_get, slice_set, alloc_error};
-ghost use Rattle.mv_ast.specs.Plans.{word_at, with_word, words_or_none};
+ghost use Rattle.mv_ast.specs.Switches.{word_at, with_word, words_or_none};
 ghost use Rattle.mv_meaning.specs.Growth.{capped};
 ghost use Rattle.mv_interpret.specs.Runs.{stored_globals, stored_locals};
 
-use mv_ast::world::{Action, Binding, Event, Stop};
+use mv_bindings::action::Action;
+use mv_bindings::binding::{Binding, Event};
+use mv_bindings::stop::Stop;
 use mv_meaning::state::{Frame, Lvalue};
 use mv_num::list::List;
 use std::alloc::{AllocError, AllocFailed, Global};

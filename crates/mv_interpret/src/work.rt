@@ -1,11 +1,11 @@
 // What the work of a commit or a revert is reckoned by: what it can patch.
 
 ghost use Rattle.std.specs.Prelude.{◌≡◌, ◌+◌, ◌*◌, if◌then◌else◌, map, sum, length, slice_get, option_to_list};
-ghost use Rattle.mv_ast.specs.Plans.{attributed_functions, switch_domain};
+ghost use Rattle.mv_ast.specs.Switches.{attributed_functions, switch_domain};
 ghost use Rattle.mv_ast.specs.Counts.{expr_calls, target_calls, is_pointer, expr_calling, lvalue_calling, expr_calls_through, expr_sites, stmt_sites, arm_sites, call_sites, assignments, patchable, product_of, is_attributed};
 ghost use Rattle.mv_meaning.specs.Growth.{capped};
 
-use crate::plans::is_among;
+use crate::commits::is_among;
 use mv_ast::program::{Arm, Expr, Form, Function, Program, Stmt, Target};
 use mv_num::list::List;
 

@@ -5,8 +5,9 @@ use Rattle.mv_ast.specs.declared.program.Program.{Program}
 use Rattle.mv_ast.specs.declared.program.Known.{Known}
 use Rattle.mv_ast.specs.declared.program.Known.TheVariants.{Getchar, Putchar, Poll, Plan}
 use Rattle.mv_ast.specs.Worlds as source
-use Rattle.mv_ast.specs.Worlds.{Act, Skip, Flip, Adopt}
-use Rattle.mv_ast.specs.Plans.{Answered, with_word, switch_global, may_commit, ordered, acted, polled}
+use Rattle.mv_bindings.specs.Acts.{Act, Skip, Flip, Adopt}
+use Rattle.mv_ast.specs.Orders.{Answered, may_commit, ordered, acted, polled}
+use Rattle.mv_ast.specs.Switches.{with_word, switch_global}
 use Rattle.mv_ir.specs.World.{World}
 use Rattle.mv_ir.specs.KnownFunctions.{seen, seen_from, next_byte, known_answer}
 use Rattle.mv_ir.specs.Reached.{TakesInput}

@@ -1,6 +1,6 @@
 -- To keep the meaning of a program: what its functions do at each bound, and what it does as a whole.
 use Rattle.std.specs.Prelude.{ℕ, ◌≤◌, ◌≡◌, List, [], ◌∷◌}
-use Rattle.mv_ast.specs.Worlds.{Act}
+use Rattle.mv_bindings.specs.Acts.{Act}
 use Rattle.mv_ir.specs.declared.body.Body.{Body}
 use Rattle.mv_ir.specs.declared.body.IrProgram.{IrProgram}
 use Rattle.mv_ir.specs.World.{World, Setting}

@@ -4,7 +4,8 @@ use Rattle.mv_ast.specs.declared.program.Program.{Program}
 use Rattle.mv_ast.specs.declared.program.Known.{Known}
 use Rattle.mv_ast.specs.declared.program.Known.TheVariants.{Getchar, Putchar, Poll, Plan}
 use Rattle.mv_ast.specs.Worlds as source
-use Rattle.mv_ast.specs.Plans.{Answered, word_at, pointer_number, called_word, ordered, polled}
+use Rattle.mv_ast.specs.Orders.{Answered, ordered, polled}
+use Rattle.mv_ast.specs.Switches.{word_at, pointer_number, called_word}
 use Rattle.mv_ast.specs.Counts.{patchable}
 use Rattle.mv_ir.specs.World.{World, Answer}
 

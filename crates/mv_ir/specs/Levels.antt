@@ -2,7 +2,7 @@
 use Rattle.std.specs.Prelude.{ℕ, zero, suc, ◌+◌, cond, List, [], ◌∷◌, Option, Some, None, slice_get}
 use Rattle.std.specs.List.{zip}
 use Rattle.mv_ir.specs.declared.body.Body.{Body}
-use Rattle.mv_ast.specs.declared.world.Binding.{Binding}
+use Rattle.mv_bindings.specs.declared.binding.Binding.{Binding}
 use Rattle.mv_ir.specs.World.{World, Setting, Frame}
 use Rattle.mv_ir.specs.Outcome.{Stuck, Call, Bound}
 use Rattle.mv_ir.specs.Meaning.{body_meaning}

@@ -10,7 +10,7 @@ use Rattle.mv_ir.specs.declared.stm.Stm.TheOpen.{Stm-F}
 use Rattle.mv_ir.specs.declared.stm.Stm.TheOpen as stm
 use Rattle.mv_ir.specs.declared.stm.Stm.TheFolds.{fold-Stm}
 use Rattle.mv_ir.specs.declared.body.Body.{Body}
-use Rattle.mv_ast.specs.Traps as trap
+use Rattle.mv_bindings.specs.Traps as trap
 use Rattle.mv_ir.specs.World.{World, Answer, Setting, Frame}
 use Rattle.mv_ir.specs.Trees.{value, nodes, nodes_of_all, divide}
 use Rattle.mv_ir.specs.Outcome.{State, End, Returned, Trapped, More, Stuck, Outcome, Next, Leaves, Restarts, Ends, Run, Call, Calls, Bound, Meaning, spend, now, in_order, block, loop}

@@ -2,10 +2,10 @@
 use Rattle.std.specs.Prelude.{ℕ, suc, ◌%◌, Bool, true, false, List, [], ◌∷◌, Option, Some, None, slice_get}
 use Rattle.mv_ast.specs.declared.program.Program.{Program}
 use Rattle.mv_ast.specs.declared.program.Function.{Function}
-use Rattle.mv_ast.specs.declared.world.Binding.{Binding}
-use Rattle.mv_ast.specs.declared.world.Event.{Event}
+use Rattle.mv_bindings.specs.declared.binding.Binding.{Binding}
+use Rattle.mv_bindings.specs.declared.binding.Event.{Event}
 use Rattle.mv_ast.specs.Starts.{first_world_under}
-use Rattle.mv_ast.specs.Worlds.{Act}
+use Rattle.mv_bindings.specs.Acts.{Act}
 use Rattle.mv_ir.specs.declared.body.Body.{Body}
 use Rattle.mv_ir.specs.declared.body.IrProgram.{IrProgram}
 use Rattle.mv_ir.specs.World.{World, Setting}

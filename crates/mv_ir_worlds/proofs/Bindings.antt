@@ -5,10 +5,13 @@ use Rattle.std.specs.List.{AllZip}
 use Rattle.std.proofs.lemmas.Bool.{and_parts, and_from, or_left, or_right, false_from_ne_true}
 use Rattle.mv_ast.specs.declared.program.Program.{Program}
 use Rattle.mv_ast.specs.declared.program.Function.{Function}
-use Rattle.mv_ast.specs.declared.world.Binding.{Binding}
+use Rattle.mv_bindings.specs.declared.binding.Binding.{Binding}
 use Rattle.mv_ast.specs.Bindings.{some_combination, is_binding, function_in, is_pointer_binding, each_passes, are_bindings_of, are_bindings}
 use Rattle.mv_ast.specs.Numbering.{function_of_number}
-use Rattle.mv_ast.specs.Plans.{attributed_functions, switch_domain, switch_words, switch_global, word_at, all_in_domain, bound_to, bound_to_function, free, committed, pointed, is_commit, is_addressed, is_pointer_addressed, is_same_binding, ordered_from, ordered_function, ordered_pointer, bindings_after}
+use Rattle.mv_ast.specs.Switches.{attributed_functions, switch_domain, switch_words, switch_global, word_at, all_in_domain, bound_to_function, committed, pointed}
+use Rattle.mv_bindings.specs.Bindings.{bound_to, free, is_same_binding}
+use Rattle.mv_bindings.specs.OrderNumbers.{is_commit}
+use Rattle.mv_ast.specs.Orders.{is_addressed, is_pointer_addressed, ordered_from, ordered_function, ordered_pointer, bindings_after}
 use Rattle.std.proofs.lemmas.Option.{slice_get_within}
 use Rattle.mv_ast.proofs.Common.{place_at}
 use Rattle.mv_ir.specs.Combinations.{IsCombination}

@@ -3,11 +3,13 @@ use Rattle.std.proofs.Common.{◌≡◌, ℕ, zero, suc, ◌<◌, Bool, true, fa
 use Rattle.std.specs.Prelude.{◌&&◌, ◌||◌, slice_index_or}
 use Rattle.std.proofs.lemmas.Bool.{and_parts, and_from, or_left, or_right, eqb-true, eq-eqb}
 use Rattle.mv_ast.specs.declared.program.Program.{Program}
-use Rattle.mv_ast.specs.declared.world.Binding.{Binding}
+use Rattle.mv_bindings.specs.declared.binding.Binding.{Binding}
 use Rattle.mv_ast.specs.Bindings.{some_value, some_combination}
-use Rattle.mv_ast.specs.Plans.{switch_domain, is_among, all_in_domain, same_words, same_truth, is_same_binding}
+use Rattle.mv_ast.specs.Switches.{switch_domain, all_in_domain}
+use Rattle.mv_num.specs.Lists.{is_among}
+use Rattle.mv_bindings.specs.Bindings.{same_words, same_truth, is_same_binding}
 use Rattle.mv_ir.specs.Combinations.{In, IsCombination}
-use Rattle.mv_ast.proofs.Common.{truth_same, truth_told}
+use Rattle.mv_bindings.proofs.Common.{truth_same, truth_told}
 
 -- ---- what stands in a list
 

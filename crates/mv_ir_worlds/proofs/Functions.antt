@@ -6,9 +6,10 @@ use Rattle.std.proofs.lemmas.List.{length-map}
 use Rattle.std.proofs.lemmas.Option.{slice_get_within}
 use Rattle.std.proofs.lemmas.List.Sums.{sum_by-cons}
 use Rattle.mv_ast.specs.declared.program.Function.{Function}
-use Rattle.mv_ast.specs.declared.world.Binding.{Binding}
+use Rattle.mv_bindings.specs.declared.binding.Binding.{Binding}
 use Rattle.mv_num.proofs.Lists.{there_at}
-use Rattle.mv_ast.specs.Plans.{attributed_functions, attributed_before, switch_domain, bound_to}
+use Rattle.mv_ast.specs.Switches.{attributed_functions, attributed_before, switch_domain}
+use Rattle.mv_bindings.specs.Bindings.{bound_to}
 use Rattle.mv_ir.specs.Combinations.{IsCombination}
 use Rattle.mv_ir.specs.Levels.{read_under}
 use Rattle.mv_ir_worlds.specs.Functions.{IsFreeIn, IsBoundIn}

@@ -6,12 +6,13 @@ use Rattle.std.proofs.lemmas.Bool.{and_parts, and_from}
 use Rattle.std.proofs.lemmas.List.Elements.{All-nil, All-cons, All-head, All-tail}
 use Rattle.mv_ast.specs.declared.program.Program.{Program}
 use Rattle.mv_ast.specs.declared.program.Known.TheVariants.{Getchar, Putchar, Poll, Plan}
-use Rattle.mv_ast.specs.declared.world.Binding.{Binding}
+use Rattle.mv_bindings.specs.declared.binding.Binding.{Binding}
 use Rattle.mv_ast.specs.Actions.{fits, act_fits}
 use Rattle.mv_ast.specs.Bindings.{are_bindings, are_typed_bindings}
-use Rattle.mv_ast.specs.Plans.{Answered, with_word, switch_global, may_commit, ordered, acted, polled}
+use Rattle.mv_ast.specs.Orders.{Answered, may_commit, ordered, acted, polled}
+use Rattle.mv_ast.specs.Switches.{with_word, switch_global}
 use Rattle.mv_ast.specs.Worlds as source
-use Rattle.mv_ast.specs.Worlds.{Act, Skip, Flip, Adopt}
+use Rattle.mv_bindings.specs.Acts.{Act, Skip, Flip, Adopt}
 use Rattle.mv_ir.specs.World.{World}
 use Rattle.mv_ir.specs.KnownFunctions.{seen, seen_from, next_byte}
 use Rattle.mv_ir_worlds.specs.Fit.{AreBindings, IsFit, is_fit}

@@ -3,11 +3,12 @@ use Rattle.std.specs.Prelude.{◌≡◌, ◌⊎◌, ℕ, suc, ◌+◌, ◌<◌, 
 use Rattle.std.specs.List.{list_all}
 use Rattle.mv_ast.specs.declared.program.Program.{Program}
 use Rattle.mv_ast.specs.declared.program.Function.{Function}
-use Rattle.mv_ast.specs.declared.world.Binding.{Binding}
+use Rattle.mv_bindings.specs.declared.binding.Binding.{Binding}
 use Rattle.mv_ast.specs.Actions.{act_fits}
 use Rattle.mv_ast.specs.Bindings.{are_bindings}
-use Rattle.mv_ast.specs.Plans.{attributed_functions, switch_domain, bound_to}
-use Rattle.mv_ast.specs.Worlds.{Act}
+use Rattle.mv_ast.specs.Switches.{attributed_functions, switch_domain}
+use Rattle.mv_bindings.specs.Bindings.{bound_to}
+use Rattle.mv_bindings.specs.Acts.{Act}
 use Rattle.mv_ir.specs.Combinations.{IsCombination}
 use Rattle.mv_ir.specs.World.{World}
 

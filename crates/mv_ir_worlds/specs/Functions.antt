@@ -1,7 +1,7 @@
 -- What one attributed function or pointer switch, by its number among what may be bound, is in a list of bindings.
 use Rattle.std.specs.Prelude.{◌≡◌, ℕ, false, List, Some, slice_get}
-use Rattle.mv_ast.specs.declared.world.Binding.{Binding}
-use Rattle.mv_ast.specs.Plans.{bound_to}
+use Rattle.mv_bindings.specs.declared.binding.Binding.{Binding}
+use Rattle.mv_bindings.specs.Bindings.{bound_to}
 
 -- it isn't bound
 abbrev pub IsFreeIn : List Binding → ℕ → Type 0

@@ -4,12 +4,14 @@ use Rattle.std.specs.List.{zip}
 use Rattle.mv_ast.specs.declared.program.Program.{Program}
 use Rattle.mv_ast.specs.declared.program.Function.{Function}
 use Rattle.mv_ast.specs.declared.program.Known.{Known}
-use Rattle.mv_ast.specs.declared.world.Binding.{Binding}
+use Rattle.mv_bindings.specs.declared.binding.Binding.{Binding}
 use Rattle.mv_ast.specs.Actions.{act_fits}
 use Rattle.mv_ast.specs.Bindings.{are_bindings}
-use Rattle.mv_ast.specs.Plans.{attributed_functions, attributed_before, switch_domain, switch_words, bound_to, free, committed, bindings_after}
+use Rattle.mv_ast.specs.Switches.{attributed_functions, attributed_before, switch_domain, switch_words, committed}
+use Rattle.mv_bindings.specs.Bindings.{bound_to, free}
+use Rattle.mv_ast.specs.Orders.{bindings_after}
 use Rattle.mv_ast.specs.Starts.{first_world_under}
-use Rattle.mv_ast.specs.Worlds.{Act}
+use Rattle.mv_bindings.specs.Acts.{Act}
 use Rattle.mv_ir.specs.Combinations.{IsCombination}
 use Rattle.mv_ir.specs.Levels.{frame_of_call}
 use Rattle.mv_ir.specs.World.{World}

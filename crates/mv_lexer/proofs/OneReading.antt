@@ -4,10 +4,10 @@ use Rattle.std.specs.Prelude.{is_none, IfOk, IfErr}
 use Rattle.std.proofs.lemmas.Bool.{both_ways, leb-true}
 use Rattle.mv_num.specs.declared.kind.Kind.{Kind}
 use Rattle.mv_num.specs.declared.kind.Kind.TheVariants.{Int}
-use Rattle.mv_ast.specs.declared.token.Piece.TheVariants as Is
-use Rattle.mv_ast.specs.declared.place.Place.{Place}
-use Rattle.mv_ast.specs.declared.token.Token.{Token}
-use Rattle.mv_ast.specs.declared.token.Tokens.{Tokens}
+use Rattle.mv_syntax.specs.declared.token.Piece.TheVariants as Is
+use Rattle.mv_syntax.specs.declared.place.Place.{Place}
+use Rattle.mv_syntax.specs.declared.token.Token.{Token}
+use Rattle.mv_syntax.specs.declared.token.Tokens.{Tokens}
 use Rattle.mv_lexer.specs.declared.error.LexError.{LexError}
 use Rattle.mv_lexer.specs.declared.error.LexError.TheVariants.{BadToken, Unsupported, TooLong, Memory}
 use Rattle.mv_lexer.specs.Numbers.{IsIntegerConstant, IsLongConstant, kind_of, base, value, suffix, short_suffix, is_floating}

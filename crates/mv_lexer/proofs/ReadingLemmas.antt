@@ -4,14 +4,14 @@ use Rattle.std.proofs.lemmas.List.{append-nil, drop-drop, length-take-le}
 use Rattle.mv_lexer.proofs.IncludeLemmas.{front_range}
 use Rattle.mv_lexer.specs.Include.{IsFrontLexeme}
 use Rattle.mv_lexer.specs.declared.class.TokenClass.{TokenClass}
-use Rattle.mv_ast.specs.declared.token.Piece.{Piece}
+use Rattle.mv_syntax.specs.declared.token.Piece.{Piece}
 use Rattle.mv_lexer.specs.Place.{start, after}
 use Rattle.mv_lexer.specs.Reading.{Lexeme, StandsInFront, IsAccepted, Scans, after_all, token_of, tokens_of, IsStep, IsRefused, Refuses, IsFirstRefused, IsCause, GivesEvaluation, Evaluates, token, skipped, Evaluation, bad, unsupported, too_long}
 use Rattle.mv_lexer.specs.declared.position.Position.{Position}
 use Rattle.mv_lexer.specs.declared.error.LexError.{LexError}
 use Rattle.mv_lexer.specs.declared.error.LexError.TheVariants.{BadToken, Unsupported, TooLong, Memory}
-use Rattle.mv_ast.specs.declared.place.Place.{Place}
-use Rattle.mv_ast.specs.declared.token.Token.{Token}
+use Rattle.mv_syntax.specs.declared.place.Place.{Place}
+use Rattle.mv_syntax.specs.declared.token.Token.{Token}
 
 -- one more lexeme at the end
 lexemes_more : (at : Position) (lexemes : List Lexeme) (lexeme : Lexeme) (text rest : List ℕ) → Scans at lexemes text rest → StandsInFront (after_all at lexemes).at_line_start rest lexeme → IsAccepted lexeme.evaluation → Scans at (lexemes ++ lexeme ∷ []) text (drop (length lexeme.bytes) rest)

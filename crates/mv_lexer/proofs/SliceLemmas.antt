@@ -7,9 +7,9 @@ use Rattle.mv_lexer.specs.Place.{start, after}
 use Rattle.mv_lexer.specs.Reading.{Lexeme, Scans, token_of, tokens_of, AreTokens, AreSlices, Evaluation, skipped, token, bad, unsupported, too_long}
 use Rattle.mv_lexer.specs.declared.position.Position.{Position}
 use Rattle.mv_lexer.specs.declared.error.LexError.{LexError}
-use Rattle.mv_ast.specs.declared.place.Place.{Place}
-use Rattle.mv_ast.specs.declared.token.Token.{Token}
-use Rattle.mv_ast.specs.declared.token.Tokens.{Tokens}
+use Rattle.mv_syntax.specs.declared.place.Place.{Place}
+use Rattle.mv_syntax.specs.declared.token.Token.{Token}
+use Rattle.mv_syntax.specs.declared.token.Tokens.{Tokens}
 
 slices_from : (a b size : ℕ) (ts : List Token) → a ≤ b → AreSlices b size ts → AreSlices a size ts
 slices_from a b size [] before is = omega (arith, before, is)

@@ -3,7 +3,7 @@ use Rattle.std.specs.Prelude.{◌+◌, ◌&&◌, ◌||◌, ℕ, Bool, true, List
 use Rattle.mv_lexer.specs.Include.{is_skipped, has_line_feed}
 use Rattle.mv_lexer.specs.declared.class.TokenClass.{TokenClass}
 use Rattle.mv_lexer.specs.declared.position.Position.{Position}
-use Rattle.mv_ast.specs.declared.place.Place.{Place}
+use Rattle.mv_syntax.specs.declared.place.Place.{Place}
 
 -- the place behind one byte: a line feed begins the next line, every other byte takes one column
 abbrev pub place_next : Place → ℕ → Place

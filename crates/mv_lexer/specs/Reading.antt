@@ -11,11 +11,11 @@ use Rattle.mv_lexer.specs.declared.table.Table.TheVariants.{Keywords, Unsupporte
 use Rattle.mv_lexer.specs.declared.class.TokenClass.{TokenClass}
 use Rattle.mv_lexer.specs.declared.class.TokenClass.TheVariants.{WhiteSpace, Comment, UnclosedComment, CharacterConstant, StringLiteral, Identifier, PreprocessingNumber, Punctuator, UnsupportedPunctuator, Other}
 use Rattle.mv_lexer.specs.declared.position.Position.{Position}
-use Rattle.mv_ast.specs.declared.place.Place.{Place}
-use Rattle.mv_ast.specs.declared.token.Token.{Token}
-use Rattle.mv_ast.specs.declared.token.Tokens.{Tokens}
-use Rattle.mv_ast.specs.declared.token.Piece.{Piece}
-use Rattle.mv_ast.specs.declared.token.Piece.TheVariants as Is
+use Rattle.mv_syntax.specs.declared.place.Place.{Place}
+use Rattle.mv_syntax.specs.declared.token.Token.{Token}
+use Rattle.mv_syntax.specs.declared.token.Tokens.{Tokens}
+use Rattle.mv_syntax.specs.declared.token.Piece.{Piece}
+use Rattle.mv_syntax.specs.declared.token.Piece.TheVariants as Is
 use Rattle.mv_lexer.specs.declared.error.LexError.{LexError}
 use Rattle.mv_lexer.specs.declared.error.LexError.TheVariants.{BadToken, Unsupported, TooLong, Memory}
 

@@ -1,6 +1,6 @@
 -- How each keyword and each punctuator is spelled, by its name.
 use Rattle.std.specs.Prelude.{ℕ, ◌≡◌, List, [], ◌∷◌, map, codes, slice_index_or}
-use Rattle.mv_ast.specs.Keywords as keywords
+use Rattle.mv_syntax.specs.Keywords as keywords
 use Rattle.mv_ast.specs.Marks as marks
 use Rattle.mv_lexer.specs.declared.table.Table.{Table}
 use Rattle.mv_lexer.specs.Tables.{entries}

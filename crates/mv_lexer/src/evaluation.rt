@@ -10,9 +10,9 @@ use crate::error::LexError;
 use crate::identifier::evaluate_identifier;
 use crate::number::evaluate_number;
 use crate::quoted::quoted_values;
-use mv_ast::place::Place;
-use mv_ast::token::Piece;
 use mv_num::kind::Kind;
+use mv_syntax::place::Place;
+use mv_syntax::token::Piece;
 use std::alloc::Global;
 
 /// Evaluates a character constant (C11 6.4.4.4): it has exactly one character.

@@ -5,8 +5,8 @@ ghost use Rattle.mv_lexer.specs.declared.class.TokenClass.TheVariants.{Identifie
 
 use crate::error::LexError;
 use crate::table::{Table, index_of, size};
-use mv_ast::place::Place;
-use mv_ast::token::Piece;
+use mv_syntax::place::Place;
+use mv_syntax::token::Piece;
 
 /// The greatest length of an identifier, in bytes.
 const IDENTIFIER_LIMIT: usize = 63;

@@ -9,13 +9,13 @@
 //!   refused before all else. Slices are in order, not empty, and within the text.
 //! - `one_reading`: two readings of one text are equal, and no text has both tokens and a refusal. `one_longest_lexeme`,
 //!   `tokens_are_slices`: the laws below it.
-//! - `names_are_spelled`: the numbers that `mv_ast` names are the places of their spellings in the tables of words and punctuators.
+//! - `names_are_spelled`: the numbers that `mv_syntax` and `mv_ast` name are the places of their spellings in the tables of words and punctuators.
 //! - Nine tables of tests show the definition against gcc's values and clang's places. 1 MiB of C took 0.03 s.
 #![tactic(auto)]
 
 ghost use Rattle.std.specs.Prelude.{◌≡◌, ◌<◌, ◌≤◌, ◌+◌, ℕ, List, length, drop, IfOk, IfErr, IsErrOf, OnOk, IsTrue, ◌↔◌};
-ghost use Rattle.mv_ast.specs.declared.place.Place.{Place};
-ghost use Rattle.mv_ast.specs.declared.token.Token.{Token};
+ghost use Rattle.mv_syntax.specs.declared.place.Place.{Place};
+ghost use Rattle.mv_syntax.specs.declared.token.Token.{Token};
 ghost use Rattle.mv_lexer.specs.Lexemes.{IsLongestLexeme};
 ghost use Rattle.mv_lexer.specs.Reading as spec;
 ghost use Rattle.mv_lexer.specs.Spellings.{AreEntries, spelled_keywords, spelled_marks};
@@ -39,7 +39,7 @@ mod table;
 
 use crate::error::LexError;
 use crate::lexer::Lexer;
-use mv_ast::token::Tokens;
+use mv_syntax::token::Tokens;
 use std::alloc::Global;
 
 /// The greatest length of a source, in bytes.

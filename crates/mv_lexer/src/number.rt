@@ -7,9 +7,9 @@ ghost use Rattle.mv_lexer.specs.declared.class.TokenClass.TheVariants as classes
 
 use crate::error::LexError;
 use crate::table::{Table, index_of, size};
-use mv_ast::place::Place;
-use mv_ast::token::Piece;
 use mv_num::kind::Kind;
+use mv_syntax::place::Place;
+use mv_syntax::token::Piece;
 
 /// The value of a decimal or hexadecimal digit; every other byte has 99.
 pub fn digit(byte: u8) -> u8

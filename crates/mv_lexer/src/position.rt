@@ -4,7 +4,7 @@ ghost use Rattle.mv_lexer.specs.Place as spec;
 
 use crate::class::TokenClass;
 use crate::include::has_line_feed;
-use mv_ast::place::Place;
+use mv_syntax::place::Place;
 
 /// Where a reading stands: how many bytes are behind it, its place, and whether no token stands on
 /// its line yet.

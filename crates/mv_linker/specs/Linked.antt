@@ -2,7 +2,7 @@
 use Rattle.std.specs.Prelude.{ℕ, ◌+◌, ◌*◌, ◌<◌, ◌≤◌, ◌≡◌, ◌⊎◌, pos, negsuc, nat_lt, if◌then◌else◌, List, [], ◌∷◌, ◌++◌, length, take, map, slice_index, All, sum_by}
 use Rattle.std.specs.List.{flat_map}
 use Rattle.mv_num.specs.Regions.{plan_upper}
-use Rattle.mv_ast.specs.Traps.{depth_limit}
+use Rattle.mv_bindings.specs.Traps.{depth_limit}
 use Rattle.mv_isa.specs.declared.instr.Instr.{Instr}
 use Rattle.mv_isa.specs.declared.instr.Instr.TheVariants.{Lui, Jal, Jalr, Beq, Lw, Sw, Addi, FenceI, Ecall}
 use Rattle.mv_isa.specs.declared.labelled.Labelled.{Labelled}

@@ -3,7 +3,7 @@ ghost use Rattle.mv_linker.specs.Linked.{codes, function_variants, variant_codes
 ghost use Rattle.mv_linker.specs.Joining.{with_code, with_codes};
 
 use crate::parts::{PartFunction, PartVariant, Parts};
-use mv_ast::traps::DEPTH_LIMIT;
+use mv_bindings::traps::DEPTH_LIMIT;
 use mv_isa::Instr;
 use mv_isa::labelled::{Labelled, Line};
 use mv_isa::labels::{COMMIT, TRAPS};

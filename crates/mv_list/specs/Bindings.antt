@@ -1,7 +1,7 @@
 -- What each attributed function is bound to, a line for each.
 use Rattle.std.specs.Prelude.{ℕ, ◌+◌, List, [], ◌∷◌, ◌++◌, codes, slice_index, slice_index_or, if◌then◌else◌}
-use Rattle.mv_ast.specs.declared.world.Binding.{Binding}
-use Rattle.mv_ast.specs.Plans.{free}
+use Rattle.mv_bindings.specs.declared.binding.Binding.{Binding}
+use Rattle.mv_bindings.specs.Bindings.{free}
 use Rattle.mv_descriptors.specs.declared.rows.FunctionRow.{FunctionRow}
 use Rattle.mv_image.specs.Spelling.{Fields}
 use Rattle.mv_image.specs.Patched.{kind_of}

@@ -1,13 +1,13 @@
 //! The lines of bindings.
 
 ghost use Rattle.std.specs.Prelude.{◌≡◌, ◌≤◌, ◌++◌, length, slice_index_or, OnOk, IfOk};
-ghost use Rattle.mv_ast.specs.Plans.{free};
+ghost use Rattle.mv_bindings.specs.Bindings.{free};
 ghost use Rattle.mv_list.specs.Bindings.{held_text, bound_text, binding_line, bindings_text};
 
 use crate::names::{function_name, kind_of, switch_name};
 use crate::numbers::push_value;
 use crate::parts::front;
-use mv_ast::world::Binding;
+use mv_bindings::binding::Binding;
 use mv_descriptors::FunctionRow;
 use mv_image::Image;
 use mv_num::list::List;

@@ -1,6 +1,6 @@
 // The lowering of functions and programs.
 ghost use Rattle.std.specs.Prelude.{◌≡◌, ◌<◌, ◌^◌, ◌&&◌, false, IfOk, map, length, replicate};
-ghost use Rattle.mv_ast.specs.Plans.{switch_global};
+ghost use Rattle.mv_ast.specs.Switches.{switch_global};
 ghost use Rattle.mv_ast.specs.Flags.{is_set};
 ghost use Rattle.mv_ast.specs.Counts.{elements_of};
 ghost use Rattle.mv_lower_spec.specs.Functions.{array_sizes, lower_function_code, rooms_from, marked_from, lower_function};

@@ -4,8 +4,8 @@ use Rattle.std.specs.Prelude.{slice_get}
 use Rattle.std.proofs.lemmas.Bool.{eq-eqb}
 use Rattle.mv_ast.specs.declared.program.Program.{Program}
 use Rattle.mv_ast.specs.declared.program.Function.{Function}
-use Rattle.mv_ast.specs.declared.world.Stop.{Stop}
-use Rattle.mv_ast.specs.Plans.{same_truth}
+use Rattle.mv_bindings.specs.declared.stop.Stop.{Stop}
+use Rattle.mv_bindings.specs.Bindings.{same_truth}
 use Rattle.mv_ast.specs.Worlds.{World, Outcome, Came, Stopped}
 use Rattle.mv_meaning.specs.declared.state.Frame.{Frame}
 use Rattle.mv_meaning.specs.declared.state.Flow.{Flow}
@@ -20,7 +20,7 @@ use Rattle.mv_source_forms.specs.WellFormed.{IsWellFormedFunction}
 use Rattle.mv_lower_correct.proofs.Knot.{Agreed, lowered_calls, all_agreed}
 use Rattle.mv_lower_calls.specs.SourceCalls.{meaningless, as_call, any_frame, call_by_source, source_call}
 use Rattle.mv_num.proofs.Booleans.{and_cases, from_falsity}
-use Rattle.mv_ast.proofs.Common.{truth_told}
+use Rattle.mv_bindings.proofs.Common.{truth_told}
 
 -- how a call ends that stops
 pub stopped_end : (why : Stop) (w : World) (z : Bool) → is_astray why ≡ z → cond (is_astray why) Stuck (end_of why (seen w)) ≡ cond z Stuck (end_of why (seen w))

@@ -10,7 +10,7 @@ use Rattle.mv_ast.specs.declared.program.Form.{Form, Form-F}
 use Rattle.mv_ast.specs.declared.program.Form.TheOpen as form
 use Rattle.mv_ast.specs.declared.program.Target.{Target, Target-F}
 use Rattle.mv_ast.specs.declared.program.Stmt.{Stmt}
-use Rattle.mv_ast.specs.declared.world.Stop.TheVariants.{Trapped}
+use Rattle.mv_bindings.specs.declared.stop.Stop.TheVariants.{Trapped}
 use Rattle.mv_ast.specs.Numbering.{function_of_number}
 use Rattle.mv_ast.specs.Operators.{converted, unary_value, binary_value}
 use Rattle.mv_ast.specs.Worlds.{stop}

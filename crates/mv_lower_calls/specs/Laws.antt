@@ -4,7 +4,7 @@ use Rattle.mv_ast.specs.declared.program.Program.{Program}
 use Rattle.mv_ast.specs.declared.program.Function.{Function}
 use Rattle.mv_ast.specs.Actions.{act_fits}
 use Rattle.mv_ast.specs.Starts.{first_world_under}
-use Rattle.mv_ast.specs.Worlds.{Act}
+use Rattle.mv_bindings.specs.Acts.{Act}
 use Rattle.mv_meaning.specs.Meaning.{hart_mean}
 use Rattle.mv_meaning_numbering.specs.Numberings.{IsNumbering}
 use Rattle.mv_ir.specs.World.{World}

@@ -8,8 +8,8 @@ use Rattle.mv_ast.specs.declared.program.Expr.{Expr}
 use Rattle.mv_ast.specs.declared.program.Form.{Form, Form-F}
 use Rattle.mv_ast.specs.declared.program.Form.TheOpen as form
 use Rattle.mv_ast.specs.declared.program.Target.{Target, Target-F}
-use Rattle.mv_ast.specs.declared.world.Stop.{Stop}
-use Rattle.mv_ast.specs.declared.world.Stop.TheVariants.{Trapped}
+use Rattle.mv_bindings.specs.declared.stop.Stop.{Stop}
+use Rattle.mv_bindings.specs.declared.stop.Stop.TheVariants.{Trapped}
 use Rattle.mv_ast.specs.Operators.{converted, unary_value, binary_value}
 use Rattle.mv_ast.specs.Worlds.{bind, give}
 use Rattle.mv_meaning.specs.declared.state.Lvalue.{Lvalue}

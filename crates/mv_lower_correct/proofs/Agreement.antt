@@ -1,7 +1,7 @@
 -- Evaluations in two contexts and two frames that hold the same in some locals.
 use Rattle.std.proofs.Common.{◌≡◌, ℕ, ◌+◌, ◌⊎◌, inl, inr, Bool, true, false, [], length, refl, sym, ap, subst, if◌then◌else◌, nat_eq}
 use Rattle.std.specs.Prelude.{slice_index_or}
-use Rattle.mv_ast.specs.declared.world.Stop.{Stop}
+use Rattle.mv_bindings.specs.declared.stop.Stop.{Stop}
 use Rattle.mv_ast.specs.Worlds.{World, Outcome, Came, Stopped, after, and_then, bind, give, stop, counted}
 use Rattle.mv_meaning.specs.declared.state.Frame.{Frame}
 use Rattle.mv_meaning.specs.Meaning.{Evaluation, unless_zero}

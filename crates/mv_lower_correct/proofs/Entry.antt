@@ -7,9 +7,9 @@ use Rattle.std.proofs.lemmas.List.{length-append, length-map, length-drop, lengt
 use Rattle.mv_ast.specs.declared.program.Program.{Program}
 use Rattle.mv_ast.specs.declared.program.Function.{Function}
 use Rattle.mv_ast.specs.declared.program.Local.{Local}
-use Rattle.mv_ast.specs.declared.world.Binding.{Binding}
+use Rattle.mv_bindings.specs.declared.binding.Binding.{Binding}
 use Rattle.mv_ast.specs.Counts.{words_of_size, elements_of}
-use Rattle.mv_ast.specs.Plans.{attributed_before, switch_global, value_among, binding_value, bound_value}
+use Rattle.mv_ast.specs.Switches.{attributed_before, switch_global, value_among, binding_value, bound_value}
 use Rattle.mv_ast.specs.Worlds.{World}
 use Rattle.mv_meaning.specs.declared.state.Frame.{Frame}
 use Rattle.mv_meaning.specs.Meaning.{frame_of, deeper}

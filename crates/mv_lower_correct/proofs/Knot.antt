@@ -4,9 +4,10 @@ use Rattle.std.specs.Prelude.{slice_get, nat_eq}
 use Rattle.std.proofs.lemmas.Bool.{eqb-true}
 use Rattle.mv_ast.specs.declared.program.Program.{Program}
 use Rattle.mv_ast.specs.declared.program.Function.{Function}
-use Rattle.mv_ast.specs.declared.world.Stop.{Stop}
-use Rattle.mv_ast.specs.declared.world.Stop.TheVariants as stops
-use Rattle.mv_ast.specs.Plans.{same_truth, attributed_before}
+use Rattle.mv_bindings.specs.declared.stop.Stop.{Stop}
+use Rattle.mv_bindings.specs.declared.stop.Stop.TheVariants as stops
+use Rattle.mv_bindings.specs.Bindings.{same_truth}
+use Rattle.mv_ast.specs.Switches.{attributed_before}
 use Rattle.mv_ast.specs.Worlds.{World, Outcome, Came, Stopped, stop}
 use Rattle.mv_meaning.specs.declared.state.Frame.{Frame}
 use Rattle.mv_meaning.specs.declared.state.Flow.{Flow}

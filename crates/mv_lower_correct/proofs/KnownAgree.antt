@@ -6,12 +6,16 @@ use Rattle.mv_ast.specs.declared.program.Program.{Program}
 use Rattle.mv_ast.specs.declared.program.Function.{Function}
 use Rattle.mv_ast.specs.declared.program.Known.{Known}
 use Rattle.mv_ast.specs.declared.program.Known.TheVariants.{Getchar, Putchar, Poll, Plan}
-use Rattle.mv_ast.specs.declared.world.Binding.{Binding}
+use Rattle.mv_bindings.specs.declared.binding.Binding.{Binding}
 use Rattle.mv_ast.specs.Counts.{patchable}
-use Rattle.mv_ast.specs.Plans.{Answered, is_among, attributed_functions, attributed_before, pointer_number, bindings_after, bound_after, is_commit, rebound, may_commit, switch_global, with_word, binding_value, bound_value, acted, polled}
+use Rattle.mv_ast.specs.Orders.{Answered, bindings_after, bound_after, rebound, may_commit, acted, polled}
+use Rattle.mv_num.specs.Lists.{is_among}
+use Rattle.mv_ast.specs.Switches.{attributed_functions, attributed_before, pointer_number, switch_global, with_word, binding_value, bound_value}
+use Rattle.mv_bindings.specs.OrderNumbers.{is_commit}
 use Rattle.mv_ast.specs.Numbering.{place_from}
 use Rattle.mv_ast.proofs.Common.{first_has, first_has_not}
-use Rattle.mv_ast.specs.Worlds.{World, Act, Skip, Flip, Adopt, Outcome}
+use Rattle.mv_ast.specs.Worlds.{World, Outcome}
+use Rattle.mv_bindings.specs.Acts.{Act, Skip, Flip, Adopt}
 use Rattle.mv_meaning.specs.declared.state.Frame.{Frame}
 use Rattle.mv_meaning.specs.declared.state.Lvalue.TheVariants as lvalue
 use Rattle.mv_meaning.specs.Meaning.{called_global, byte_of, put_byte, answered}

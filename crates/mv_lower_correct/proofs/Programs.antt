@@ -10,13 +10,15 @@ use Rattle.mv_ast.specs.declared.program.Global.{Global}
 use Rattle.mv_ast.specs.declared.program.Local.{Local}
 use Rattle.mv_ast.specs.declared.program.Function.{Function}
 use Rattle.mv_ast.specs.declared.program.Signature.{Signature}
-use Rattle.mv_ast.specs.declared.world.Stop.{Stop}
-use Rattle.mv_ast.specs.declared.world.Stop.TheVariants as stops
+use Rattle.mv_bindings.specs.declared.stop.Stop.{Stop}
+use Rattle.mv_bindings.specs.declared.stop.Stop.TheVariants as stops
 use Rattle.mv_ast.specs.Actions.{act_fits}
 use Rattle.mv_ast.specs.Counts.{words_of_size}
-use Rattle.mv_ast.specs.Plans.{attributed_before, same_truth, binding_value, bound_value}
+use Rattle.mv_ast.specs.Switches.{attributed_before, binding_value, bound_value}
+use Rattle.mv_bindings.specs.Bindings.{same_truth}
 use Rattle.mv_ast.specs.Starts.{first_words, renumbered_at, first_words_under, first_world_under}
-use Rattle.mv_ast.specs.Worlds.{World, Act, Outcome, Came, Stopped, give, stop}
+use Rattle.mv_ast.specs.Worlds.{World, Outcome, Came, Stopped, give, stop}
+use Rattle.mv_bindings.specs.Acts.{Act}
 use Rattle.mv_meaning.specs.declared.state.Frame.{Frame}
 use Rattle.mv_meaning.specs.declared.state.Flow.{Flow}
 use Rattle.mv_meaning.specs.declared.meant.Meant.{Meant}
@@ -50,7 +52,7 @@ use Rattle.mv_lower_correct.proofs.KnownAgree.{OwnIsLive}
 use Rattle.mv_lower_correct.proofs.Entry.{entry_frame, code_is, ground_of, entry_shown, agrees}
 use Rattle.mv_lower_correct.proofs.Knot.{BodyDoes, Agreed, body_does, lowered_calls, same_levels, all_agreed}
 use Rattle.mv_num.proofs.Booleans.{from_falsity}
-use Rattle.mv_ast.proofs.Common.{truth_same}
+use Rattle.mv_bindings.proofs.Common.{truth_same}
 use Rattle.mv_num.proofs.Lists.{all_tail, all_head}
 
 -- ---- the first world

@@ -14,7 +14,7 @@ use Rattle.mv_ast.specs.declared.program.Form.TheOpen as form
 use Rattle.mv_ast.specs.declared.program.Target.{Target, Target-F, out-Target, map-Target, fold-Target, fold_out-Target}
 use Rattle.mv_ast.specs.declared.program.Target as target
 use Rattle.mv_ast.specs.declared.program.Target.TheVariants as target_variants
-use Rattle.mv_ast.specs.Plans.{is_among}
+use Rattle.mv_num.specs.Lists.{is_among}
 use Rattle.mv_ast.specs.Counts.{expr_nodes, form_sum, target_sum, one_more_than}
 use Rattle.mv_ir.specs.declared.stm.Array.{Array}
 use Rattle.mv_ir.specs.declared.stm.Array.TheVariants as array

@@ -2,7 +2,7 @@
 ghost use Rattle.std.specs.Prelude.{◌≡◌, ◌+◌, ◌++◌, ◌∷◌, [], ◌<◌, ◌^◌, IfOk, false, map, length};
 ghost use Rattle.mv_source_forms.specs.Names.{is_void};
 ghost use Rattle.mv_lower_expressions.specs.Values.{seen, unary_of, converted_of, binary_of, both_of, either_of, choice_of};
-ghost use Rattle.mv_ast.specs.Plans.{is_among};
+ghost use Rattle.mv_num.specs.Lists.{is_among};
 ghost use Rattle.mv_lower_expressions.specs.Calls.{direct_of, through_of, called_of, known_of};
 ghost use Rattle.mv_lower_expressions.specs.Places.{seen_place, start_of, read_of, set_of, change_of, after_of};
 ghost use Rattle.mv_lower_expressions.specs.Expressions.{expr_at, form_at, place_at, exprs_at, each_at, optional_at, switch_of, switch_of_form, switch_of_target, expr_size, form_size, target_size, exprs_size, optional_size};

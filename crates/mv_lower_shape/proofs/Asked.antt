@@ -10,7 +10,7 @@ use Rattle.mv_ast.specs.declared.program.Target.{Target, Target-F, fold-Target}
 use Rattle.mv_ast.specs.declared.program.Stmt.{Stmt, Stmt-F, fold-Stmt}
 use Rattle.mv_ast.specs.declared.program.Stmt.TheOpen as stmt
 use Rattle.mv_ast.specs.declared.program.Arm.{Arm, Arm-F, fold-Arm}
-use Rattle.mv_ast.specs.Plans.{is_among}
+use Rattle.mv_num.specs.Lists.{is_among}
 use Rattle.mv_ast.specs.Names.{any_of, names_local}
 use Rattle.mv_ir.specs.WellFormed.{known_arguments}
 use Rattle.mv_source_forms.specs.Lists.{all_of}

@@ -16,7 +16,7 @@ use Rattle.mv_ast.specs.declared.program.Expr.{Expr}
 use Rattle.mv_ast.specs.declared.program.Form.{Form, Form-F}
 use Rattle.mv_ast.specs.declared.program.Form.TheOpen as form
 use Rattle.mv_ast.specs.declared.program.Target.{Target, Target-F}
-use Rattle.mv_ast.specs.Plans.{is_among}
+use Rattle.mv_num.specs.Lists.{is_among}
 use Rattle.mv_ast.specs.Counts.{form_sum, target_sum, one_more_than, inner_calls, expr_nodes}
 use Rattle.mv_lower_spec.specs.Lowered.{Lowering, lower_number, lower_function, lower_one, lower_through, lower_switched, lower_both, lower_either, lower_choice, lower_local, lower_global, lower_element, temp}
 use Rattle.mv_lower_spec.specs.Lower.{FormPart, Part, Place, global_at, switched_if, switched_by, lower_called, InLocal, InGlobal, Element, lower_read, lower_set, lower_binary, lower_changed, lower_change, next_tree, lower_after, place_of, part_of, lower_expr, unary_tree, converted_tree}

@@ -10,7 +10,8 @@ use Rattle.mv_ast.specs.Counts.{nodes}
 use Rattle.mv_ast.specs.Names.{any_of}
 use Rattle.mv_ast.specs.declared.program.CType.{CType}
 use Rattle.mv_ast.specs.declared.program.CType.TheVariants.{Pointer}
-use Rattle.mv_ast.specs.Plans.{is_among, switch_global, global_or_none}
+use Rattle.mv_num.specs.Lists.{is_among}
+use Rattle.mv_ast.specs.Switches.{switch_global, global_or_none}
 use Rattle.mv_ir.specs.Live.{IsWhole}
 use Rattle.mv_ir.specs.WellFormed.{IsWellFormed}
 use Rattle.mv_ir.proofs.Induction.{Each}

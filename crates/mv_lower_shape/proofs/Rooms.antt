@@ -11,7 +11,7 @@ use Rattle.mv_ir.specs.WellFormed.{all_true, has_room, is_there, named}
 use Rattle.mv_ir.proofs.Induction.{Each}
 use Rattle.mv_ast.specs.declared.program.Global.{Global}
 use Rattle.mv_ast.specs.Counts.{words_of_size}
-use Rattle.mv_ast.specs.Plans.{is_among}
+use Rattle.mv_num.specs.Lists.{is_among}
 use Rattle.mv_lower_spec.specs.Functions.{names_global, address_behind, rooms_from}
 use Rattle.mv_lower_shape.proofs.Asked.{Globals}
 use Rattle.mv_lower_shape.proofs.Rules.{AllMay}

@@ -8,7 +8,7 @@ use Rattle.mv_ast.specs.declared.program.Program.{Program}
 use Rattle.mv_ast.specs.declared.program.Function.{Function}
 use Rattle.mv_ast.specs.Counts as counts
 use Rattle.mv_ast.specs.Counts.{nodes, depth, declared_words}
-use Rattle.mv_ast.specs.Plans.{is_among}
+use Rattle.mv_num.specs.Lists.{is_among}
 use Rattle.mv_lower_spec.specs.Functions.{lower_function}
 use Rattle.mv_source_forms.specs.WellFormed as programs
 use Rattle.mv_lower_shape.specs.Reads.{reads_scalar, reads_array}

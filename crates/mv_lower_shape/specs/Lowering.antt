@@ -3,8 +3,9 @@ use Rattle.std.specs.Prelude.{◌≡◌, ℕ, ◌≤◌, false, All, IsTrue, Lis
 use Rattle.mv_ast.specs.declared.program.Program.{Program}
 use Rattle.mv_ast.specs.declared.program.Function.{Function}
 use Rattle.mv_ast.specs.Actions.{act_fits}
-use Rattle.mv_ast.specs.Plans.{attributed_before, switch_global}
-use Rattle.mv_ast.specs.Worlds.{World, Act}
+use Rattle.mv_ast.specs.Switches.{attributed_before, switch_global}
+use Rattle.mv_ast.specs.Worlds.{World}
+use Rattle.mv_bindings.specs.Acts.{Act}
 use Rattle.mv_meaning.specs.declared.state.Frame.{Frame}
 use Rattle.mv_meaning.specs.Meaning.{call_of, context_at, hart_mean}
 use Rattle.mv_meaning_numbering.specs.Numberings.{IsNumbering}

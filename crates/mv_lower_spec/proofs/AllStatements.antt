@@ -14,7 +14,7 @@ use Rattle.mv_ast.specs.declared.program.Arm.{Arm, Arm-F, roll-Arm, fold-roll-Ar
 use Rattle.mv_ast.specs.Counts.{words_of_size}
 use Rattle.mv_ast.specs.Names.{any_of, names_local}
 use Rattle.mv_ast.specs.Worlds.{World, Outcome, after, bind, give, stop, counted}
-use Rattle.mv_ast.specs.declared.world.Stop.TheVariants.{Unfinished}
+use Rattle.mv_bindings.specs.declared.stop.Stop.TheVariants.{Unfinished}
 use Rattle.mv_meaning.specs.declared.state.Frame.{Frame}
 use Rattle.mv_meaning.specs.declared.state.Flow.{Flow}
 use Rattle.mv_meaning.specs.declared.state.Flow.TheVariants.{Goes, Breaks, Continues, Returns}

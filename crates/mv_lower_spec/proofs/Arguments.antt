@@ -1,15 +1,15 @@
 -- Arguments, known functions and direct calls.
 use Rattle.std.proofs.Common.{◌≡◌, ℕ, suc, ◌+◌, ◌*◌, ◌<◌, ◌≤◌, Bool, true, false, cond, eqb, ltb, List, [], ◌∷◌, ◌++◌, map, Option, Some, None, refl, sym, ◌∙◌, subst, ap, arith}
 use Rattle.std.specs.Prelude.{slice_index_or, length}
-use Rattle.mv_ast.specs.Plans.{word_at}
+use Rattle.mv_ast.specs.Switches.{word_at}
 use Rattle.mv_ir.specs.Meaning.{code_meaning, with_temp, with_world, traps, call_end, made_call, within, call_to, Goal, Null, At, goal, goal_of, goal_at, place, callee_nodes, known_end}
 use Rattle.std.proofs.lemmas.List.{get_or-set_same, length-map}
 use Rattle.mv_source_forms.specs.Names.{is_callable, is_void}
 use Rattle.mv_ir.specs.declared.tree.Tree.{Tree}
 use Rattle.mv_ir.specs.declared.stm.Stm.{Stm}
 use Rattle.mv_ast.specs.declared.program.Known.{Known}
-use Rattle.mv_ast.specs.declared.world.Stop.{Stop}
-use Rattle.mv_ast.specs.declared.world.Stop.TheVariants as stops
+use Rattle.mv_bindings.specs.declared.stop.Stop.{Stop}
+use Rattle.mv_bindings.specs.declared.stop.Stop.TheVariants as stops
 use Rattle.mv_ast.specs.Worlds.{World, Outcome, Came, Stopped, after, and_then, bind, give, counted, stop}
 use Rattle.mv_meaning.specs.declared.state.Frame.{Frame}
 use Rattle.mv_meaning.specs.declared.state.Lvalue.TheVariants as lvalue

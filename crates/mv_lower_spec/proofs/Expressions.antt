@@ -13,9 +13,10 @@ use Rattle.mv_ir.specs.Trees.{nodes}
 use Rattle.mv_ir.proofs.Induction.{Each}
 use Rattle.mv_ast.specs.declared.program.Program.{Program}
 use Rattle.mv_ast.specs.declared.program.Function.{Function}
-use Rattle.mv_ast.specs.declared.world.Binding.{Binding}
+use Rattle.mv_bindings.specs.declared.binding.Binding.{Binding}
 use Rattle.mv_ast.specs.Numbering.{place_from}
-use Rattle.mv_ast.specs.Plans.{is_among, switch_global, value_among, binding_value, bound_value, attributed_functions, attributed_before, pointer_number}
+use Rattle.mv_num.specs.Lists.{is_among}
+use Rattle.mv_ast.specs.Switches.{switch_global, value_among, binding_value, bound_value, attributed_functions, attributed_before, pointer_number}
 use Rattle.mv_ast.proofs.Common.{first_has_not}
 use Rattle.mv_ast.specs.declared.program.CType.{CType}
 use Rattle.mv_ast.specs.declared.program.Known.{Known}
@@ -24,7 +25,7 @@ use Rattle.mv_ast.specs.declared.program.Form.{Form, Form-F, roll-Form, fold-rol
 use Rattle.mv_ast.specs.declared.program.Form.TheOpen as form
 use Rattle.mv_ast.specs.declared.program.Target.{Target, Target-F, roll-Target, fold-roll-Target, map-Target}
 use Rattle.mv_ast.specs.Worlds.{World, after, and_then, bind, give, stop, counted}
-use Rattle.mv_ast.specs.declared.world.Stop.TheVariants.{Trapped}
+use Rattle.mv_bindings.specs.declared.stop.Stop.TheVariants.{Trapped}
 use Rattle.mv_meaning.specs.declared.state.Frame.{Frame}
 use Rattle.mv_meaning.specs.declared.state.Lvalue.{Lvalue}
 use Rattle.mv_meaning.specs.declared.state.Lvalue.TheVariants as lvalue

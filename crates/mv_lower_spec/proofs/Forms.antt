@@ -6,8 +6,8 @@ use Rattle.std.proofs.lemmas.Option.{unwrap_or-slice_get}
 use Rattle.std.proofs.lemmas.Bool.{cases_eq}
 use Rattle.mv_ir.specs.declared.tree.Tree.{Tree}
 use Rattle.mv_ast.specs.Counts.{words_of_size}
-use Rattle.mv_ast.specs.Plans.{word_at, with_word, words_or_none, global_read, bound_value}
-use Rattle.mv_ast.specs.declared.world.Stop.TheVariants.{Trapped}
+use Rattle.mv_ast.specs.Switches.{word_at, with_word, words_or_none, global_read, bound_value}
+use Rattle.mv_bindings.specs.declared.stop.Stop.TheVariants.{Trapped}
 use Rattle.mv_ast.specs.Worlds.{World, bind, give}
 use Rattle.mv_meaning.specs.declared.state.Frame.{Frame}
 use Rattle.mv_meaning.specs.declared.state.Lvalue.TheVariants as lvalue

@@ -6,7 +6,8 @@ use Rattle.mv_ir.specs.declared.tree.Tree.{Tree}
 use Rattle.mv_ir.specs.declared.tree.Tree.TheOpen as tree
 use Rattle.mv_ast.specs.declared.program.CType.{CType}
 use Rattle.mv_ast.specs.declared.program.CType.TheVariants.{Void, Scalar, Pointer}
-use Rattle.mv_ast.specs.Operators.{is_unsigned, is_less, as_word, converted, unary_value, bit_value}
+use Rattle.mv_ast.specs.Operators.{is_unsigned, is_less, converted, unary_value, bit_value}
+use Rattle.mv_num.specs.Words.{as_word}
 use Rattle.mv_ir.specs.Outcome.{State}
 use Rattle.mv_ir.specs.Trees as ir_tree
 use Rattle.mv_ir.specs.Trees.{nodes}

@@ -13,7 +13,7 @@ use Rattle.mv_meaning.specs.declared.state.Flow.TheVariants.{Goes, Breaks, Conti
 use Rattle.mv_meaning.specs.Meaning.{Evaluation, ArmDenotation, Tried, in_order, then_on, after_switch, tried_labels, labels_of, bodies_of, bodies_from, switch_flow}
 use Rattle.mv_ir.specs.Outcome.{State, Returned, Next, Leaves, Restarts, Ends, Run, Bound, spend, then_do, goes_on, block_end}
 use Rattle.mv_ir.specs.Outcome as ir
-use Rattle.mv_ast.specs.Operators.{as_word}
+use Rattle.mv_num.specs.Words.{as_word}
 use Rattle.mv_ir.specs.Trees.{nodes}
 use Rattle.mv_ir.specs.Trees as ir_tree
 use Rattle.mv_ir.specs.Meaning.{with_temp}

@@ -10,13 +10,14 @@ use Rattle.mv_ir.specs.Trees.{value, nodes, nodes_of_all, found}
 use Rattle.mv_ir.specs.Meaning.{code_meaning}
 use Rattle.mv_ir.specs.KnownFunctions.{seen}
 use Rattle.mv_ast.specs.declared.program.Program.{Program}
-use Rattle.mv_ast.specs.declared.world.Binding.{Binding}
-use Rattle.mv_ast.specs.declared.world.Stop.{Stop}
-use Rattle.mv_ast.specs.declared.world.Stop.TheVariants as stop
+use Rattle.mv_bindings.specs.declared.binding.Binding.{Binding}
+use Rattle.mv_bindings.specs.declared.stop.Stop.{Stop}
+use Rattle.mv_bindings.specs.declared.stop.Stop.TheVariants as stop
 use Rattle.mv_ast.specs.Worlds as worlds
 use Rattle.mv_ast.specs.Worlds.{World, Outcome, Came, Stopped}
 use Rattle.mv_ast.specs.Counts.{words_of_size}
-use Rattle.mv_ast.specs.Plans.{is_among, word_at, bound_value}
+use Rattle.mv_num.specs.Lists.{is_among}
+use Rattle.mv_ast.specs.Switches.{word_at, bound_value}
 use Rattle.mv_meaning.specs.declared.state.Frame.{Frame}
 use Rattle.mv_meaning.specs.declared.state.Lvalue.TheVariants as lvalue
 use Rattle.mv_meaning.specs.Meaning.{Evaluation, Context, Denotation, callee_in, known_value}

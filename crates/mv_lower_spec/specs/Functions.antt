@@ -17,7 +17,8 @@ use Rattle.mv_ast.specs.declared.program.Global.{Global}
 use Rattle.mv_ast.specs.declared.program.Function.{Function}
 use Rattle.mv_ast.specs.declared.program.Local.{Local}
 use Rattle.mv_ast.specs.Counts.{words_of_size, elements_of}
-use Rattle.mv_ast.specs.Plans.{is_among, switch_global}
+use Rattle.mv_num.specs.Lists.{is_among}
+use Rattle.mv_ast.specs.Switches.{switch_global}
 use Rattle.mv_source_forms.specs.Names.{size_in, is_void}
 use Rattle.mv_lower_spec.specs.Lowered.{number}
 use Rattle.mv_lower_spec.specs.Statements.{Jumps, Code, in_sequence, return_with}

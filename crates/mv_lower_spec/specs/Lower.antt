@@ -13,7 +13,7 @@ use Rattle.mv_ast.specs.declared.program.Form.{Form, Form-F, fold-Form}
 use Rattle.mv_ast.specs.declared.program.Form.TheOpen as form
 use Rattle.mv_ast.specs.declared.program.Target.{Target, Target-F, fold-Target}
 use Rattle.mv_ast.specs.Operators.{is_unsigned}
-use Rattle.mv_ast.specs.Plans.{is_among}
+use Rattle.mv_num.specs.Lists.{is_among}
 use Rattle.mv_source_forms.specs.Names.{is_void}
 use Rattle.mv_lower_spec.specs.Lowered.{Lowering, number, unary, binary, temp, global, set, set_global, read, write, lower_number, lower_local, lower_global, lower_function, lower_one, lower_two, lower_division, lower_both, lower_either, lower_choice, lower_set_local, lower_set_global, lower_call, lower_through, lower_switched, lower_known, index_in, lower_element, lower_read_element, lower_set_element}
 use Rattle.mv_ast.specs.Marks as marks

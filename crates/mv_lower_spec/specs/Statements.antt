@@ -8,7 +8,7 @@ use Rattle.mv_ir.specs.declared.stm.Stm.TheViews.{roll-Stm}
 use Rattle.mv_ir.specs.Outcome.{State, Returned, Next, Leaves, Ends, Run, Bound, Calls}
 use Rattle.mv_ir.specs.Outcome as ir
 use Rattle.mv_ir.specs.Meaning.{code_meaning}
-use Rattle.mv_ast.specs.declared.world.Stop.{Stop}
+use Rattle.mv_bindings.specs.declared.stop.Stop.{Stop}
 use Rattle.mv_ast.specs.Counts.{words_of_size}
 use Rattle.mv_ast.specs.Worlds.{World, Outcome, Came, Stopped}
 use Rattle.mv_meaning.specs.declared.state.Frame.{Frame}

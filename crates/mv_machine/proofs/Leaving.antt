@@ -1,10 +1,11 @@
 -- What a call for a plan and a poll leave: a refusal, a plan that was carried out, or a fault.
 use Rattle.std.proofs.Common.{ℕ, ◌-◌, ◌^◌, Bool, true, false, ◌&&◌, nat_eq, if◌then◌else◌, List, [], ◌∷◌}
-use Rattle.mv_ast.specs.declared.world.Binding.{Binding}
-use Rattle.mv_ast.specs.Worlds.{Act, Skip, Flip, Adopt}
+use Rattle.mv_bindings.specs.declared.binding.Binding.{Binding}
+use Rattle.mv_bindings.specs.Acts.{Act, Skip, Flip, Adopt}
 use Rattle.mv_isa.specs.declared.instr.Cause.TheVariants as cause
 use Rattle.mv_fetch.specs.Held.{Room}
-use Rattle.mv_patch.specs.Orders.{Planned, is_known_order, plan_of}
+use Rattle.mv_patch.specs.Plans.{Planned, plan_of}
+use Rattle.mv_patch.specs.Orders.{is_known_order}
 use Rattle.mv_machine.specs.Runs.{State, Fault, live_frames, refused, carried_out, ordered, planned, adopted, act, acted, polled, stopped, with_value}
 
 -- what holds of each state that such a call leaves

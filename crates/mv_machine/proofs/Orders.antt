@@ -2,16 +2,17 @@
 use Rattle.std.proofs.Common.{◌≡◌, ◌≢◌, ⊎_elim, ℕ, ◌-◌, ◌<◌, ◌≤◌, ◌^◌, ltb, Bool, true, false, nat_eq, if◌then◌else◌, List, [], ◌∷◌, ◌++◌, map, Option, Some, None, refl, sym, ap, ap₂, ◌∙◌, subst, arith, append-nil, Result, Ok, Err, OnOk, OnErr}
 use Rattle.std.proofs.lemmas.Bool.{ne_eqb, cases_lt, le-ltb}
 use Rattle.mv_num.specs.Words.{add}
-use Rattle.mv_ast.specs.declared.world.Binding.{Binding}
-use Rattle.mv_ast.specs.declared.world.Event.{Event}
-use Rattle.mv_ast.specs.declared.world.Action.{Action}
-use Rattle.mv_ast.specs.Plans.{events_from}
-use Rattle.mv_ast.specs.Worlds.{act_of, Skip}
+use Rattle.mv_bindings.specs.declared.binding.Binding.{Binding}
+use Rattle.mv_bindings.specs.declared.binding.Event.{Event}
+use Rattle.mv_bindings.specs.declared.action.Action.{Action}
+use Rattle.mv_bindings.specs.Bindings.{events_from}
+use Rattle.mv_bindings.specs.Acts.{act_of, Skip}
 use Rattle.mv_isa.specs.declared.instr.Cause.TheVariants as cause
 use Rattle.mv_isa.specs.Execution.{reg, put}
 use Rattle.mv_fetch.specs.Held.{Room, Held}
 use Rattle.mv_image.specs.Spelling.{Fields}
-use Rattle.mv_patch.specs.Orders.{Planned, is_known_order, plan_of, bindings_after, answer_after, code_of, index_of}
+use Rattle.mv_patch.specs.Plans.{Planned, plan_of}
+use Rattle.mv_patch.specs.Orders.{is_known_order, bindings_after, answer_after, code_of, index_of}
 use Rattle.mv_patch.specs.declared.order.Order.{Order}
 use Rattle.mv_patch.specs.declared.planning.PlanError.{PlanError}
 use Rattle.mv_patch.specs.declared.order.Order.TheVariants.{CommitAll, RevertAll, CommitFunction, RevertFunction, CommitRefs, RevertRefs}

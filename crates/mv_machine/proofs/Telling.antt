@@ -1,13 +1,13 @@
 -- Events of bindings that differ, one after the other, and bindings that are taken on.
 use Rattle.std.proofs.Common.{◌≡◌, ℕ, suc, ◌+◌, ◌<◌, ◌≤◌, Bool, true, false, if◌then◌else◌, List, [], ◌∷◌, ◌++◌, length, drop, get_or, refl, sym, ap, ap₂, ◌∙◌, subst, append_assoc, append-nil, add-one}
 use Rattle.std.proofs.lemmas.List.{drop_more, drop_all}
-use Rattle.mv_ast.specs.declared.world.Binding.{Binding}
-use Rattle.mv_ast.specs.declared.world.Event.{Event}
-use Rattle.mv_ast.specs.Plans.{is_same_binding, events_from}
+use Rattle.mv_bindings.specs.declared.binding.Binding.{Binding}
+use Rattle.mv_bindings.specs.declared.binding.Event.{Event}
+use Rattle.mv_bindings.specs.Bindings.{is_same_binding, events_from}
 use Rattle.mv_probe.specs.Hearing.{Hearing, Becomes}
 use Rattle.mv_probe.specs.Fates.{Fates}
 use Rattle.mv_machine.specs.Engines.{change}
-use Rattle.mv_ast.proofs.Common.{events_from-end}
+use Rattle.mv_bindings.proofs.Common.{events_from-end}
 
 -- these events and those of the bindings from a place on are all events
 abbrev pub IsTold : (old new : List Binding) (place : ℕ) → List Event → Type 0

@@ -1,7 +1,7 @@
 -- How a run grows by one instruction, and that nothing follows its end.
 use Rattle.std.proofs.Common.{ℕ, zero, suc, Bool, true, false, ◌&&◌, if◌then◌else◌, nat_eq, [], ◌∷◌, ◌≡◌, ◌≤◌, ◌+◌, ◌-◌, ◌^◌, add-one, List, ◌++◌, length, slice_index, refl, sym, ap, ap₂, ◌∙◌, subst, arith}
 use Rattle.std.proofs.lemmas.List.{get_or_append_left}
-use Rattle.mv_ast.specs.Worlds.{Act, Skip, Flip, Adopt}
+use Rattle.mv_bindings.specs.Acts.{Act, Skip, Flip, Adopt}
 use Rattle.mv_isa.specs.declared.instr.Cause.TheVariants as cause
 use Rattle.mv_isa.specs.Execution.{Outcome, Goes, Calls, Faults, reg}
 use Rattle.mv_isa.specs.declared.instr.Cause.{Cause}

@@ -2,8 +2,8 @@
 use Rattle.std.specs.Prelude.{ℕ, Bool, true, false, List, Option, Some, None, slice_get}
 use Rattle.mv_num.specs.Kinds.{kind_number, is_value}
 use Rattle.mv_descriptors.specs.declared.rows.SwitchRow.{SwitchRow}
-use Rattle.mv_ast.specs.declared.world.Action.{Action}
-use Rattle.mv_ast.specs.declared.world.Action.TheVariants.{Skip, Flip}
+use Rattle.mv_bindings.specs.declared.action.Action.{Action}
+use Rattle.mv_bindings.specs.declared.action.Action.TheVariants.{Skip, Flip}
 
 -- whether a word is a value of a switch
 abbrev pub is_row_value : Option SwitchRow → ℕ → Bool

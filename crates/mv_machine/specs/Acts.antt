@@ -1,7 +1,7 @@
 -- Whose polls a run has, and what they take.
 use Rattle.std.specs.Prelude.{ℕ, List, map}
-use Rattle.mv_ast.specs.declared.world.Action.{Action}
-use Rattle.mv_ast.specs.Worlds.{Act, act_of}
+use Rattle.mv_bindings.specs.declared.action.Action.{Action}
+use Rattle.mv_bindings.specs.Acts.{Act, act_of}
 
 -- the number of the hart, and what its polls are to take
 pub record PollActs : Type 0 where

@@ -1,13 +1,13 @@
 -- Which commit is under way in a run, told by its bindings alone: not by the plan area, and not by what is stored of the pairs.
 use Rattle.std.specs.Prelude.{ℕ, zero, suc, ◌%◌, Bool, true, false, cond, List, [], ◌∷◌, slice_get, slice_index, Option, Some, None, option_and_then}
-use Rattle.mv_ast.specs.declared.world.Binding.{Binding}
+use Rattle.mv_bindings.specs.declared.binding.Binding.{Binding}
 use Rattle.mv_isa.specs.declared.instr.Instr.{Instr}
 use Rattle.mv_isa.specs.declared.instr.Instr.TheVariants.{FenceI, Ecall}
 use Rattle.mv_isa.specs.Encoding.{decode}
 use Rattle.mv_isa.specs.Execution.{reg}
 use Rattle.mv_fetch.specs.Held.{choices}
 use Rattle.mv_patch.specs.declared.prepared.Pair.{Pair}
-use Rattle.mv_patch.specs.Orders.{plan_between}
+use Rattle.mv_patch.specs.Plans.{plan_between}
 use Rattle.mv_machine.specs.Runs.{State, Stop, Going, Exit, Trap, Fault, choices_at, request_of, environment_call, runs_from}
 
 abbrev pub is_some_pair : List Pair → Bool

@@ -1,10 +1,10 @@
 -- What the code holds of a state, and that what it does to it is what a definition does to the state.
 use Rattle.std.specs.Prelude.{ℕ, zero, suc, ◌+◌, ◌≡◌, ◌%◌, ◌^◌, ◌<◌, ◌⊎◌, ◌∷◌, List, [], ◌++◌, length, map, slice_get, Option, Some, None, option_map, IsSomeAnd, Ok}
 use Rattle.mv_num.specs.Words.{add}
-use Rattle.mv_ast.specs.declared.world.Binding.{Binding}
-use Rattle.mv_ast.specs.declared.world.Action.{Action}
-use Rattle.mv_ast.specs.declared.world.Event.{Event}
-use Rattle.mv_ast.specs.Worlds.{act_of}
+use Rattle.mv_bindings.specs.declared.binding.Binding.{Binding}
+use Rattle.mv_bindings.specs.declared.action.Action.{Action}
+use Rattle.mv_bindings.specs.declared.binding.Event.{Event}
+use Rattle.mv_bindings.specs.Acts.{act_of}
 use Rattle.mv_image.specs.Spelling.{Fields}
 use Rattle.mv_isa.specs.declared.instr.Cause.TheVariants as cause
 use Rattle.mv_isa.specs.Execution.{put, reg, Calls}

@@ -1,9 +1,9 @@
 -- What contracts see of a machine between two calls of `run`, and what such a call has done.
 use Rattle.std.specs.Prelude.{ℕ, ◌≡◌, ◌+◌, ◌-◌, ◌<◌, List, [], ◌++◌, length, map, slice_index, Option, Some, None, option_map, IfSome, IsSomeAnd, ◌%◌}
-use Rattle.mv_ast.specs.declared.world.Binding.{Binding}
-use Rattle.mv_ast.specs.declared.world.Event.{Event}
-use Rattle.mv_ast.specs.declared.world.Action.{Action}
-use Rattle.mv_ast.specs.Worlds.{act_of}
+use Rattle.mv_bindings.specs.declared.binding.Binding.{Binding}
+use Rattle.mv_bindings.specs.declared.binding.Event.{Event}
+use Rattle.mv_bindings.specs.declared.action.Action.{Action}
+use Rattle.mv_bindings.specs.Acts.{act_of}
 use Rattle.mv_image.specs.Spelling.{Fields}
 use Rattle.mv_isa.specs.Execution.{Calls, reg}
 use Rattle.mv_isa.specs.declared.instr.Cause.{Cause}

@@ -3,7 +3,7 @@
 ghost use Rattle.std.specs.Prelude.{◌≡◌, IfOk};
 ghost use Rattle.mv_machine.specs.Engines.{IsReady};
 
-use mv_ast::world::Binding;
+use mv_bindings::binding::Binding;
 use mv_fetch::Memory;
 use mv_image::Image;
 use mv_image::facts::fits_format;

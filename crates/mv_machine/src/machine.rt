@@ -3,7 +3,7 @@
 ghost use Rattle.std.specs.Prelude.{◌≡◌, ◌≤◌, [], Some, None, replicate, IfOk, IsTrue, All};
 ghost use Rattle.std.specs.Result.{result_ok};
 ghost use Rattle.mv_fetch.specs.Held.{load};
-ghost use Rattle.mv_ast.specs.Plans.{free};
+ghost use Rattle.mv_bindings.specs.Bindings.{free};
 ghost use Rattle.mv_io.specs.Outside.{Rose};
 ghost use Rattle.mv_probe.specs.Hearing.{hearing, IsPatient, object_at, Becomes};
 ghost use Rattle.mv_probe.specs.Fates.{Fates};
@@ -15,7 +15,8 @@ ghost use Rattle.mv_machine.specs.Snapshots.{kept, Ran, Unless, last_of};
 use crate::engine::{Engine, copied};
 use crate::operator::Operator;
 use crate::turning::walk;
-use mv_ast::world::{Action, Binding};
+use mv_bindings::action::Action;
+use mv_bindings::binding::Binding;
 use mv_fetch::Memory;
 use mv_image::Image;
 use mv_image::facts::within_limits;

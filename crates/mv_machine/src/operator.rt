@@ -3,7 +3,7 @@
 ghost use Rattle.std.specs.Prelude.{◌≡◌};
 ghost use Rattle.mv_machine.specs.Engines.{Taken};
 
-use mv_ast::world::Action;
+use mv_bindings::action::Action;
 use std::marker::Model;
 
 /// The actions that were handed in, of which so many are taken. A contract sees those that are left.
@@ -15,7 +15,7 @@ pub(crate) struct Operator<'a> {
 
 impl<'a> Model for Operator<'a> {
     ghost use Rattle.std.specs.Prelude.{List, drop, length, ◌≤◌};
-    ghost use Rattle.mv_ast.specs.declared.world.Action.{Action};
+    ghost use Rattle.mv_bindings.specs.declared.action.Action.{Action};
 
     ghost Value = { List Action };
 

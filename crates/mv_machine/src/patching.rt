@@ -1,10 +1,10 @@
 //! Environment calls that commit, revert and poll.
 
 ghost use Rattle.std.specs.Prelude.{◌≡◌, ◌≤◌, ◌<◌, [], All, IfSome, length, ℕ, Option, List};
-ghost use Rattle.mv_ast.specs.Orders as orders;
-ghost use Rattle.mv_ast.specs.Plans.{events_from};
-ghost use Rattle.mv_ast.specs.declared.world.Action.{Action};
-ghost use Rattle.mv_ast.specs.Worlds.{act_of};
+ghost use Rattle.mv_bindings.specs.OrderNumbers as orders;
+ghost use Rattle.mv_bindings.specs.Bindings.{events_from};
+ghost use Rattle.mv_bindings.specs.declared.action.Action.{Action};
+ghost use Rattle.mv_bindings.specs.Acts.{act_of};
 ghost use Rattle.mv_isa.specs.Execution.{reg};
 ghost use Rattle.mv_patch.specs.Orders.{is_known_order};
 ghost use Rattle.mv_patch.specs.Tables.{patchable};
@@ -19,8 +19,8 @@ use crate::machine::Stopped;
 use crate::operator::Operator;
 use crate::plans::{store_word, take_on, tell_changes, write_plan};
 use crate::registers::{answer, argument, index, live_frames};
-use mv_ast::orders;
-use mv_ast::world::Action;
+use mv_bindings::action::Action;
+use mv_bindings::orders;
 use mv_fetch::Memory;
 use mv_image::Image;
 use mv_image::facts::{rows_fit, within_limits};

@@ -1,14 +1,14 @@
 //! The plan area, and new bindings.
 
 ghost use Rattle.std.specs.Prelude.{◌≡◌, ◌≤◌, ◌<◌, ◌^◌, [], All, length};
-ghost use Rattle.mv_ast.specs.Plans.{events_from};
+ghost use Rattle.mv_bindings.specs.Bindings.{events_from};
 ghost use Rattle.mv_probe.specs.Hearing.{hearing, IsPatient, object_at, Becomes};
 ghost use Rattle.mv_probe.specs.Fates.{Fates};
 ghost use Rattle.mv_machine.specs.Runs.{stored_word, with_plan};
 ghost use Rattle.mv_num.specs.Regions.{data_start};
 ghost use Rattle.mv_machine.specs.Engines.{change};
 
-use mv_ast::world::{Binding, Event};
+use mv_bindings::binding::{Binding, Event};
 use mv_fetch::Memory;
 use mv_num::list::List;
 use mv_num::regions::PLAN_AREA;

@@ -1,8 +1,9 @@
 -- The meaning of a program at a greater bound extends the one at a lesser bound.
 use Rattle.std.proofs.Common.{ℕ, ◌≤◌, List, [], arith, refl, slice_get}
 use Rattle.mv_ast.specs.declared.program.Program.{Program}
-use Rattle.mv_ast.specs.declared.world.Stop.TheVariants.{Unfinished}
-use Rattle.mv_ast.specs.Worlds.{World, Act, Outcome, Came, Stopped}
+use Rattle.mv_bindings.specs.declared.stop.Stop.TheVariants.{Unfinished}
+use Rattle.mv_ast.specs.Worlds.{World, Outcome, Came, Stopped}
+use Rattle.mv_bindings.specs.Acts.{Act}
 use Rattle.mv_ast.specs.Starts.{first_world}
 use Rattle.mv_ast.specs.Numbering.{own_numbers}
 use Rattle.mv_meaning.specs.declared.state.Frame.{Frame}

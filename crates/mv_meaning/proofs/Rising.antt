@@ -10,11 +10,15 @@ use Rattle.mv_ast.specs.declared.program.Expr.{Expr, Expr-F, ind-Expr, map-Expr,
 use Rattle.mv_ast.specs.declared.program.Form.{Form, Form-F, map-Form, roll-Form, fold-roll-Form}
 use Rattle.mv_ast.specs.declared.program.Form.TheOpen as form
 use Rattle.mv_ast.specs.declared.program.Target.{Target, Target-F, map-Target, roll-Target, fold-roll-Target}
-use Rattle.mv_ast.specs.declared.world.Stop.{Stop}
-use Rattle.mv_ast.specs.declared.world.Stop.TheVariants.{Trapped}
-use Rattle.mv_ast.specs.Worlds.{World, Act, Skip, Flip, Adopt, bind, give, stop, counted}
+use Rattle.mv_bindings.specs.declared.stop.Stop.{Stop}
+use Rattle.mv_bindings.specs.declared.stop.Stop.TheVariants.{Trapped}
+use Rattle.mv_ast.specs.Worlds.{World, bind, give, stop, counted}
+use Rattle.mv_bindings.specs.Acts.{Act, Skip, Flip, Adopt}
 use Rattle.mv_ast.specs.Numbering.{function_of_number}
-use Rattle.mv_ast.specs.Plans.{Answered, may_commit, ordered, polled, acted, flipped, with_word, words_or_none, switch_global, bindings_after, bound_after, events_from, is_commit}
+use Rattle.mv_ast.specs.Orders.{Answered, may_commit, ordered, polled, acted, flipped, bindings_after, bound_after}
+use Rattle.mv_ast.specs.Switches.{with_word, words_or_none, switch_global}
+use Rattle.mv_bindings.specs.Bindings.{events_from}
+use Rattle.mv_bindings.specs.OrderNumbers.{is_commit}
 use Rattle.mv_meaning.specs.declared.state.Frame.{Frame}
 use Rattle.mv_meaning.specs.declared.state.Lvalue.{Lvalue}
 use Rattle.mv_meaning.specs.declared.state.Lvalue.TheVariants as lvalue

@@ -8,7 +8,7 @@ use Rattle.mv_ast.specs.declared.program.Expr.{Expr}
 use Rattle.mv_ast.specs.declared.program.Stmt.{Stmt, Stmt-F, roll-Stmt, out-roll-Stmt, map-Stmt, ind-Stmt}
 use Rattle.mv_ast.specs.declared.program.Stmt.TheOpen as stmt
 use Rattle.mv_ast.specs.declared.program.Arm.{Arm, Arm-F, roll-Arm, map-Arm}
-use Rattle.mv_ast.specs.declared.world.Stop.TheVariants.{Unfinished}
+use Rattle.mv_bindings.specs.declared.stop.Stop.TheVariants.{Unfinished}
 use Rattle.mv_ast.specs.Worlds.{World, Outcome, Came, Stopped, stop, counted, give}
 use Rattle.mv_ast.specs.Names.{any_of, names_local}
 use Rattle.mv_meaning.specs.declared.state.Frame.{Frame}

@@ -5,7 +5,7 @@ use Rattle.std.proofs.lemmas.Option.{slice_get_within}
 use Rattle.mv_ast.specs.declared.program.CType.{CType}
 use Rattle.mv_ast.specs.declared.program.CType.TheVariants.{Void, Scalar, Pointer}
 use Rattle.mv_ast.specs.declared.program.Program.{Program}
-use Rattle.mv_ast.specs.Plans.{words_or_none, word_at, with_word}
+use Rattle.mv_ast.specs.Switches.{words_or_none, word_at, with_word}
 use Rattle.mv_source_forms.specs.Typing.{IsInteger, IsFunctionOf, IsTyped}
 use Rattle.mv_meaning_numbering.proofs.Numbers.{Distinguishes, number_above, number_once}
 use Rattle.mv_num.proofs.Booleans.{same_bools}

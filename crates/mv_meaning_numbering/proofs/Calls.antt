@@ -6,7 +6,7 @@ use Rattle.mv_ast.specs.declared.program.CType.{CType}
 use Rattle.mv_ast.specs.declared.program.Signature.{Signature}
 use Rattle.mv_ast.specs.declared.program.Function.{Function}
 use Rattle.mv_ast.specs.declared.program.Stmt.{Stmt}
-use Rattle.mv_ast.specs.declared.world.Stop.TheVariants.{Trapped}
+use Rattle.mv_bindings.specs.declared.stop.Stop.TheVariants.{Trapped}
 use Rattle.mv_ast.specs.Worlds.{World, stop}
 use Rattle.mv_ast.specs.Numbering.{function_of_number}
 use Rattle.mv_meaning.specs.declared.state.Flow.{Flow}

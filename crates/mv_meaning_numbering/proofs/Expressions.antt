@@ -1,7 +1,7 @@
 -- Well-typed expressions are alike under two numberings.
 use Rattle.std.proofs.Common.{◌≡◌, ℕ, Bool, true, false, not, List, [], ◌∷◌, map, refl, sym, ◌∙◌, ap, subst, inl, inr, ◌⊎◌, Option, Some, if◌then◌else◌, nat_eq}
 use Rattle.std.specs.Prelude.{All, slice_index}
-use Rattle.mv_num.specs.Words.{add, sub}
+use Rattle.mv_num.specs.Words.{add, sub, as_word}
 use Rattle.mv_ast.specs.declared.program.CType.{CType}
 use Rattle.mv_ast.specs.declared.program.CType.TheVariants.{Void, Scalar, Pointer}
 use Rattle.mv_ast.specs.declared.program.Function.{Function}
@@ -13,7 +13,7 @@ use Rattle.mv_ast.specs.declared.program.Target.{Target, Target-F, map-Target, r
 use Rattle.mv_ast.specs.Worlds.{Came, and_then, bind, give, counted}
 use Rattle.mv_meaning.specs.declared.state.Lvalue.{Lvalue}
 use Rattle.mv_meaning.specs.declared.state.Lvalue.TheVariants as lvalue
-use Rattle.mv_ast.specs.Operators.{as_word, converted, unary_value, binary_value, bit_value}
+use Rattle.mv_ast.specs.Operators.{converted, unary_value, binary_value, bit_value}
 use Rattle.mv_meaning.specs.Meaning.{Evaluation, Context, Denotation, FormValue, read_as, read_lvalue, store_lvalue, global_element, local_element, value_or_trap, known_value, values_of, target_lvalue, form_value, expr_denotation, form_of, lvalue_of, denotation_of, value_of, callee_of}
 use Rattle.mv_meaning.proofs.Equations.{ctype_of_lem}
 use Rattle.mv_source_forms.specs.Typing.{IsInteger, IsConstantOf, IsNull, IsFunctionOf, TakesOne, TakesTwo, ConvertsTo, HasType, LvalueHasType, local_types, parameter_types, types_of}

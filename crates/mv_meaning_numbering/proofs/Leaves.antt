@@ -9,11 +9,14 @@ use Rattle.mv_ast.specs.declared.program.Global.{Global}
 use Rattle.mv_ast.specs.declared.program.Switch.{Switch}
 use Rattle.mv_ast.specs.declared.program.Known.{Known}
 use Rattle.mv_ast.specs.declared.program.Known.TheVariants.{Getchar, Putchar, Poll, Plan}
-use Rattle.mv_ast.specs.declared.world.Binding.{Binding}
-use Rattle.mv_ast.specs.declared.world.Stop.TheVariants.{Trapped}
+use Rattle.mv_bindings.specs.declared.binding.Binding.{Binding}
+use Rattle.mv_bindings.specs.declared.stop.Stop.TheVariants.{Trapped}
 use Rattle.mv_ast.specs.Actions.{act_fits, is_value_of, is_global_value, is_switch_value}
-use Rattle.mv_ast.specs.Worlds.{World, Act, Skip, Flip, Adopt, give, stop}
-use Rattle.mv_ast.specs.Plans.{Answered, attributed_functions, bound_after, bound_value, is_commit, pointer_number, bound_function, called_number, called_word, rebound, may_commit, ordered, flipped, acted, polled, switch_global, global_or_none, with_word, word_at, words_or_none}
+use Rattle.mv_ast.specs.Worlds.{World, give, stop}
+use Rattle.mv_bindings.specs.Acts.{Act, Skip, Flip, Adopt}
+use Rattle.mv_ast.specs.Orders.{Answered, bound_after, rebound, may_commit, ordered, flipped, acted, polled}
+use Rattle.mv_ast.specs.Switches.{attributed_functions, bound_value, pointer_number, bound_function, called_number, called_word, switch_global, global_or_none, with_word, word_at, words_or_none}
+use Rattle.mv_bindings.specs.OrderNumbers.{is_commit}
 use Rattle.mv_meaning.specs.declared.state.Frame.{Frame}
 use Rattle.mv_meaning.specs.declared.state.Lvalue.{Lvalue}
 use Rattle.mv_meaning.specs.declared.state.Lvalue.TheVariants as lvalue

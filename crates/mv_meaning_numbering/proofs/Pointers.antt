@@ -12,12 +12,15 @@ use Rattle.mv_ast.specs.declared.program.Program.{Program}
 use Rattle.mv_ast.specs.declared.program.Global.{Global}
 use Rattle.mv_ast.specs.declared.program.Signature.{Signature}
 use Rattle.mv_ast.specs.declared.program.Function.{Function}
-use Rattle.mv_ast.specs.declared.world.Binding.{Binding}
+use Rattle.mv_bindings.specs.declared.binding.Binding.{Binding}
 use Rattle.mv_ast.specs.Actions.{act_fits}
 use Rattle.mv_ast.specs.Bindings.{function_in, each_passes, are_bindings, is_same_type, are_same_types, has_signature, is_of_type, is_of_global, is_typed_binding, are_typed_bindings}
 use Rattle.mv_ast.specs.Numbering.{place_from, function_of_number}
-use Rattle.mv_ast.specs.Plans.{attributed_functions, word_at, free, bound_to_function, pointed, pointer_number, bound_function, pointer_bindings, is_addressed, is_pointer_addressed, is_commit, ordered_from, ordered_function, ordered_pointer, bindings_after, all_free}
-use Rattle.mv_ast.specs.Worlds.{Adopt}
+use Rattle.mv_ast.specs.Switches.{attributed_functions, word_at, bound_to_function, pointed, pointer_number, bound_function, pointer_bindings, all_free}
+use Rattle.mv_bindings.specs.Bindings.{free}
+use Rattle.mv_ast.specs.Orders.{is_addressed, is_pointer_addressed, ordered_from, ordered_function, ordered_pointer, bindings_after}
+use Rattle.mv_bindings.specs.OrderNumbers.{is_commit}
+use Rattle.mv_bindings.specs.Acts.{Adopt}
 use Rattle.mv_source_forms.specs.Typing.{IsFunctionOf, IsPointerSwitch, global_types, parameter_types}
 use Rattle.mv_meaning_numbering.proofs.Numbers.{Distinguishes, number_above, number_found}
 use Rattle.mv_meaning_numbering.proofs.Alike.{Setting, Same, SameObjects, word_alike}

@@ -8,11 +8,12 @@ use Rattle.mv_ast.specs.declared.program.Program.{Program}
 use Rattle.mv_ast.specs.declared.program.Global.{Global}
 use Rattle.mv_ast.specs.declared.program.Local.{Local}
 use Rattle.mv_ast.specs.declared.program.Function.{Function}
-use Rattle.mv_ast.specs.declared.world.Stop.TheVariants.{Unfinished}
+use Rattle.mv_bindings.specs.declared.stop.Stop.TheVariants.{Unfinished}
 use Rattle.mv_ast.specs.Actions.{act_fits}
 use Rattle.mv_ast.specs.Counts.{words_of_size}
 use Rattle.mv_ast.specs.Numbering.{own_numbers, numbers_from}
-use Rattle.mv_ast.specs.Worlds.{World, Act, Outcome, Came, Stopped}
+use Rattle.mv_ast.specs.Worlds.{World, Outcome, Came, Stopped}
+use Rattle.mv_bindings.specs.Acts.{Act}
 use Rattle.mv_meaning.specs.declared.state.Frame.{Frame}
 use Rattle.mv_meaning.specs.declared.state.Flow.{Flow}
 use Rattle.mv_meaning.specs.declared.state.Flow.TheVariants.{Goes, Breaks, Continues, Returns}

@@ -6,8 +6,11 @@ use Rattle.std.proofs.lemmas.Option.{slice_get_within, get_or_from_slice_get}
 use Rattle.mv_ast.specs.declared.program.CType.{CType}
 use Rattle.mv_ast.specs.declared.program.Program.{Program}
 use Rattle.mv_ast.specs.declared.program.Function.{Function}
-use Rattle.mv_ast.specs.declared.world.Binding.{Binding}
-use Rattle.mv_ast.specs.Plans.{attributed_functions, attributed_before, switch_global, global_or_none, word_at, switch_words, all_in_domain, bound_to, free, committed, value_among, binding_value, bound_value, is_addressed, is_commit, ordered_from, ordered_function, pointer_bindings, bindings_after}
+use Rattle.mv_bindings.specs.declared.binding.Binding.{Binding}
+use Rattle.mv_ast.specs.Switches.{attributed_functions, attributed_before, switch_global, global_or_none, word_at, switch_words, all_in_domain, committed, value_among, binding_value, bound_value, pointer_bindings}
+use Rattle.mv_bindings.specs.Bindings.{bound_to, free}
+use Rattle.mv_ast.specs.Orders.{is_addressed, ordered_from, ordered_function, bindings_after}
+use Rattle.mv_bindings.specs.OrderNumbers.{is_commit}
 use Rattle.mv_source_forms.specs.Typing.{IsInteger, IsIntegerSwitch, IsTypedFunction, global_types}
 use Rattle.mv_meaning_numbering.proofs.Alike.{Setting, SameObjects, same_integer, word_alike}
 use Rattle.mv_meaning_numbering.proofs.Pointers.{ordered_pointers_same}

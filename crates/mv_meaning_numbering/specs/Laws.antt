@@ -4,7 +4,7 @@ use Rattle.mv_ast.specs.declared.program.CType.{CType}
 use Rattle.mv_ast.specs.declared.program.Program.{Program}
 use Rattle.mv_ast.specs.Actions.{act_fits}
 use Rattle.mv_ast.specs.Numbering.{own_numbers}
-use Rattle.mv_ast.specs.Worlds.{Act}
+use Rattle.mv_bindings.specs.Acts.{Act}
 use Rattle.mv_meaning.specs.Meaning.{Evaluation, context_with, hart_mean}
 use Rattle.mv_meaning_numbering.specs.Numberings.{IsNumbering, Admits, meaning_in, meaning_under}
 use Rattle.mv_source_forms.specs.Typing.{IsTyped}

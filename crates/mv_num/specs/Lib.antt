@@ -1,5 +1,6 @@
 pub mod Bytes
 pub mod Kinds
+pub mod Lists
 pub mod Regions
 pub mod Words
 pub mod formers

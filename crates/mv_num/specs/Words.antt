@@ -1,6 +1,6 @@
 -- The arithmetic of words of 32 bits: that of C11 6.5 on `int` and `unsigned int` where signed overflow wraps, and that of RV32IM. A
 -- word is a number below 2 ^ 32, and each operator is a formula over whole numbers.
-use Rattle.std.specs.Prelude.{ℕ, ◌+◌, ◌-◌, ◌*◌, ◌/◌, ◌%◌, ◌^◌, Bool, ltb, cond, eqb, ℤ, pos, negsuc, ◌-ℤ◌, ◌*ℤ◌, unsigned_abs, int_lt, int_div, int_rem}
+use Rattle.std.specs.Prelude.{ℕ, ◌+◌, ◌-◌, ◌*◌, ◌/◌, ◌%◌, ◌^◌, Bool, ltb, cond, eqb, ℤ, pos, negsuc, ◌-ℤ◌, ◌*ℤ◌, unsigned_abs, int_lt, int_div, int_rem, if◌then◌else◌}
 use Rattle.std.specs.Int.{int_rem_euclid}
 use Rattle.mv_num.specs.declared.kind.Kind.{Kind}
 use Rattle.mv_num.specs.declared.kind.Kind.TheVariants as kind
@@ -90,3 +90,7 @@ narrow kind.Short a = sign_extend 16 a
 narrow kind.UShort a = a % 2 ^ 16
 narrow kind.Int a = a
 narrow kind.UInt a = a
+
+-- 1 for true and 0 for false
+abbrev pub as_word : Bool → ℕ
+as_word b = if b then 1 else 0

@@ -13,9 +13,10 @@ use Rattle.mv_ast.specs.declared.program.CType.TheVariants.{Void, Scalar, Pointe
 use Rattle.mv_ast.specs.declared.program.Program.{Program}
 use Rattle.mv_ast.specs.declared.program.Global.{Global}
 use Rattle.mv_ast.specs.declared.program.Switch.{Switch}
-use Rattle.mv_ast.specs.declared.world.Action.{Action}
-use Rattle.mv_ast.specs.declared.world.Action.TheVariants.{Skip, Flip}
-use Rattle.mv_ast.specs.Actions.{fits, is_switch_value, is_global_value, is_value_of, IsOfWord}
+use Rattle.mv_bindings.specs.declared.action.Action.{Action}
+use Rattle.mv_bindings.specs.declared.action.Action.TheVariants.{Skip, Flip}
+use Rattle.mv_ast.specs.Actions.{fits, is_switch_value, is_global_value, is_value_of}
+use Rattle.mv_bindings.specs.Acts.{IsOfWord}
 use Rattle.mv_command.specs.declared.items.Item.{Item}
 use Rattle.mv_descriptors.specs.declared.rows.SwitchRow.{SwitchRow}
 use Rattle.mv_image.specs.Spelling.{Fields}

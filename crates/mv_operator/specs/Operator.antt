@@ -5,8 +5,8 @@ use Rattle.mv_num.specs.Words.{word_of}
 use Rattle.mv_num.specs.declared.kind.Kind.{Kind}
 use Rattle.mv_num.specs.declared.kind.Kind.TheVariants as kinds
 use Rattle.mv_ast.specs.declared.program.Program.{Program}
-use Rattle.mv_ast.specs.declared.world.Action.{Action}
-use Rattle.mv_ast.specs.declared.world.Action.TheVariants.{Skip, Flip}
+use Rattle.mv_bindings.specs.declared.action.Action.{Action}
+use Rattle.mv_bindings.specs.declared.action.Action.TheVariants.{Skip, Flip}
 use Rattle.mv_command.specs.declared.items.Item.{Item}
 use Rattle.mv_image.specs.Spelling.{Fields}
 use Rattle.mv_operator.specs.declared.controls.Control.{Control}

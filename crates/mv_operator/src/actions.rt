@@ -2,7 +2,8 @@
 
 ghost use Rattle.std.specs.Prelude.{◌≡◌, ◌<◌, ◌^◌, All, IsTrue, IfOk, IfErr, length, slice_get};
 ghost use Rattle.mv_num.specs.Words.{word_of};
-ghost use Rattle.mv_ast.specs.Actions.{fits, IsOfWord};
+ghost use Rattle.mv_ast.specs.Actions.{fits};
+ghost use Rattle.mv_bindings.specs.Acts.{IsOfWord};
 ghost use Rattle.mv_command.specs.Items.{Ascend};
 ghost use Rattle.mv_machine.specs.Actions.{fits as fits_rows};
 ghost use Rattle.mv_operator.specs.Operator.{is_of_kind, is_named, switch_named, kind_of_switch, flip_of, AreActions, AreRefusedFor, IsActions, IsRefusedFor, IsImageActions, IsImageRefusedFor};
@@ -10,7 +11,7 @@ ghost use Rattle.mv_operator.specs.Operator.{is_of_kind, is_named, switch_named,
 use crate::controls::{Control, controls_in, controls_of};
 use crate::error::ActionsError;
 use mv_ast::program::Program;
-use mv_ast::world::Action;
+use mv_bindings::action::Action;
 use mv_command::Item;
 use mv_image::Image;
 use mv_image::facts::within_limits;

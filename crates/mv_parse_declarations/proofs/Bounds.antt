@@ -1,6 +1,6 @@
 -- The reading of parameters, unfolded by one step.
 use Rattle.std.proofs.Common.{ℕ, zero, suc, Result, List}
-use Rattle.mv_ast.specs.declared.unit.Param.{Param}
+use Rattle.mv_syntax.specs.declared.unit.Param.{Param}
 use Rattle.mv_parse_nodes.specs.declared.fault.Fault.{Fault}
 use Rattle.mv_parse_grammar.specs.Terminals.{Terminal}
 use Rattle.mv_parse_grammar.specs.ExpressionReader.{read}

@@ -8,15 +8,15 @@ ghost use Rattle.mv_parse_grammar.specs.ExpressionReader.{read};
 ghost use Rattle.mv_parse_grammar.specs.DeclarationReader as model;
 ghost use Rattle.mv_parse_nodes.specs.Gives.{Gives};
 
-use mv_ast::keywords::ATTRIBUTE;
 use mv_ast::marks::{CLOSE_PARENTHESIS, COMMA, OPEN_PARENTHESIS};
-use mv_ast::token::Token;
-use mv_ast::unit::{Mark, Node};
 use mv_num::list::List;
 use mv_parse_expressions::expression::conditional;
 use mv_parse_nodes::fault::Fault;
 use mv_parse_nodes::nodes::append;
 use mv_parse_nodes::tokens::{expect_keyword, expect_mark, expect_multiverse, next_mark};
+use mv_syntax::keywords::ATTRIBUTE;
+use mv_syntax::token::Token;
+use mv_syntax::unit::{Mark, Node};
 use std::alloc::Global;
 
 /// The attribute, with its values where it has a list of them.

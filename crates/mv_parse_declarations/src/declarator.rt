@@ -11,12 +11,9 @@ use crate::attributes::attribute;
 use crate::initial::init;
 use crate::nodes;
 use crate::parameters::{constant, parameter_list};
-use mv_ast::keywords::ATTRIBUTE;
 use mv_ast::marks::{
     ASSIGN, CLOSE_BRACKET, CLOSE_PARENTHESIS, COMMA, OPEN_BRACKET, OPEN_PARENTHESIS, STAR,
 };
-use mv_ast::token::Token;
-use mv_ast::unit::{Declarator, Node, Shape};
 use mv_num::boxed::Boxed;
 use mv_num::list::List;
 use mv_parse_expressions::expression::conditional;
@@ -25,6 +22,9 @@ use mv_parse_nodes::nodes::append;
 use mv_parse_nodes::tokens::{
     expect_mark, expect_name, next_keyword, next_mark, next_name, text_of,
 };
+use mv_syntax::keywords::ATTRIBUTE;
+use mv_syntax::token::Token;
+use mv_syntax::unit::{Declarator, Node, Shape};
 use std::alloc::Global;
 
 /// The declarators of a declaration, each with its initial value.

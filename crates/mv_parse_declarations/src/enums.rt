@@ -7,10 +7,7 @@ ghost use Rattle.mv_parse_grammar.specs.DeclarationReader as model;
 ghost use Rattle.mv_parse_nodes.specs.Gives.{Gives};
 
 use crate::nodes;
-use mv_ast::keywords::ENUM;
 use mv_ast::marks::{ASSIGN, CLOSE_BRACE, COMMA, OPEN_BRACE};
-use mv_ast::token::Token;
-use mv_ast::unit::{EnumSpec, Member};
 use mv_num::boxed::Boxed;
 use mv_num::list::List;
 use mv_parse_expressions::expression::conditional;
@@ -20,6 +17,9 @@ use mv_parse_nodes::specifiers::tag_of;
 use mv_parse_nodes::tokens::{
     expect_keyword, expect_mark, expect_name, next_mark, next_name, text_of,
 };
+use mv_syntax::keywords::ENUM;
+use mv_syntax::token::Token;
+use mv_syntax::unit::{EnumSpec, Member};
 use std::alloc::Global;
 
 /// An enum by its tag, by its enumerators, or by both.

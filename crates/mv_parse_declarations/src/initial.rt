@@ -10,14 +10,14 @@ ghost use Rattle.mv_parse_nodes.specs.Gives.{Gives};
 
 use crate::nodes;
 use mv_ast::marks::{ASSIGN, CLOSE_BRACE, COMMA, OPEN_BRACE};
-use mv_ast::token::{Piece, Token};
-use mv_ast::unit::{Initial, Node};
 use mv_num::boxed::Boxed;
 use mv_num::list::List;
 use mv_parse_expressions::expression::assign;
 use mv_parse_nodes::fault::Fault;
 use mv_parse_nodes::nodes::append;
 use mv_parse_nodes::tokens::{expect_mark, expect_string, next_mark, next_string};
+use mv_syntax::token::{Piece, Token};
+use mv_syntax::unit::{Initial, Node};
 use std::alloc::{AllocError, Global};
 
 /// `=`, and a value, a list of values, or strings.

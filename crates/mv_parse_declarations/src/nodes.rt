@@ -1,18 +1,18 @@
 //! The nodes of declarations. A node is boxed where it is made, so that a function that gives it up
 //! has one call to drop it.
 ghost use Rattle.std.specs.Prelude.{◌≡◌, IfOk};
-ghost use Rattle.mv_ast.specs.declared.unit.Initial.TheVariants as initial;
+ghost use Rattle.mv_syntax.specs.declared.unit.Initial.TheVariants as initial;
 ghost use Rattle.mv_parse_grammar.specs.Terminals.{terminal};
 ghost use Rattle.mv_parse_grammar.specs.Declarations as grammar;
 
-use mv_ast::place::Place;
-use mv_ast::token::Token;
-use mv_ast::unit::{Declarator, Initial, Mark, Member, Node, Param, Shape, Specs};
 use mv_num::boxed::Boxed;
 use mv_num::list::List;
 use mv_num::text::Text;
 use mv_parse_nodes::nodes::unboxed;
 use mv_parse_nodes::tokens::text_of;
+use mv_syntax::place::Place;
+use mv_syntax::token::Token;
+use mv_syntax::unit::{Declarator, Initial, Mark, Member, Node, Param, Shape, Specs};
 use std::alloc::{AllocError, Global};
 
 /// An enumerator, of this name.

@@ -9,10 +9,7 @@ ghost use Rattle.mv_parse_nodes.specs.Gives.{Gives};
 
 use crate::nodes;
 use crate::specifiers::specs;
-use mv_ast::keywords::{CONST, VOID};
 use mv_ast::marks::{CLOSE_PARENTHESIS, COMMA, OPEN_PARENTHESIS, STAR};
-use mv_ast::token::Token;
-use mv_ast::unit::{Param, Shape, Specs};
 use mv_num::boxed::Boxed;
 use mv_num::list::List;
 use mv_num::text::Text;
@@ -21,6 +18,9 @@ use mv_parse_nodes::nodes::append;
 use mv_parse_nodes::tokens::{
     expect_mark, next_keyword, next_mark, next_name, next_specifier, text_of,
 };
+use mv_syntax::keywords::{CONST, VOID};
+use mv_syntax::token::Token;
+use mv_syntax::unit::{Param, Shape, Specs};
 use std::alloc::Global;
 
 /// The parameters between the parentheses, which may be none.

@@ -7,14 +7,14 @@ ghost use Rattle.mv_parse_nodes.specs.Gives.{Gives};
 
 use crate::attributes::attribute;
 use crate::enums::enum_specifier;
-use mv_ast::keywords::{CONST, ENUM, STATIC};
-use mv_ast::token::Token;
-use mv_ast::unit::Specs;
 use mv_parse_nodes::fault::Fault;
 use mv_parse_nodes::specifiers::{
     add_const, add_mark, add_static, add_tag, add_word, no_specs, put_at,
 };
 use mv_parse_nodes::tokens::{keyword_of, next_keyword, next_specifier, next_type_word, place_of};
+use mv_syntax::keywords::{CONST, ENUM, STATIC};
+use mv_syntax::token::Token;
+use mv_syntax::unit::Specs;
 use std::alloc::Global;
 
 /// One or more specifiers, at the place of the first.

@@ -1,6 +1,6 @@
 -- The reading of expressions, unfolded by one step.
 use Rattle.std.proofs.Common.{◌≡◌, ℕ, zero, suc, Result, List, sym, ap}
-use Rattle.mv_ast.specs.declared.unit.Node.{Node}
+use Rattle.mv_syntax.specs.declared.unit.Node.{Node}
 use Rattle.mv_parse_nodes.specs.declared.fault.Fault.{Fault}
 use Rattle.mv_parse_grammar.specs.Terminals.{Terminal}
 use Rattle.mv_parse_grammar.specs.Expressions.{Nonterminal, Cast}

@@ -1,6 +1,6 @@
 //! Expressions, from assignments down to names, numbers and parentheses.
 ghost use Rattle.std.specs.Prelude.{◌≡◌, ◌<◌, ◌≤◌, ℕ, length, IfOk};
-ghost use Rattle.mv_ast.specs.declared.unit.What.TheVariants as what;
+ghost use Rattle.mv_syntax.specs.declared.unit.What.TheVariants as what;
 ghost use Rattle.mv_parse_grammar.specs.Terminals.{terminals};
 ghost use Rattle.mv_parse_grammar.specs.Expressions.{Assign, Cond, Cast, Unary, piece_value};
 ghost use Rattle.mv_parse_grammar.specs.ExpressionReader as model;
@@ -11,9 +11,6 @@ use mv_ast::marks::{
     CLOSE_BRACKET, CLOSE_PARENTHESIS, COLON, COMMA, INCREMENT, OPEN_BRACKET, OPEN_PARENTHESIS,
     QUESTION,
 };
-use mv_ast::place::Place;
-use mv_ast::token::{Piece, Token};
-use mv_ast::unit::Node;
 use mv_num::boxed::Boxed;
 use mv_num::kind::Kind;
 use mv_num::list::List;
@@ -23,6 +20,9 @@ use mv_parse_nodes::tokens::{
     expect_mark, expect_step, mark_of, next_cast, next_mark, next_name, next_number, next_rank,
     next_sign, next_step, place_of, text_of,
 };
+use mv_syntax::place::Place;
+use mv_syntax::token::{Piece, Token};
+use mv_syntax::unit::Node;
 use std::alloc::Global;
 
 /// The rank of what stands after an operand.

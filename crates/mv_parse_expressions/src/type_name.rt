@@ -4,14 +4,14 @@ ghost use Rattle.mv_parse_grammar.specs.Terminals.{terminals};
 ghost use Rattle.mv_parse_grammar.specs.ExpressionReader as model;
 ghost use Rattle.mv_parse_nodes.specs.Gives.{Gives};
 
-use mv_ast::keywords::{CONST, ENUM};
-use mv_ast::token::Token;
-use mv_ast::unit::Specs;
 use mv_parse_nodes::fault::Fault;
 use mv_parse_nodes::specifiers::{add_const, add_tag, add_word, no_specs, put_at, tag_of};
 use mv_parse_nodes::tokens::{
     expect_keyword, expect_name, keyword_of, next_keyword, next_type_part, next_type_word, place_of,
 };
+use mv_syntax::keywords::{CONST, ENUM};
+use mv_syntax::token::Token;
+use mv_syntax::unit::Specs;
 use std::alloc::Global;
 
 /// A type as a cast has it, at the place of its first word.

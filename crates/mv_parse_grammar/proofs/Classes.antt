@@ -3,9 +3,9 @@ use Rattle.std.proofs.Common.{◌≡◌, ℕ, suc, ◌<◌, Bool, true, false, L
 use Rattle.std.specs.Prelude.{nat_eq, nat_le, ◌||◌, ◌&&◌, not}
 use Rattle.std.proofs.lemmas.Bool.{eqb-true, lt-leb}
 use Rattle.std.proofs.lemmas.Bool.Decides.{nat_tests}
-use Rattle.mv_ast.specs.declared.place.Place.{Place}
-use Rattle.mv_ast.specs.declared.token.Piece.{Piece}
-use Rattle.mv_ast.specs.declared.token.Piece.TheVariants.{Keyword, Name, Number, Chars, Mark}
+use Rattle.mv_syntax.specs.declared.place.Place.{Place}
+use Rattle.mv_syntax.specs.declared.token.Piece.{Piece}
+use Rattle.mv_syntax.specs.declared.token.Piece.TheVariants.{Keyword, Name, Number, Chars, Mark}
 use Rattle.mv_num.specs.declared.kind.Kind.{Kind}
 use Rattle.mv_num.specs.declared.kind.Kind.TheVariants.{Int}
 use Rattle.mv_parse_grammar.specs.Terminals.{Terminal, mark_of, is_mark, keyword_of, is_keyword, is_name, is_name_piece, is_number, is_number_piece, is_string, is_string_piece, rank, is_rank, within_rank, is_sign, is_step, is_type_word, is_type_part, is_specifier}

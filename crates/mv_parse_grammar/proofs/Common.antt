@@ -1,7 +1,7 @@
 -- Lemmas on this crate's words that the crates above share.
 use Rattle.std.proofs.Common.{◌≡◌, ℕ, zero, suc, ◌-◌, ◌<◌, List, ap, arith}
-use Rattle.mv_ast.specs.declared.place.Place.{Place}
-use Rattle.mv_ast.specs.declared.unit.Node.{Node}
+use Rattle.mv_syntax.specs.declared.place.Place.{Place}
+use Rattle.mv_syntax.specs.declared.unit.Node.{Node}
 use Rattle.mv_parse_grammar.specs.Terminals.{Terminal, is_rank}
 use Rattle.mv_parse_grammar.specs.Reader.{go_on}
 use Rattle.mv_parse_grammar.specs.Reader as R

@@ -1,14 +1,14 @@
 -- Which statements end in an `if` without `else`, form by form.
 use Rattle.std.proofs.Common.{◌≡◌, Bool, true, false, Option, Some, None, List, ap, ◌∙◌}
-use Rattle.mv_ast.specs.declared.place.Place.{Place}
-use Rattle.mv_ast.specs.declared.unit.Node.{Node}
-use Rattle.mv_ast.specs.declared.unit.Specs.{Specs}
-use Rattle.mv_ast.specs.declared.unit.Declarator.{Declarator}
-use Rattle.mv_ast.specs.declared.unit.Line.{Line}
-use Rattle.mv_ast.specs.declared.unit.Act.{Act, roll-Act}
-use Rattle.mv_ast.specs.declared.unit.Act.TheVariants as a
-use Rattle.mv_ast.specs.declared.unit.Act.TheOpen as o
-use Rattle.mv_ast.specs.declared.unit.Act.TheFolds.{fold-roll-Line, fold-roll-Act, fold-Act}
+use Rattle.mv_syntax.specs.declared.place.Place.{Place}
+use Rattle.mv_syntax.specs.declared.unit.Node.{Node}
+use Rattle.mv_syntax.specs.declared.unit.Specs.{Specs}
+use Rattle.mv_syntax.specs.declared.unit.Declarator.{Declarator}
+use Rattle.mv_syntax.specs.declared.unit.Line.{Line}
+use Rattle.mv_syntax.specs.declared.unit.Act.{Act, roll-Act}
+use Rattle.mv_syntax.specs.declared.unit.Act.TheVariants as a
+use Rattle.mv_syntax.specs.declared.unit.Act.TheOpen as o
+use Rattle.mv_syntax.specs.declared.unit.Act.TheFolds.{fold-roll-Line, fold-roll-Act, fold-Act}
 use denote.Hole.Carrier.{roll}
 use Rattle.mv_parse_grammar.specs.Statements.{is_open, line_at, act_open, line_open}
 

@@ -1,7 +1,7 @@
 -- A reader that takes exactly the phrases of a language, and fails at the first token with which no phrase begins.
 use Rattle.std.proofs.Common.{◌≡◌, ℕ, zero, suc, ◌<◌, ◌≤◌, Bool, true, false, cond, Option, Some, None, List, [], ◌∷◌, ◌++◌, inl, inr, length, refl, sym, ap, subst, ◌∙◌, append_assoc, length-append, arith}
 use Rattle.std.proofs.lemmas.List.{append_cancel_right}
-use Rattle.mv_ast.specs.declared.place.Place.{Place}
+use Rattle.mv_syntax.specs.declared.place.Place.{Place}
 use Rattle.mv_parse_grammar.specs.Terminals.{Terminal}
 use Rattle.mv_parse_grammar.specs.Language as L
 use Rattle.mv_parse_grammar.specs.Language.{IsGiven, place_of, turns}

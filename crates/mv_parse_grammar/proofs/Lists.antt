@@ -1,7 +1,7 @@
 -- Lists with commas, and lists in braces.
 use Rattle.std.proofs.Common.{◌≡◌, ℕ, zero, suc, ◌+◌, ◌*◌, ◌<◌, ◌≤◌, Bool, true, false, List, [], ◌∷◌, ◌++◌, inl, inr, length, refl, sym, ap, subst, ◌∙◌, append_assoc, arith}
 use Rattle.std.proofs.lemmas.List.{append-nil}
-use Rattle.mv_ast.specs.declared.token.Piece.TheVariants.{Mark}
+use Rattle.mv_syntax.specs.declared.token.Piece.TheVariants.{Mark}
 use Rattle.mv_parse_grammar.specs.Terminals.{Terminal, is_mark}
 use Rattle.mv_parse_grammar.specs.Language as L
 use Rattle.mv_parse_grammar.specs.Language.{IsThen}

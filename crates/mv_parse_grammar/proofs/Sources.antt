@@ -3,7 +3,7 @@ use Rattle.std.proofs.Common.{◌≡◌, ℕ, zero, suc, ◌+◌, ◌-◌, ◌<�
 use Rattle.std.proofs.lemmas.List.{take-append-le, drop-append-le, length-drop}
 use Rattle.std.proofs.lemmas.Bool.{cases_lt}
 use Rattle.std.proofs.Math.Seq.{drop-append_seam, take-append_seam}
-use Rattle.mv_ast.specs.declared.token.Token.{Token}
+use Rattle.mv_syntax.specs.declared.token.Token.{Token}
 use Rattle.mv_parse_grammar.specs.Terminals.{Terminal, terminal, terminals}
 use Rattle.mv_parse_grammar.specs.Units.{AreItems}
 use Rattle.mv_parse_grammar.specs.Reading.{Begins, BeginsIn, AreWithin}

@@ -1,9 +1,9 @@
 -- The reading of items takes exactly the phrases of the grammar.
 use Rattle.std.proofs.Common.{◌≡◌, ℕ, ◌≤◌, Bool, true, false, Some, None, List, [], ◌∷◌, ◌++◌, inl, inr, refl, sym, ap, subst, ◌∙◌, arith}
-use Rattle.mv_ast.specs.declared.token.Piece.TheVariants.{Mark}
-use Rattle.mv_ast.specs.declared.unit.Specs.{Specs}
-use Rattle.mv_ast.specs.declared.unit.Declarator.{Declarator}
-use Rattle.mv_ast.specs.declared.unit.Item.{Item}
+use Rattle.mv_syntax.specs.declared.token.Piece.TheVariants.{Mark}
+use Rattle.mv_syntax.specs.declared.unit.Specs.{Specs}
+use Rattle.mv_syntax.specs.declared.unit.Declarator.{Declarator}
+use Rattle.mv_syntax.specs.declared.unit.Item.{Item}
 use Rattle.mv_parse_grammar.specs.Terminals.{Terminal, is_mark, is_keyword, is_specifier}
 use Rattle.mv_parse_grammar.specs.Language as L
 use Rattle.mv_parse_grammar.specs.Language.{IsThen}

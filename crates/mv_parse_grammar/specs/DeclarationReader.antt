@@ -1,17 +1,17 @@
 -- What the reading of declarations takes, step by step.
 use Rattle.std.specs.Prelude.{ℕ, zero, suc, Bool, true, false, Option, Some, None, List, [], ◌++◌}
-use Rattle.mv_ast.specs.declared.unit.Node.{Node}
-use Rattle.mv_ast.specs.declared.unit.Specs.{Specs}
-use Rattle.mv_ast.specs.declared.unit.EnumSpec.{EnumSpec}
-use Rattle.mv_ast.specs.declared.unit.Member.{Member}
-use Rattle.mv_ast.specs.declared.unit.Mark.{Mark}
-use Rattle.mv_ast.specs.declared.unit.Declarator.{Declarator}
-use Rattle.mv_ast.specs.declared.unit.Shape.TheVariants as shape
-use Rattle.mv_ast.specs.declared.unit.Param.{Param}
-use Rattle.mv_ast.specs.declared.unit.Initial.{Initial}
-use Rattle.mv_ast.specs.declared.unit.Initial.TheVariants as i
+use Rattle.mv_syntax.specs.declared.unit.Node.{Node}
+use Rattle.mv_syntax.specs.declared.unit.Specs.{Specs}
+use Rattle.mv_syntax.specs.declared.unit.EnumSpec.{EnumSpec}
+use Rattle.mv_syntax.specs.declared.unit.Member.{Member}
+use Rattle.mv_syntax.specs.declared.unit.Mark.{Mark}
+use Rattle.mv_syntax.specs.declared.unit.Declarator.{Declarator}
+use Rattle.mv_syntax.specs.declared.unit.Shape.TheVariants as shape
+use Rattle.mv_syntax.specs.declared.unit.Param.{Param}
+use Rattle.mv_syntax.specs.declared.unit.Initial.{Initial}
+use Rattle.mv_syntax.specs.declared.unit.Initial.TheVariants as i
 use Rattle.mv_ast.specs.Marks as marks
-use Rattle.mv_ast.specs.Keywords as keywords
+use Rattle.mv_syntax.specs.Keywords as keywords
 use Rattle.mv_parse_grammar.specs.Terminals.{Terminal, keyword, is_mark, is_keyword, is_name, is_string, is_multiverse, is_type_word, is_specifier}
 use Rattle.mv_parse_grammar.specs.Reader.{Read, Deep, give, token, ◌>>=◌, choice, marked, chain, optional, comma_list, braced_list}
 use Rattle.mv_parse_grammar.specs.Expressions.{Assign, Cond, no_specs, specs_at, with_const, with_word, with_tag, tag_of}

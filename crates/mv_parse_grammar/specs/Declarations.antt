@@ -1,26 +1,26 @@
 -- The grammar of declarations (C11 6.7), production by production: specifiers, declarators, parameters, initial values.
 use Rattle.std.specs.Prelude.{ℕ, zero, suc, Bool, true, false, ◌&&◌, not, if◌then◌else◌, Option, Some, None, List, [], ◌∷◌, ◌++◌}
 use Rattle.std.specs.Str.{bytes_eq}
-use Rattle.mv_ast.specs.declared.place.Place.{Place}
-use Rattle.mv_ast.specs.declared.token.Piece.{Piece}
-use Rattle.mv_ast.specs.declared.token.Piece.TheVariants as piece
-use Rattle.mv_ast.specs.declared.unit.Node.{Node}
-use Rattle.mv_ast.specs.declared.unit.Specs.{Specs, out-Specs}
-use Rattle.mv_ast.specs.declared.unit.EnumSpec.{EnumSpec, roll-EnumSpec}
-use Rattle.mv_ast.specs.declared.unit.Member.{Member, roll-Member}
-use Rattle.mv_ast.specs.declared.unit.Mark.{Mark, roll-Mark}
-use Rattle.mv_ast.specs.declared.unit.Declarator.{Declarator}
-use Rattle.mv_ast.specs.declared.unit.Shape.{Shape, out-Shape}
-use Rattle.mv_ast.specs.declared.unit.Shape.TheVariants as shape
-use Rattle.mv_ast.specs.declared.unit.Param.{Param}
-use Rattle.mv_ast.specs.declared.unit.Initial.{Initial}
-use Rattle.mv_ast.specs.declared.unit.Initial.TheVariants as i
+use Rattle.mv_syntax.specs.declared.place.Place.{Place}
+use Rattle.mv_syntax.specs.declared.token.Piece.{Piece}
+use Rattle.mv_syntax.specs.declared.token.Piece.TheVariants as piece
+use Rattle.mv_syntax.specs.declared.unit.Node.{Node}
+use Rattle.mv_syntax.specs.declared.unit.Specs.{Specs, out-Specs}
+use Rattle.mv_syntax.specs.declared.unit.EnumSpec.{EnumSpec, roll-EnumSpec}
+use Rattle.mv_syntax.specs.declared.unit.Member.{Member, roll-Member}
+use Rattle.mv_syntax.specs.declared.unit.Mark.{Mark, roll-Mark}
+use Rattle.mv_syntax.specs.declared.unit.Declarator.{Declarator}
+use Rattle.mv_syntax.specs.declared.unit.Shape.{Shape, out-Shape}
+use Rattle.mv_syntax.specs.declared.unit.Shape.TheVariants as shape
+use Rattle.mv_syntax.specs.declared.unit.Param.{Param}
+use Rattle.mv_syntax.specs.declared.unit.Initial.{Initial}
+use Rattle.mv_syntax.specs.declared.unit.Initial.TheVariants as i
 use Rattle.mv_ast.specs.Marks as marks
-use Rattle.mv_ast.specs.Keywords as keywords
+use Rattle.mv_syntax.specs.Keywords as keywords
 use Rattle.mv_parse_grammar.specs.Terminals.{Terminal, keyword, is_mark, is_keyword, is_name, is_string, is_multiverse, is_type_word}
 use Rattle.mv_parse_grammar.specs.Language.{give, token, ◌>>=◌, ◌or◌, marked, chain, optional, comma_list, braced_list}
 use Rattle.mv_parse_grammar.specs.Expressions.{Expressions, Assign, Cond, phrase, specs_of, no_specs, specs_at, with_const, with_word, with_tag, tag_of}
-use Rattle.mv_ast.specs.Shapes.{is_plain_shape}
+use Rattle.mv_syntax.specs.Shapes.{is_plain_shape}
 
 -- what the parts of declarations say
 

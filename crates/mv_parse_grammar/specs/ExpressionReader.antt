@@ -1,11 +1,11 @@
 -- What the reading of expressions takes, step by step.
 use Rattle.std.specs.Prelude.{ℕ, zero, suc, List, []}
-use Rattle.mv_ast.specs.declared.place.Place.{Place}
-use Rattle.mv_ast.specs.declared.unit.Node.{Node}
-use Rattle.mv_ast.specs.declared.unit.Specs.{Specs}
-use Rattle.mv_ast.specs.declared.unit.What.TheVariants as w
+use Rattle.mv_syntax.specs.declared.place.Place.{Place}
+use Rattle.mv_syntax.specs.declared.unit.Node.{Node}
+use Rattle.mv_syntax.specs.declared.unit.Specs.{Specs}
+use Rattle.mv_syntax.specs.declared.unit.What.TheVariants as w
 use Rattle.mv_ast.specs.Marks as marks
-use Rattle.mv_ast.specs.Keywords as keywords
+use Rattle.mv_syntax.specs.Keywords as keywords
 use Rattle.mv_parse_grammar.specs.Terminals.{Terminal, mark, keyword, is_mark, is_keyword, is_name, is_number, is_rank, is_sign, is_step, is_type_word, is_type_part}
 use Rattle.mv_parse_grammar.specs.Reader.{Read, Deep, give, token, ◌>>=◌, choice, choice_two, marked, chain, comma_list}
 use Rattle.mv_parse_grammar.specs.Expressions.{Nonterminal, Assign, Cond, Cast, Unary, node_at, joined, name_node, number_node, no_specs, specs_at, with_const, with_word, with_tag, tag_of}

@@ -1,16 +1,16 @@
 -- The grammar of expressions (C11 6.5), production by production.
 use Rattle.std.specs.Prelude.{ℕ, zero, suc, Bool, true, false, Some, None, List, [], ◌∷◌, ◌++◌}
-use Rattle.mv_ast.specs.declared.place.Place.{Place}
-use Rattle.mv_ast.specs.declared.token.Piece.{Piece}
-use Rattle.mv_ast.specs.declared.token.Piece.TheVariants as piece
-use Rattle.mv_ast.specs.declared.unit.Node.{Node}
-use Rattle.mv_ast.specs.declared.unit.Specs.{Specs, roll-Specs, out-Specs}
-use Rattle.mv_ast.specs.declared.unit.EnumSpec.{EnumSpec, roll-EnumSpec}
-use Rattle.mv_ast.specs.declared.unit.Mark.{Mark}
-use Rattle.mv_ast.specs.declared.unit.What.{What}
-use Rattle.mv_ast.specs.declared.unit.What.TheVariants as w
+use Rattle.mv_syntax.specs.declared.place.Place.{Place}
+use Rattle.mv_syntax.specs.declared.token.Piece.{Piece}
+use Rattle.mv_syntax.specs.declared.token.Piece.TheVariants as piece
+use Rattle.mv_syntax.specs.declared.unit.Node.{Node}
+use Rattle.mv_syntax.specs.declared.unit.Specs.{Specs, roll-Specs, out-Specs}
+use Rattle.mv_syntax.specs.declared.unit.EnumSpec.{EnumSpec, roll-EnumSpec}
+use Rattle.mv_syntax.specs.declared.unit.Mark.{Mark}
+use Rattle.mv_syntax.specs.declared.unit.What.{What}
+use Rattle.mv_syntax.specs.declared.unit.What.TheVariants as w
 use Rattle.mv_ast.specs.Marks as marks
-use Rattle.mv_ast.specs.Keywords as keywords
+use Rattle.mv_syntax.specs.Keywords as keywords
 use Rattle.mv_num.specs.declared.kind.Kind.TheVariants.{Int}
 use Rattle.mv_parse_grammar.specs.Terminals.{Terminal, mark, keyword, is_mark, is_keyword, is_name, is_number, is_rank, is_sign, is_step, is_type_word}
 use Rattle.mv_parse_grammar.specs.Language.{give, token, ◌>>=◌, ◌or◌, marked, chain, comma_list}

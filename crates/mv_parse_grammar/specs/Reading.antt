@@ -1,10 +1,10 @@
 -- What it is for the tokens of a source to be a translation unit, and where tokens that are none break off.
 use Rattle.std.specs.Prelude.{◌≡◌, ◌≤◌, ℕ, ◌-◌, ◌+◌, ◌*◌, ◌==◌, ◌||◌, nat_lt, if◌then◌else◌, List, [], ◌∷◌, ◌++◌, length, drop}
-use Rattle.mv_ast.specs.declared.place.Place.{Place}
-use Rattle.mv_ast.specs.declared.token.Token.{Token}
-use Rattle.mv_ast.specs.declared.token.Tokens.{Tokens}
-use Rattle.mv_ast.specs.declared.unit.Item.{Item}
-use Rattle.mv_ast.specs.declared.unit.Unit as unit
+use Rattle.mv_syntax.specs.declared.place.Place.{Place}
+use Rattle.mv_syntax.specs.declared.token.Token.{Token}
+use Rattle.mv_syntax.specs.declared.token.Tokens.{Tokens}
+use Rattle.mv_syntax.specs.declared.unit.Item.{Item}
+use Rattle.mv_syntax.specs.declared.unit.Unit as unit
 use Rattle.mv_parse_grammar.specs.Terminals.{Terminal, terminals}
 use Rattle.mv_parse_grammar.specs.Units.{AreItems}
 

@@ -1,12 +1,12 @@
 -- What the reading of statements and local declarations takes, step by step.
 use Rattle.std.specs.Prelude.{ℕ, zero, suc, Option, Some, None, List, []}
-use Rattle.mv_ast.specs.declared.place.Place.{Place}
-use Rattle.mv_ast.specs.declared.unit.Node.{Node}
-use Rattle.mv_ast.specs.declared.unit.Line.{Line}
-use Rattle.mv_ast.specs.declared.unit.Act.{Act}
-use Rattle.mv_ast.specs.declared.unit.Act.TheVariants as a
+use Rattle.mv_syntax.specs.declared.place.Place.{Place}
+use Rattle.mv_syntax.specs.declared.unit.Node.{Node}
+use Rattle.mv_syntax.specs.declared.unit.Line.{Line}
+use Rattle.mv_syntax.specs.declared.unit.Act.{Act}
+use Rattle.mv_syntax.specs.declared.unit.Act.TheVariants as a
 use Rattle.mv_ast.specs.Marks as marks
-use Rattle.mv_ast.specs.Keywords as keywords
+use Rattle.mv_syntax.specs.Keywords as keywords
 use Rattle.mv_parse_grammar.specs.Terminals.{Terminal, is_mark, is_keyword, is_specifier, is_no_end}
 use Rattle.mv_parse_grammar.specs.Reader.{Read, Deep, give, token, ◌>>=◌, choice, marked, chain, pushed, comma_list}
 use Rattle.mv_parse_grammar.specs.Expressions.{Assign, Cond}

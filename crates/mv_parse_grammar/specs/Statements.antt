@@ -1,13 +1,13 @@
 -- The grammar of statements and local declarations (C11 6.8), production by production.
 use Rattle.std.specs.Prelude.{◌≡◌, ℕ, zero, suc, Bool, true, false, Option, Some, None, List, []}
-use Rattle.mv_ast.specs.declared.place.Place.{Place}
-use Rattle.mv_ast.specs.declared.unit.Node.{Node}
-use Rattle.mv_ast.specs.declared.unit.Line.{Line, Line-F, fold-Line}
-use Rattle.mv_ast.specs.declared.unit.Act.{Act, Act-F}
-use Rattle.mv_ast.specs.declared.unit.Act.TheOpen as o
-use Rattle.mv_ast.specs.declared.unit.Act.TheVariants as a
+use Rattle.mv_syntax.specs.declared.place.Place.{Place}
+use Rattle.mv_syntax.specs.declared.unit.Node.{Node}
+use Rattle.mv_syntax.specs.declared.unit.Line.{Line, Line-F, fold-Line}
+use Rattle.mv_syntax.specs.declared.unit.Act.{Act, Act-F}
+use Rattle.mv_syntax.specs.declared.unit.Act.TheOpen as o
+use Rattle.mv_syntax.specs.declared.unit.Act.TheVariants as a
 use Rattle.mv_ast.specs.Marks as marks
-use Rattle.mv_ast.specs.Keywords as keywords
+use Rattle.mv_syntax.specs.Keywords as keywords
 use Rattle.mv_parse_grammar.specs.Terminals.{Terminal, is_mark, is_keyword}
 use Rattle.mv_parse_grammar.specs.Language.{give, token, ◌>>=◌, ◌or◌, marked, chain, when, pushed, comma_list}
 use Rattle.mv_parse_grammar.specs.Expressions.{Expressions, Assign, Cond, phrase}

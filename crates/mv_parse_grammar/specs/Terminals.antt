@@ -1,12 +1,12 @@
 -- The terminals of the grammar: tokens with their spelling, and the classes of them that its productions name.
 use Rattle.std.specs.Prelude.{ℕ, ◌-◌, ◌||◌, ◌&&◌, not, Bool, true, false, List, [], ◌∷◌, nat_eq, nat_le, nat_lt, if◌then◌else◌, slice_index, take, drop, codes}
 use Rattle.std.specs.Str.{bytes_eq}
-use Rattle.mv_ast.specs.declared.place.Place.{Place}
-use Rattle.mv_ast.specs.declared.token.Token.{Token}
-use Rattle.mv_ast.specs.declared.token.Piece.{Piece}
-use Rattle.mv_ast.specs.declared.token.Piece.TheVariants.{Keyword, Name, Number, Chars, Mark}
+use Rattle.mv_syntax.specs.declared.place.Place.{Place}
+use Rattle.mv_syntax.specs.declared.token.Token.{Token}
+use Rattle.mv_syntax.specs.declared.token.Piece.{Piece}
+use Rattle.mv_syntax.specs.declared.token.Piece.TheVariants.{Keyword, Name, Number, Chars, Mark}
 use Rattle.mv_ast.specs.Marks as marks
-use Rattle.mv_ast.specs.Keywords as keywords
+use Rattle.mv_syntax.specs.Keywords as keywords
 
 -- a token, with the bytes that it is in its source
 pub record Terminal : Type 0 where

@@ -1,8 +1,8 @@
 -- What the reading of a translation unit takes, step by step.
 use Rattle.std.specs.Prelude.{ℕ, true, Some, None, List, [], ◌∷◌}
-use Rattle.mv_ast.specs.declared.unit.Specs.{Specs}
-use Rattle.mv_ast.specs.declared.unit.Declarator.{Declarator}
-use Rattle.mv_ast.specs.declared.unit.Item.{Item}
+use Rattle.mv_syntax.specs.declared.unit.Specs.{Specs}
+use Rattle.mv_syntax.specs.declared.unit.Declarator.{Declarator}
+use Rattle.mv_syntax.specs.declared.unit.Item.{Item}
 use Rattle.mv_ast.specs.Marks as marks
 use Rattle.mv_parse_grammar.specs.Terminals.{Terminal, is_mark}
 use Rattle.mv_parse_grammar.specs.Reader.{Read, give, token, ◌>>=◌, choice, chain, pushed, comma_pushed}

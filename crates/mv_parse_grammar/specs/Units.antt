@@ -1,9 +1,9 @@
 -- The grammar of a translation unit (C11 6.9), and what it is for tokens to be one.
 use Rattle.std.specs.Prelude.{ℕ, Option, Some, None, List, [], ◌∷◌}
-use Rattle.mv_ast.specs.declared.unit.Specs.{Specs}
-use Rattle.mv_ast.specs.declared.unit.Declarator.{Declarator}
-use Rattle.mv_ast.specs.declared.unit.Line.{Line}
-use Rattle.mv_ast.specs.declared.unit.Item.{Item}
+use Rattle.mv_syntax.specs.declared.unit.Specs.{Specs}
+use Rattle.mv_syntax.specs.declared.unit.Declarator.{Declarator}
+use Rattle.mv_syntax.specs.declared.unit.Line.{Line}
+use Rattle.mv_syntax.specs.declared.unit.Item.{Item}
 use Rattle.mv_ast.specs.Marks as marks
 use Rattle.mv_parse_grammar.specs.Terminals.{Terminal, is_mark}
 use Rattle.mv_parse_grammar.specs.Language.{give, token, ◌>>=◌, ◌or◌, chain, pushed, comma_list}

@@ -16,9 +16,9 @@
 #![tactic(auto)]
 
 ghost use Rattle.std.specs.Prelude.{◌≡◌, ◌⊎◌, ℕ, List};
-ghost use Rattle.mv_ast.specs.declared.place.Place.{Place};
-ghost use Rattle.mv_ast.specs.declared.token.Tokens.{Tokens};
-ghost use Rattle.mv_ast.specs.declared.unit.Unit as unit;
+ghost use Rattle.mv_syntax.specs.declared.place.Place.{Place};
+ghost use Rattle.mv_syntax.specs.declared.token.Tokens.{Tokens};
+ghost use Rattle.mv_syntax.specs.declared.unit.Unit as unit;
 ghost use Rattle.mv_parse_grammar.specs.Reading as spec;
 
 /// The same tokens are no two units.

@@ -1,7 +1,7 @@
 -- The first level above a limit, by the level of the first token.
 use Rattle.std.proofs.Common.{◌≡◌, ℕ, zero, suc, ◌<◌, ◌≤◌, List, ◌∷◌, length, slice_index, get_or, All, refl, sym, subst, arith}
-use Rattle.mv_ast.specs.declared.place.Place.{Place}
-use Rattle.mv_ast.specs.declared.token.Token.{Token}
+use Rattle.mv_syntax.specs.declared.place.Place.{Place}
+use Rattle.mv_syntax.specs.declared.token.Token.{Token}
 use Rattle.mv_parse_nesting.specs.Nesting.{Pairs, IsFirstAbove, after_piece, goes_on, level_of, levels_from}
 
 pub above_here : (limit level : ℕ) (levels : List ℕ) (t : Token) (ts : List Token) → limit < level → IsFirstAbove limit (level ∷ levels) (t ∷ ts) t.place

@@ -12,9 +12,9 @@ ghost use Rattle.mv_parse_nesting.specs.Nesting as spec;
 mod stack;
 
 use crate::stack::Stack;
-use mv_ast::keywords::{ELSE, WHILE};
-use mv_ast::place::Place;
-use mv_ast::token::{Piece, Token};
+use mv_syntax::keywords::{ELSE, WHILE};
+use mv_syntax::place::Place;
+use mv_syntax::token::{Piece, Token};
 use std::alloc::{AllocError, Global};
 
 /// The greatest level that is read.

@@ -2,8 +2,9 @@
 ghost use Rattle.std.specs.Prelude.{◌≡◌, ◌≤◌, ◌<◌, ◌+◌, OnOk};
 ghost use Rattle.mv_parse_nesting.specs.Nesting as spec;
 
-use mv_ast::token::{Piece, Token};
-use mv_ast::{keywords, marks};
+use mv_ast::marks;
+use mv_syntax::keywords;
+use mv_syntax::token::{Piece, Token};
 use std::alloc::{AllocError, Global};
 use std::marker::Model;
 

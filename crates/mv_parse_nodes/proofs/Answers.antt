@@ -1,6 +1,6 @@
 -- How the answers of the parser's functions follow from those of the functions that they call.
 use Rattle.std.proofs.Common.{◌≡◌, ℕ, zero, suc, Bool, true, false, cond, Some, None, Result, Ok, Err, List, [], ◌∷◌, length, refl, sym, ap, subst, ◌∙◌}
-use Rattle.mv_ast.specs.declared.place.Place.{Place}
+use Rattle.mv_syntax.specs.declared.place.Place.{Place}
 use Rattle.mv_parse_grammar.specs.Terminals.{Terminal}
 use Rattle.mv_parse_nodes.specs.declared.fault.Fault.{Fault}
 use Rattle.mv_parse_nodes.specs.declared.fault.Fault.TheVariants.{Memory, Syntax}

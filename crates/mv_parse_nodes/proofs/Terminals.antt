@@ -1,7 +1,7 @@
 -- A list of tokens has as many terminals.
 use Rattle.std.proofs.Common.{◌≡◌, ◌∙◌, ℕ, Bool, true, false, Err, List, [], ◌∷◌, length, refl, ap, subst}
 use Rattle.std.specs.Prelude.{◌&&◌}
-use Rattle.mv_ast.specs.declared.token.Token.{Token}
+use Rattle.mv_syntax.specs.declared.token.Token.{Token}
 use Rattle.mv_parse_grammar.specs.Terminals.{Terminal, terminals}
 use Rattle.mv_parse_grammar.specs.Reader.{Read, next, next_two}
 use Rattle.mv_parse_grammar.proofs.Verdict.{length_terminals}

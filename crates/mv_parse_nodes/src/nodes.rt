@@ -2,14 +2,14 @@
 //! has one call to drop it.
 ghost use Rattle.std.specs.Prelude.{◌≡◌, [], ◌∷◌, ◌++◌, IfOk, OnOk};
 ghost use Rattle.mv_parse_grammar.specs.Expressions.{node_at};
-ghost use Rattle.mv_ast.specs.declared.unit.What.TheVariants as what;
+ghost use Rattle.mv_syntax.specs.declared.unit.What.TheVariants as what;
 
-use mv_ast::place::Place;
-use mv_ast::unit::{Node, Specs, What};
 use mv_num::boxed::Boxed;
 use mv_num::kind::Kind;
 use mv_num::list::List;
 use mv_num::text::Text;
+use mv_syntax::place::Place;
+use mv_syntax::unit::{Node, Specs, What};
 use std::alloc::{AllocError, Global};
 
 /// A number or a character.

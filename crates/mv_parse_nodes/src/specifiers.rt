@@ -5,10 +5,10 @@ ghost use Rattle.mv_parse_grammar.specs.Declarations as declarations;
 ghost use Rattle.mv_parse_grammar.specs.Terminals.{terminal};
 
 use crate::tokens::text_of;
-use mv_ast::place::Place;
-use mv_ast::token::Token;
-use mv_ast::unit::{EnumSpec, Mark, Specs};
 use mv_num::list::List;
+use mv_syntax::place::Place;
+use mv_syntax::token::Token;
+use mv_syntax::unit::{EnumSpec, Mark, Specs};
 use std::alloc::{AllocError, Global};
 
 /// No specifiers.

@@ -7,16 +7,16 @@ ghost use Rattle.mv_parse_grammar.specs.Terminals.{terminal, terminals, mark_of,
 ghost use Rattle.mv_parse_nodes.specs.Gives.{Gives, IsTaken, IsTakenBefore};
 
 use crate::fault::Fault;
-use mv_ast::keywords::{
-    ATTRIBUTE, BOOL, CHAR, CONST, ENUM, INT, SHORT, SIGNED, STATIC, UNSIGNED, VOID,
-};
 use mv_ast::marks::{
     AMPERSAND, CLOSE_BRACE, COUNT, DECREMENT, EXCLAMATION, INCREMENT, MINUS, OPEN_PARENTHESIS,
     PLUS, STAR, TILDE,
 };
-use mv_ast::place::Place;
-use mv_ast::token::{Piece, Token};
 use mv_num::text::Text;
+use mv_syntax::keywords::{
+    ATTRIBUTE, BOOL, CHAR, CONST, ENUM, INT, SHORT, SIGNED, STATIC, UNSIGNED, VOID,
+};
+use mv_syntax::place::Place;
+use mv_syntax::token::{Piece, Token};
 use std::alloc::{AllocError, Global};
 
 /// How loosely each punctuator binds what is before it.

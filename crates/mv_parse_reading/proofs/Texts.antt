@@ -1,9 +1,9 @@
 -- One source has one unit.
 use Rattle.std.proofs.Common.{◌≡◌, ℕ, List, ap, subst, ◌∙◌}
-use Rattle.mv_ast.specs.declared.place.Place.{Place}
-use Rattle.mv_ast.specs.declared.token.Token.{Token}
-use Rattle.mv_ast.specs.declared.token.Tokens.{Tokens}
-use Rattle.mv_ast.specs.declared.unit.Unit as unit
+use Rattle.mv_syntax.specs.declared.place.Place.{Place}
+use Rattle.mv_syntax.specs.declared.token.Token.{Token}
+use Rattle.mv_syntax.specs.declared.token.Tokens.{Tokens}
+use Rattle.mv_syntax.specs.declared.unit.Unit as unit
 use Rattle.mv_lexer.proofs.OneReading.{tokens_same}
 use Rattle.mv_parse_grammar.specs.Reading.{Reads}
 use Rattle.mv_parse_grammar.proofs.Verdict.{one_reading}

@@ -1,7 +1,7 @@
 -- What it is for a source to read as a translation unit.
 use Rattle.std.specs.Prelude.{ℕ, List}
-use Rattle.mv_ast.specs.declared.token.Tokens.{Tokens}
-use Rattle.mv_ast.specs.declared.unit.Unit as unit
+use Rattle.mv_syntax.specs.declared.token.Tokens.{Tokens}
+use Rattle.mv_syntax.specs.declared.unit.Unit as unit
 use Rattle.mv_lexer.specs.Reading.{AreTokens}
 use Rattle.mv_parse_grammar.specs.Reading.{Reads}
 

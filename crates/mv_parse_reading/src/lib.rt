@@ -5,7 +5,7 @@
 #![tactic(auto)]
 
 ghost use Rattle.std.specs.Prelude.{◌≡◌, ℕ, List};
-ghost use Rattle.mv_ast.specs.declared.unit.Unit as unit;
+ghost use Rattle.mv_syntax.specs.declared.unit.Unit as unit;
 ghost use Rattle.mv_parse_reading.specs.Texts.{ReadsAs};
 
 /// One source has one unit.

@@ -1,7 +1,7 @@
 -- What the reading of statements takes, for those that hold no other statement.
 use Rattle.std.specs.Prelude.{ℕ}
-use Rattle.mv_ast.specs.declared.unit.Line.{Line}
-use Rattle.mv_ast.specs.declared.unit.Act.TheVariants as a
+use Rattle.mv_syntax.specs.declared.unit.Line.{Line}
+use Rattle.mv_syntax.specs.declared.unit.Act.TheVariants as a
 use Rattle.mv_parse_grammar.specs.Terminals.{is_mark, is_keyword}
 use Rattle.mv_parse_grammar.specs.Reader.{give, token, ◌>>=◌, choice}
 use Rattle.mv_parse_grammar.specs.ExpressionReader.{Readers}

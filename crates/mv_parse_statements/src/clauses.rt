@@ -8,12 +8,12 @@ ghost use Rattle.mv_parse_nodes.specs.Gives.{Gives};
 use crate::lines;
 use crate::local::local;
 use mv_ast::marks::{CLOSE_PARENTHESIS, OPEN_PARENTHESIS, SEMICOLON};
-use mv_ast::token::Token;
-use mv_ast::unit::{Line, Node};
 use mv_num::boxed::Boxed;
 use mv_parse_expressions::expression::assign;
 use mv_parse_nodes::fault::Fault;
 use mv_parse_nodes::tokens::{expect_mark, next_mark, next_specifier, place_of};
+use mv_syntax::token::Token;
+use mv_syntax::unit::{Line, Node};
 use std::alloc::Global;
 
 /// An expression in parentheses.

@@ -8,15 +8,15 @@ ghost use Rattle.mv_parse_statements.specs.Forms as forms;
 
 use crate::clauses::value;
 use crate::lines;
-use mv_ast::keywords::{BREAK, CASE, CONTINUE, DEFAULT, RETURN};
 use mv_ast::marks::{COLON, SEMICOLON};
-use mv_ast::place::Place;
-use mv_ast::token::Token;
-use mv_ast::unit::Line;
 use mv_num::boxed::Boxed;
 use mv_parse_expressions::expression::conditional;
 use mv_parse_nodes::fault::Fault;
 use mv_parse_nodes::tokens::{expect_mark, next_keyword, place_of};
+use mv_syntax::keywords::{BREAK, CASE, CONTINUE, DEFAULT, RETURN};
+use mv_syntax::place::Place;
+use mv_syntax::token::Token;
+use mv_syntax::unit::Line;
 use std::alloc::Global;
 
 /// A statement that holds no other.

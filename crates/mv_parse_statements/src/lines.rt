@@ -3,13 +3,13 @@
 ghost use Rattle.std.specs.Prelude.{◌≡◌, None, IfOk};
 ghost use Rattle.mv_parse_grammar.specs.Declarations.{place_of_specs};
 ghost use Rattle.mv_parse_grammar.specs.Statements.{line_at, express};
-ghost use Rattle.mv_ast.specs.declared.unit.Act.TheVariants as act;
+ghost use Rattle.mv_syntax.specs.declared.unit.Act.TheVariants as act;
 
-use mv_ast::place::Place;
-use mv_ast::unit::{Act, Declarator, Line, Node, Specs};
 use mv_num::boxed::Boxed;
 use mv_num::list::List;
 use mv_parse_nodes::nodes::unboxed;
+use mv_syntax::place::Place;
+use mv_syntax::unit::{Act, Declarator, Line, Node, Specs};
 use std::alloc::{AllocError, Global};
 
 /// A block.

@@ -6,13 +6,13 @@ ghost use Rattle.mv_parse_nodes.specs.Gives.{Gives};
 
 use crate::lines;
 use mv_ast::marks::SEMICOLON;
-use mv_ast::token::Token;
-use mv_ast::unit::Line;
 use mv_num::boxed::Boxed;
 use mv_parse_declarations::declarator::declared_list;
 use mv_parse_declarations::specifiers::specs;
 use mv_parse_nodes::fault::Fault;
 use mv_parse_nodes::tokens::expect_mark;
+use mv_syntax::token::Token;
+use mv_syntax::unit::Line;
 use std::alloc::Global;
 
 /// A declaration that declares at least one name.

@@ -9,11 +9,7 @@ use crate::clauses::{condition, first_clause, value};
 use crate::leaves::leaf;
 use crate::lines;
 use crate::local::local;
-use mv_ast::keywords::{DO, ELSE, FOR, IF, SWITCH, WHILE};
 use mv_ast::marks::{CLOSE_BRACE, CLOSE_PARENTHESIS, OPEN_BRACE, OPEN_PARENTHESIS, SEMICOLON};
-use mv_ast::place::Place;
-use mv_ast::token::Token;
-use mv_ast::unit::Line;
 use mv_num::boxed::Boxed;
 use mv_num::list::List;
 use mv_parse_nodes::fault::Fault;
@@ -21,6 +17,10 @@ use mv_parse_nodes::nodes;
 use mv_parse_nodes::tokens::{
     expect_keyword, expect_mark, next_inside, next_keyword, next_mark, next_specifier,
 };
+use mv_syntax::keywords::{DO, ELSE, FOR, IF, SWITCH, WHILE};
+use mv_syntax::place::Place;
+use mv_syntax::token::Token;
+use mv_syntax::unit::Line;
 use std::alloc::Global;
 
 /// A block.

@@ -1,9 +1,9 @@
 -- Each answer has its cause, and each cause its answer.
 use Rattle.std.proofs.Common.{◌≡◌, ℕ, ◌<◌, ◌≤◌, List, [], ◌∷◌, Result, Ok, Err, IfOk, IfErr, length, sym, ap, subst, ◌∙◌, arith}
-use Rattle.mv_ast.specs.declared.place.Place.{Place}
-use Rattle.mv_ast.specs.declared.token.Token.{Token}
-use Rattle.mv_ast.specs.declared.token.Tokens.{Tokens}
-use Rattle.mv_ast.specs.declared.unit.Unit as unit
+use Rattle.mv_syntax.specs.declared.place.Place.{Place}
+use Rattle.mv_syntax.specs.declared.token.Token.{Token}
+use Rattle.mv_syntax.specs.declared.token.Tokens.{Tokens}
+use Rattle.mv_syntax.specs.declared.unit.Unit as unit
 use Rattle.mv_lexer.specs.Reading.{AreTokens, AreSlices}
 use Rattle.mv_lexer.proofs.OneReading.{tokens_same}
 use Rattle.mv_lexer.proofs.SliceLemmas.{tokens_slices}

@@ -1,10 +1,10 @@
 -- What reads all items, at a bound that is enough, tells what the tokens are.
 use Rattle.std.proofs.Common.{◌≡◌, ℕ, Some, None, Ok, Err, List, [], length, refl, sym, ap, subst, ◌∙◌}
-use Rattle.mv_ast.specs.declared.place.Place.{Place}
-use Rattle.mv_ast.specs.declared.token.Token.{Token}
-use Rattle.mv_ast.specs.declared.token.Tokens.{Tokens}
-use Rattle.mv_ast.specs.declared.unit.Item.{Item}
-use Rattle.mv_ast.specs.declared.unit.Unit as unit
+use Rattle.mv_syntax.specs.declared.place.Place.{Place}
+use Rattle.mv_syntax.specs.declared.token.Token.{Token}
+use Rattle.mv_syntax.specs.declared.token.Tokens.{Tokens}
+use Rattle.mv_syntax.specs.declared.unit.Item.{Item}
+use Rattle.mv_syntax.specs.declared.unit.Unit as unit
 use Rattle.mv_parse_nodes.specs.Gives.{Gives, Told}
 use Rattle.mv_parse_nodes.specs.declared.fault.Fault.TheVariants.{Syntax}
 use Rattle.mv_parse_grammar.specs.Terminals.{Terminal, terminals}

@@ -1,6 +1,6 @@
 -- What the reading of declared names takes, where the first declarator was read.
 use Rattle.std.specs.Prelude.{ℕ, List, [], ◌∷◌}
-use Rattle.mv_ast.specs.declared.unit.Declarator.{Declarator}
+use Rattle.mv_syntax.specs.declared.unit.Declarator.{Declarator}
 use Rattle.mv_parse_grammar.specs.Terminals.{Terminal, is_mark}
 use Rattle.mv_parse_grammar.specs.Reader.{Read, ◌>>=◌, chain, comma_pushed}
 use Rattle.mv_parse_grammar.specs.ExpressionReader.{read}

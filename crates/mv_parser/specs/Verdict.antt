@@ -1,8 +1,8 @@
 -- What the tokens of a text are answered with, and why.
 use Rattle.std.specs.Prelude.{◌≡◌, ◌≤◌, ℕ, List, length, take, All, Result, Ok, Err}
-use Rattle.mv_ast.specs.declared.place.Place.{Place}
-use Rattle.mv_ast.specs.declared.token.Tokens.{Tokens}
-use Rattle.mv_ast.specs.declared.unit.Unit as unit
+use Rattle.mv_syntax.specs.declared.place.Place.{Place}
+use Rattle.mv_syntax.specs.declared.token.Tokens.{Tokens}
+use Rattle.mv_syntax.specs.declared.unit.Unit as unit
 use Rattle.mv_parse_nesting.specs.Nesting.{levels, IsFirstAbove}
 use Rattle.mv_parse_grammar.specs.Reading.{Exactly, BreaksAt, BeginsIn}
 use Rattle.mv_parse_reading.specs.Texts.{ReadsAs}

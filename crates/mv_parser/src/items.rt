@@ -10,8 +10,6 @@ ghost use Rattle.mv_parse_nodes.specs.Gives.{Gives};
 ghost use Rattle.mv_parser.specs.Items as forms;
 
 use mv_ast::marks::{COMMA, OPEN_BRACE, SEMICOLON};
-use mv_ast::token::Token;
-use mv_ast::unit::{Declarator, Item, Line, Specs};
 use mv_num::boxed::Boxed;
 use mv_num::list::List;
 use mv_parse_declarations::declarator::{declarator, declared, with_init};
@@ -20,6 +18,8 @@ use mv_parse_nodes::fault::Fault;
 use mv_parse_nodes::nodes;
 use mv_parse_nodes::tokens::{expect_mark, next_any, next_mark};
 use mv_parse_statements::statement::block;
+use mv_syntax::token::Token;
+use mv_syntax::unit::{Declarator, Item, Line, Specs};
 use std::alloc::{AllocError, Global};
 
 /// Items up to the end.

@@ -14,8 +14,8 @@
 #![tactic(auto)]
 
 ghost use Rattle.std.specs.Prelude.{◌≡◌, IfOk, IfErr};
-ghost use Rattle.mv_ast.specs.declared.place.Place.{Place};
-ghost use Rattle.mv_ast.specs.declared.unit.Unit as unit;
+ghost use Rattle.mv_syntax.specs.declared.place.Place.{Place};
+ghost use Rattle.mv_syntax.specs.declared.unit.Unit as unit;
 ghost use Rattle.mv_lexer.specs.Reading.{AreTokens};
 ghost use Rattle.mv_parse_grammar.specs.Reading as grammar;
 ghost use Rattle.mv_parse_reading.specs.Texts.{ReadsAs};
@@ -26,8 +26,8 @@ mod items;
 mod verdict;
 
 use crate::error::ParseError;
-use mv_ast::token::Tokens;
-use mv_ast::unit::Unit;
+use mv_syntax::token::Tokens;
+use mv_syntax::unit::Unit;
 use std::alloc::Global;
 
 /// The translation unit that the tokens of a text are, or why they are refused.

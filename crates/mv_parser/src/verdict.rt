@@ -5,11 +5,11 @@ ghost use Rattle.mv_parser.specs.Verdict as spec;
 
 use crate::error::ParseError;
 use crate::items::items;
-use mv_ast::place::Place;
-use mv_ast::token::{Token, Tokens};
-use mv_ast::unit::Unit;
 use mv_parse_nesting::first_too_deep;
 use mv_parse_nodes::fault::Fault;
+use mv_syntax::place::Place;
+use mv_syntax::token::{Token, Tokens};
+use mv_syntax::unit::Unit;
 use std::alloc::{AllocError, Global};
 
 /// The unit that tokens are, where they are not nested too deep.

@@ -9,7 +9,7 @@ use Rattle.mv_ast.specs.declared.program.Program.{Program}
 use Rattle.mv_ast.specs.declared.program.Global.{Global}
 use Rattle.mv_ast.specs.declared.program.Switch.{Switch}
 use Rattle.mv_ast.specs.Counts.{words_of_size}
-use Rattle.mv_ast.specs.Plans.{global_or_none, values_or_none}
+use Rattle.mv_ast.specs.Switches.{global_or_none, values_or_none}
 use Rattle.mv_source_forms.specs.WellFormed.{IsWellFormed, IsWellFormedGlobal, IsWellFormedSwitch}
 use Rattle.mv_source_facts.specs.Facts.{IsTableSwitch, HasTableFacts}
 use Rattle.mv_merge.specs.declared.rows.Domain.{Domain}

@@ -7,7 +7,7 @@ use Rattle.mv_num.specs.Bytes.{AreWords}
 use Rattle.mv_ast.specs.declared.program.Program.{Program}
 use Rattle.mv_ast.specs.declared.program.Function.{Function}
 use Rattle.mv_ast.specs.Counts.{assignments}
-use Rattle.mv_ast.specs.Plans.{switch_domain}
+use Rattle.mv_ast.specs.Switches.{switch_domain}
 use Rattle.mv_descriptors.specs.declared.rows.GuardRow.{GuardRow}
 use Rattle.mv_ir.specs.declared.body.Body.{Body}
 use Rattle.mv_ir.specs.Combinations.{IsCombination, AreAllCombinations}

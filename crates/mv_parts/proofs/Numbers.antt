@@ -5,7 +5,7 @@ use Rattle.std.proofs.lemmas.List.Sums.{sum_by-cons}
 use Rattle.std.proofs.lemmas.Option.{slice_get-get_or, same_Some}
 use Rattle.mv_ast.specs.declared.program.Program.{Program}
 use Rattle.mv_ast.specs.declared.program.Function.{Function}
-use Rattle.mv_ast.specs.Plans.{attributed_before}
+use Rattle.mv_ast.specs.Switches.{attributed_before}
 use Rattle.mv_variants.proofs.Functions.{IsAttributed}
 use Rattle.mv_parts.specs.Numbers.{attributed_from, attributed_numbers}
 

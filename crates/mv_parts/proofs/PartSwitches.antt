@@ -7,7 +7,7 @@ use Rattle.mv_ast.specs.declared.program.Program.{Program}
 use Rattle.mv_ast.specs.declared.program.Global.{Global}
 use Rattle.mv_ast.specs.declared.program.Switch.{Switch}
 use Rattle.mv_ast.specs.Counts.{words_of_size}
-use Rattle.mv_ast.specs.Plans.{global_or_none}
+use Rattle.mv_ast.specs.Switches.{global_or_none}
 use Rattle.mv_linker.specs.declared.parts.PartSwitch.{PartSwitch}
 use Rattle.mv_link_data.proofs.Places.{size_of}
 use Rattle.mv_variants.specs.Domains.{kind_or_int, switch_kind}

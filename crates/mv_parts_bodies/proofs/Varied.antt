@@ -6,7 +6,8 @@ use Rattle.std.proofs.lemmas.List.Elements.{All-append, All-weaker}
 use Rattle.std.proofs.lemmas.Option.{slice_get_within}
 use Rattle.mv_ast.specs.declared.program.Program.{Program}
 use Rattle.mv_ast.specs.declared.program.Function.{Function}
-use Rattle.mv_ast.specs.Plans.{is_among, switch_domain}
+use Rattle.mv_num.specs.Lists.{is_among}
+use Rattle.mv_ast.specs.Switches.{switch_domain}
 use Rattle.mv_ir.specs.declared.body.Body.{Body}
 use Rattle.mv_ir.specs.Measures.{scalars_read, arrays_read}
 use Rattle.mv_ir.specs.Programs.{setting_of}

@@ -5,7 +5,7 @@ use Rattle.std.specs.List.{filter}
 use Rattle.std.proofs.Math.Nat.{mul_comm, suc-mul}
 use Rattle.mv_ast.specs.declared.program.Function.{Function}
 use Rattle.mv_ast.specs.Counts as counts
-use Rattle.mv_ast.specs.Plans.{attributed_functions}
+use Rattle.mv_ast.specs.Switches.{attributed_functions}
 use Rattle.mv_parts_bound.specs.Slots.{AtMost, SlotsArePatchable}
 use Rattle.mv_num.proofs.Lists.{sum_cons}
 

@@ -7,7 +7,7 @@ use Rattle.mv_num.specs.declared.kind.Kind.{Kind}
 use Rattle.mv_num.specs.Kinds.{kind_number}
 use Rattle.mv_num.specs.Bytes.{AreWords}
 use Rattle.mv_ast.specs.declared.program.Program.{Program}
-use Rattle.mv_ast.specs.Plans.{switch_domain}
+use Rattle.mv_ast.specs.Switches.{switch_domain}
 use Rattle.mv_ir.specs.Combinations.{IsCombination, AreAllCombinations}
 use Rattle.mv_image.specs.Spelling.{Fields}
 use Rattle.mv_image.specs.Patched.{kind_in, kind_of, kinds_of}

@@ -3,7 +3,7 @@ use Rattle.std.specs.Prelude.{ℕ, suc, ◌+◌, ◌*◌, ◌≡◌, ◌≤◌, 
 use Rattle.mv_ast.specs.declared.program.Program.{Program}
 use Rattle.mv_ast.specs.declared.program.Function.{Function}
 use Rattle.mv_ast.specs.Counts as counts
-use Rattle.mv_ast.specs.Plans.{attributed_functions}
+use Rattle.mv_ast.specs.Switches.{attributed_functions}
 use Rattle.mv_isa.specs.declared.labelled.Line.{Line}
 use Rattle.mv_isa.specs.declared.labelled.Line.TheVariants.{Slot}
 use Rattle.mv_ir.specs.declared.stm.Stm.{Stm}

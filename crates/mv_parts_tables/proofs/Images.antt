@@ -11,13 +11,14 @@ use Rattle.mv_ast.specs.declared.program.Known.TheVariants.{Plan}
 use Rattle.mv_ast.specs.declared.program.CType.{CType}
 use Rattle.mv_ast.specs.declared.program.CType.TheVariants.{Void, Scalar, Pointer}
 use Rattle.mv_ast.specs.declared.program.Global.{Global}
-use Rattle.mv_ast.specs.declared.world.Action.{Action}
-use Rattle.mv_ast.specs.declared.world.Action.TheVariants.{Skip, Flip}
+use Rattle.mv_bindings.specs.declared.action.Action.{Action}
+use Rattle.mv_bindings.specs.declared.action.Action.TheVariants.{Skip, Flip}
 use Rattle.mv_ast.specs.Actions.{is_value_of, is_global_value, is_switch_value}
 use Rattle.mv_ast.specs.Actions as source
 use Rattle.mv_ast.specs.Counts as counts
 use Rattle.mv_ast.specs.Counts.{is_attributed, words_of_size}
-use Rattle.mv_ast.specs.Plans.{attributed_before, attributed_functions, free}
+use Rattle.mv_ast.specs.Switches.{attributed_before, attributed_functions}
+use Rattle.mv_bindings.specs.Bindings.{free}
 use Rattle.mv_ir_worlds.proofs.Functions as fit
 use Rattle.mv_descriptors.specs.declared.rows.SwitchRow.{SwitchRow}
 use Rattle.mv_descriptors.specs.declared.rows.FunctionRow.{FunctionRow}

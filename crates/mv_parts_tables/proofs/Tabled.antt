@@ -6,7 +6,7 @@ use Rattle.std.proofs.Math.Seq.{take-append_seam}
 use Rattle.mv_ast.specs.declared.program.Program.{Program}
 use Rattle.mv_ast.specs.declared.program.Function.{Function}
 use Rattle.mv_ast.specs.declared.program.Switch.{Switch}
-use Rattle.mv_ast.specs.Plans.{global_or_none}
+use Rattle.mv_ast.specs.Switches.{global_or_none}
 use Rattle.mv_ir.specs.declared.body.Body.{Body}
 use Rattle.mv_ir.specs.Measures.{joined}
 use Rattle.mv_descriptors.specs.declared.rows.GuardRow.{GuardRow}

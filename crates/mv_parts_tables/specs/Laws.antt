@@ -3,10 +3,10 @@ use Rattle.std.specs.Prelude.{ℕ, ◌≡◌, ◌+◌, ◌*◌, ◌≤◌, true,
 use Rattle.mv_ast.specs.declared.program.Program.{Program}
 use Rattle.mv_ast.specs.declared.program.Function.{Function}
 use Rattle.mv_ast.specs.declared.program.Known.TheVariants.{Plan}
-use Rattle.mv_ast.specs.declared.world.Action.{Action}
+use Rattle.mv_bindings.specs.declared.action.Action.{Action}
 use Rattle.mv_ast.specs.Actions as source
 use Rattle.mv_ast.specs.Counts as counts
-use Rattle.mv_ast.specs.Plans.{attributed_before}
+use Rattle.mv_ast.specs.Switches.{attributed_before}
 use Rattle.mv_ast.specs.Starts.{first_world_under}
 use Rattle.mv_ir.specs.declared.body.Body.{Body}
 use Rattle.mv_source_forms.specs.Names.{global_words}

@@ -3,7 +3,7 @@ use Rattle.std.specs.Prelude.{ℕ, ◌≡◌, ◌+◌, ◌<◌, ◌^◌, List, m
 use Rattle.std.specs.List.{zip}
 use Rattle.mv_ast.specs.declared.program.Program.{Program}
 use Rattle.mv_ast.specs.declared.program.Function.{Function}
-use Rattle.mv_ast.specs.Plans.{switch_domain}
+use Rattle.mv_ast.specs.Switches.{switch_domain}
 use Rattle.mv_ir.specs.Combinations.{AllApart, IsCombination}
 use Rattle.mv_lower_spec.specs.Functions.{lower_function}
 use Rattle.mv_parts_bound.specs.Meant.{IsVariantOf}

@@ -1,11 +1,12 @@
 -- What a plan is filled with.
 use Rattle.std.proofs.Common.{◌≡◌, ℕ, List, ◌++◌, length, take, drop, ap, ◌∙◌}
 use Rattle.std.proofs.Math.Seq.{take-append_seam}
-use Rattle.mv_ast.specs.declared.world.Binding.{Binding}
+use Rattle.mv_bindings.specs.declared.binding.Binding.{Binding}
 use Rattle.mv_fetch.specs.Held.{Held}
 use Rattle.mv_image.specs.Spelling.{Fields}
 use Rattle.mv_patch.specs.declared.prepared.Pair.{Pair}
-use Rattle.mv_patch.specs.Orders.{Planned, is_ordered, next_binding, bindings_after, answer_after, plan_between, plan_of}
+use Rattle.mv_patch.specs.Plans.{Planned, plan_between, plan_of}
+use Rattle.mv_patch.specs.Orders.{is_ordered, next_binding, bindings_after, answer_after}
 use Rattle.mv_patch.proofs.Rebinding.{ordered_count}
 
 -- a slice that is written back over a whole list

@@ -8,8 +8,8 @@ use Rattle.mv_descriptors.specs.declared.rows.FunctionRow.{FunctionRow}
 use Rattle.mv_descriptors.specs.declared.rows.GuardRow.{GuardRow}
 use Rattle.mv_descriptors.specs.Guards.{each_below, is_between, value_fits, holds, fitting}
 use Rattle.mv_image.specs.Spelling.{Fields}
-use Rattle.mv_ast.specs.declared.world.Binding.{Binding}
-use Rattle.mv_ast.specs.Plans.{free, bound_to}
+use Rattle.mv_bindings.specs.declared.binding.Binding.{Binding}
+use Rattle.mv_bindings.specs.Bindings.{free, bound_to}
 use Rattle.mv_fetch.specs.Held.{Held}
 use Rattle.mv_patch.specs.Orders.{bound_values, word_in, words_now, bound_now}
 use Rattle.mv_image.specs.Patched.{variant_under, variants_before, guards_before, kinds_of, fitting_in, fitting_variant}

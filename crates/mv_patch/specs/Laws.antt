@@ -1,7 +1,7 @@
 -- What plans are made of: the pairs of two texts, and the addresses that the tables of an image tell.
 use Rattle.std.specs.Prelude.{ℕ, ◌≡◌, ◌≢◌, ◌<◌, ◌≤◌, List, [], length, slice_get, slice_index, slice_index_or, Some}
 use Rattle.std.specs.List.{All, Contains}
-use Rattle.mv_ast.specs.declared.world.Binding.{Binding}
+use Rattle.mv_bindings.specs.declared.binding.Binding.{Binding}
 use Rattle.mv_fetch.specs.Held.{Held}
 use Rattle.mv_image.specs.Spelling.{Fields}
 use Rattle.mv_image.specs.Faults.{Rules}

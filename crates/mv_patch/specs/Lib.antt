@@ -6,3 +6,4 @@ pub mod Shown
 pub mod Tables
 pub mod Laws
 pub mod Stores
+pub mod Plans

@@ -1,18 +1,18 @@
 -- What a commit or a revert does, by the tables of an image and the words of its switches in memory.
 use Rattle.std.specs.Prelude.{ℕ, suc, ◌+◌, Bool, ◌&&◌, ◌||◌, List, [], ◌∷◌, map, take, length, replicate, is_some, Option, Some, None, if◌then◌else◌, nat_eq, nat_lt, slice_get, unwrap_or, option_and_then}
 use Rattle.std.specs.Result.{result_ok}
-use Rattle.mv_ast.specs.declared.world.Binding.{Binding}
-use Rattle.mv_ast.specs.Orders as orders
-use Rattle.mv_ast.specs.Plans.{is_among, is_commit, free, bound_to}
+use Rattle.mv_bindings.specs.declared.binding.Binding.{Binding}
+use Rattle.mv_bindings.specs.OrderNumbers as orders
+use Rattle.mv_num.specs.Lists.{is_among}
+use Rattle.mv_bindings.specs.OrderNumbers.{is_commit}
+use Rattle.mv_bindings.specs.Bindings.{free, bound_to}
 use Rattle.mv_descriptors.specs.declared.rows.SwitchRow.{SwitchRow}
 use Rattle.mv_descriptors.specs.declared.rows.FunctionRow.{FunctionRow}
 use Rattle.mv_fetch.specs.Held.{Held, load}
 use Rattle.mv_image.specs.Spelling.{Fields}
-use Rattle.mv_image.specs.Patched.{Bindings, fitting_variant, text_of}
+use Rattle.mv_image.specs.Patched.{Bindings, fitting_variant}
 use Rattle.mv_patch.specs.declared.order.Order.{Order}
 use Rattle.mv_patch.specs.declared.order.Order.TheVariants.{CommitAll, RevertAll, CommitFunction, RevertFunction, CommitRefs, RevertRefs}
-use Rattle.mv_patch.specs.declared.prepared.Pair.{Pair}
-use Rattle.mv_patch.specs.Pairs.{pairs_between}
 
 -- ---- orders, by their codes
 
@@ -93,25 +93,3 @@ bound_rows addressed i (row ∷ rows) (b ∷ bs) = (if addressed i row && b.boun
 -- the answer to an order, by the bindings behind it
 unfoldable pub answer_after : Fields → (code index : ℕ) → List Binding → ℕ
 answer_after image code index bs = if is_commit code then bound_rows (is_ordered code index) 0 image.functions bs else 0
-
--- ---- plans
-
--- what makes the text of some bindings that of others
-abbrev pub plan_between : Fields → (old new : List Binding) → List Pair
-plan_between image old new = pairs_between (text_of image (values_of old)) (text_of image (values_of new))
-
--- the words that an order changes, the bindings behind it, and its answer
-pub record Planned : Type 0 where
-  pub pairs : List Pair
-  pub bound : List Binding
-  pub answer : ℕ
-
-unfoldable pub plan_of : Fields → Held → List Binding → (code index : ℕ) → Planned
-plan_of image held old code index =
-    let new = bindings_after image held code index old in
-    record { pairs = plan_between image old new; bound = new; answer = answer_after image code index new }
-
--- a plan, and the number of pairs for which it has memory
-pub record Prepared : Type 0 where
-  pub planned : Planned
-  pub room : ℕ

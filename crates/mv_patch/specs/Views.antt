@@ -1,7 +1,7 @@
 -- What the fields of a `Plan` stand for.
 use Rattle.std.specs.Prelude.{◌≡◌, ◌≤◌, length, vec_capacity}
 use Rattle.mv_patch.specs.declared.prepared.Plan.TheInside.{Inside}
-use Rattle.mv_patch.specs.Orders.{Prepared}
+use Rattle.mv_patch.specs.Plans.{Prepared}
 
 abbrev pub view : Inside → Prepared
 view plan = record { planned = record { pairs = plan.pairs.items; bound = plan.bound.items; answer = plan.answer }; room = plan.room }

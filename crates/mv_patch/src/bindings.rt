@@ -1,7 +1,7 @@
 //! The bindings behind an order, and the variants that they lead to.
 
 ghost use Rattle.std.specs.Prelude.{◌≡◌, ◌++◌, ◌≤◌, ◌<◌, ◌^◌, ◌&&◌, ℕ, if◌then◌else◌, length, take, replicate, slice_get, slice_index, Some};
-ghost use Rattle.mv_ast.specs.Plans.{bound_to, free};
+ghost use Rattle.mv_bindings.specs.Bindings.{bound_to, free};
 ghost use Rattle.mv_image.specs.Patched.{variant_under};
 ghost use Rattle.mv_patch.specs.Groups.{IsGroup, IsRow};
 ghost use Rattle.mv_patch.specs.Orders.{code_of, index_of, is_ordered, bound_values, values_of, word_in, words_now, bound_now, next_binding, bindings_after, bound_rows, answer_after};
@@ -9,7 +9,7 @@ ghost use Rattle.mv_patch.specs.Shown.{AreShown};
 
 use crate::groups::{Group, first_group, fitting_variant, next_group, row_at};
 use crate::order::Order;
-use mv_ast::world::Binding;
+use mv_bindings::binding::Binding;
 use mv_descriptors::{FunctionRow, Row, VariantRow};
 use mv_fetch::Memory;
 use mv_image::Image;

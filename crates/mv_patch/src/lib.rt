@@ -4,7 +4,7 @@
 //! behind it, and its answer. `plan` is proved to give exactly the words at which the texts of the two bindings differ, and
 //! the bindings and the answer that the tables of the image and the words of the switches in memory say.
 //!
-//! - `specs/Orders.antt` defines what an order does by the tables of an image and the words of its switches in memory:
+//! - `specs/Orders.antt` and `specs/Plans.antt` define what an order does by the tables of an image and the words of its switches in memory:
 //!   the bindings behind it, its answer, and the pairs, which are the addresses at which the text of the new bindings
 //!   differs from that of the old ones, with the new words.
 //! - `plan` fills a plan with exactly these, for all six orders. It answers `Live(live)` exactly where `live` is above 0,

@@ -1,5 +1,6 @@
 ghost use Rattle.std.specs.Prelude.{◌≡◌, ◌≤◌, take};
-ghost use Rattle.mv_ast.specs.Plans.{is_among, is_commit};
+ghost use Rattle.mv_num.specs.Lists.{is_among};
+ghost use Rattle.mv_bindings.specs.OrderNumbers.{is_commit};
 ghost use Rattle.mv_patch.specs.Orders.{code_of, index_of, is_ordered};
 
 use mv_descriptors::FunctionRow;

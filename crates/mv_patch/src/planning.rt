@@ -1,10 +1,11 @@
 ghost use Rattle.std.specs.Prelude.{◌≡◌, ◌≤◌, ◌<◌, length, OnOk, OnErr, IfErr};
 ghost use Rattle.mv_patch.specs.Tables.{patchable};
-ghost use Rattle.mv_patch.specs.Orders.{code_of, index_of, plan_of};
+ghost use Rattle.mv_patch.specs.Orders.{code_of, index_of};
+ghost use Rattle.mv_patch.specs.Plans.{plan_of};
 
 use crate::order::Order;
 use crate::prepared::Plan;
-use mv_ast::world::Binding;
+use mv_bindings::binding::Binding;
 use mv_fetch::Memory;
 use mv_image::Image;
 use mv_num::list::List;

@@ -1,14 +1,15 @@
 //! What a plan holds.
 
 ghost use Rattle.std.specs.Prelude.{◌≡◌, ◌≤◌, [], length, replicate, IfOk};
-ghost use Rattle.mv_ast.specs.Plans.{free};
+ghost use Rattle.mv_bindings.specs.Bindings.{free};
 ghost use Rattle.mv_patch.specs.Tables.{patchable};
-ghost use Rattle.mv_patch.specs.Orders.{code_of, index_of, first_bindings, plan_of};
+ghost use Rattle.mv_patch.specs.Orders.{code_of, index_of, first_bindings};
+ghost use Rattle.mv_patch.specs.Plans.{plan_of};
 
 use crate::bindings::{answer_to, rebind, show};
 use crate::changes::find_changes;
 use crate::order::Order;
-use mv_ast::world::Binding;
+use mv_bindings::binding::Binding;
 use mv_descriptors::VariantRow;
 use mv_fetch::Memory;
 use mv_image::Image;
@@ -45,7 +46,7 @@ const FREE: Binding = Binding {
 };
 
 impl Model for Plan {
-    ghost use Rattle.mv_patch.specs.Orders.{Prepared};
+    ghost use Rattle.mv_patch.specs.Plans.{Prepared};
 
     ghost Value = { Prepared };
 

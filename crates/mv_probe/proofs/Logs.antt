@@ -1,7 +1,7 @@
 -- Probes are told some events and then some more.
 use Rattle.std.proofs.Common.{◌≡◌, ℕ, ◌<◌, ◌≤◌, ◌+◌, ◌-◌, List, [], ◌∷◌, ◌++◌, length, length-append, All, Option, Some, None, option_map, IfSome, refl, sym, subst, ◌∙◌, ap, arith, append_assoc, append-nil, take, take_all, get_or}
 use Rattle.std.proofs.lemmas.List.{take_more}
-use Rattle.mv_ast.specs.declared.world.Event.{Event}
+use Rattle.mv_bindings.specs.declared.binding.Event.{Event}
 use Rattle.mv_probe.specs.Hearing.{Hearing, rest_of, IsPatient, Becomes}
 use Rattle.mv_probe.specs.Fates.{Fates}
 use Rattle.mv_probe.proofs.Fortunes.{fates_then, fates_same, fates_all}

@@ -2,7 +2,7 @@
 use Rattle.std.proofs.Common.{◌≡◌, ℕ, ◌<◌, ◌≤◌, ◌+◌, List, [], ◌∷◌, length, length-set, get_or, set, drop, remove, All, Some, sym, subst, arith, drop-drop, drop-set-lt}
 use Rattle.std.proofs.lemmas.List.Elements.{All-drop}
 use Rattle.std.proofs.lemmas.List.Edits.{length-remove}
-use Rattle.mv_ast.specs.declared.world.Event.{Event}
+use Rattle.mv_bindings.specs.declared.binding.Event.{Event}
 use Rattle.mv_probe.specs.declared.probe.Verdict.TheVariants.{Keep, Leave}
 use Rattle.mv_probe.specs.Hearing.{Hearing, Hears, Answers, IsPatient, Becomes}
 use Rattle.mv_probe.specs.Fates.{Fates}

@@ -1,6 +1,6 @@
 -- What a probe tells of itself.
 use Rattle.std.specs.Prelude.{ℕ, ◌≡◌, ◌-◌, ◌<◌, ◌≤◌, List, ◌++◌, length, Option, Some, None, option_map, IfSome}
-use Rattle.mv_ast.specs.declared.world.Event.{Event}
+use Rattle.mv_bindings.specs.declared.binding.Event.{Event}
 use Rattle.mv_probe.specs.declared.probe.Verdict.{Verdict}
 use Rattle.mv_probe.specs.declared.probe.Verdict.TheVariants.{Keep, Leave}
 

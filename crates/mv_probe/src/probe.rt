@@ -1,8 +1,8 @@
 ghost use Rattle.std.specs.Prelude.{◌≡◌, ◌≤◌, ◌↔◌, ℕ, List, [], ◌∷◌, Option, Some, IfSome, IsNone, length, min, slice_get};
 ghost use Rattle.mv_probe.specs.Hearing.{hearing, Hears, Answers, IsPatient};
-ghost use Rattle.mv_ast.specs.declared.world.Event.{Event};
+ghost use Rattle.mv_bindings.specs.declared.binding.Event.{Event};
 
-use mv_ast::world::Event;
+use mv_bindings::binding::Event;
 
 /// What a probe answers to an event.
 #[derive(Clone, Copy, Debug, Drop, PartialEq, Eq)]

@@ -2,7 +2,7 @@ ghost use Rattle.std.specs.Prelude.{◌≡◌, ◌-◌, ◌≤◌, [], Some, IfO
 ghost use Rattle.mv_probe.specs.Hearing.{hearing};
 
 use crate::probe::{Probe, Verdict};
-use mv_ast::world::Event;
+use mv_bindings::binding::Event;
 use std::alloc::{AllocError, Global};
 
 /// Keeps the events in memory that it takes at the start, and leaves once this is full.

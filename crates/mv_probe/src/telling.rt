@@ -3,7 +3,7 @@ ghost use Rattle.mv_probe.specs.Hearing.{hearing, Hears, Answers, IsPatient, obj
 ghost use Rattle.mv_probe.specs.Fates.{Fates};
 
 use crate::probe::{Probe, Verdict};
-use mv_ast::world::Event;
+use mv_bindings::binding::Event;
 
 // Tells one probe an event.
 fn tell_one(probe: &mut Box<dyn Probe>, event: &Event) -> Verdict

@@ -3,9 +3,9 @@ use Rattle.std.proofs.Common.{◌≡◌, ℕ, ◌+◌, ◌^◌, ◌<◌, List, [
 use Rattle.std.specs.Prelude.{All, IsTrue}
 use Rattle.std.proofs.lemmas.List.{length-append, map-append}
 use Rattle.std.proofs.lemmas.List.Elements.{All-append, All-cons, All-nil, All-take}
-use Rattle.mv_ast.specs.Actions.{act_fits, IsActOfWord}
-use Rattle.mv_ast.specs.Worlds.{act_of}
-use Rattle.mv_ast.specs.declared.world.Action.{Action}
+use Rattle.mv_ast.specs.Actions.{act_fits}
+use Rattle.mv_bindings.specs.Acts.{IsActOfWord, act_of}
+use Rattle.mv_bindings.specs.declared.action.Action.{Action}
 use Rattle.mv_ast.specs.declared.program.Program.{Program}
 use Rattle.mv_refine.specs.CutRuns.{with_input}
 use Rattle.mv_refine.proofs.Leaves.{runs_leave}

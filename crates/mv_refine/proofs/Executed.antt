@@ -4,11 +4,11 @@ use Rattle.std.specs.Prelude.{slice_index, All, IfSome, IsTrue, Result, Ok, Err}
 use Rattle.std.specs.declared.alloc.AllocError.{AllocError}
 use Rattle.std.proofs.lemmas.Bool.{cases_lt}
 use Rattle.std.proofs.lemmas.List.Elements.{All-map, All-weaker}
-use Rattle.mv_ast.specs.Actions.{fits, act_fits, IsOfWord, IsActOfWord}
-use Rattle.mv_ast.specs.Worlds.{act_of}
-use Rattle.mv_ast.specs.declared.world.Action.{Action}
-use Rattle.mv_ast.specs.declared.world.Action.TheVariants.{Skip, Flip}
-use Rattle.mv_ast.specs.declared.world.Event.{Event}
+use Rattle.mv_ast.specs.Actions.{fits, act_fits}
+use Rattle.mv_bindings.specs.Acts.{IsOfWord, IsActOfWord, act_of}
+use Rattle.mv_bindings.specs.declared.action.Action.{Action}
+use Rattle.mv_bindings.specs.declared.action.Action.TheVariants.{Skip, Flip}
+use Rattle.mv_bindings.specs.declared.binding.Event.{Event}
 use Rattle.mv_ast.specs.declared.program.Program.{Program}
 use Rattle.mv_fetch.specs.Held.{Room}
 use Rattle.mv_image.specs.Patched.{text_of}

@@ -1,7 +1,7 @@
 -- A run on what another one takes and one more answer goes as that one does, up to where it takes the one more.
 use Rattle.std.proofs.Common.{◌≡◌, ℕ, zero, suc, ◌-◌, ◌%◌, ◌^◌, ◌⊎◌, inl, inr, ⊎_elim, Bool, true, false, ◌&&◌, if◌then◌else◌, nat_eq, List, [], ◌∷◌, ◌++◌, length, slice_index, Option, refl, sym, ap, ◌∙◌, subst, arith}
 use Rattle.std.proofs.lemmas.List.{length-append, nil_from_length}
-use Rattle.mv_ast.specs.Worlds.{Act, Skip, Flip, Adopt}
+use Rattle.mv_bindings.specs.Acts.{Act, Skip, Flip, Adopt}
 use Rattle.mv_fetch.specs.Held.{Room}
 use Rattle.mv_isa.specs.Execution.{Outcome, Goes, Calls, Faults, reg}
 use Rattle.mv_isa.specs.declared.instr.Cause.TheVariants as cause

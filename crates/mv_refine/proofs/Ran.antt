@@ -1,8 +1,8 @@
 -- From the contract of the machine to the one run that was made.
 use Rattle.std.proofs.Common.{◌≡◌, ℕ, ◌-◌, ◌<◌, List, [], length, take, slice_index, Option, Some, None, refl, sym, ap, ◌∙◌, subst, arith}
 use Rattle.std.specs.Prelude.{IfSome, option_map}
-use Rattle.mv_ast.specs.declared.world.Action.{Action}
-use Rattle.mv_ast.specs.declared.world.Event.{Event}
+use Rattle.mv_bindings.specs.declared.action.Action.{Action}
+use Rattle.mv_bindings.specs.declared.binding.Event.{Event}
 use Rattle.mv_eval.specs.Grown.{Lost}
 use Rattle.mv_image.specs.Spelling.{Fields}
 use Rattle.mv_refine_runs.specs.Behaves.{taken_of}

@@ -1,6 +1,6 @@
 -- Which run of an image was made, and what it left in its environment, in the machine and with the probes.
 use Rattle.std.specs.Prelude.{ℕ, ◌≡◌, ◌<◌, List, take, Option, IfSome, option_map, slice_index}
-use Rattle.mv_ast.specs.declared.world.Event.{Event}
+use Rattle.mv_bindings.specs.declared.binding.Event.{Event}
 use Rattle.mv_image.specs.Spelling.{Fields}
 use Rattle.mv_refine_runs.specs.Behaves.{taken_of}
 use Rattle.mv_machine.specs.Acts.{PollActs}

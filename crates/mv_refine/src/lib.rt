@@ -26,7 +26,7 @@
 #![tactic(auto)]
 
 ghost use Rattle.std.specs.Prelude.{◌≤◌, All, IsTrue};
-ghost use Rattle.mv_ast.specs.Actions.{IsOfWord};
+ghost use Rattle.mv_bindings.specs.Acts.{IsOfWord};
 ghost use Rattle.mv_machine.specs.Actions.{fits};
 ghost use Rattle.mv_probe.specs.Fates.{Fates};
 ghost use Rattle.mv_probe.specs.Hearing.{hearing, object_at, Becomes, IsPatient};
@@ -38,7 +38,7 @@ mod faults;
 
 pub use execution::Execution;
 pub use faults::cut_runs_law;
-use mv_ast::world::Action;
+use mv_bindings::action::Action;
 use mv_build::Built;
 use mv_image::Image;
 use mv_io::{Sink, Source};

@@ -10,7 +10,7 @@ use Rattle.mv_isa.specs.Execution.{reg, put}
 use Rattle.mv_fetch.specs.Held.{Room}
 use Rattle.mv_image.specs.Spelling.{Fields}
 use Rattle.mv_image.specs.Faults.{Rules}
-use Rattle.mv_patch.specs.Orders.{plan_between}
+use Rattle.mv_patch.specs.Plans.{plan_between}
 use Rattle.mv_ir.specs.World.{World, Answer}
 use Rattle.mv_ir.specs.KnownFunctions.{next_byte, written}
 use Rattle.mv_ir.specs.Programs.{setting_of}

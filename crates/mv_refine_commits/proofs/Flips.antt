@@ -2,14 +2,14 @@
 use Rattle.std.proofs.Common.{◌≡◌, ◌≢◌, ⊎_elim, inr, ℕ, ◌+◌, ◌*◌, ◌^◌, ◌<◌, ◌≤◌, List, [], length, slice_get, slice_set, slice_index, slice_index_or, Some, refl, sym, ap, ◌∙◌, subst, arith, length-set}
 use Rattle.std.proofs.lemmas.Bool.{cases_eq, cases_lt}
 use Rattle.std.proofs.lemmas.List.{get_or-set_same, get_or-set_other}
-use Rattle.mv_ast.specs.Plans.{words_or_none, with_word}
+use Rattle.mv_ast.specs.Switches.{words_or_none, with_word}
 use Rattle.mv_isa.specs.Execution.{Access}
 use Rattle.mv_ir.specs.World.{World}
 use Rattle.mv_select_control.specs.Runs.{Machine}
 use Rattle.mv_select_calls.specs.Convention.{Layout, HoldsGlobals}
 use Rattle.mv_select_functions.specs.Functions.{IsLaid, Kept}
 use Rattle.mv_refine_commits.specs.Watched.{Watched}
-use Rattle.mv_ast.specs.Plans as source
+use Rattle.mv_ast.specs.Switches as source
 use Rattle.mv_ast.proofs.Common.{objects_at}
 use Rattle.mv_num.proofs.Lists.{index_beyond}
 

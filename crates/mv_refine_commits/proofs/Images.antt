@@ -2,8 +2,7 @@
 use Rattle.std.proofs.Common.{◌≡◌, ℕ, ◌-◌, ◌^◌, if◌then◌else◌, ◌&&◌, nat_eq, List, [], ◌∷◌, Option, refl, sym, subst}
 use Rattle.std.specs.List.{All}
 use Rattle.std.proofs.lemmas.List.Elements.{All-tail}
-use Rattle.mv_ast.specs.Worlds.{Act, Skip, Flip, Adopt}
-use Rattle.mv_ast.specs.Actions.{IsActOfWord}
+use Rattle.mv_bindings.specs.Acts.{Act, Skip, Flip, Adopt, IsActOfWord}
 use Rattle.mv_isa.specs.declared.instr.Cause.TheVariants as cause
 use Rattle.mv_image.specs.Spelling.{Fields}
 use Rattle.mv_patch.specs.Orders.{is_known_order}

@@ -7,13 +7,13 @@ use Rattle.std.proofs.Common.{◌≡◌, ◌≢◌, ◌⊎◌, inl, inr, ℕ, �
 use Rattle.mv_ast.specs.declared.program.Known.{Known}
 use Rattle.mv_ast.specs.declared.program.Known.TheVariants.{Getchar, Putchar, Poll, Plan}
 use Rattle.mv_ast.specs.declared.program.Program.{Program}
-use Rattle.mv_ast.specs.declared.world.Action.TheVariants as action
-use Rattle.mv_ast.specs.Actions.{fits, act_fits, is_switch_value, IsActOfWord}
-use Rattle.mv_ast.specs.Worlds.{Act, Flip}
+use Rattle.mv_bindings.specs.declared.action.Action.TheVariants as action
+use Rattle.mv_ast.specs.Actions.{fits, act_fits, is_switch_value}
+use Rattle.mv_bindings.specs.Acts.{IsActOfWord, Act, Flip}
 use Rattle.mv_ast.specs.declared.program.Switch.{Switch}
 use Rattle.mv_ast.specs.Counts as counts
-use Rattle.mv_ast.specs.Plans as source
-use Rattle.mv_ast.specs.Plans.{Answered}
+use Rattle.mv_ast.specs.Orders as source
+use Rattle.mv_ast.specs.Orders.{Answered}
 use Rattle.mv_isa.specs.declared.instr.Instr.TheVariants.{Ecall}
 use Rattle.mv_isa.specs.Execution.{reg}
 use Rattle.mv_isa.specs.Standing.{InstrStands}

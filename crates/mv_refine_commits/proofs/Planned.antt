@@ -4,14 +4,15 @@ use Rattle.std.specs.List.{All}
 use Rattle.std.proofs.lemmas.List.{append-nil}
 use Rattle.std.proofs.lemmas.List.Elements.{All-nil}
 use Rattle.mv_num.specs.Words.{add}
-use Rattle.mv_ast.specs.declared.world.Binding.{Binding}
+use Rattle.mv_bindings.specs.declared.binding.Binding.{Binding}
 use Rattle.mv_isa.specs.Execution.{put}
 use Rattle.mv_fetch.specs.Held.{Room}
 use Rattle.mv_rv32.specs.Stepping.{access}
 use Rattle.mv_image.specs.Spelling.{Fields}
 use Rattle.mv_image.specs.Faults.{Rules}
 use Rattle.mv_patch.specs.declared.prepared.Pair.{Pair}
-use Rattle.mv_patch.specs.Orders.{values_of, plan_between}
+use Rattle.mv_patch.specs.Orders.{values_of}
+use Rattle.mv_patch.specs.Plans.{plan_between}
 use Rattle.mv_ir.specs.World.{World}
 use Rattle.mv_machine.specs.Runs.{State, plan_area, with_plan, bytes_to_come}
 use Rattle.mv_patch.specs.Stores.{stored_all}

@@ -2,19 +2,23 @@
 use Rattle.std.proofs.Common.{◌≡◌, ℕ, ◌+◌, ◌-◌, ◌*◌, ◌^◌, ◌<◌, ◌≤◌, Bool, true, false, ◌&&◌, cond, eqb, List, [], ◌∷◌, ◌++◌, length, slice_index, slice_index_or, Option, Some, refl, sym, ap, ap₂, ◌∙◌, subst, arith}
 use Rattle.std.proofs.lemmas.Bool.{and_from}
 use Rattle.mv_ast.specs.declared.program.Program.{Program}
-use Rattle.mv_ast.specs.declared.world.Binding.{Binding}
+use Rattle.mv_bindings.specs.declared.binding.Binding.{Binding}
 use Rattle.mv_ast.specs.Counts as counts
-use Rattle.mv_ast.specs.Plans as source
-use Rattle.mv_ast.specs.Plans.{Answered, events_from, rebound, is_commit, bound_after}
+use Rattle.mv_ast.specs.Switches as source
+use Rattle.mv_ast.specs.Orders as source_orders
+use Rattle.mv_ast.specs.Orders.{Answered, rebound, bound_after}
+use Rattle.mv_bindings.specs.Bindings.{events_from}
+use Rattle.mv_bindings.specs.OrderNumbers.{is_commit}
 use Rattle.mv_ast.specs.Worlds as source_world
-use Rattle.mv_ast.specs.Worlds.{Act, Skip, Flip, Adopt}
+use Rattle.mv_bindings.specs.Acts.{Act, Skip, Flip, Adopt}
 use Rattle.mv_isa.specs.declared.instr.Cause.TheVariants as cause
 use Rattle.mv_isa.specs.Execution.{reg}
 use Rattle.mv_fetch.specs.Held.{Held, Room}
 use Rattle.mv_image.specs.Spelling.{Fields}
 use Rattle.mv_image.specs.Faults.{Rules}
 use Rattle.mv_patch.specs.declared.prepared.Pair.{Pair}
-use Rattle.mv_patch.specs.Orders.{values_of, plan_between, plan_of, bindings_after, answer_after, is_known_order}
+use Rattle.mv_patch.specs.Orders.{values_of, bindings_after, answer_after, is_known_order}
+use Rattle.mv_patch.specs.Plans.{plan_between, plan_of}
 use Rattle.mv_patch.specs.Tables.{patchable}
 use Rattle.mv_ir.specs.World.{World}
 use Rattle.mv_ir.specs.KnownFunctions.{seen, seen_from, patch_cost, poll_cost}
@@ -35,7 +39,7 @@ use Rattle.mv_refine_commits.proofs.Served.{loads_outside}
 -- An order does by the tables, of a world that stands in memory, what it does in the source.
 pub record OrderAgrees (p : Program) (numbers : List ℕ) (image : Fields) (w : World) (held : Held) (code index : ℕ) : Type 0 where
   pub known : is_known_order image code index ≡ true
-  pub bindings : bindings_after image held code index w.bindings ≡ source.bindings_after p numbers code index w.globals w.bindings
+  pub bindings : bindings_after image held code index w.bindings ≡ source_orders.bindings_after p numbers code index w.globals w.bindings
   pub answers : answer_after image code index (bindings_after image held code index w.bindings) ≡ cond (is_commit code) (bound_after p code index (bindings_after image held code index w.bindings)) 0
   pub small : answer_after image code index (bindings_after image held code index w.bindings) < 2 ^ 32
 
@@ -159,7 +163,7 @@ module _ (known : Known) (y : Layout) (laid : IsSetOut y) (machine : Machine Wat
     before = record (ws left) { globals = globals }
 
     abbrev bound : List Binding
-    bound = source.bindings_after p numbers code index globals w.bindings
+    bound = source_orders.bindings_after p numbers code index globals w.bindings
 
     abbrev next : State
     next = carried_out (record s { room = room; actions = left }) (plan_of s.image room.held s.bindings code index) answer
@@ -201,7 +205,7 @@ module _ (known : Known) (y : Layout) (laid : IsSetOut y) (machine : Machine Wat
 
   abbrev order_gives : (code index : ℕ) → Bool → Answered
   order_gives code index b =
-      let bs = source.bindings_after p numbers code index w.globals w.bindings in
+      let bs = source_orders.bindings_after p numbers code index w.globals w.bindings in
       cond b (record { answer = cond (is_commit code) (bound_after p code index bs) 0; world = rebound (seen_from 0 live w) bs }) (record { answer = 2 ^ 32 - 1; world = seen_from 0 live w })
 
   module _ (code index : ℕ) (holds : HoldsGlobals access y machine budget far w m) (agrees : OrderAgrees p numbers image w s.room.held code index) where
@@ -212,13 +216,13 @@ module _ (known : Known) (y : Layout) (laid : IsSetOut y) (machine : Machine Wat
     unfolding plan_of
     counted_is = ap₂ (λ f bs. answer_after f code index (bindings_after f s.room.held code index bs)) of same_bindings
 
-    answer_is : counted ≡ cond (is_commit code) (bound_after p code index (source.bindings_after p numbers code index w.globals w.bindings)) 0
+    answer_is : counted ≡ cond (is_commit code) (bound_after p code index (source_orders.bindings_after p numbers code index w.globals w.bindings)) 0
     answer_is = counted_is ∙ agrees.answers ∙ ap (λ bs. cond (is_commit code) (bound_after p code index bs) 0) agrees.bindings
 
     by_test : (b : Bool) → Gives (order_gives code index b) (patch_cost p) (cond b (ordered s code index) (refused s (2 ^ 32 - 1)))
     by_test true =
-        subst (λ n. Gives (record { answer = n; world = rebound (seen_from 0 live w) (source.bindings_after p numbers code index w.globals w.bindings) }) (patch_cost p) (ordered s code index)) answer_is
-        (subst (λ (left : List Act). Gives (record { answer = counted; world = record (rebound (seen_from 0 live w) (source.bindings_after p numbers code index w.globals w.bindings)) { actions = left } }) (patch_cost p) (ordered s code index)) quiet.actions
+        subst (λ n. Gives (record { answer = n; world = rebound (seen_from 0 live w) (source_orders.bindings_after p numbers code index w.globals w.bindings) }) (patch_cost p) (ordered s code index)) answer_is
+        (subst (λ (left : List Act). Gives (record { answer = counted; world = record (rebound (seen_from 0 live w) (source_orders.bindings_after p numbers code index w.globals w.bindings)) { actions = left } }) (patch_cost p) (ordered s code index)) quiet.actions
         (carries code index s.room s.actions w.globals counted (keeps_all s.room) agrees holds (subst (λ n. n < 2 ^ 32) (sym counted_is) agrees.small)))
     by_test false =
         subst (λ (left : List Act). Gives (record { answer = 2 ^ 32 - 1; world = ws left }) (patch_cost p) (refused s (2 ^ 32 - 1))) quiet.actions
@@ -231,7 +235,7 @@ module _ (known : Known) (y : Layout) (laid : IsSetOut y) (machine : Machine Wat
         (ap (λ f. is_known_order f code index) of ∙ agrees.known) quiet.hart
 
     -- in another hart than 0 it is refused, as in the source
-    pub plan_gives : Gives (source.ordered p numbers code index (seen_from 0 live w)) (patch_cost p) (planned s code index)
+    pub plan_gives : Gives (source_orders.ordered p numbers code index (seen_from 0 live w)) (patch_cost p) (planned s code index)
     plan_gives = subst (Gives (order_gives code index (eqb w.hart 0 && eqb live 0)) (patch_cost p)) (sym planned_is) (by_test (eqb w.hart 0 && eqb live 0))
 
   -- ---- polls
@@ -243,40 +247,40 @@ module _ (known : Known) (y : Layout) (laid : IsSetOut y) (machine : Machine Wat
 
     -- a flip
     flips : (switch value : ℕ) (rest : List Act) → (eqb w.hart 0 && eqb live 0) ≡ true → FlipAgrees y machine budget far p numbers image w m switch value
-        → Gives (record { answer = 1; world = source.flipped p numbers switch value (ws rest) }) (patch_cost p) (act (Flip switch value) (record s { actions = rest }))
+        → Gives (record { answer = 1; world = source_orders.flipped p numbers switch value (ws rest) }) (patch_cost p) (act (Flip switch value) (record s { actions = rest }))
     flips switch value rest may flip =
         let g = source.switch_global p switch in
         let globals = source.with_word w.globals g 0 value in
-        let bound = source.bindings_after p numbers 0 0 globals w.bindings in
+        let bound = source_orders.bindings_after p numbers 0 0 globals w.bindings in
         let before : source_world.World = record (ws rest) { globals = globals } in
         let either : Bool → Answered = λ (b : Bool).
         cond b (record { answer = cond (is_commit 0) (bound_after p 0 0 bound) 0; world = rebound before bound }) (record { answer = 2 ^ 32 - 1; world = before }) in
-        let flipped_is : source.flipped p numbers switch value (ws rest) ≡ rebound before bound = ap (λ b. (either b).world) may in
+        let flipped_is : source_orders.flipped p numbers switch value (ws rest) ≡ rebound before bound = ap (λ b. (either b).world) may in
         let room_is : with_value s.image s.room switch value ≡ with_value image s.room switch value = ap (λ f. with_value f s.room switch value) of in
         subst (λ (x : source_world.World). Gives (record { answer = 1; world = x }) (patch_cost p) (act (Flip switch value) (record s { actions = rest }))) (sym flipped_is)
         (subst (λ (r : Room). Gives (record { answer = 1; world = rebound before bound }) (patch_cost p) (carried_out (record s { room = r; actions = rest }) (plan_of s.image r.held s.bindings 0 0) 1)) (sym room_is)
         (carries 0 0 (with_value image s.room switch value) rest globals 1 flip.keeps flip.agrees flip.holds (omega arith)))
 
     by_acts : eqb live 0 ≡ true → FlipsAgree → (left : List Act) → w.actions ≡ left
-        → Gives (source.acted p numbers left (ws left)) (poll_cost p w.hart (source.acted p numbers left (ws left)).answer) (acted (record s { actions = left }) left)
+        → Gives (source_orders.acted p numbers left (ws left)) (poll_cost p w.hart (source_orders.acted p numbers left (ws left)).answer) (acted (record s { actions = left }) left)
     by_acts none flip [] e = idle holds [] 0 0 (omega arith)
     by_acts none flip (Skip ∷ rest) e = idle holds rest 0 0 (omega arith)
     by_acts none flip (Flip k v ∷ rest) e =
         let agrees = flip k v rest e in
-        subst (λ (b : Bool). Gives (record { answer = 1; world = source.flipped p numbers k v (ws rest) }) (cond b (patch_cost p) 30) (act (Flip k v) (record s { actions = rest }))) (sym agrees.0)
+        subst (λ (b : Bool). Gives (record { answer = 1; world = source_orders.flipped p numbers k v (ws rest) }) (cond b (patch_cost p) 30) (act (Flip k v) (record s { actions = rest }))) (sym agrees.0)
         (flips k v rest (and_from (eqb w.hart 0) (eqb live 0) agrees.0 none) agrees.1)
     by_acts none flip (Adopt bs ∷ rest) e = adopts_gives holds bs rest (poll_cost p w.hart 1)
 
-    pub poll_gives : FlipsAgree → Gives (source.polled p numbers (seen_from 0 live w)) (poll_cost p w.hart (source.polled p numbers (seen_from 0 live w)).answer) (polled s)
+    pub poll_gives : FlipsAgree → Gives (source_orders.polled p numbers (seen_from 0 live w)) (poll_cost p w.hart (source_orders.polled p numbers (seen_from 0 live w)).answer) (polled s)
     unfolding polled
     poll_gives flip = by_live (eqb live 0) refl
       where
         result : Bool → Answered
-        result b = cond b (source.acted p numbers w.actions (ws w.actions)) (record { answer = 0; world = ws w.actions })
+        result b = cond b (source_orders.acted p numbers w.actions (ws w.actions)) (record { answer = 0; world = ws w.actions })
 
         by_live : (b : Bool) → eqb live 0 ≡ b → Gives (result b) (poll_cost p w.hart (result b).answer) (cond b (acted s s.actions) (refused s 0))
         by_live false e =
             subst (λ (left : List Act). Gives (record { answer = 0; world = ws left }) 0 (refused s 0)) quiet.actions (idle holds s.actions 0 0 (omega arith))
         by_live true e =
-            subst (λ (left : List Act). Gives (source.acted p numbers w.actions (ws w.actions)) (poll_cost p w.hart (source.acted p numbers w.actions (ws w.actions)).answer) (acted (record s { actions = left }) left)) (sym quiet.actions)
+            subst (λ (left : List Act). Gives (source_orders.acted p numbers w.actions (ws w.actions)) (poll_cost p w.hart (source_orders.acted p numbers w.actions (ws w.actions)).answer) (acted (record s { actions = left }) left)) (sym quiet.actions)
             (by_acts e flip w.actions refl)

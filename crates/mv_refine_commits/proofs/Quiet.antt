@@ -1,8 +1,8 @@
 -- The test of calm.
 use Rattle.std.proofs.Common.{◌≡◌, true, eqb, List, [], ◌∷◌, Option, Some, None, refl, ap, ap₂, eq-eqb, ◌∙◌}
 use Rattle.std.proofs.lemmas.Bool.{and_parts, and_from, eqb-true}
-use Rattle.mv_ast.specs.declared.world.Binding.{Binding}
-use Rattle.mv_ast.specs.Worlds.{Act, Skip, Flip, Adopt}
+use Rattle.mv_bindings.specs.declared.binding.Binding.{Binding}
+use Rattle.mv_bindings.specs.Acts.{Act, Skip, Flip, Adopt}
 use Rattle.mv_image.specs.Spelling.{Fields}
 use Rattle.mv_ir.specs.World.{World}
 use Rattle.mv_select_slots.proofs.Bindings.{bindings_are_told}

@@ -5,7 +5,7 @@ use Rattle.std.specs.List.{All}
 use Rattle.std.proofs.lemmas.List.Elements.{All-head, All-tail}
 use Rattle.std.proofs.lemmas.Bool.{and_from, ne_eqb, cases_lt, lt-ltb, le-ltb, or_parts, eqb-true, ltb-true, ltb-false}
 use Rattle.mv_num.specs.Words.{add}
-use Rattle.mv_ast.specs.declared.world.Binding.{Binding}
+use Rattle.mv_bindings.specs.declared.binding.Binding.{Binding}
 use Rattle.mv_isa.specs.declared.instr.Instr.{Instr}
 use Rattle.mv_isa.specs.declared.instr.Instr.TheVariants.{Jalr, Ecall}
 use Rattle.mv_isa.specs.Encoding.{encode}
@@ -18,7 +18,8 @@ use Rattle.mv_image.specs.Faults.{Rules}
 use Rattle.mv_image.specs.Patched.{Bindings, ShowsAt, entry_at, site_at, site_before}
 use Rattle.mv_image.proofs.Limits.{is_within}
 use Rattle.mv_patch.specs.declared.prepared.Pair.{Pair}
-use Rattle.mv_patch.specs.Orders.{values_of, plan_between}
+use Rattle.mv_patch.specs.Orders.{values_of}
+use Rattle.mv_patch.specs.Plans.{plan_between}
 use Rattle.mv_patch.specs.Pairs.{place}
 use Rattle.mv_patch.specs.Tables.{patchable}
 use Rattle.mv_ir.specs.World.{World}

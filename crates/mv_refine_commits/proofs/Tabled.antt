@@ -8,9 +8,14 @@ use Rattle.std.proofs.lemmas.List.Elements.{All-nil, All-cons, All-head, All-tai
 use Rattle.mv_ast.specs.declared.program.Program.{Program}
 use Rattle.mv_ast.specs.declared.program.Function.{Function}
 use Rattle.mv_ast.specs.declared.program.Switch.{Switch}
-use Rattle.mv_ast.specs.declared.world.Binding.{Binding}
-use Rattle.mv_ast.specs.Plans as source
-use Rattle.mv_ast.specs.Plans.{attributed_functions, switch_words, switch_global, word_at, words_or_none, committed, all_in_domain, is_addressed, is_pointer_addressed, ordered_function, ordered_pointer, pointer_bindings, is_among, is_commit, ordered_from, bound_from, bound_to, free, global_or_none}
+use Rattle.mv_bindings.specs.declared.binding.Binding.{Binding}
+use Rattle.mv_ast.specs.Switches as source
+use Rattle.mv_ast.specs.Orders as source_orders
+use Rattle.mv_ast.specs.Switches.{attributed_functions, switch_words, switch_global, word_at, words_or_none, committed, all_in_domain, pointer_bindings, global_or_none}
+use Rattle.mv_ast.specs.Orders.{is_addressed, is_pointer_addressed, ordered_function, ordered_pointer, ordered_from, bound_from}
+use Rattle.mv_num.specs.Lists.{is_among}
+use Rattle.mv_bindings.specs.OrderNumbers.{is_commit}
+use Rattle.mv_bindings.specs.Bindings.{bound_to, free}
 use Rattle.mv_descriptors.specs.declared.rows.SwitchRow.{SwitchRow}
 use Rattle.mv_descriptors.specs.declared.rows.FunctionRow.{FunctionRow}
 use Rattle.mv_fetch.specs.declared.memory.AccessError.TheVariants.{Misaligned}
@@ -174,12 +179,12 @@ module _ (p : Program) (y : Layout) (image : Fields) (tabled : IsTabled p y imag
     start k row g e f = let z : k ≡ k + 0 = omega arith in subst (λ n. Match n row g) z (matches k row g e f)
 
     -- there is no pointer switch behind the functions
-    bindings_alone : (numbers : List ℕ) (bs : List Binding) → source.bindings_after p numbers code index w.globals bs ≡ ordered_from (is_addressed code index) by_source 0 (attributed_functions p) bs
+    bindings_alone : (numbers : List ℕ) (bs : List Binding) → source_orders.bindings_after p numbers code index w.globals bs ≡ ordered_from (is_addressed code index) by_source 0 (attributed_functions p) bs
     bindings_alone numbers bs =
         let functions = ordered_from (is_addressed code index) by_source 0 (attributed_functions p) bs in
         ap (λ gs. functions ++ ordered_from (is_pointer_addressed p code index) (ordered_pointer numbers code w.globals) 0 gs (pointer_bindings p bs)) tabled.none ∙ append-nil functions
 
-    bound_alone : (bs : List Binding) → source.bound_after p code index bs ≡ bound_from (is_addressed code index) 0 (attributed_functions p) bs
+    bound_alone : (bs : List Binding) → source_orders.bound_after p code index bs ≡ bound_from (is_addressed code index) 0 (attributed_functions p) bs
     bound_alone bs =
         let functions = bound_from (is_addressed code index) 0 (attributed_functions p) bs in
         ap (λ gs. functions + bound_from (is_pointer_addressed p code index) 0 gs (pointer_bindings p bs)) tabled.none ∙ (let z : functions + 0 ≡ functions = omega arith in z)

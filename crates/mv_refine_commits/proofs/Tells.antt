@@ -13,7 +13,7 @@ use Rattle.mv_refine_commits.specs.Watch.{is_call, instr_at, into_text, are_else
 use Rattle.mv_refine_commits.specs.Tells.{SoundPlacesTell}
 use Rattle.std.specs.List.{All}
 use Rattle.std.proofs.lemmas.List.Elements.{All-nil, All-cons}
-use Rattle.mv_ast.specs.declared.world.Binding.{Binding}
+use Rattle.mv_bindings.specs.declared.binding.Binding.{Binding}
 use Rattle.mv_patch.specs.declared.prepared.Pair.{Pair}
 use Rattle.mv_patch.specs.Pairs.{pairs_between}
 use Rattle.mv_machine.specs.Runs.{State}

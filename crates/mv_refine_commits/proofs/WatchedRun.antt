@@ -1,6 +1,6 @@
 -- The run that is watched, by the names that the laws on it use.
 use Rattle.std.proofs.Common.{ℕ, Bool, List, Option}
-use Rattle.mv_ast.specs.declared.world.Binding.{Binding}
+use Rattle.mv_bindings.specs.declared.binding.Binding.{Binding}
 use Rattle.mv_image.specs.Spelling.{Fields}
 use Rattle.mv_machine.specs.Acts.{PollActs}
 use Rattle.mv_machine.specs.Runs.{State, runs_from, first}

@@ -1,13 +1,13 @@
 -- What the stub does on an image, from its call for a plan to its return.
 use Rattle.std.specs.Prelude.{ℕ, ◌≡◌, ◌≢◌, ◌+◌, ◌*◌, ◌<◌, ◌≤◌, ◌^◌, Bool, true, false, List, ◌++◌, length, Option}
 use Rattle.mv_num.specs.Words.{add}
-use Rattle.mv_ast.specs.declared.world.Binding.{Binding}
+use Rattle.mv_bindings.specs.declared.binding.Binding.{Binding}
 use Rattle.mv_isa.specs.Execution.{reg, put}
 use Rattle.mv_rv32.specs.Stepping.{access}
 use Rattle.mv_image.specs.Spelling.{Fields}
 use Rattle.mv_fetch.specs.Held.{Room}
 use Rattle.mv_patch.specs.declared.prepared.Pair.{Pair}
-use Rattle.mv_patch.specs.Orders.{plan_between}
+use Rattle.mv_patch.specs.Plans.{plan_between}
 use Rattle.mv_patch.specs.Stores.{stored_all}
 use Rattle.mv_ir.specs.World.{World}
 use Rattle.mv_machine.specs.Runs.{State, Going, bytes_to_come, plan_area, runs_from}

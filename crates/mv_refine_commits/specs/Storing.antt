@@ -1,6 +1,6 @@
 -- A run in the stub of commits, behind the call for a plan.
 use Rattle.std.specs.Prelude.{ℕ, ◌≡◌, ◌≢◌, ◌+◌, ◌*◌, ◌<◌, ◌≤◌, Bool, true, List, [], ◌∷◌, ◌++◌, length, slice_get, Option, Some, None}
-use Rattle.mv_ast.specs.declared.world.Binding.{Binding}
+use Rattle.mv_bindings.specs.declared.binding.Binding.{Binding}
 use Rattle.mv_isa.specs.Execution.{reg}
 use Rattle.mv_fetch.specs.Held.{Room}
 use Rattle.mv_rv32.specs.Stepping.{access}

@@ -5,9 +5,9 @@ use Rattle.mv_ast.specs.declared.program.Program.{Program}
 use Rattle.mv_ast.specs.declared.program.Function.{Function}
 use Rattle.mv_ast.specs.declared.program.Switch.{Switch}
 use Rattle.mv_ast.specs.declared.program.Known.TheVariants.{Plan}
-use Rattle.mv_ast.specs.Actions.{IsActOfWord}
+use Rattle.mv_bindings.specs.Acts.{IsActOfWord}
 use Rattle.mv_ast.specs.Counts as counts
-use Rattle.mv_ast.specs.Plans.{attributed_functions, switch_domain}
+use Rattle.mv_ast.specs.Switches.{attributed_functions, switch_domain}
 use Rattle.mv_descriptors.specs.declared.rows.SwitchRow.{SwitchRow}
 use Rattle.mv_descriptors.specs.declared.rows.FunctionRow.{FunctionRow}
 use Rattle.mv_image.specs.Spelling.{Fields}

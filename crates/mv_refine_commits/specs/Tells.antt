@@ -1,7 +1,7 @@
 -- What a sound place tells of a state.
 use Rattle.std.specs.Prelude.{ℕ, ◌≡◌, ◌≢◌, Bool, true, List, Option, Some}
 use Rattle.std.specs.List.{All}
-use Rattle.mv_ast.specs.declared.world.Binding.{Binding}
+use Rattle.mv_bindings.specs.declared.binding.Binding.{Binding}
 use Rattle.mv_patch.specs.declared.prepared.Pair.{Pair}
 use Rattle.mv_patch.specs.Pairs.{pairs_between}
 use Rattle.mv_isa.specs.declared.instr.Instr.TheVariants.{Ecall}

@@ -1,7 +1,7 @@
 -- What holds before each instruction, also while a commit is under way.
 use Rattle.std.specs.Prelude.{ℕ, Bool, true, false, ◌&&◌, not, eqb, ltb, List, [], ◌∷◌, Option, Some, None, option_and_then, slice_get}
 use Rattle.mv_num.specs.Regions.{text_start, data_start}
-use Rattle.mv_ast.specs.declared.world.Binding.{Binding}
+use Rattle.mv_bindings.specs.declared.binding.Binding.{Binding}
 use Rattle.mv_isa.specs.declared.instr.Instr.{Instr}
 use Rattle.mv_isa.specs.declared.instr.Instr.TheVariants.{Ecall}
 use Rattle.mv_isa.specs.Encoding.{decode}

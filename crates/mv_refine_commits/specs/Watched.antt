@@ -1,8 +1,8 @@
 -- The machine whose memory tells the commit that is under way.
 use Rattle.std.specs.Prelude.{ℕ, ◌≡◌, Bool, true, false, ◌&&◌, eqb, List, [], ◌∷◌, length, Option, Some, None, option_map}
 pub use Rattle.mv_num.specs.Regions.{plan_words}
-use Rattle.mv_ast.specs.declared.world.Binding.{Binding}
-use Rattle.mv_ast.specs.Worlds.{Act, Skip, Flip, Adopt}
+use Rattle.mv_bindings.specs.declared.binding.Binding.{Binding}
+use Rattle.mv_bindings.specs.Acts.{Act, Skip, Flip, Adopt}
 use Rattle.mv_isa.specs.Execution.{Access}
 use Rattle.mv_fetch.specs.Held.{Room}
 use Rattle.mv_rv32.specs.Stepping as memory

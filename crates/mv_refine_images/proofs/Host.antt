@@ -1,7 +1,7 @@
 -- The machine with a built image is a host for its program, and the program is loaded there.
 use Rattle.std.proofs.Common.{◌≡◌, ℕ, ◌<◌, ◌^◌, true, List, Some, slice_get, All, refl}
 use Rattle.std.proofs.lemmas.List.Elements.{All-map}
-use Rattle.mv_ast.specs.Actions.{IsActOfWord}
+use Rattle.mv_bindings.specs.Acts.{IsActOfWord}
 use Rattle.mv_ast.specs.declared.program.Program.{Program}
 use Rattle.mv_ast.specs.declared.program.Function.{Function}
 use Rattle.mv_isa.specs.Code.{IsPlace}

@@ -8,7 +8,8 @@ use Rattle.std.proofs.lemmas.Option.{get_or_from_slice_get, slice_get_within, sa
 use Rattle.mv_ast.specs.declared.program.Program.{Program}
 use Rattle.mv_ast.specs.declared.program.Function.{Function}
 use Rattle.mv_ast.specs.declared.program.Global.{Global}
-use Rattle.mv_ast.specs.Plans.{attributed_functions, is_among, switch_global, global_or_none}
+use Rattle.mv_ast.specs.Switches.{attributed_functions, switch_global, global_or_none}
+use Rattle.mv_num.specs.Lists.{is_among}
 use Rattle.mv_descriptors.specs.declared.rows.SiteRow.{SiteRow}
 use Rattle.mv_descriptors.specs.declared.rows.VariantRow.{VariantRow}
 use Rattle.mv_fetch.specs.Held.{Held, choices, choices_in, region_of, index_of}

@@ -3,7 +3,8 @@ use Rattle.std.proofs.Common.{◌≡◌, ℕ, ◌+◌, true, false, List, [], So
 use Rattle.std.specs.List.{zip}
 use Rattle.mv_ast.specs.declared.program.Program.{Program}
 use Rattle.mv_ast.specs.declared.program.Function.{Function}
-use Rattle.mv_ast.specs.Plans.{attributed_functions, attributed_before, switch_domain, is_among}
+use Rattle.mv_ast.specs.Switches.{attributed_functions, attributed_before, switch_domain}
+use Rattle.mv_num.specs.Lists.{is_among}
 use Rattle.mv_ir_worlds.proofs.Functions.{attributed_at}
 use Rattle.mv_isa.specs.declared.instr.Instr.{Instr}
 use Rattle.mv_isa.specs.declared.instr.Instr.TheVariants.{Addi}

@@ -1,6 +1,6 @@
 -- On the machine that tells which commit is under way, code runs that may load what is open at the words that are never patched.
 use Rattle.std.proofs.Common.{◌≡◌, ℕ, Bool, true, false, ◌&&◌, not, cond, leb, ltb, List, [], ◌∷◌, Option, Some, None, is_some, option_and_then, refl, sym, ap, ap₂, ◌∙◌, subst}
-use Rattle.mv_ast.specs.declared.world.Binding.{Binding}
+use Rattle.mv_bindings.specs.declared.binding.Binding.{Binding}
 use Rattle.mv_isa.specs.Encoding.{decode}
 use Rattle.mv_isa.specs.Execution.{Access, Goes, step}
 use Rattle.mv_fetch.specs.Held.{choices}

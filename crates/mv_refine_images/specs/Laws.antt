@@ -1,7 +1,8 @@
 -- What is proved of built programs.
 use Rattle.std.specs.Prelude.{ℕ, ◌≡◌, ◌<◌, ◌^◌, List, [], All, IsTrue}
 use Rattle.mv_ast.specs.declared.program.Program.{Program}
-use Rattle.mv_ast.specs.Actions.{act_fits, IsActOfWord}
+use Rattle.mv_ast.specs.Actions.{act_fits}
+use Rattle.mv_bindings.specs.Acts.{IsActOfWord}
 use Rattle.mv_image.specs.Spelling.{Fields}
 use Rattle.mv_machine.specs.Acts.{PollActs}
 use Rattle.mv_source_forms.specs.WellFormed.{IsWellFormed}

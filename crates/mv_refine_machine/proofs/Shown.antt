@@ -1,7 +1,7 @@
 -- What stands at entries and sites while a function is free or bound.
 use Rattle.std.proofs.Common.{◌≡◌, ℕ, zero, suc, ◌≤◌, false, List, [], ◌∷◌, ◌++◌, length, take, min, replicate, Option, Some, None, refl, ap, ◌∙◌, arith}
 use Rattle.std.specs.Prelude.{slice_get, option_and_then, if◌then◌else◌}
-use Rattle.mv_ast.specs.declared.world.Binding.{Binding}
+use Rattle.mv_bindings.specs.declared.binding.Binding.{Binding}
 use Rattle.mv_image.specs.Patched.{variant_under}
 use Rattle.mv_ir_worlds.specs.Functions.{IsBoundIn}
 use Rattle.mv_refine_machine.specs.Bound.{AtSite, bound_variant}

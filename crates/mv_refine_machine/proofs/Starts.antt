@@ -4,8 +4,8 @@ use Rattle.std.proofs.lemmas.List.{length-replicate}
 use Rattle.std.specs.Prelude.{All}
 use Rattle.std.proofs.lemmas.List.Elements.{All-head, All-tail}
 use Rattle.mv_machine.specs.Acts.{PollActs}
-use Rattle.mv_ast.specs.Plans.{free}
-use Rattle.mv_ast.specs.declared.world.Binding.{Binding}
+use Rattle.mv_bindings.specs.Bindings.{free}
+use Rattle.mv_bindings.specs.declared.binding.Binding.{Binding}
 use Rattle.mv_fetch.specs.Held.{zeros, first as first_memory}
 use Rattle.mv_image.specs.Spelling.{Fields}
 use Rattle.mv_image.specs.Patched.{Bindings, words_under, text_of}

@@ -1,9 +1,9 @@
 -- When the machine is, apart from registers, pc and the words of data and stack, as a world says.
 use Rattle.std.specs.Prelude.{ℕ, ◌≡◌, Bool, true, false, ◌&&◌, List, [], ◌∷◌, length, Option, Some, None, nat_eq}
 pub use Rattle.mv_num.specs.Regions.{stack_words}
-use Rattle.mv_ast.specs.declared.world.Binding.{Binding}
-use Rattle.mv_ast.specs.declared.world.Event.{Event}
-use Rattle.mv_ast.specs.Plans.{same_words, is_same_binding}
+use Rattle.mv_bindings.specs.declared.binding.Binding.{Binding}
+use Rattle.mv_bindings.specs.declared.binding.Event.{Event}
+use Rattle.mv_bindings.specs.Bindings.{same_words, is_same_binding}
 use Rattle.mv_fetch.specs.Held.{Room, older_at}
 use Rattle.mv_image.specs.Spelling.{Fields}
 use Rattle.mv_image.specs.Patched.{text_of}

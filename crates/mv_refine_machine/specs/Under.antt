@@ -1,6 +1,6 @@
 -- The words that stand under some bindings, as the text of a machine that is calm in worlds with these alone.
 use Rattle.std.specs.Prelude.{ℕ, List, [], Option}
-use Rattle.mv_ast.specs.declared.world.Binding.{Binding}
+use Rattle.mv_bindings.specs.declared.binding.Binding.{Binding}
 use Rattle.mv_image.specs.Spelling.{Fields}
 use Rattle.mv_ir.specs.World.{World}
 use Rattle.mv_refine_machine.specs.MachineRuns.{bound_word}

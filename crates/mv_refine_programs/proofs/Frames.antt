@@ -6,7 +6,7 @@ use Rattle.std.proofs.lemmas.List.{length-map}
 use Rattle.std.proofs.lemmas.Option.{slice_get_within, get_or_from_slice_get}
 use Rattle.mv_ast.specs.declared.program.Program.{Program}
 use Rattle.mv_ast.specs.declared.program.Function.{Function}
-use Rattle.mv_ast.specs.Plans.{attributed_functions, attributed_before, switch_global}
+use Rattle.mv_ast.specs.Switches.{attributed_functions, attributed_before, switch_global}
 use Rattle.mv_ir.specs.World.{World}
 use Rattle.mv_ir.specs.Outcome.{End, Returned, Trapped, More, Stuck, Call}
 use Rattle.mv_ir.specs.Keeps.{KeepsCall}

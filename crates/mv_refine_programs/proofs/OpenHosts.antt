@@ -2,9 +2,9 @@
 use Rattle.std.proofs.Common.{◌≡◌, ℕ, zero, suc, ◌+◌, Bool, true, List, [], ◌∷◌, length, Option, refl, ap, ◌∙◌}
 use Rattle.std.proofs.lemmas.Bool.{and_parts}
 use Rattle.mv_ast.specs.declared.program.Program.{Program}
-use Rattle.mv_ast.specs.declared.world.Binding.{Binding}
+use Rattle.mv_bindings.specs.declared.binding.Binding.{Binding}
 use Rattle.mv_isa.specs.Execution.{Access}
-use Rattle.mv_ast.specs.Plans.{attributed_functions, word_at}
+use Rattle.mv_ast.specs.Switches.{attributed_functions, word_at}
 use Rattle.mv_ast.specs.Numbering.{place_from}
 use Rattle.mv_ir.specs.World.{World}
 use Rattle.mv_ir.specs.Trees.{scalar}

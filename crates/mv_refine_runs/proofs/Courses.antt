@@ -2,7 +2,7 @@
 use Rattle.std.proofs.Common.{◌≡◌, ◌⊎◌, inl, inr, ⊎_elim, ℕ, ◌+◌, ◌-◌, ◌*◌, ◌%◌, ◌^◌, ◌<◌, ◌≤◌, zero, suc, Bool, true, false, not, List, [], ◌∷◌, length, Contains, replicate, slice_index_or, Option, Some, None, refl, sym, ap, ◌∙◌, subst, arith}
 use Rattle.std.proofs.lemmas.Bool.{cases_lt, and_parts}
 use Rattle.std.proofs.lemmas.List.{length-map}
-use Rattle.mv_ast.specs.declared.world.Binding.{Binding}
+use Rattle.mv_bindings.specs.declared.binding.Binding.{Binding}
 use Rattle.mv_ast.specs.declared.program.Program.{Program}
 use Rattle.mv_fetch.specs.Held.{choices}
 use Rattle.mv_image.specs.Faults.{Rules}

@@ -2,7 +2,7 @@
 use Rattle.std.proofs.Common.{◌≡◌, ℕ, zero, suc, ◌+◌, ◌-◌, ◌≤◌, List, [], ◌∷◌, length, slice_index, Option, refl, sym, ap, ◌∙◌, subst, arith}
 use Rattle.mv_isa.specs.Execution.{Outcome, Goes, Calls, Faults, reg}
 use Rattle.mv_fetch.specs.Held.{Room}
-use Rattle.mv_ast.specs.Plans.{events_from}
+use Rattle.mv_bindings.specs.Bindings.{events_from}
 use Rattle.mv_machine.proofs.Leaving.{Leaves as EachLeaves, planned_leaves, polled_leaves}
 use Rattle.mv_machine.specs.Runs.{State, Stop, Going, Exit, Trap, Fault, Request, Exits, Reads, Writes, Traps, Plans, Polls, Unknown, request_of, argument, later_reads, answered, environment_call, fetched_step, after, where_going, turn, runs_from}
 use Rattle.mv_machine.proofs.Turns.{runs_more, IsOver, runs_over}

@@ -1,7 +1,7 @@
 -- An instruction that ends a run changes nothing but that, and no commit is under way behind it.
 use Rattle.std.proofs.Common.{◌≡◌, ℕ, zero, suc, add-one, ◌+◌, ◌-◌, ◌%◌, ◌<◌, Bool, true, false, cond, List, slice_get, slice_index, Option, Some, None, refl, sym, ap, ap₂, ◌∙◌, subst, arith}
 use Rattle.std.specs.Prelude.{option_and_then}
-use Rattle.mv_ast.specs.declared.world.Binding.{Binding}
+use Rattle.mv_bindings.specs.declared.binding.Binding.{Binding}
 use Rattle.mv_isa.specs.declared.instr.Instr.TheVariants.{Ecall}
 use Rattle.mv_isa.specs.Encoding.{decode}
 use Rattle.mv_isa.specs.Execution.{Outcome, Goes, Calls, Faults, reg, decoded, execute, step}
@@ -9,7 +9,7 @@ use Rattle.mv_isa.specs.declared.instr.Instr.{Instr}
 use Rattle.mv_fetch.specs.Held.{Room, choices}
 use Rattle.mv_rv32.specs.Stepping.{access, picked_step}
 use Rattle.mv_image.specs.Spelling.{Fields}
-use Rattle.mv_patch.specs.Orders.{plan_between}
+use Rattle.mv_patch.specs.Plans.{plan_between}
 use Rattle.mv_machine.specs.Runs.{State, Stop, Going, Exit, Trap, Fault, Request, Exits, Reads, Writes, Traps, Plans, Polls, Unknown, request_of, argument, answered, stopped, choices_at, environment_call, fetched_step, after, turn, runs_from}
 use Rattle.mv_machine.specs.Commits.{opens, is_some_pair, fetched_instr, after_instr, where_it_goes, commit_after, commit_from}
 use Rattle.mv_machine.proofs.Leaving.{Leaves as EachLeaves, planned_leaves, polled_leaves}

@@ -3,14 +3,15 @@ use Rattle.std.proofs.Common.{◌≡◌, ◌≢◌, ℕ, ◌^◌, ◌-◌, Bool,
 use Rattle.std.proofs.lemmas.Bool.{ne_eqb}
 use Rattle.std.proofs.Math.Path.{fun_ext}
 use Rattle.std.specs.Result.{result_ok}
-use Rattle.mv_ast.specs.declared.world.Binding.{Binding}
+use Rattle.mv_bindings.specs.declared.binding.Binding.{Binding}
 use Rattle.mv_isa.specs.declared.instr.Cause.TheVariants as cause
 use Rattle.mv_isa.specs.Execution.{reg}
 use Rattle.mv_fetch.specs.Held.{Room, present, region_of, index_of, found, joined, store, with_word}
 use Rattle.mv_rv32.specs.Stepping.{access, with_held}
 use Rattle.mv_image.specs.Patched.{all_free, text_of}
 use Rattle.mv_image.proofs.PatchLaws.{free_text}
-use Rattle.mv_patch.specs.Orders.{is_known_order, plan_between, values_of}
+use Rattle.mv_patch.specs.Orders.{is_known_order, values_of}
+use Rattle.mv_patch.specs.Plans.{plan_between}
 use Rattle.mv_machine.specs.Runs.{State, Stop, Going, Exit, Trap, Fault, Request, Exits, Reads, Writes, Traps, Plans, Polls, Unknown, request_of, argument, answered, stopped, live_frames, plan_area, stored_words, spelled_pairs, with_plan, refused, ordered, planned, acted, polled, environment_call, after, fetched_step, where_going, turn}
 use Rattle.mv_machine.specs.Commits.{opens, is_some_pair, fetched_instr, after_instr, where_it_goes}
 use Rattle.mv_refine_commits.proofs.Planned.{no_pairs}

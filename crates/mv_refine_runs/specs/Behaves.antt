@@ -1,8 +1,9 @@
 -- What the run of an image does, by what a program means.
 use Rattle.std.specs.Prelude.{ℕ, ◌≡◌, ◌≢◌, ◌+◌, ◌-◌, ◌*◌, ◌^◌, ◌<◌, ◌≤◌, Bool, false, IsTrue, List, [], length, replicate, All, Option, Some, None, option_and_then, Contains}
-use Rattle.mv_ast.specs.declared.world.Binding.{Binding}
+use Rattle.mv_bindings.specs.declared.binding.Binding.{Binding}
 use Rattle.mv_ast.specs.declared.program.Program.{Program}
-use Rattle.mv_ast.specs.Actions.{act_fits, IsActOfWord}
+use Rattle.mv_ast.specs.Actions.{act_fits}
+use Rattle.mv_bindings.specs.Acts.{IsActOfWord}
 use Rattle.mv_ast.specs.Counts.{instructions_per_work}
 use Rattle.mv_fetch.specs.Held.{choices}
 use Rattle.mv_image.specs.Patched.{text_of}
@@ -11,7 +12,8 @@ use Rattle.mv_isa.specs.declared.instr.Instr.TheVariants.{Ecall}
 use Rattle.mv_isa.specs.Encoding.{decode}
 use Rattle.mv_select_functions.specs.Loads.{loads_from}
 use Rattle.mv_patch.specs.declared.prepared.Pair.{Pair}
-use Rattle.mv_patch.specs.Orders.{plan_between, values_of}
+use Rattle.mv_patch.specs.Plans.{plan_between}
+use Rattle.mv_patch.specs.Orders.{values_of}
 use Rattle.mv_machine.specs.Acts.{PollActs}
 use Rattle.mv_machine.specs.Commits.{commit_from, fetched_instr}
 use Rattle.mv_machine.specs.Runs.{State, Stop, Going, Exit, Trap, Fault, bytes_to_come, choices_at, first, runs}

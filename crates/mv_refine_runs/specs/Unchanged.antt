@@ -1,6 +1,6 @@
 -- What leaves text as it is.
 use Rattle.std.specs.Prelude.{ℕ, ◌≡◌, ◌≢◌, false, All, List, Option, Some}
-use Rattle.mv_ast.specs.declared.world.Binding.{Binding}
+use Rattle.mv_bindings.specs.declared.binding.Binding.{Binding}
 use Rattle.mv_image.specs.Spelling.{Fields}
 use Rattle.mv_isa.specs.declared.instr.Instr.TheVariants.{Ecall}
 use Rattle.mv_isa.specs.Execution.{reg}

@@ -1,7 +1,7 @@
 -- A run that begins at the start stub comes to main.
 use Rattle.std.proofs.Common.{◌≡◌, ℕ, Bool, true, false, cond, eqb, List, replicate, refl, sym, ap, ◌∙◌, subst, arith}
 use Rattle.mv_machine.specs.Acts.{PollActs}
-use Rattle.mv_ast.specs.Traps.{depth_limit}
+use Rattle.mv_bindings.specs.Traps.{depth_limit}
 use Rattle.mv_isa.specs.Execution.{reg}
 use Rattle.mv_fetch.specs.Held.{first as first_memory}
 use Rattle.mv_image.specs.Spelling.{Fields}

@@ -1,7 +1,7 @@
 -- Lines of stubs that a run walks.
 use Rattle.std.proofs.Common.{◌≡◌, inl, ℕ, ◌+◌, ◌^◌, ◌<◌, Bool, false, true, List, length, pos, Option, refl, sym, ap, ◌∙◌, subst, arith}
 use Rattle.mv_machine.specs.Acts.{PollActs}
-use Rattle.mv_ast.specs.Traps.{depth_limit}
+use Rattle.mv_bindings.specs.Traps.{depth_limit}
 use Rattle.mv_num.specs.Words.{add, shl}
 use Rattle.mv_isa.specs.declared.instr.Instr.{Instr}
 use Rattle.mv_isa.specs.declared.instr.Instr.TheVariants.{Lui, Addi, Ecall}

@@ -1,7 +1,7 @@
 -- Stubs: the code before that of the functions, which starts a program, and the code to which traps jump.
 use Rattle.std.specs.Prelude.{ℕ, List, [], ◌∷◌, pos}
 use Rattle.mv_num.specs.Regions.{text_start, plan_area, plan_upper}
-use Rattle.mv_ast.specs.Traps.{depth_limit}
+use Rattle.mv_bindings.specs.Traps.{depth_limit}
 use Rattle.mv_isa.specs.declared.instr.Instr.TheVariants.{Lui, Addi, Ecall}
 use Rattle.mv_isa.specs.declared.labelled.Line.{Line}
 use Rattle.mv_isa.specs.declared.labelled.Line.TheVariants.{Word, Label, Jump}

@@ -1,6 +1,6 @@
 -- The lines of calls: they have encodings and few words, and name what they call and the stubs.
 use Rattle.std.specs.Prelude.{ℕ, Bool, List}
-use Rattle.mv_ast.specs.Traps as traps
+use Rattle.mv_bindings.specs.Traps as traps
 use Rattle.mv_isa.specs.declared.labelled.Line.{Line}
 use Rattle.mv_isa.specs.Code.{StandsOnce}
 use Rattle.mv_select_statements.specs.StatementCode.{trap_label}

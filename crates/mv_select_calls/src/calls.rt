@@ -7,7 +7,7 @@ ghost use Rattle.mv_select_statements.specs.Encoded.{IsSmall};
 ghost use Rattle.mv_select_calls.specs.CallCode.{result_lines, argument_lines, guard_lines, back_lines, slot_lines, guarded_lines, jump_lines, pointer_lines, transfer_lines, call_lines, order_lines, ask_lines, known_lines, request_of, is_marked};
 
 use mv_ast::program::Known;
-use mv_ast::traps::{CALL_TOO_DEEP, NULL_CALL};
+use mv_bindings::traps::{CALL_TOO_DEEP, NULL_CALL};
 use mv_ir::body::Room;
 use mv_ir::stm::Callee;
 use mv_ir::tree::Tree;

@@ -1,6 +1,6 @@
 -- What a function finds where it begins, told by the numbers of its own frame.
 use Rattle.std.proofs.Common.{◌≡◌, ℕ, ◌+◌, ◌*◌, ◌%◌, ◌<◌, ◌≤◌, Bool, false, cond, List, [], length, slice_index, arith}
-use Rattle.mv_ast.specs.Traps.{depth_limit}
+use Rattle.mv_bindings.specs.Traps.{depth_limit}
 use Rattle.mv_isa.specs.Execution.{Access, reg}
 use Rattle.mv_ir.specs.World as ir
 use Rattle.mv_select_statements.specs.StatementCode.{first}

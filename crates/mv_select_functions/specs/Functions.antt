@@ -1,6 +1,6 @@
 -- What the code of a whole function promises: it keeps the calling convention, if the functions do at each lower bound.
 use Rattle.std.specs.Prelude.{ℕ, ◌≡◌, ◌≢◌, ◌+◌, ◌-◌, ◌*◌, ◌%◌, ◌^◌, ◌<◌, ◌≤◌, ◌⊎◌, Bool, true, false, ◌&&◌, cond, leb, ltb, List, [], length, slice_index, Some, None}
-use Rattle.mv_ast.specs.Traps.{depth_limit}
+use Rattle.mv_bindings.specs.Traps.{depth_limit}
 use Rattle.mv_isa.specs.Code.{IsPlace}
 use Rattle.mv_isa.specs.Execution.{Access, reg, put}
 use Rattle.mv_ir.specs.declared.tree.Tree.{Tree}

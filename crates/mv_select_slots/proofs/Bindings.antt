@@ -1,8 +1,8 @@
 -- Equal bindings are told.
 use Rattle.std.proofs.Common.{◌≡◌, ap₂, subst, List, [], ◌∷◌, true, refl}
 use Rattle.std.proofs.lemmas.Bool.{and_parts, and_from}
-use Rattle.mv_ast.specs.declared.world.Binding.{Binding}
-use Rattle.mv_ast.specs.Plans.{is_same_binding}
+use Rattle.mv_bindings.specs.declared.binding.Binding.{Binding}
+use Rattle.mv_bindings.specs.Bindings.{is_same_binding}
 use Rattle.mv_ir_worlds.proofs.Combining.{binding_told, binding_same}
 use Rattle.mv_select_slots.specs.Narrowed.{same_bindings}
 use Rattle.mv_select_slots.specs.Laws.{BindingsAreTold}

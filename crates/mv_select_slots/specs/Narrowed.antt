@@ -1,7 +1,7 @@
 -- Machines that are calm in fewer worlds, over another text.
 use Rattle.std.specs.Prelude.{ℕ, ◌≡◌, Bool, true, false, ◌&&◌, List, [], ◌∷◌, Option, None}
-use Rattle.mv_ast.specs.declared.world.Binding.{Binding}
-use Rattle.mv_ast.specs.Plans.{is_same_binding}
+use Rattle.mv_bindings.specs.declared.binding.Binding.{Binding}
+use Rattle.mv_bindings.specs.Bindings.{is_same_binding}
 use Rattle.mv_ir.specs.World.{World}
 use Rattle.mv_ir.specs.Outcome.{End, Returned, Trapped, More, Stuck}
 use Rattle.mv_select_control.specs.Placed.{Text}

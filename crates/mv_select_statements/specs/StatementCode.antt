@@ -1,7 +1,7 @@
 -- The code of statements without control. Each tree of a statement is computed first, in written order; an operand that stands in a register already
 -- stays there.
 use Rattle.std.specs.Prelude.{ℕ, ◌+◌, ◌*◌, ◌≤◌, cond, ltb, List, [], ◌∷◌, ◌++◌, ℤ, pos, slice_index_or}
-use Rattle.mv_ast.specs.Traps as traps
+use Rattle.mv_bindings.specs.Traps as traps
 use Rattle.mv_isa.specs.declared.instr.Instr.{Instr}
 use Rattle.mv_isa.specs.declared.instr.Instr.TheVariants.{Lui, Lw, Sw, Addi, Slli, Add, Div, Divu, Rem, Remu}
 use Rattle.mv_isa.specs.declared.labelled.Line.{Line}

@@ -7,7 +7,7 @@ ghost use Rattle.mv_select_trees.specs.Rooms.{place_in};
 ghost use Rattle.mv_select_statements.specs.StatementCode.{home_below, element_offset, element_lines, test_lines, check_lines, read_lines, write_lines, bounds_lines, clear_lines};
 
 use crate::instructions::{FIRST, SECOND, THIRD, push_keep, target};
-use mv_ast::traps::INDEX_OUTSIDE;
+use mv_bindings::traps::INDEX_OUTSIDE;
 use mv_ir::body::Room;
 use mv_ir::tree::Tree;
 use mv_isa::Instr;

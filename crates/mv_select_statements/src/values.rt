@@ -7,7 +7,7 @@ ghost use Rattle.mv_select_trees.specs.Rooms.{place_in};
 ghost use Rattle.mv_select_statements.specs.StatementCode.{set_lines, set_global_lines, divide_lines, return_lines};
 
 use crate::instructions::{FIRST, SECOND, division, push_keep, target};
-use mv_ast::traps::DIVISION_BY_ZERO;
+use mv_bindings::traps::DIVISION_BY_ZERO;
 use mv_ir::body::Room;
 use mv_ir::tree::Tree;
 use mv_isa::Instr;

@@ -3,12 +3,11 @@ use Rattle.std.proofs.Common.{◌≡◌, ℕ, zero, suc, ◌-◌, ◌%◌, ◌^�
 use Rattle.std.proofs.lemmas.Nat.{or_lt, xor_lt}
 use Rattle.mv_num.specs.declared.kind.Kind.{Kind}
 use Rattle.mv_num.specs.declared.kind.Kind.TheVariants as kind
-use Rattle.mv_num.specs.Words.{add, sub, mul, shl, shr_s, shr_u, lt_s, lt_u, narrow, sign_extend}
+use Rattle.mv_num.specs.Words.{add, sub, mul, shl, shr_s, shr_u, lt_s, lt_u, narrow, sign_extend, as_word}
 use Rattle.mv_isa.specs.declared.instr.Instr.{Instr}
 use Rattle.mv_isa.specs.declared.instr.Instr.TheVariants.{Addi, Slti, Sltiu, Xori, Ori, Andi, Slli, Srli, Srai, Add, Sub, Sll, Slt, Sltu, Xor, Srl, Sra, Or, And, Mul}
 use Rattle.mv_isa.specs.declared.labelled.Line.{Line}
 use Rattle.mv_isa.specs.Execution.{Access, reg, put}
-use Rattle.mv_ast.specs.Operators.{as_word}
 use Rattle.mv_ir.specs.Trees.{unary, binary}
 use Rattle.mv_select_trees.specs.TreeCode.{one, two, minus_one, unary_lines, binary_lines, immediate, immediate_lines, narrow_lines}
 use Rattle.mv_select_trees.specs.Straight.{Sets}

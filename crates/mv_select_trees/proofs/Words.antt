@@ -5,10 +5,9 @@ use Rattle.std.proofs.lemmas.Int.{ints}
 use Rattle.std.proofs.lemmas.Nat.{and_le_l, and_mask, mod_below}
 use Rattle.std.specs.Int.Bits.{xor_add_and}
 use Rattle.std.proofs.Math.Nat.{div-le_self}
-use Rattle.mv_num.specs.Words.{word_of, add, sub, mul, shl, shr_s, shr_u, lt_u, signed, floor_div, sign_extend}
+use Rattle.mv_num.specs.Words.{word_of, add, sub, mul, shl, shr_s, shr_u, lt_u, signed, floor_div, sign_extend, as_word}
 use Rattle.mv_num.proofs.Signed.{sub_is, sign_extend_low, sign_extend_high}
 use Rattle.mv_isa.specs.Execution.{truth, upper}
-use Rattle.mv_ast.specs.Operators.{as_word}
 use Rattle.mv_select_trees.specs.TreeCode.{upper_bits, lower_bits, minus_one}
 use Rattle.mv_num.proofs.Numbers.{word_of_pos, word_small, word_of_negsuc}
 

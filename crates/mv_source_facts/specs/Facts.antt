@@ -9,7 +9,7 @@ use Rattle.mv_ast.specs.declared.program.Global.{Global}
 use Rattle.mv_ast.specs.declared.program.Program.{Program}
 use Rattle.mv_ast.specs.declared.program.Switch.{Switch}
 use Rattle.mv_ast.specs.Counts.{assignments, words_of_size}
-use Rattle.mv_ast.specs.Plans.{attributed_functions, switch_global}
+use Rattle.mv_ast.specs.Switches.{attributed_functions, switch_global}
 use Rattle.mv_lexer.specs.Lexemes.{IsIdentifier}
 use Rattle.mv_lexer.specs.Tables.{IsEntry}
 use Rattle.mv_lexer.specs.declared.table.Table.TheVariants.{Keywords, UnsupportedKeywords}

@@ -14,7 +14,9 @@ use Rattle.mv_ast.specs.declared.program.Stmt.TheOpen as stmt
 use Rattle.mv_ast.specs.declared.program.Arm.{Arm, Arm-F, fold-Arm}
 use Rattle.mv_ast.specs.Counts.{words_of_size}
 use Rattle.mv_ast.specs.Names.{any_of, names_local}
-use Rattle.mv_ast.specs.Plans.{same_truth, is_among, switch_global}
+use Rattle.mv_bindings.specs.Bindings.{same_truth}
+use Rattle.mv_num.specs.Lists.{is_among}
+use Rattle.mv_ast.specs.Switches.{switch_global}
 use Rattle.mv_source_forms.specs.Lists.{all_of}
 pub use Rattle.mv_ast.specs.Types.{is_void}
 

@@ -11,8 +11,9 @@ use Rattle.mv_ast.specs.declared.program.Target.{Target-F, Target, fold-Target}
 use Rattle.mv_ast.specs.declared.program.Stmt.{Stmt, Stmt-F, fold-Stmt}
 use Rattle.mv_ast.specs.declared.program.Arm.{Arm-F}
 use Rattle.mv_ast.specs.Layers.{target_parts, stmt_parts, stmt_expressions}
-use Rattle.mv_ast.specs.Plans.{attributed_functions, is_among, switch_global}
-use Rattle.mv_ast.specs.Orders as orders
+use Rattle.mv_ast.specs.Switches.{attributed_functions, switch_global}
+use Rattle.mv_num.specs.Lists.{is_among}
+use Rattle.mv_bindings.specs.OrderNumbers as orders
 use Rattle.mv_source_forms.specs.Lists.{all_of}
 use Rattle.mv_source_forms.specs.Scopes.{form_in, layer_in}
 

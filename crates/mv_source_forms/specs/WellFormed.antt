@@ -6,7 +6,7 @@ use Rattle.mv_ast.specs.declared.program.Switch.{Switch}
 use Rattle.mv_ast.specs.declared.program.Function.{Function}
 use Rattle.mv_ast.specs.Actions.{is_value_of}
 use Rattle.mv_ast.specs.Counts.{words_of_size, nodes, assignments}
-use Rattle.mv_ast.specs.Plans.{attributed_functions}
+use Rattle.mv_ast.specs.Switches.{attributed_functions}
 use Rattle.mv_source_forms.specs.Typing.{IsInteger, IsTyped}
 use Rattle.mv_source_forms.specs.Lists.{all_of}
 use Rattle.mv_source_forms.specs.Names.{is_void, stmt_is_well_formed, size_in}

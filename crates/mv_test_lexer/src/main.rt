@@ -8,10 +8,10 @@
 //! by their numbers, and a string literal by its bytes.
 #![tactic(auto)]
 
-use mv_ast::token::{Piece, Token};
 use mv_lexer::error::LexError;
 use mv_lexer::lex;
 use mv_num::kind::Kind;
+use mv_syntax::token::{Piece, Token};
 use std::alloc::{AllocError, Global};
 use std::io;
 

@@ -5,7 +5,7 @@ ghost use Rattle.mv_probe.specs.Hearing.{hearing, IsPatient};
 
 use crate::picks::picks_of;
 use crate::row::Row;
-use mv_ast::world::Event;
+use mv_bindings::binding::Event;
 use mv_io::{FileShelf, MemShelf, MemSink, MemSource, Shelf};
 use mv_probe::{FetchOracle, Probe, Recorder};
 use mv_top::multiverse;

@@ -3,7 +3,7 @@ use Rattle.std.proofs.Common.{◌≡◌, ℕ, List, sym, subst, ◌∙◌}
 use Rattle.std.specs.Prelude.{All, IsTrue}
 use Rattle.std.proofs.lemmas.List.Elements.{All-weaker}
 use Rattle.mv_ast.specs.Actions as source
-use Rattle.mv_ast.specs.declared.world.Action.{Action}
+use Rattle.mv_bindings.specs.declared.action.Action.{Action}
 use Rattle.mv_front.specs.declared.refusal.Refusal.{Refusal}
 use Rattle.mv_command.specs.declared.items.Item.{Item}
 use Rattle.mv_machine.specs.Actions as machine

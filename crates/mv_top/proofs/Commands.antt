@@ -1,7 +1,7 @@
 -- From what comes of each command to what comes of the words.
 use Rattle.std.proofs.Common.{ℕ, ◌≡◌, Bool, List, [], refl, subst, Option, Some, ◌∙◌}
 use Rattle.std.specs.Prelude.{MatchOption}
-use Rattle.mv_ast.specs.declared.world.Event.{Event}
+use Rattle.mv_bindings.specs.declared.binding.Event.{Event}
 use Rattle.mv_command.specs.Commands.{asked, Builds, Evaluates, Generates, Lists, IsCommand, IsNoCommand}
 use Rattle.mv_command.specs.declared.command.Command.{Command}
 use Rattle.mv_notes.specs.declared.status.Status.{Status}

@@ -1,7 +1,7 @@
 -- From the answers of the layers to what comes of bytes that are run or listed as an image.
 use Rattle.std.proofs.Common.{ℕ, ◌≡◌, List, [], sym, subst}
-use Rattle.mv_ast.specs.declared.world.Action.{Action}
-use Rattle.mv_ast.specs.declared.world.Event.{Event}
+use Rattle.mv_bindings.specs.declared.action.Action.{Action}
+use Rattle.mv_bindings.specs.declared.binding.Event.{Event}
 use Rattle.mv_exec.specs.Loading.{IsLoaded, IsNotLoaded, IsNotRead}
 use Rattle.mv_exec.specs.declared.error.LoadError.{LoadError}
 use Rattle.mv_exec.specs.declared.error.LoadError.TheVariants as load

@@ -1,9 +1,9 @@
 -- Where a run has ended, as many words of text have changed as the meaning's bindings owe.
 use Rattle.std.proofs.Common.{ℕ, List, Option, Some, None, sym, ap, ◌∙◌, subst}
 use Rattle.mv_ast.specs.declared.program.Program.{Program}
-use Rattle.mv_ast.specs.declared.world.Action.{Action}
-use Rattle.mv_ast.specs.declared.world.Binding.{Binding}
-use Rattle.mv_ast.specs.declared.world.Event.{Event}
+use Rattle.mv_bindings.specs.declared.action.Action.{Action}
+use Rattle.mv_bindings.specs.declared.binding.Binding.{Binding}
+use Rattle.mv_bindings.specs.declared.binding.Event.{Event}
 use Rattle.mv_build.specs.declared.built.Built.{Built}
 use Rattle.mv_build.specs.Verdicts.{IsBuiltFrom}
 use Rattle.mv_image.specs.Patched.{text_of}

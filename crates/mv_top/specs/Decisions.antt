@@ -1,7 +1,7 @@
 -- Which status comes where no count of faults rises.
 use Rattle.std.specs.Prelude.{ℕ, ◌≡◌, ◌^◌, ◌<◌, ◌⊎◌, Bool, true, false, List, [], take, All, Option, Some}
 use Rattle.mv_ast.specs.declared.program.Program.{Program}
-use Rattle.mv_ast.specs.declared.world.Action.{Action}
+use Rattle.mv_bindings.specs.declared.action.Action.{Action}
 use Rattle.mv_io.specs.Outside.{Rose}
 use Rattle.mv_io.specs.Shelves.{Files, Lacks}
 use Rattle.mv_front.specs.Verdicts.{IsProgram, IsRefused}

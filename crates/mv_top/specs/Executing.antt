@@ -1,7 +1,7 @@
 -- What comes of a run of an image that is loaded.
 use Rattle.std.specs.Prelude.{ℕ, List, []}
-use Rattle.mv_ast.specs.declared.world.Action.{Action}
-use Rattle.mv_ast.specs.declared.world.Event.{Event}
+use Rattle.mv_bindings.specs.declared.action.Action.{Action}
+use Rattle.mv_bindings.specs.declared.binding.Event.{Event}
 use Rattle.mv_exec.specs.Loading.{IsBadImage}
 use Rattle.mv_exec.specs.declared.error.LoadError.{LoadError}
 use Rattle.mv_exec.specs.declared.error.LoadError.TheVariants as load

@@ -1,7 +1,7 @@
 -- What comes of the program that is generated of a number.
 use Rattle.std.specs.Prelude.{ℕ, ◌≡◌, ◌≤◌, Bool, true, false, List, [], ◌∷◌, ◌++◌, codes, length, IsTrue, Some, ◌⊎◌}
 use Rattle.std.specs.Fmt.{decimal}
-use Rattle.mv_ast.specs.declared.world.Event.{Event}
+use Rattle.mv_bindings.specs.declared.binding.Event.{Event}
 use Rattle.mv_gen.specs.Generated.{generated, functions}
 use Rattle.mv_io.specs.Outside.{Rose}
 use Rattle.mv_eval.specs.Grown.{Grew, GrewLess}

@@ -1,7 +1,7 @@
 -- What each status of a command says, and when it may come.
 use Rattle.std.specs.Prelude.{ℕ, ◌≡◌, List, [], Result, Ok, Err}
 use Rattle.std.specs.declared.alloc.AllocError.{AllocError}
-use Rattle.mv_ast.specs.declared.world.Event.{Event}
+use Rattle.mv_bindings.specs.declared.binding.Event.{Event}
 use Rattle.mv_command.specs.Commands.{Asked, Runs, Builds, Executes, Lists, Evaluates, Generates, IsCommand, IsNoCommand}
 use Rattle.mv_refine.specs.Environment.{Writing}
 use Rattle.mv_notes.specs.Lines.{Noted}

@@ -1,7 +1,7 @@
 -- What comes of a run of a text.
 use Rattle.std.specs.Prelude.{ℕ, ◌≡◌, List, []}
-use Rattle.mv_ast.specs.declared.world.Action.{Action}
-use Rattle.mv_ast.specs.declared.world.Event.{Event}
+use Rattle.mv_bindings.specs.declared.action.Action.{Action}
+use Rattle.mv_bindings.specs.declared.binding.Event.{Event}
 use Rattle.mv_front.specs.Refusals.{counted}
 use Rattle.mv_front.specs.declared.refusal.Refusal.{Refusal}
 use Rattle.mv_build.specs.Verdicts.{HasNoImage, IsBuiltFrom}

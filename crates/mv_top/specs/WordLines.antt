@@ -1,7 +1,7 @@
 -- How many words of text have changed where a run has ended, by the source.
 use Rattle.std.specs.Prelude.{ℕ, ◌<◌, ◌^◌, List, All, Option, Some, None}
 use Rattle.mv_ast.specs.declared.program.Program.{Program}
-use Rattle.mv_ast.specs.declared.world.Action.{Action}
+use Rattle.mv_bindings.specs.declared.action.Action.{Action}
 use Rattle.mv_image.specs.Spelling.{Fields}
 use Rattle.mv_list.specs.Changes.{patched_text}
 use Rattle.mv_machine.specs.Snapshots.{Snapshot}

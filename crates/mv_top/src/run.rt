@@ -13,7 +13,7 @@ ghost use Rattle.mv_top.specs.Outside.{outside, shelved};
 ghost use Rattle.mv_top.specs.Running.{IsCause, IsPrepared, RunDoes, status_of_build, status_of_stop};
 
 use crate::files::status_of_shelf;
-use mv_ast::world::Action;
+use mv_bindings::action::Action;
 use mv_build::{BuildError, Built, build};
 use mv_command::{Item, RunOptions};
 use mv_front::Refusal;

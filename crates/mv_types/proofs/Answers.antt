@@ -1,8 +1,8 @@
 -- What a checker answers, by the judgement on the unit.
 use Rattle.std.proofs.Common.{◌≡◌, ℕ, sym, subst, refl, Result, Ok, Err}
-use Rattle.mv_ast.specs.declared.place.Place.{Place}
+use Rattle.mv_syntax.specs.declared.place.Place.{Place}
 use Rattle.mv_ast.specs.declared.program.Program.{Program}
-use Rattle.mv_ast.specs.declared.unit.Unit as unit
+use Rattle.mv_syntax.specs.declared.unit.Unit as unit
 use Rattle.mv_check_expressions.specs.declared.error.RuleError.TheVariants as error
 use Rattle.mv_check_expressions.specs.Judged.{Judged, Good, Broken}
 use Rattle.std.specs.declared.alloc.AllocError.{AllocError}

@@ -10,7 +10,7 @@ use Rattle.mv_ast.specs.declared.program.Function.{Function}
 use Rattle.mv_ast.specs.declared.program.Switch.{Switch}
 use Rattle.mv_check_limits.specs.declared.counts.Counts.{Counts}
 use Rattle.mv_check_limits.specs.declared.excess.Exceeded.{Exceeded}
-use Rattle.mv_ast.specs.declared.unit.Unit as unit
+use Rattle.mv_syntax.specs.declared.unit.Unit as unit
 use Rattle.mv_check_limits.specs.Limits.{first_above, exceeded_by_counts}
 use Rattle.mv_check_limits.specs.Ordered.{unit_parameters, first_excess, counts_of, exceeded_by_contents}
 use Rattle.mv_check_limits.proofs.Firsts.{by_counts}

@@ -1,6 +1,6 @@
 -- An outline is told by its parts.
 use Rattle.std.proofs.Common.{◌≡◌, ℕ, List}
-use Rattle.mv_ast.specs.declared.unit.Item.{Item}
+use Rattle.mv_syntax.specs.declared.unit.Item.{Item}
 use Rattle.mv_check_outline.specs.declared.outline.Outline.{Outline}
 use Rattle.mv_check_outline.specs.Names.{among}
 use Rattle.mv_check_outline.specs.Outlined.{IsOutlineOf}

@@ -3,16 +3,16 @@ use Rattle.std.proofs.Common.{◌≡◌, ℕ, zero, suc, ◌⊎◌, inl, inr, re
 use Rattle.std.specs.Cmp.Lexicographic.{pointwise, same_text}
 use Rattle.std.proofs.lemmas.Cmp.{nat_list_eq_equiv}
 use Rattle.mv_num.specs.declared.kind.Kind.{Kind}
-use Rattle.mv_ast.specs.declared.place.Place.{Place}
+use Rattle.mv_syntax.specs.declared.place.Place.{Place}
 use Rattle.mv_ast.specs.declared.program.CType.{CType}
 use Rattle.mv_ast.specs.declared.program.Global.{Global}
-use Rattle.mv_ast.specs.declared.unit.Declarator.{Declarator}
-use Rattle.mv_ast.specs.declared.unit.Initial.{Initial}
-use Rattle.mv_ast.specs.declared.unit.Line.{Line}
-use Rattle.mv_ast.specs.declared.unit.Mark.{Mark}
-use Rattle.mv_ast.specs.declared.unit.Param.{Param}
-use Rattle.mv_ast.specs.declared.unit.Shape.{Shape, Shape-F, out-Shape, map-Shape, fold_out-Shape}
-use Rattle.mv_ast.specs.declared.unit.Shape.TheOpen as shape
+use Rattle.mv_syntax.specs.declared.unit.Declarator.{Declarator}
+use Rattle.mv_syntax.specs.declared.unit.Initial.{Initial}
+use Rattle.mv_syntax.specs.declared.unit.Line.{Line}
+use Rattle.mv_syntax.specs.declared.unit.Mark.{Mark}
+use Rattle.mv_syntax.specs.declared.unit.Param.{Param}
+use Rattle.mv_syntax.specs.declared.unit.Shape.{Shape, Shape-F, out-Shape, map-Shape, fold_out-Shape}
+use Rattle.mv_syntax.specs.declared.unit.Shape.TheOpen as shape
 use Rattle.mv_check_scope.specs.declared.meaning.Meaning.{Meaning}
 use Rattle.mv_check_scope.specs.declared.scope.Scope.{Scope}
 use Rattle.mv_check_scope.specs.Conversions.{same_type, is_void}
@@ -44,7 +44,7 @@ use Rattle.mv_types.specs.Functions.{definition_parameters}
 use Rattle.mv_types.specs.Repeated.{is_bare, IsSettled, AreSettled}
 use Rattle.mv_types.specs.Units.{base_of, named_declarator, declarator_judgement}
 use Rattle.mv_num.proofs.Lists.{set_there, last_there}
-use Rattle.mv_ast.specs.Shapes.{is_plain_shape}
+use Rattle.mv_syntax.specs.Shapes.{is_plain_shape}
 
 -- ---- lists
 

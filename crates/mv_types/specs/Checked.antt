@@ -1,7 +1,7 @@
 -- What a checker answers on the judgement on a unit.
 use Rattle.std.specs.Prelude.{◌≡◌, None, Some, Result, Ok, Err}
 use Rattle.mv_ast.specs.declared.program.Program.{Program}
-use Rattle.mv_ast.specs.declared.unit.Unit as unit
+use Rattle.mv_syntax.specs.declared.unit.Unit as unit
 use Rattle.mv_check_expressions.specs.Judged.{Judged, Good, Broken}
 use Rattle.mv_check_limits.specs.Ordered.{first_excess}
 use Rattle.mv_types.specs.declared.error.TypeError.{TypeError}

@@ -2,11 +2,11 @@
 -- holds for its uses further up.
 use Rattle.std.specs.Prelude.{ℕ, Bool, false, if◌then◌else◌, List, map, filter, Option, Some, None, unwrap_or}
 use Rattle.std.specs.List.{flat_map}
-use Rattle.mv_ast.specs.declared.unit.Item.{Item}
-use Rattle.mv_ast.specs.declared.unit.Declarator.{Declarator}
-use Rattle.mv_ast.specs.declared.unit.Shape.{Shape-F, out-Shape}
-use Rattle.mv_ast.specs.declared.unit.Shape.TheOpen as shape
-use Rattle.mv_ast.specs.declared.unit.Specs.{out-Specs}
+use Rattle.mv_syntax.specs.declared.unit.Item.{Item}
+use Rattle.mv_syntax.specs.declared.unit.Declarator.{Declarator}
+use Rattle.mv_syntax.specs.declared.unit.Shape.{Shape-F, out-Shape}
+use Rattle.mv_syntax.specs.declared.unit.Shape.TheOpen as shape
+use Rattle.mv_syntax.specs.declared.unit.Specs.{out-Specs}
 use Rattle.mv_check_outline.specs.declared.outline.Outline.{Outline}
 use Rattle.mv_check_outline.specs.declared.outline.Wanted.TheVariants as wanted
 use Rattle.mv_check_outline.specs.Names.{each_once, is_among, among, place_of}

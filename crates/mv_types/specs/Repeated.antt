@@ -1,9 +1,9 @@
 -- Bare names that stand again in a declaration, where they declare nothing new.
 use Rattle.std.specs.Prelude.{◌≡◌, ℕ, Bool, true, false, ◌&&◌, not, is_some, List, [], Option, Some, slice_get}
 use Rattle.mv_ast.specs.declared.program.CType.{CType}
-use Rattle.mv_ast.specs.declared.unit.Declarator.{Declarator}
-use Rattle.mv_ast.specs.declared.unit.Line.{Line}
-use Rattle.mv_ast.specs.declared.unit.Shape.{out-Shape}
+use Rattle.mv_syntax.specs.declared.unit.Declarator.{Declarator}
+use Rattle.mv_syntax.specs.declared.unit.Line.{Line}
+use Rattle.mv_syntax.specs.declared.unit.Shape.{out-Shape}
 use Rattle.mv_check_scope.specs.declared.meaning.Meaning.{Meaning}
 use Rattle.mv_check_scope.specs.Conversions.{is_void}
 use Rattle.mv_check_scope.specs.Spaces.{named}
@@ -14,7 +14,7 @@ use Rattle.mv_check_declarations.specs.Objects.{scalar}
 use Rattle.mv_types.specs.declared.contents.Contents.{Contents}
 use Rattle.mv_types.specs.declared.contents.Object.{Object}
 use Rattle.mv_types.specs.Objects.{number_of, agrees, again, domain_by}
-use Rattle.mv_ast.specs.Shapes.{is_plain_shape}
+use Rattle.mv_syntax.specs.Shapes.{is_plain_shape}
 
 -- the name of a scalar alone, with no attribute, initial value or block behind it
 abbrev pub is_bare : Option Line → Declarator → Bool

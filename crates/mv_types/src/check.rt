@@ -11,9 +11,9 @@ use crate::error::TypeError;
 use crate::program::program_of;
 use crate::units::judge;
 use mv_ast::program::Program;
-use mv_ast::unit::Unit;
 use mv_check_expressions::error::RuleError;
 use mv_check_limits::limits::{exceeded, exceeded_by_counts};
+use mv_syntax::unit::Unit;
 use std::alloc::{AllocError, Global};
 
 fn within_limits(unit: &Unit, program: Program) -> Result<Program, TypeError>

@@ -7,9 +7,9 @@ ghost use Rattle.mv_types.specs.Completed.{completed_program, params_or_none};
 
 use crate::contents::{Completed, Object};
 use mv_ast::program::{Function, Signature};
-use mv_ast::unit::Unit;
 use mv_check_limits::counts::{Counts, are_too_many_parameters};
 use mv_check_limits::parameters::parameters_of_unit;
+use mv_syntax::unit::Unit;
 
 fn count_defined(functions: &[Option<Function>]) -> u64
     ensures { result ≡ count_by (λ f. is_some f) functions.now }

@@ -1,5 +1,5 @@
 //! Why a unit is refused.
-use mv_ast::place::Place;
+use mv_syntax::place::Place;
 use std::alloc::AllocError;
 use thiserror::Error;
 

@@ -5,10 +5,10 @@ ghost use Rattle.mv_check_outline.specs.Names.{with_names, place_of};
 ghost use Rattle.mv_types.specs.Foreknown as spec;
 
 use crate::contents::Foreknown;
-use mv_ast::unit::{Declarator, Item, Shape, Unit};
 use mv_check_outline::names::Names;
 use mv_check_outline::outline::{is_function, is_marked, name_of, outline_of};
 use mv_num::results::both;
+use mv_syntax::unit::{Declarator, Item, Shape, Unit};
 use std::alloc::{AllocError, Global};
 
 /// What a declaration may say of a name for its uses further up: that it is a `const` object, or that it is an attributed function.

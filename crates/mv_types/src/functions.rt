@@ -12,9 +12,8 @@ ghost use Rattle.mv_types.specs.Functions as spec;
 
 use crate::contents::{Contents, Foreknown};
 use crate::foreknown::{attributed_number, number_among};
-use mv_ast::orders;
 use mv_ast::program::{CType, Function, Known, Signature, Stmt};
-use mv_ast::unit::{Declarator, Line, Shape};
+use mv_bindings::orders;
 use mv_check_declarations::initials::check_plain_values;
 use mv_check_declarations::parameters::declare_parameters;
 use mv_check_expressions::error::RuleError;
@@ -27,6 +26,7 @@ use mv_check_statements::body::check_body;
 use mv_num::kind::Kind;
 use mv_num::list::List;
 use mv_num::text::Text;
+use mv_syntax::unit::{Declarator, Line, Shape};
 use std::alloc::{AllocError, Global};
 use std::mem;
 

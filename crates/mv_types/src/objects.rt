@@ -10,7 +10,6 @@ use crate::contents::{Contents, Foreknown, Object};
 use crate::foreknown::number_among;
 use mv_ast::program;
 use mv_ast::program::Local;
-use mv_ast::unit::{Declarator, Initial};
 use mv_check_declarations::attributes::Attribute;
 use mv_check_declarations::globals::{Words, domain_of, global_words};
 use mv_check_declarations::objects::{Breaches, breaks_extents, is_unconverted, least};
@@ -21,6 +20,7 @@ use mv_check_scope::meaning::{Elements, Meaning, Storage, Variable};
 use mv_check_scope::scope::Scope;
 use mv_num::list::List;
 use mv_num::text::Text;
+use mv_syntax::unit::{Declarator, Initial};
 use std::alloc::{AllocError, Global};
 use std::mem;
 

@@ -9,7 +9,6 @@ ghost use Rattle.mv_types.specs.Units.{is_main_type, main_of, with_switches, pro
 
 use crate::contents::{Completed, Contents, Object};
 use crate::functions::is_plain_int;
-use mv_ast::place::Place;
 use mv_ast::program::{Function, Global as Variable, Program, Signature, Switch};
 use mv_check_expressions::error::RuleError;
 use mv_check_expressions::rules;
@@ -20,6 +19,7 @@ use mv_check_scope::signatures::SignatureList;
 use mv_check_uses::uses::switches_named;
 use mv_num::list::List;
 use mv_num::results::both;
+use mv_syntax::place::Place;
 use std::alloc::{AllocError, Global};
 use std::mem;
 

@@ -18,7 +18,6 @@ use crate::foreknown::foreknown_of;
 use crate::program::complete;
 use crate::{functions, objects};
 use mv_ast::program::{Function, Local};
-use mv_ast::unit::{Declarator, Initial, Item, Line, Shape, Unit};
 use mv_check_declarations::attributes::{Attribute, Position, shared};
 use mv_check_declarations::declarators::Entity;
 use mv_check_declarations::globals::{Designated, file_declarator, global_words};
@@ -32,6 +31,7 @@ use mv_check_outline::outline::{is_function, name_of};
 use mv_check_scope::scope::Scope;
 use mv_num::list::List;
 use mv_num::results::both;
+use mv_syntax::unit::{Declarator, Initial, Item, Line, Shape, Unit};
 use std::alloc::{AllocError, Global};
 
 fn is_fixed(known: &Foreknown, name: &[u8]) -> bool

@@ -5,7 +5,7 @@ use Rattle.std.proofs.lemmas.Option.{slice_get_within, get_or_from_slice_get}
 use Rattle.mv_ast.specs.declared.program.Program.{Program}
 use Rattle.mv_ast.specs.declared.program.Function.{Function}
 use Rattle.mv_ast.specs.declared.program.Switch.{Switch}
-use Rattle.mv_ast.specs.Plans.{attributed_functions, attributed_before, switch_domain, values_or_none}
+use Rattle.mv_ast.specs.Switches.{attributed_functions, attributed_before, switch_domain, values_or_none}
 use Rattle.mv_ast.specs.Counts.{is_attributed, product_of, assignments}
 use Rattle.mv_ir.specs.Combinations.{Fresh, AllApart, AreDomains}
 use Rattle.mv_ir_worlds.proofs.Functions.{attributed_at}

@@ -3,7 +3,7 @@ use Rattle.std.proofs.Common.{arith, ◌≡◌, ℕ, ◌<◌, ◌≤◌, List, [
 use Rattle.std.proofs.lemmas.List.{length-map}
 use Rattle.mv_ast.specs.declared.program.Program.{Program}
 use Rattle.mv_ast.specs.declared.program.Function.{Function}
-use Rattle.mv_ast.specs.Plans.{switch_domain, switch_global}
+use Rattle.mv_ast.specs.Switches.{switch_domain, switch_global}
 use Rattle.mv_ast.specs.Counts.{product_of}
 use Rattle.mv_clone.specs.Assignments as clone
 use Rattle.mv_ir.specs.declared.body.Body.{Body}

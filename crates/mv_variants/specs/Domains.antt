@@ -7,7 +7,7 @@ use Rattle.mv_ast.specs.declared.program.CType.TheVariants.{Scalar}
 use Rattle.mv_ast.specs.declared.program.Global.{Global}
 use Rattle.mv_ast.specs.declared.program.Function.{Function}
 use Rattle.mv_ast.specs.declared.program.Program.{Program}
-use Rattle.mv_ast.specs.Plans.{switch_global, switch_domain}
+use Rattle.mv_ast.specs.Switches.{switch_global, switch_domain}
 use Rattle.mv_merge.specs.declared.rows.Domain.{Domain}
 use Rattle.mv_parts_bound.specs.Led.{HaveWords}
 

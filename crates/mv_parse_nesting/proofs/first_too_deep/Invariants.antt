@@ -1,6 +1,6 @@
 -- What is still to be told of all tokens is told by those that are left.
 use Rattle.std.proofs.Common.{◌≤◌, All, length}
-use Rattle.mv_ast.specs.declared.place.Place.{Place}
+use Rattle.mv_syntax.specs.declared.place.Place.{Place}
 use Rattle.mv_parse_nesting.specs.Nesting.{IsFirstAbove, levels, levels_from, level_of}
 use Rattle.mv_parse_nesting.proofs.first_too_deep.Given as goal
 

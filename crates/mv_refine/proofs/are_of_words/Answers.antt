@@ -1,8 +1,8 @@
 use Rattle.std.proofs.Common.{◌≡◌, Some, slice_get, subst, arith}
 use Rattle.std.proofs.lemmas.Option.{slice_get_within, get_or_from_slice_get}
 use borrow.Author.Count.{below_more}
-use Rattle.mv_ast.specs.declared.world.Action.{Action}
-use Rattle.mv_ast.specs.Actions.{IsOfWord}
+use Rattle.mv_bindings.specs.declared.action.Action.{Action}
+use Rattle.mv_bindings.specs.Acts.{IsOfWord}
 use Rattle.mv_parts.proofs.Lists.{all_by_index}
 use Rattle.mv_refine.proofs.are_of_words.Goals as goal
 

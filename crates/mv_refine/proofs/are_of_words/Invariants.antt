@@ -1,6 +1,6 @@
 use Rattle.std.proofs.Common.{◌≡◌, ℕ, ◌<◌, Some, slice_get}
-use Rattle.mv_ast.specs.declared.world.Action.{Action}
-use Rattle.mv_ast.specs.Actions.{IsOfWord}
+use Rattle.mv_bindings.specs.declared.action.Action.{Action}
+use Rattle.mv_bindings.specs.Acts.{IsOfWord}
 use Rattle.mv_refine.proofs.are_of_words.Given as goal
 
 abbrev pub invariant-loop-action : goal.invariant-loop-action

@@ -1,6 +1,6 @@
 use Rattle.std.proofs.Common.{rules, ◌≡◌, Err, ap, ◌∙◌}
-use Rattle.mv_ast.specs.declared.unit.What.{out-What}
-use Rattle.mv_ast.specs.declared.unit.What.TheVariants.{outs-Call, outs-Cast}
+use Rattle.mv_syntax.specs.declared.unit.What.{out-What}
+use Rattle.mv_syntax.specs.declared.unit.What.TheVariants.{outs-Call, outs-Cast}
 use Rattle.mv_check_expressions.proofs.Equations.{judged-Call, judged-Cast}
 use Rattle.mv_check_expressions.proofs.Steps.{then_ok, then_err, judged_as}
 use Rattle.mv_check_expressions.proofs.judge.+expressions.Goals as goal

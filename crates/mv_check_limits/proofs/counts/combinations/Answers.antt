@@ -1,5 +1,5 @@
 use Rattle.std.proofs.Common.{◌≤◌, ◌∙◌, get_or, length, arith}
-use Rattle.mv_ast.specs.Plans.{switch_domain}
+use Rattle.mv_ast.specs.Switches.{switch_domain}
 use Rattle.mv_check_limits.proofs.Bounds.{domain_at_most, product_grows}
 use Rattle.mv_check_limits.proofs.Turns.{multiplied}
 use Rattle.mv_check_limits.proofs.counts.combinations.Goals as goal

@@ -1,6 +1,6 @@
 use Rattle.std.proofs.Common.{◌≡◌, ◌*◌, ◌^◌, ◌≤◌, map, length, drop}
 use Rattle.mv_ast.specs.Counts.{product_of}
-use Rattle.mv_ast.specs.Plans.{switch_domain}
+use Rattle.mv_ast.specs.Switches.{switch_domain}
 use Rattle.mv_check_limits.proofs.counts.combinations.Given as goal
 
 abbrev pub invariant-loop-switch : goal.invariant-loop-switch

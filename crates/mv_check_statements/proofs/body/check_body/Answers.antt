@@ -1,6 +1,6 @@
 use Rattle.std.proofs.Common.{ap, ◌∙◌}
-use Rattle.mv_ast.specs.declared.unit.Act.{out-Act}
-use Rattle.mv_ast.specs.declared.unit.Act.TheVariants.{outs-Block}
+use Rattle.mv_syntax.specs.declared.unit.Act.{out-Act}
+use Rattle.mv_syntax.specs.declared.unit.Act.TheVariants.{outs-Block}
 use Rattle.mv_check_statements.specs.Surroundings.{in_function}
 use Rattle.mv_check_statements.proofs.Blocks.{function_body_of_block, behind_as}
 use Rattle.mv_check_statements.proofs.body.check_body.Goals as goal

@@ -1,7 +1,7 @@
 use Rattle.std.proofs.Common.{◌≡◌, length, map, ap, sym, ◌∙◌, subst}
 use Rattle.std.specs.Prelude.{IfOk, Result, Ok, Err}
 use Rattle.std.specs.Option.{option_copied}
-use Rattle.mv_ast.specs.Plans.{switch_domain}
+use Rattle.mv_ast.specs.Switches.{switch_domain}
 use Rattle.mv_ast.specs.Counts.{product_of}
 use Rattle.mv_ir.specs.Combinations.{combinations, values_of, AreAllCombinations}
 use Rattle.mv_clone.specs.Assignments.{domains_or_none, domains_of}

@@ -1,5 +1,5 @@
 use Rattle.std.proofs.Common.{◌≡◌, drop}
-use Rattle.mv_ast.specs.Plans.{value_among}
+use Rattle.mv_ast.specs.Switches.{value_among}
 use Rattle.mv_interpret.proofs.reads.value_among.Given as goal
 
 abbrev pub invariant-loop-i : goal.invariant-loop-i

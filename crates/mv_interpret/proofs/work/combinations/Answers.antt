@@ -1,5 +1,5 @@
 use Rattle.std.proofs.Common.{ℕ, ◌*◌, ap, sym, ◌∙◌, take, map, length}
-use Rattle.mv_ast.specs.Plans.{switch_domain}
+use Rattle.mv_ast.specs.Switches.{switch_domain}
 use Rattle.mv_ast.specs.Counts.{product_of}
 use Rattle.mv_meaning.specs.Growth.{capped}
 use Rattle.mv_interpret.proofs.Reckoning.{capped_left, product_more}

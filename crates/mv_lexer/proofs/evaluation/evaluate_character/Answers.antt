@@ -1,5 +1,5 @@
 use Rattle.std.proofs.Common.{◌≡◌, ℕ, ◌<◌, ◌≤◌, List, [], ◌∷◌, length, get_or, refl, sym, ap, ◌∙◌, subst, arith}
-use Rattle.mv_ast.specs.declared.token.Piece.TheVariants as Is
+use Rattle.mv_syntax.specs.declared.token.Piece.TheVariants as Is
 use Rattle.mv_num.specs.declared.kind.Kind.TheVariants.{Int}
 use Rattle.mv_lexer.specs.Characters.{IsQuoted}
 use Rattle.mv_lexer.specs.declared.class.TokenClass.TheVariants.{CharacterConstant}

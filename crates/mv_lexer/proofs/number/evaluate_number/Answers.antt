@@ -1,5 +1,5 @@
 use Rattle.std.proofs.Common.{◌≡◌, ℕ, List, Bool, Some, refl, sym, ap, ◌∙◌, subst, arith}
-use Rattle.mv_ast.specs.declared.token.Piece.TheVariants as Is
+use Rattle.mv_syntax.specs.declared.token.Piece.TheVariants as Is
 use Rattle.mv_lexer.specs.Numbers.{IsIntegerConstant, HasDigits, short_suffix}
 use Rattle.mv_lexer.specs.Numbers as numbers
 use Rattle.mv_lexer.specs.Tables.{IsEntry}

@@ -1,6 +1,6 @@
 use Rattle.std.proofs.Common.{◌+◌, drop, ap, ◌∙◌, sym, arith}
 use Rattle.mv_lexer.specs.Place.{place_after}
-use Rattle.mv_ast.specs.declared.place.Place.{Place}
+use Rattle.mv_syntax.specs.declared.place.Place.{Place}
 use Rattle.mv_lexer.proofs.PlaceLemmas.{place_more}
 use Rattle.mv_lexer.proofs.position.place_after.Goals as goal
 

@@ -1,5 +1,5 @@
 use Rattle.std.proofs.Common.{◌≡◌, map, take}
-use Rattle.mv_ast.specs.Plans.{switch_global}
+use Rattle.mv_ast.specs.Switches.{switch_global}
 use Rattle.mv_lower.proofs.function.switches.Given as goal
 
 abbrev pub invariant-loop-switch : goal.invariant-loop-switch

@@ -1,4 +1,4 @@
-use Rattle.mv_ast.specs.declared.world.Action.TheVariants.{Skip, Flip}
+use Rattle.mv_bindings.specs.declared.action.Action.TheVariants.{Skip, Flip}
 use Rattle.mv_probe.proofs.Logs.{told_nothing}
 use Rattle.mv_machine.specs.Moves.{seen}
 use Rattle.mv_machine.proofs.Orders.{acts, skips}

@@ -1,6 +1,6 @@
 use Rattle.std.proofs.Common.{sym, ap, ap₂, ◌∙◌, ◌≤◌, length, subst}
 use Rattle.std.proofs.lemmas.List.{nil_from_length}
-use Rattle.mv_ast.specs.Plans.{events_from}
+use Rattle.mv_bindings.specs.Bindings.{events_from}
 use Rattle.mv_machine.specs.Runs.{with_plan}
 use Rattle.mv_machine.proofs.Storing.{few_pairs}
 use Rattle.mv_machine.proofs.Telling.{told_these}

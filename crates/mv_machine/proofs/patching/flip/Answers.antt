@@ -1,4 +1,4 @@
-use Rattle.mv_ast.specs.Plans.{events_from}
+use Rattle.mv_bindings.specs.Bindings.{events_from}
 use Rattle.mv_machine.proofs.Orders.{flips, was_planned}
 use Rattle.mv_machine.proofs.patching.flip.Goals as goal
 

@@ -1,7 +1,8 @@
 use Rattle.std.proofs.Common.{ap₂, refl, sym, ◌∙◌, ◌<◌, subst}
-use Rattle.mv_ast.specs.Plans.{events_from}
+use Rattle.mv_bindings.specs.Bindings.{events_from}
 use Rattle.mv_probe.proofs.Logs.{told_nothing}
-use Rattle.mv_patch.specs.Orders.{is_known_order, plan_of}
+use Rattle.mv_patch.specs.Orders.{is_known_order}
+use Rattle.mv_patch.specs.Plans.{plan_of}
 use Rattle.mv_machine.specs.Runs.{Going, carried_out}
 use Rattle.mv_machine.specs.Moves.{Does}
 use Rattle.mv_machine.proofs.Orders.{known_below, same_plan, unknown_order, refused_order, carried_order}

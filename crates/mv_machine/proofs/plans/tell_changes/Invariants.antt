@@ -1,5 +1,5 @@
 use Rattle.std.proofs.Common.{◌≡◌, List, []}
-use Rattle.mv_ast.specs.declared.world.Event.{Event}
+use Rattle.mv_bindings.specs.declared.binding.Event.{Event}
 use Rattle.mv_probe.specs.Hearing.{hearing, object_at, Becomes}
 use Rattle.mv_probe.specs.Fates.{Fates}
 use Rattle.mv_machine.proofs.Telling.{IsTold}

@@ -3,7 +3,7 @@ use Rattle.std.specs.Prelude.{replicate}
 use Rattle.std.proofs.lemmas.List.{append-nil, drop_all}
 use Rattle.std.proofs.lemmas.Result.{err_from_is_err_and}
 use Rattle.mv_command.specs.Items.{Ascend}
-use Rattle.mv_ast.specs.declared.world.Action.TheVariants.{Skip}
+use Rattle.mv_bindings.specs.declared.action.Action.TheVariants.{Skip}
 use Rattle.mv_operator.specs.Operator.{actions_from, wrong_item}
 use Rattle.mv_operator.proofs.Acting.{next_item, acting, right_more, none_wrong, first_wrong}
 use Rattle.mv_operator.proofs.actions.actions_on.Goals as goal

@@ -1,5 +1,5 @@
 use Rattle.std.proofs.Common.{ℕ, ◌<◌, length, List}
-use Rattle.mv_ast.specs.declared.unit.Node.{Node}
+use Rattle.mv_syntax.specs.declared.unit.Node.{Node}
 use Rattle.mv_parse_grammar.specs.Terminals.{terminals, is_mark}
 use Rattle.mv_parse_grammar.specs.Reader as reader
 use Rattle.mv_parse_grammar.specs.Expressions.{Cond}

@@ -1,6 +1,6 @@
 use Rattle.std.proofs.Common.{Some, refl, sym, ap}
 use Rattle.std.proofs.lemmas.Result.{err_from_is_err_and}
-use Rattle.mv_ast.specs.declared.unit.EnumSpec.{roll-EnumSpec}
+use Rattle.mv_syntax.specs.declared.unit.EnumSpec.{roll-EnumSpec}
 use Rattle.mv_parse_nodes.proofs.Answers.{given_ok, then_ok, then_err, choice_yes}
 use Rattle.mv_parse_declarations.proofs.enums.after_tag.Goals as goal
 

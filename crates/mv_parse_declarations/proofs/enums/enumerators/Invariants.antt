@@ -1,5 +1,5 @@
 use Rattle.std.proofs.Common.{ℕ, ◌<◌, length, List}
-use Rattle.mv_ast.specs.declared.unit.Member.{Member}
+use Rattle.mv_syntax.specs.declared.unit.Member.{Member}
 use Rattle.mv_parse_grammar.specs.Terminals.{terminals}
 use Rattle.mv_parse_grammar.specs.Reader as reader
 use Rattle.mv_parse_grammar.specs.ExpressionReader.{read}

@@ -1,6 +1,6 @@
 use Rattle.std.proofs.Common.{List, [], ◌∷◌, ◌++◌, refl, sym, ap, ◌∙◌, arith}
 use Rattle.std.proofs.lemmas.Result.{err_from_is_err_and}
-use Rattle.mv_ast.specs.declared.unit.Node.{Node}
+use Rattle.mv_syntax.specs.declared.unit.Node.{Node}
 use Rattle.mv_parse_grammar.specs.Terminals.{terminals}
 use Rattle.mv_parse_grammar.specs.ExpressionReader.{read}
 use Rattle.mv_parse_grammar.specs.Expressions.{Assign}

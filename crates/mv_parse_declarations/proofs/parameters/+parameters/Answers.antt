@@ -1,10 +1,10 @@
 -- Each function's answer, put together from those of its calls in the order of the code.
 use Rattle.std.proofs.Common.{ℕ, Bool, Option, List, Result, refl, sym, arith}
 use Rattle.std.proofs.lemmas.Result.{err_from_is_err_and}
-use Rattle.mv_ast.specs.declared.place.Place.{Place}
-use Rattle.mv_ast.specs.declared.unit.Param.{Param}
-use Rattle.mv_ast.specs.declared.unit.Shape.TheVariants as shape
-use Rattle.mv_ast.specs.declared.unit.Specs.{Specs}
+use Rattle.mv_syntax.specs.declared.place.Place.{Place}
+use Rattle.mv_syntax.specs.declared.unit.Param.{Param}
+use Rattle.mv_syntax.specs.declared.unit.Shape.TheVariants as shape
+use Rattle.mv_syntax.specs.declared.unit.Specs.{Specs}
 use Rattle.mv_parse_grammar.specs.Terminals.{Terminal, terminals, is_mark, is_name}
 use Rattle.mv_parse_grammar.specs.Reader.{Read, give, go_on, token, optional, ◌>>=◌}
 use Rattle.mv_parse_grammar.specs.Declarations.{declarator_of, param_of, spelling_of}

@@ -1,6 +1,6 @@
 -- Each call has fewer tokens left, or as many and a rule further down. The loop has still to read what it reads from here.
 use Rattle.std.proofs.Common.{ℕ, ◌<◌, length, ◌+◌, ◌*◌, List}
-use Rattle.mv_ast.specs.declared.unit.Param.{Param}
+use Rattle.mv_syntax.specs.declared.unit.Param.{Param}
 use Rattle.mv_parse_grammar.specs.Terminals.{terminals, is_mark}
 use Rattle.mv_parse_grammar.specs.Reader as reader
 use Rattle.mv_parse_grammar.specs.ExpressionReader.{read}

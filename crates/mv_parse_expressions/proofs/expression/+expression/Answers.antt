@@ -1,7 +1,7 @@
 -- Each function's answer, put together from those of its calls in the order of the code.
 use Rattle.std.proofs.Common.{◌-◌, refl, sym, ap, ◌∙◌, arith, [], ◌∷◌, ◌++◌}
 use Rattle.std.proofs.lemmas.Result.{err_from_is_err_and}
-use Rattle.mv_ast.specs.declared.unit.What.TheVariants as w
+use Rattle.mv_syntax.specs.declared.unit.What.TheVariants as w
 use Rattle.mv_parse_grammar.specs.Terminals.{terminal, terminals, mark}
 use Rattle.mv_parse_grammar.specs.Reader as reader
 use Rattle.mv_parse_grammar.specs.Expressions.{Assign, Cond, Cast, Unary, node_at, joined}

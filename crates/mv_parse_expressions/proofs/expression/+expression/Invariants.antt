@@ -1,7 +1,7 @@
 -- Each call has fewer tokens left, or as many and a tighter rule. A loop has still to read what it reads from here.
 use Rattle.std.proofs.Common.{ℕ, ◌<◌, length, ◌+◌, ◌-◌, ◌*◌, List}
-use Rattle.mv_ast.specs.declared.place.Place.{Place}
-use Rattle.mv_ast.specs.declared.unit.Node.{Node}
+use Rattle.mv_syntax.specs.declared.place.Place.{Place}
+use Rattle.mv_syntax.specs.declared.unit.Node.{Node}
 use Rattle.mv_parse_grammar.specs.Terminals.{terminals, is_rank, is_mark}
 use Rattle.mv_parse_grammar.specs.Reader as reader
 use Rattle.mv_parse_grammar.specs.Reader.{go_on}

@@ -1,6 +1,6 @@
 use Rattle.std.proofs.Common.{refl, sym, ap, ◌∙◌, arith}
 use Rattle.std.proofs.lemmas.Result.{err_from_is_err_and}
-use Rattle.mv_ast.specs.declared.unit.Specs.{Specs}
+use Rattle.mv_syntax.specs.declared.unit.Specs.{Specs}
 use Rattle.mv_parse_grammar.specs.Terminals.{terminals}
 use Rattle.mv_parse_grammar.specs.Reader as reader
 use Rattle.mv_parse_grammar.specs.Expressions.{no_specs, specs_at}

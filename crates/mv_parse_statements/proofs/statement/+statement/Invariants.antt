@@ -1,7 +1,7 @@
 -- Each call has fewer tokens left, or as many at a part of the statement. A loop has still to read what it reads from here.
 use Rattle.std.proofs.Common.{ℕ, ◌≤◌, length, ◌+◌, ◌*◌, List}
-use Rattle.mv_ast.specs.declared.unit.Line.{Line}
-use Rattle.mv_ast.specs.declared.unit.Act.TheVariants as act
+use Rattle.mv_syntax.specs.declared.unit.Line.{Line}
+use Rattle.mv_syntax.specs.declared.unit.Act.TheVariants as act
 use Rattle.mv_parse_grammar.specs.Terminals.{terminals, is_mark, is_no_end}
 use Rattle.mv_parse_grammar.specs.Reader as reader
 use Rattle.mv_parse_grammar.specs.Reader.{go_on}

@@ -1,6 +1,6 @@
 use Rattle.std.proofs.Common.{◌<◌, ◌&&◌, [], false, length, get_or, ap, ◌∙◌, arith}
 use Rattle.std.proofs.lemmas.Option.{slice_get-get_or}
-use Rattle.mv_ast.specs.declared.world.Binding.{Binding}
+use Rattle.mv_bindings.specs.declared.binding.Binding.{Binding}
 use Rattle.mv_patch.specs.Orders.{code_of, index_of, is_ordered}
 use Rattle.mv_patch.proofs.Rebinding.{one_counted}
 use Rattle.mv_patch.proofs.bindings.count_bound.Goals as goal

@@ -1,6 +1,6 @@
 use Rattle.std.proofs.Common.{ℕ, ◌<◌, [], false, length, cond, get_or, sym, ap, ◌∙◌, arith}
 use Rattle.std.proofs.lemmas.Option.{slice_get-get_or}
-use Rattle.mv_ast.specs.declared.world.Binding.{Binding}
+use Rattle.mv_bindings.specs.declared.binding.Binding.{Binding}
 use Rattle.mv_patch.specs.Orders.{code_of, index_of, is_ordered, next_binding, bindings_after}
 use Rattle.mv_patch.proofs.Rebinding.{one_bound, all_bound}
 use Rattle.mv_patch.proofs.bindings.rebind.Goals as goal

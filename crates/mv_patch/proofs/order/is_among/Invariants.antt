@@ -1,5 +1,5 @@
 use Rattle.std.proofs.Common.{◌≡◌, drop}
-use Rattle.mv_ast.specs.Plans.{is_among}
+use Rattle.mv_num.specs.Lists.{is_among}
 use Rattle.mv_patch.proofs.order.is_among.Given as goal
 
 abbrev pub invariant-loop-other : goal.invariant-loop-other

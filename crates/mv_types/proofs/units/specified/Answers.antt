@@ -1,5 +1,5 @@
 use Rattle.std.proofs.Common.{List, ◌≡◌, ◌∙◌, ap, subst}
-use Rattle.mv_ast.specs.declared.unit.Declarator.{Declarator}
+use Rattle.mv_syntax.specs.declared.unit.Declarator.{Declarator}
 use Rattle.mv_check_declarations.specs.declared.attributes.Position.TheVariants as position
 use Rattle.mv_check_declarations.specs.Specifiers.{specifiers}
 use Rattle.mv_check_declarations.specs.Turns.{IsBehind}

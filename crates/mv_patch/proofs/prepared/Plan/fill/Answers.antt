@@ -1,7 +1,8 @@
 use Rattle.std.proofs.Common.{List, Option, length, sym, ap, subst, ◌∙◌, arith}
-use Rattle.mv_ast.specs.declared.world.Binding.{Binding}
+use Rattle.mv_bindings.specs.declared.binding.Binding.{Binding}
 use Rattle.mv_descriptors.specs.declared.rows.VariantRow.{VariantRow}
-use Rattle.mv_patch.specs.Orders.{Prepared, code_of, index_of, values_of, answer_after, plan_between}
+use Rattle.mv_patch.specs.Plans.{Prepared, plan_between}
+use Rattle.mv_patch.specs.Orders.{code_of, index_of, values_of, answer_after}
 use Rattle.mv_patch.specs.Shown.{AreShown}
 use Rattle.mv_patch.proofs.Filled.{written_back, bindings_count, planned_is}
 use Rattle.mv_patch.proofs.TablePairs.{few_pairs}

@@ -1,9 +1,10 @@
 use Rattle.std.proofs.Common.{◌≡◌, ℕ, ◌+◌, ◌*◌, List, [], length, replicate, refl, ap, ◌∙◌, arith}
-use Rattle.mv_ast.specs.declared.world.Binding.{Binding}
-use Rattle.mv_ast.specs.Plans.{free}
+use Rattle.mv_bindings.specs.declared.binding.Binding.{Binding}
+use Rattle.mv_bindings.specs.Bindings.{free}
 use Rattle.mv_image.specs.Spelling.{Fields}
 use Rattle.mv_patch.specs.declared.prepared.Pair.{Pair}
-use Rattle.mv_patch.specs.Orders.{Prepared, first_bindings}
+use Rattle.mv_patch.specs.Plans.{Prepared}
+use Rattle.mv_patch.specs.Orders.{first_bindings}
 use Rattle.mv_patch.specs.Tables.{patchable}
 use Rattle.mv_patch.proofs.prepared.Plan.new.Goals as goal
 

@@ -1,0 +1,4 @@
+pub mod Acts
+pub mod Bindings
+pub mod OrderNumbers
+pub mod Traps

@@ -1,6 +1,0 @@
-use Rattle.std.proofs.Common.{◌≡◌, drop}
-use Rattle.mv_ast.specs.Plans.{is_among}
-use Rattle.mv_interpret.proofs.plans.is_among.Given as goal
-
-abbrev pub invariant-loop-m : goal.invariant-loop-m
-invariant-loop-m l = is_among l.n (drop l.m-index l.all) ≡ is_among l.n l.all

@@ -1,6 +1,0 @@
-use Rattle.std.proofs.Common.{◌≡◌, take}
-use Rattle.mv_ast.specs.Plans.{switch_words}
-use Rattle.mv_interpret.proofs.plans.switch_words.Given as goal
-
-abbrev pub invariant-loop-s : goal.invariant-loop-s
-invariant-loop-s l = l.words ≡ switch_words l.program l.globals (take l.s-index l.switches)
