@@ -3,7 +3,7 @@ use Rattle.std.proofs.Common.{◌≡◌, ℕ, zero, suc, ◌+◌, ◌-◌, ◌%�
 use Rattle.std.proofs.lemmas.Bool.{lt-ltb, le-ltb, le-leb, cases_lt, ne_eqb, or_right, or_left, and_from}
 use Rattle.mv_num.specs.Kinds.{is_value, is_at_most}
 use Rattle.mv_descriptors.specs.Guards.{each_below}
-use Rattle.mv_image.specs.Places.{header_words, text_words, data_words, switch_rows, function_rows, variant_rows, guard_rows, site_rows, name_bytes, switch_field, function_field, variant_field, guard_field, site_field, entry_of, variants_of, guards_of, text_word, sum_below, guard_function, name_length, names}
+use Rattle.mv_image.specs.Places.{switch_row_words, function_row_words, variant_row_words, guard_row_words, site_row_words, magic_place, version_place, entry_place, text_place, data_place, switches_place, functions_place, variants_place, guards_place, sites_place, names_place, last_place, entry_address, header_words, text_words, data_words, switch_rows, function_rows, variant_rows, guard_rows, site_rows, name_bytes, switch_field, function_field, variant_field, guard_field, site_field, entry_of, variants_of, guards_of, text_word, sum_below, guard_function, name_length, names}
 use Rattle.mv_image.specs.Rules.{is_text_address, is_data_address, sums_to, sums_to_none, header_fits, switch_fits, function_fits, variant_fits, guard_fits, site_fits, kind_at, is_outside}
 use Rattle.mv_image.specs.Jumps.{nop, jump}
 use Rattle.mv_image.specs.Spelling.{Fields}
@@ -64,51 +64,51 @@ of_twelve P a b c d e f g h k l m n (suc (suc (suc (suc (suc (suc (suc (suc (suc
 of_twelve P a b c d e f g h k l m n (suc (suc (suc (suc (suc (suc (suc (suc (suc (suc (suc zero))))))))))) lt = n
 of_twelve P a b c d e f g h k l m n (suc (suc (suc (suc (suc (suc (suc (suc (suc (suc (suc (suc i)))))))))))) lt = absurd (omega arith)
 
-pub header_magic : (ws : List ℕ) → slice_index ws 0 ≡ 0x3149564D → header_fits ws 0 ≡ true
+pub header_magic : (ws : List ℕ) → slice_index ws magic_place ≡ 0x3149564D → header_fits ws magic_place ≡ true
 unfolding header_fits
 header_magic ws e = eq-eqb _ _ e
 
-pub header_version : (ws : List ℕ) → slice_index ws 1 ≡ 1 → header_fits ws 1 ≡ true
+pub header_version : (ws : List ℕ) → slice_index ws version_place ≡ 1 → header_fits ws version_place ≡ true
 unfolding header_fits
 header_version ws e = eq-eqb _ _ e
 
-pub header_entry : (ws : List ℕ) → slice_index ws 2 % 4 ≡ 0 → header_fits ws 2 ≡ true
+pub header_entry : (ws : List ℕ) → entry_address ws % 4 ≡ 0 → header_fits ws entry_place ≡ true
 unfolding header_fits
 header_entry ws e = eq-eqb _ _ e
 
-pub header_text : (ws : List ℕ) → 1 ≤ text_words ws → text_words ws ≤ 131072 → is_text_address ws (slice_index ws 2) ≡ true → header_fits ws 3 ≡ true
+pub header_text : (ws : List ℕ) → 1 ≤ text_words ws → text_words ws ≤ 131072 → is_text_address ws (entry_address ws) ≡ true → header_fits ws text_place ≡ true
 unfolding header_fits
 header_text ws some few entry = and_from _ _ (and_from _ _ (le-leb _ _ some) (le-leb _ _ few)) entry
 
-pub header_data : (ws : List ℕ) → data_words ws ≤ 262144 → header_fits ws 4 ≡ true
+pub header_data : (ws : List ℕ) → data_words ws ≤ 262144 → header_fits ws data_place ≡ true
 unfolding header_fits
 header_data ws few = le-leb _ _ few
 
-pub header_switches : (ws : List ℕ) → switch_rows ws ≤ 64 → header_fits ws 5 ≡ true
+pub header_switches : (ws : List ℕ) → switch_rows ws ≤ 64 → header_fits ws switches_place ≡ true
 unfolding header_fits
 header_switches ws few = le-leb _ _ few
 
-pub header_functions : (ws : List ℕ) → function_rows ws ≤ 1000 → header_fits ws 6 ≡ true
+pub header_functions : (ws : List ℕ) → function_rows ws ≤ 1000 → header_fits ws functions_place ≡ true
 unfolding header_fits
 header_functions ws few = le-leb _ _ few
 
-pub header_variants : (ws : List ℕ) → SumsHold ws → variant_rows ws ≤ 64000 → header_fits ws 7 ≡ true
+pub header_variants : (ws : List ℕ) → SumsHold ws → variant_rows ws ≤ 64000 → header_fits ws variants_place ≡ true
 unfolding header_fits
 header_variants ws sums few = and_from _ _ (le-leb _ _ few) (none_holds _ _ _ sums.variants)
 
-pub header_guards : (ws : List ℕ) → SumsHold ws → guard_rows ws ≤ 64000 → header_fits ws 8 ≡ true
+pub header_guards : (ws : List ℕ) → SumsHold ws → guard_rows ws ≤ 64000 → header_fits ws guards_place ≡ true
 unfolding header_fits
 header_guards ws sums few = and_from _ _ (le-leb _ _ few) (none_holds _ _ _ sums.guards)
 
-pub header_sites : (ws : List ℕ) → site_rows ws ≤ 16384 → header_fits ws 9 ≡ true
+pub header_sites : (ws : List ℕ) → site_rows ws ≤ 16384 → header_fits ws sites_place ≡ true
 unfolding header_fits
 header_sites ws few = le-leb _ _ few
 
-pub header_names : (ws : List ℕ) → SumsHold ws → header_fits ws 10 ≡ true
+pub header_names : (ws : List ℕ) → SumsHold ws → header_fits ws names_place ≡ true
 unfolding header_fits
 header_names ws sums = none_holds _ _ _ sums.names
 
-pub header_last : (ws : List ℕ) → slice_index ws 11 ≡ 0 → header_fits ws 11 ≡ true
+pub header_last : (ws : List ℕ) → slice_index ws last_place ≡ 0 → header_fits ws last_place ≡ true
 unfolding header_fits
 header_last ws e = eq-eqb _ _ e
 
@@ -246,14 +246,14 @@ is_out site address (inr behind) = or_right _ _ (le-leb _ _ behind)
 
 -- ---- the fields of a row, one after the other
 
-pub switch_fields : (P : ℕ → Type 0) → P 0 → P 1 → P 2 → P 3 → ((i : ℕ) → i < 16 → P (4 + i)) → (f : ℕ) → f < 20 → P f
+pub switch_fields : (P : ℕ → Type 0) → P 0 → P 1 → P 2 → P 3 → ((i : ℕ) → i < 16 → P (4 + i)) → (f : ℕ) → f < switch_row_words → P f
 switch_fields P a b c d more zero lt = a
 switch_fields P a b c d more (suc zero) lt = b
 switch_fields P a b c d more (suc (suc zero)) lt = c
 switch_fields P a b c d more (suc (suc (suc zero))) lt = d
 switch_fields P a b c d more (suc (suc (suc (suc i)))) lt = let e : 4 + i ≡ suc (suc (suc (suc i))) = omega arith in subst P e (more i (omega arith))
 
-pub function_fields : (P : ℕ → Type 0) → P 0 → P 1 → P 2 → ((i : ℕ) → i < 6 → P (3 + i)) → P 9 → (f : ℕ) → f < 10 → P f
+pub function_fields : (P : ℕ → Type 0) → P 0 → P 1 → P 2 → ((i : ℕ) → i < 6 → P (3 + i)) → P 9 → (f : ℕ) → f < function_row_words → P f
 function_fields P a b c more last zero lt = a
 function_fields P a b c more last (suc zero) lt = b
 function_fields P a b c more last (suc (suc zero)) lt = c
@@ -263,7 +263,7 @@ function_fields P a b c more last (suc (suc (suc i))) lt =
       | inr none ↦ let e : 9 ≡ suc (suc (suc i)) = omega arith in subst P e last
     ]
 
-pub variant_fields : (P : ℕ → Type 0) → P 0 → P 1 → ((i : ℕ) → i < 2 → P (2 + i)) → P 4 → (f : ℕ) → f < 5 → P f
+pub variant_fields : (P : ℕ → Type 0) → P 0 → P 1 → ((i : ℕ) → i < 2 → P (2 + i)) → P 4 → (f : ℕ) → f < variant_row_words → P f
 variant_fields P a b more last zero lt = a
 variant_fields P a b more last (suc zero) lt = b
 variant_fields P a b more last (suc (suc i)) lt =
@@ -272,14 +272,14 @@ variant_fields P a b more last (suc (suc i)) lt =
       | inr none ↦ let e : 4 ≡ suc (suc i) = omega arith in subst P e last
     ]
 
-pub guard_fields : (P : ℕ → Type 0) → ((i : ℕ) → i < 6 → P i) → ((i : ℕ) → i < 6 → P (6 + i)) → (f : ℕ) → f < 12 → P f
+pub guard_fields : (P : ℕ → Type 0) → ((i : ℕ) → i < 6 → P i) → ((i : ℕ) → i < 6 → P (6 + i)) → (f : ℕ) → f < guard_row_words → P f
 guard_fields P low high f lt =
     elim (cases_lt f 6) [
       | inl small ↦ low f small
       | inr le ↦ let e : 6 + (f - 6) ≡ f = omega arith in subst P e (high (f - 6) (omega arith))
     ]
 
-pub site_fields : (P : ℕ → Type 0) → P 0 → P 1 → (f : ℕ) → f < 2 → P f
+pub site_fields : (P : ℕ → Type 0) → P 0 → P 1 → (f : ℕ) → f < site_row_words → P f
 site_fields P a b zero lt = a
 site_fields P a b (suc zero) lt = b
 site_fields P a b (suc (suc i)) lt = absurd (omega arith)

@@ -4,18 +4,19 @@ use Rattle.std.specs.Prelude.{replicate}
 use Rattle.mv_num.specs.Bytes.{AreWords, bytes_of}
 use Rattle.mv_image.specs.Spelling.{Fields, joined, filled, header_of, words_in, spelling}
 use Rattle.mv_image.specs.Faults.{CountsFit}
+use Rattle.mv_image.specs.Places.{text_place, data_place, switches_place, functions_place, variants_place, guards_place, sites_place, names_place}
 
 pub counts_fit : (image : Fields) → AreWords (words_in image) → CountsFit image
 unfolding words_in header_of
 counts_fit image fits = record {
-  text = fits 3;
-  globals = fits 4;
-  switches = fits 5;
-  functions = fits 6;
-  variants = fits 7;
-  guards = fits 8;
-  sites = fits 9;
-  names = fits 10;
+  text = fits text_place;
+  globals = fits data_place;
+  switches = fits switches_place;
+  functions = fits functions_place;
+  variants = fits variants_place;
+  guards = fits guards_place;
+  sites = fits sites_place;
+  names = fits names_place;
 }
 
 pub fill_is : (n : ℕ) → (4 - n % 4) % 4 ≡ filled n - n

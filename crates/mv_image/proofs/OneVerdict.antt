@@ -14,7 +14,7 @@ use Rattle.mv_descriptors.specs.declared.rows.FunctionRow.{FunctionRow}
 use Rattle.mv_descriptors.specs.declared.rows.VariantRow.{VariantRow}
 use Rattle.mv_descriptors.specs.declared.rows.GuardRow.{GuardRow}
 use Rattle.mv_descriptors.specs.declared.rows.SiteRow.{SiteRow}
-use Rattle.mv_image.specs.Places.{header_words}
+use Rattle.mv_image.specs.Places.{switch_row_words, function_row_words, variant_row_words, guard_row_words, site_row_words, header_words}
 use Rattle.mv_image.specs.declared.fault.ImageError.{ImageError}
 use Rattle.mv_image.specs.declared.fault.ImageError.TheVariants.{Memory, Truncated, BadField, Trailing}
 use Rattle.mv_image.specs.Spelling.{Fields, joined, header_of, words_in, names_in, spelling}
@@ -168,29 +168,29 @@ unfolding body_of
 parts_same a b x y ra rb n e =
     let p1 = parted (length b.text) a.text b.text _ _ n.text refl e in
     let p2 = parted (length b.globals) a.globals b.globals _ _ n.globals refl p1.1 in
-    let la3 = flat_length switch_words SwitchWhole 20 switch_width a.switches (whole_switches a ra) in
-    let lb3 = flat_length switch_words SwitchWhole 20 switch_width b.switches (whole_switches b rb) in
-    let p3 = parted (20 * length b.switches) (flat_map switch_words a.switches) (flat_map switch_words b.switches) _ _ (la3 ∙ ap (λ (k : ℕ). 20 * k) n.switches) lb3 p2.1 in
-    let la4 = flat_length function_words FunctionWhole 10 function_width a.functions (whole_functions a ra) in
-    let lb4 = flat_length function_words FunctionWhole 10 function_width b.functions (whole_functions b rb) in
-    let p4 = parted (10 * length b.functions) (flat_map function_words a.functions) (flat_map function_words b.functions) _ _ (la4 ∙ ap (λ (k : ℕ). 10 * k) n.functions) lb4 p3.1 in
-    let la5 = flat_length variant_words VariantWhole 5 variant_width a.variants (whole_variants a ra) in
-    let lb5 = flat_length variant_words VariantWhole 5 variant_width b.variants (whole_variants b rb) in
-    let p5 = parted (5 * length b.variants) (flat_map variant_words a.variants) (flat_map variant_words b.variants) _ _ (la5 ∙ ap (λ (k : ℕ). 5 * k) n.variants) lb5 p4.1 in
-    let la6 = flat_length guard_words GuardWhole 12 guard_width a.guards ra.guards in
-    let lb6 = flat_length guard_words GuardWhole 12 guard_width b.guards rb.guards in
-    let p6 = parted (12 * length b.guards) (flat_map guard_words a.guards) (flat_map guard_words b.guards) _ _ (la6 ∙ ap (λ (k : ℕ). 12 * k) n.guards) lb6 p5.1 in
-    let la7 = flat_length site_words SiteWhole 2 site_width a.sites (λ k d lt. tt) in
-    let lb7 = flat_length site_words SiteWhole 2 site_width b.sites (λ k d lt. tt) in
-    let p7 = parted (2 * length b.sites) (flat_map site_words a.sites) (flat_map site_words b.sites) x y (la7 ∙ ap (λ (k : ℕ). 2 * k) n.sites) lb7 p6.1 in
+    let la3 = flat_length switch_words SwitchWhole switch_row_words switch_width a.switches (whole_switches a ra) in
+    let lb3 = flat_length switch_words SwitchWhole switch_row_words switch_width b.switches (whole_switches b rb) in
+    let p3 = parted (switch_row_words * length b.switches) (flat_map switch_words a.switches) (flat_map switch_words b.switches) _ _ (la3 ∙ ap (λ (k : ℕ). switch_row_words * k) n.switches) lb3 p2.1 in
+    let la4 = flat_length function_words FunctionWhole function_row_words function_width a.functions (whole_functions a ra) in
+    let lb4 = flat_length function_words FunctionWhole function_row_words function_width b.functions (whole_functions b rb) in
+    let p4 = parted (function_row_words * length b.functions) (flat_map function_words a.functions) (flat_map function_words b.functions) _ _ (la4 ∙ ap (λ (k : ℕ). function_row_words * k) n.functions) lb4 p3.1 in
+    let la5 = flat_length variant_words VariantWhole variant_row_words variant_width a.variants (whole_variants a ra) in
+    let lb5 = flat_length variant_words VariantWhole variant_row_words variant_width b.variants (whole_variants b rb) in
+    let p5 = parted (variant_row_words * length b.variants) (flat_map variant_words a.variants) (flat_map variant_words b.variants) _ _ (la5 ∙ ap (λ (k : ℕ). variant_row_words * k) n.variants) lb5 p4.1 in
+    let la6 = flat_length guard_words GuardWhole guard_row_words guard_width a.guards ra.guards in
+    let lb6 = flat_length guard_words GuardWhole guard_row_words guard_width b.guards rb.guards in
+    let p6 = parted (guard_row_words * length b.guards) (flat_map guard_words a.guards) (flat_map guard_words b.guards) _ _ (la6 ∙ ap (λ (k : ℕ). guard_row_words * k) n.guards) lb6 p5.1 in
+    let la7 = flat_length site_words SiteWhole site_row_words site_width a.sites (λ k d lt. tt) in
+    let lb7 = flat_length site_words SiteWhole site_row_words site_width b.sites (λ k d lt. tt) in
+    let p7 = parted (site_row_words * length b.sites) (flat_map site_words a.sites) (flat_map site_words b.sites) x y (la7 ∙ ap (λ (k : ℕ). site_row_words * k) n.sites) lb7 p6.1 in
     record {
       text = p1.0;
       globals = p2.0;
-      switches = rows_same switch_words SwitchWhole 20 switch_width one_switch a.switches b.switches (whole_switches a ra) (whole_switches b rb) n.switches p3.0;
-      functions = rows_same function_words FunctionWhole 10 function_width one_function a.functions b.functions (whole_functions a ra) (whole_functions b rb) n.functions p4.0;
-      variants = rows_same variant_words VariantWhole 5 variant_width one_variant a.variants b.variants (whole_variants a ra) (whole_variants b rb) n.variants p5.0;
-      guards = rows_same guard_words GuardWhole 12 guard_width one_guard a.guards b.guards ra.guards rb.guards n.guards p6.0;
-      sites = rows_same site_words SiteWhole 2 site_width one_site a.sites b.sites (λ k d lt. tt) (λ k d lt. tt) n.sites p7.0;
+      switches = rows_same switch_words SwitchWhole switch_row_words switch_width one_switch a.switches b.switches (whole_switches a ra) (whole_switches b rb) n.switches p3.0;
+      functions = rows_same function_words FunctionWhole function_row_words function_width one_function a.functions b.functions (whole_functions a ra) (whole_functions b rb) n.functions p4.0;
+      variants = rows_same variant_words VariantWhole variant_row_words variant_width one_variant a.variants b.variants (whole_variants a ra) (whole_variants b rb) n.variants p5.0;
+      guards = rows_same guard_words GuardWhole guard_row_words guard_width one_guard a.guards b.guards ra.guards rb.guards n.guards p6.0;
+      sites = rows_same site_words SiteWhole site_row_words site_width one_site a.sites b.sites (λ k d lt. tt) (λ k d lt. tt) n.sites p7.0;
     }
 
 words_same : (a b : Fields) → header_of a ≡ header_of b → Parts a b → words_in a ≡ words_in b

@@ -11,7 +11,7 @@ use Rattle.mv_descriptors.specs.declared.rows.FunctionRow.{FunctionRow}
 use Rattle.mv_descriptors.specs.declared.rows.VariantRow.{VariantRow}
 use Rattle.mv_descriptors.specs.declared.rows.GuardRow.{GuardRow}
 use Rattle.mv_descriptors.specs.declared.rows.SiteRow.{SiteRow}
-use Rattle.mv_image.specs.Places.{header_words, switch_rows, function_rows, variant_rows, guard_rows, site_rows, switches_at, functions_at, variants_at, guards_at, sites_at, switch_field, function_field, variant_field, guard_field, site_field, entry_of, variants_of, guards_of, text_word, sum_below, owner, guard_function}
+use Rattle.mv_image.specs.Places.{switch_row_words, function_row_words, variant_row_words, guard_row_words, site_row_words, magic_place, version_place, last_place, entry_address, header_words, switch_rows, function_rows, variant_rows, guard_rows, site_rows, switches_at, functions_at, variants_at, guards_at, sites_at, switch_field, function_field, variant_field, guard_field, site_field, entry_of, variants_of, guards_of, text_word, sum_below, owner, guard_function}
 use Rattle.mv_image.specs.Rules.{is_text_address, is_data_address, word_fits, header_fits, switch_fits, function_fits, variant_fits, guard_fits, site_fits, kind_at, is_outside}
 use Rattle.mv_image.specs.Jumps.{jump}
 use Rattle.mv_image.specs.Spelling.{Fields}
@@ -28,9 +28,9 @@ use Rattle.mv_image.proofs.FieldRules.{of_twelve, SumsHold, text_address, data_a
 
 -- The first two words and the last of the header are those of the format.
 pub record HasFormat (ws : List ℕ) : Type 0 where
-  pub magic : slice_index ws 0 ≡ 0x3149564D
-  pub version : slice_index ws 1 ≡ 1
-  pub last : slice_index ws 11 ≡ 0
+  pub magic : slice_index ws magic_place ≡ 0x3149564D
+  pub version : slice_index ws version_place ≡ 1
+  pub last : slice_index ws last_place ≡ 0
 
 sums_hold : (ws : List ℕ) (a : Fields) → StandIn ws a → FitsFormat a → SumsHold ws
 sums_hold ws a s h =
@@ -48,7 +48,7 @@ header_keeps ws a s format h sums =
     let c = s.counts in
     let limits = h.limits in
     let entry = c.entry in
-    let start : slice_index ws 2 % 4 ≡ 0 = ap (λ (x : ℕ). x % 4) entry ∙ limits.entry.aligned in
+    let start : entry_address ws % 4 ≡ 0 = ap (λ (x : ℕ). x % 4) entry ∙ limits.entry.aligned in
     let in_text = subst (λ (x : ℕ). is_text_address ws x ≡ true) (sym entry) (text_address a ws a.entry c.text limits.entry) in
     of_twelve (λ (i : ℕ). header_fits ws i ≡ true)
     (header_magic ws format.magic) (header_version ws format.version) (header_entry ws start)
@@ -57,7 +57,7 @@ header_keeps ws a s format h sums =
     (header_variants ws sums (omega (arith, c.variants, limits.variants))) (header_guards ws sums (omega (arith, c.guards, limits.guards))) (header_sites ws (omega (arith, c.sites, limits.sites)))
     (header_names ws sums) (header_last ws format.last)
 
-switch_keeps : (ws : List ℕ) (a : Fields) → StandIn ws a → FitsFormat a → SumsHold ws → (k : ℕ) → k < length a.switches → (f : ℕ) → f < 20 → switch_fits ws k f ≡ true
+switch_keeps : (ws : List ℕ) (a : Fields) → StandIn ws a → FitsFormat a → SumsHold ws → (k : ℕ) → k < length a.switches → (f : ℕ) → f < switch_row_words → switch_fits ws k f ≡ true
 switch_keeps ws a s h sums k lt =
     let d = any_switch in
     let row : SwitchRow = get_or a.switches k d in
@@ -81,7 +81,7 @@ switch_keeps ws a s h sums k lt =
 from_next : (P : ℕ → ℕ → Type 0) (n k : ℕ) → ((i : ℕ) → i + 1 < n → P i (i + 1)) → 0 < k → k < n → P (k - 1) k
 from_next P n k next pos lt = let e : k - 1 + 1 ≡ k = omega arith in subst (λ (j : ℕ). P (k - 1) j) e (next (k - 1) (omega arith))
 
-function_keeps : (ws : List ℕ) (a : Fields) → StandIn ws a → FitsFormat a → SumsHold ws → (k : ℕ) → k < length a.functions → (f : ℕ) → f < 10 → function_fits ws k f ≡ true
+function_keeps : (ws : List ℕ) (a : Fields) → StandIn ws a → FitsFormat a → SumsHold ws → (k : ℕ) → k < length a.functions → (f : ℕ) → f < function_row_words → function_fits ws k f ≡ true
 function_keeps ws a s h sums k lt =
     let d = any_function in
     let row : FunctionRow = get_or a.functions k d in
@@ -106,7 +106,7 @@ function_keeps ws a s h sums k lt =
     (λ unused. switch i hi ∙ clean i (omega (arith, f2, unused))))
     (function_variable ws k sums (omega (arith, f9, fits.some)) (omega (arith, f9, fits.variants)))
 
-variant_keeps : (ws : List ℕ) (a : Fields) → StandIn ws a → FitsFormat a → SumsHold ws → (k : ℕ) → k < length a.variants → (f : ℕ) → f < 5 → variant_fits ws k f ≡ true
+variant_keeps : (ws : List ℕ) (a : Fields) → StandIn ws a → FitsFormat a → SumsHold ws → (k : ℕ) → k < length a.variants → (f : ℕ) → f < variant_row_words → variant_fits ws k f ≡ true
 variant_keeps ws a s h sums k lt =
     let d = any_variant in
     let row : VariantRow = get_or a.variants k d in
@@ -146,7 +146,7 @@ guard_owned ws a s sums g lt =
 any_guard : GuardRow
 any_guard = record { low = []; high = [] }
 
-guard_keeps : (ws : List ℕ) (a : Fields) → StandIn ws a → FitsFormat a → SumsHold ws → (g : ℕ) → g < length a.guards → (f : ℕ) → f < 12 → guard_fits ws g f ≡ true
+guard_keeps : (ws : List ℕ) (a : Fields) → StandIn ws a → FitsFormat a → SumsHold ws → (g : ℕ) → g < length a.guards → (f : ℕ) → f < guard_row_words → guard_fits ws g f ≡ true
 guard_keeps ws a s h sums g lt =
     let f : ℕ = guard_function ws g in
     let own = guard_owned ws a s sums g lt in
@@ -173,7 +173,7 @@ guard_keeps ws a s h sums g lt =
 any_site : SiteRow
 any_site = record { address = 0; function = 0 }
 
-site_keeps : (ws : List ℕ) (a : Fields) → StandIn ws a → FitsFormat a → (k : ℕ) → k < length a.sites → (f : ℕ) → f < 2 → site_fits ws k f ≡ true
+site_keeps : (ws : List ℕ) (a : Fields) → StandIn ws a → FitsFormat a → (k : ℕ) → k < length a.sites → (f : ℕ) → f < site_row_words → site_fits ws k f ≡ true
 site_keeps ws a s h k lt =
     let c = s.counts in
     let d = any_site in
@@ -214,31 +214,31 @@ words_keep ws a s format h i lt =
         | inl plain ↦ plain_word ws i from plain
         | inr past2 ↦ elim (cases_lt i (functions_at ws)) [
           | inl here ↦
-              let k : ℕ = (i - switches_at ws) / 20 in
-              let f : ℕ = (i - switches_at ws) % 20 in
+              let k : ℕ = (i - switches_at ws) / switch_row_words in
+              let f : ℕ = (i - switches_at ws) % switch_row_words in
               let there : k < switch_rows ws = omega (arith, functions_from ws) in
               switch_word ws k f i there (omega arith) (omega arith) ∙ switch_keeps ws a s h sums k (omega (arith, there, c.switches)) f (omega arith)
           | inr past3 ↦ elim (cases_lt i (variants_at ws)) [
             | inl here ↦
-                let k : ℕ = (i - functions_at ws) / 10 in
-                let f : ℕ = (i - functions_at ws) % 10 in
+                let k : ℕ = (i - functions_at ws) / function_row_words in
+                let f : ℕ = (i - functions_at ws) % function_row_words in
                 let there : k < function_rows ws = omega (arith, variants_from ws) in
                 function_word ws k f i there (omega arith) (omega arith) ∙ function_keeps ws a s h sums k (omega (arith, there, c.functions)) f (omega arith)
             | inr past4 ↦ elim (cases_lt i (guards_at ws)) [
               | inl here ↦
-                  let k : ℕ = (i - variants_at ws) / 5 in
-                  let f : ℕ = (i - variants_at ws) % 5 in
+                  let k : ℕ = (i - variants_at ws) / variant_row_words in
+                  let f : ℕ = (i - variants_at ws) % variant_row_words in
                   let there : k < variant_rows ws = omega (arith, guards_from ws) in
                   variant_word ws k f i there (omega arith) (omega arith) ∙ variant_keeps ws a s h sums k (omega (arith, there, c.variants)) f (omega arith)
               | inr past5 ↦ elim (cases_lt i (sites_at ws)) [
                 | inl here ↦
-                    let k : ℕ = (i - guards_at ws) / 12 in
-                    let f : ℕ = (i - guards_at ws) % 12 in
+                    let k : ℕ = (i - guards_at ws) / guard_row_words in
+                    let f : ℕ = (i - guards_at ws) % guard_row_words in
                     let there : k < guard_rows ws = omega (arith, sites_from ws) in
                     guard_word ws k f i there (omega arith) (omega arith) ∙ guard_keeps ws a s h sums k (omega (arith, there, c.guards)) f (omega arith)
                 | inr past6 ↦
-                    let k : ℕ = (i - sites_at ws) / 2 in
-                    let f : ℕ = (i - sites_at ws) % 2 in
+                    let k : ℕ = (i - sites_at ws) / site_row_words in
+                    let f : ℕ = (i - sites_at ws) % site_row_words in
                     let there : k < site_rows ws = omega (arith, lt, end_from ws) in
                     site_word ws k f i (omega arith) (omega arith) ∙ site_keeps ws a s h k (omega (arith, there, c.sites)) f (omega arith)
               ]

@@ -12,7 +12,7 @@ use Rattle.mv_descriptors.specs.declared.rows.FunctionRow.{FunctionRow}
 use Rattle.mv_descriptors.specs.declared.rows.VariantRow.{VariantRow}
 use Rattle.mv_descriptors.specs.declared.rows.GuardRow.{GuardRow}
 use Rattle.mv_descriptors.specs.declared.rows.SiteRow.{SiteRow}
-use Rattle.mv_image.specs.Places.{header_words, data_at, switches_at, functions_at, variants_at, guards_at, sites_at, words_end, switch_field, function_field, variant_field, guard_field, site_field, variants_of, guards_of, text_word}
+use Rattle.mv_image.specs.Places.{switch_row_words, function_row_words, variant_row_words, guard_row_words, site_row_words, header_words, data_at, switches_at, functions_at, variants_at, guards_at, sites_at, words_end, switch_field, function_field, variant_field, guard_field, site_field, variants_of, guards_of, text_word}
 use Rattle.mv_image.specs.Spelling.{Fields, header_of, words_in, names_in, spelling}
 use Rattle.mv_image.specs.Faults.{AllFit, Rules, Counts, image_words}
 use Rattle.mv_image.specs.Format.{HasWidths}
@@ -78,22 +78,22 @@ switches_length a x =
 functions_length : (a : Fields) (x : List ℕ) → HasWidths a → length (before_functions a) ≡ functions_at (words_in a ++ x)
 functions_length a x r =
     let n = counts_are a x in
-    omega (arith, n.switches, switches_length a x, functions_from (words_in a ++ x), length-append (before_switches a) (flat_map switch_words a.switches), flat_length switch_words SwitchWhole 20 switch_width a.switches r.switches)
+    omega (arith, n.switches, switches_length a x, functions_from (words_in a ++ x), length-append (before_switches a) (flat_map switch_words a.switches), flat_length switch_words SwitchWhole switch_row_words switch_width a.switches r.switches)
 
 variants_length : (a : Fields) (x : List ℕ) → HasWidths a → length (before_variants a) ≡ variants_at (words_in a ++ x)
 variants_length a x r =
     let n = counts_are a x in
-    omega (arith, n.functions, functions_length a x r, variants_from (words_in a ++ x), length-append (before_functions a) (flat_map function_words a.functions), flat_length function_words FunctionWhole 10 function_width a.functions r.functions)
+    omega (arith, n.functions, functions_length a x r, variants_from (words_in a ++ x), length-append (before_functions a) (flat_map function_words a.functions), flat_length function_words FunctionWhole function_row_words function_width a.functions r.functions)
 
 guards_length : (a : Fields) (x : List ℕ) → HasWidths a → length (before_guards a) ≡ guards_at (words_in a ++ x)
 guards_length a x r =
     let n = counts_are a x in
-    omega (arith, n.variants, variants_length a x r, guards_from (words_in a ++ x), length-append (before_variants a) (flat_map variant_words a.variants), flat_length variant_words VariantWhole 5 variant_width a.variants r.variants)
+    omega (arith, n.variants, variants_length a x r, guards_from (words_in a ++ x), length-append (before_variants a) (flat_map variant_words a.variants), flat_length variant_words VariantWhole variant_row_words variant_width a.variants r.variants)
 
 sites_length : (a : Fields) (x : List ℕ) → HasWidths a → length (before_sites a) ≡ sites_at (words_in a ++ x)
 sites_length a x r =
     let n = counts_are a x in
-    omega (arith, n.guards, guards_length a x r, sites_from (words_in a ++ x), length-append (before_guards a) (flat_map guard_words a.guards), flat_length guard_words GuardWhole 12 guard_width a.guards r.guards)
+    omega (arith, n.guards, guards_length a x r, sites_from (words_in a ++ x), length-append (before_guards a) (flat_map guard_words a.guards), flat_length guard_words GuardWhole guard_row_words guard_width a.guards r.guards)
 
 switches_split : (a : Fields) (x : List ℕ) → words_in a ++ x ≡ before_switches a ++ (flat_map switch_words a.switches ++ (flat_map function_words a.functions ++ flat_map variant_words a.variants ++ flat_map guard_words a.guards ++ flat_map site_words a.sites ++ x))
 unfolding words_in
@@ -119,35 +119,35 @@ sites_last : (a : Fields) → words_in a ≡ before_sites a ++ flat_map site_wor
 unfolding words_in
 sites_last a = simp append_assoc
 
-pub switch_stands : (a : Fields) (x : List ℕ) → HasWidths a → (k j : ℕ) (d : SwitchRow) → k < length a.switches → j < 20 → switch_field (words_in a ++ x) k j ≡ slice_index (switch_words (get_or a.switches k d)) j
+pub switch_stands : (a : Fields) (x : List ℕ) → HasWidths a → (k j : ℕ) (d : SwitchRow) → k < length a.switches → j < switch_row_words → switch_field (words_in a ++ x) k j ≡ slice_index (switch_words (get_or a.switches k d)) j
 unfolding switch_field
 switch_stands a x r k j d hk hj =
-    ap (λ (t : List ℕ). slice_index t (switches_at (words_in a ++ x) + 20 * k + j)) (switches_split a x)
-    ∙ row_word switch_words SwitchWhole 20 switch_width a.switches r.switches (before_switches a) _ k j (switches_at (words_in a ++ x) + 20 * k + j) d hk hj (omega (arith, switches_length a x))
+    ap (λ (t : List ℕ). slice_index t (switches_at (words_in a ++ x) + switch_row_words * k + j)) (switches_split a x)
+    ∙ row_word switch_words SwitchWhole switch_row_words switch_width a.switches r.switches (before_switches a) _ k j (switches_at (words_in a ++ x) + switch_row_words * k + j) d hk hj (omega (arith, switches_length a x))
 
-pub function_stands : (a : Fields) (x : List ℕ) → HasWidths a → (k j : ℕ) (d : FunctionRow) → k < length a.functions → j < 10 → function_field (words_in a ++ x) k j ≡ slice_index (function_words (get_or a.functions k d)) j
+pub function_stands : (a : Fields) (x : List ℕ) → HasWidths a → (k j : ℕ) (d : FunctionRow) → k < length a.functions → j < function_row_words → function_field (words_in a ++ x) k j ≡ slice_index (function_words (get_or a.functions k d)) j
 unfolding function_field
 function_stands a x r k j d hk hj =
-    ap (λ (t : List ℕ). slice_index t (functions_at (words_in a ++ x) + 10 * k + j)) (functions_split a x)
-    ∙ row_word function_words FunctionWhole 10 function_width a.functions r.functions (before_functions a) _ k j (functions_at (words_in a ++ x) + 10 * k + j) d hk hj (omega (arith, functions_length a x r))
+    ap (λ (t : List ℕ). slice_index t (functions_at (words_in a ++ x) + function_row_words * k + j)) (functions_split a x)
+    ∙ row_word function_words FunctionWhole function_row_words function_width a.functions r.functions (before_functions a) _ k j (functions_at (words_in a ++ x) + function_row_words * k + j) d hk hj (omega (arith, functions_length a x r))
 
-pub variant_stands : (a : Fields) (x : List ℕ) → HasWidths a → (k j : ℕ) (d : VariantRow) → k < length a.variants → j < 5 → variant_field (words_in a ++ x) k j ≡ slice_index (variant_words (get_or a.variants k d)) j
+pub variant_stands : (a : Fields) (x : List ℕ) → HasWidths a → (k j : ℕ) (d : VariantRow) → k < length a.variants → j < variant_row_words → variant_field (words_in a ++ x) k j ≡ slice_index (variant_words (get_or a.variants k d)) j
 unfolding variant_field
 variant_stands a x r k j d hk hj =
-    ap (λ (t : List ℕ). slice_index t (variants_at (words_in a ++ x) + 5 * k + j)) (variants_split a x)
-    ∙ row_word variant_words VariantWhole 5 variant_width a.variants r.variants (before_variants a) _ k j (variants_at (words_in a ++ x) + 5 * k + j) d hk hj (omega (arith, variants_length a x r))
+    ap (λ (t : List ℕ). slice_index t (variants_at (words_in a ++ x) + variant_row_words * k + j)) (variants_split a x)
+    ∙ row_word variant_words VariantWhole variant_row_words variant_width a.variants r.variants (before_variants a) _ k j (variants_at (words_in a ++ x) + variant_row_words * k + j) d hk hj (omega (arith, variants_length a x r))
 
-pub guard_stands : (a : Fields) (x : List ℕ) → HasWidths a → (k j : ℕ) (d : GuardRow) → k < length a.guards → j < 12 → guard_field (words_in a ++ x) k j ≡ slice_index (guard_words (get_or a.guards k d)) j
+pub guard_stands : (a : Fields) (x : List ℕ) → HasWidths a → (k j : ℕ) (d : GuardRow) → k < length a.guards → j < guard_row_words → guard_field (words_in a ++ x) k j ≡ slice_index (guard_words (get_or a.guards k d)) j
 unfolding guard_field
 guard_stands a x r k j d hk hj =
-    ap (λ (t : List ℕ). slice_index t (guards_at (words_in a ++ x) + 12 * k + j)) (guards_split a x)
-    ∙ row_word guard_words GuardWhole 12 guard_width a.guards r.guards (before_guards a) _ k j (guards_at (words_in a ++ x) + 12 * k + j) d hk hj (omega (arith, guards_length a x r))
+    ap (λ (t : List ℕ). slice_index t (guards_at (words_in a ++ x) + guard_row_words * k + j)) (guards_split a x)
+    ∙ row_word guard_words GuardWhole guard_row_words guard_width a.guards r.guards (before_guards a) _ k j (guards_at (words_in a ++ x) + guard_row_words * k + j) d hk hj (omega (arith, guards_length a x r))
 
-pub site_stands : (a : Fields) (x : List ℕ) → HasWidths a → (k j : ℕ) (d : SiteRow) → k < length a.sites → j < 2 → site_field (words_in a ++ x) k j ≡ slice_index (site_words (get_or a.sites k d)) j
+pub site_stands : (a : Fields) (x : List ℕ) → HasWidths a → (k j : ℕ) (d : SiteRow) → k < length a.sites → j < site_row_words → site_field (words_in a ++ x) k j ≡ slice_index (site_words (get_or a.sites k d)) j
 unfolding site_field
 site_stands a x r k j d hk hj =
     ap (λ (t : List ℕ). slice_index t (sites_at (words_in a ++ x) + 2 * k + j)) (sites_split a x)
-    ∙ row_word site_words SiteWhole 2 site_width a.sites (λ i e lt. tt) (before_sites a) _ k j (sites_at (words_in a ++ x) + 2 * k + j) d hk hj (omega (arith, sites_length a x r))
+    ∙ row_word site_words SiteWhole site_row_words site_width a.sites (λ i e lt. tt) (before_sites a) _ k j (sites_at (words_in a ++ x) + 2 * k + j) d hk hj (omega (arith, sites_length a x r))
 
 text_first : (a : Fields) (x : List ℕ) → words_in a ++ x ≡ header_of a ++ (a.text ++ (a.globals ++ (flat_map switch_words a.switches ++ flat_map function_words a.functions ++ flat_map variant_words a.variants ++ flat_map guard_words a.guards ++ flat_map site_words a.sites ++ x)))
 unfolding words_in
@@ -178,7 +178,7 @@ pub words_length : (a : Fields) (x : List ℕ) → HasWidths a → words_end (wo
 words_length a x w =
     let n = counts_are a x in
     let len : length (before_sites a ++ flat_map site_words a.sites) ≡ length (words_in a) = ap length (sym (sites_last a)) in
-    omega (arith, len, n.sites, sites_length a x w, end_from (words_in a ++ x), length-append (before_sites a) (flat_map site_words a.sites), flat_length site_words SiteWhole 2 site_width a.sites (λ i e lt. tt))
+    omega (arith, len, n.sites, sites_length a x w, end_from (words_in a ++ x), length-append (before_sites a) (flat_map site_words a.sites), flat_length site_words SiteWhole site_row_words site_width a.sites (λ i e lt. tt))
 
 -- ---- words in which the fields stand
 
@@ -187,11 +187,11 @@ pub record StandIn (ws : List ℕ) (a : Fields) : Type 0 where
   pub counts : Counts ws a
   pub text : slice_range ws header_words (data_at ws) ≡ a.text
   pub globals : slice_range ws (data_at ws) (switches_at ws) ≡ a.globals
-  pub switch : (k j : ℕ) (d : SwitchRow) → k < length a.switches → j < 20 → switch_field ws k j ≡ slice_index (switch_words (get_or a.switches k d)) j
-  pub function : (k j : ℕ) (d : FunctionRow) → k < length a.functions → j < 10 → function_field ws k j ≡ slice_index (function_words (get_or a.functions k d)) j
-  pub variant : (k j : ℕ) (d : VariantRow) → k < length a.variants → j < 5 → variant_field ws k j ≡ slice_index (variant_words (get_or a.variants k d)) j
-  pub guard : (k j : ℕ) (d : GuardRow) → k < length a.guards → j < 12 → guard_field ws k j ≡ slice_index (guard_words (get_or a.guards k d)) j
-  pub site : (k j : ℕ) (d : SiteRow) → k < length a.sites → j < 2 → site_field ws k j ≡ slice_index (site_words (get_or a.sites k d)) j
+  pub switch : (k j : ℕ) (d : SwitchRow) → k < length a.switches → j < switch_row_words → switch_field ws k j ≡ slice_index (switch_words (get_or a.switches k d)) j
+  pub function : (k j : ℕ) (d : FunctionRow) → k < length a.functions → j < function_row_words → function_field ws k j ≡ slice_index (function_words (get_or a.functions k d)) j
+  pub variant : (k j : ℕ) (d : VariantRow) → k < length a.variants → j < variant_row_words → variant_field ws k j ≡ slice_index (variant_words (get_or a.variants k d)) j
+  pub guard : (k j : ℕ) (d : GuardRow) → k < length a.guards → j < guard_row_words → guard_field ws k j ≡ slice_index (guard_words (get_or a.guards k d)) j
+  pub site : (k j : ℕ) (d : SiteRow) → k < length a.sites → j < site_row_words → site_field ws k j ≡ slice_index (site_words (get_or a.sites k d)) j
   pub whole : HasWidths a
 
 -- the fields of an image whose rows are whole stand in its words, whatever follows
@@ -284,19 +284,19 @@ text_is a r = (image_stands a r).text
 pub globals_are : (a : Fields) → Rules a → slice_range (image_words a) (data_at (image_words a)) (switches_at (image_words a)) ≡ a.globals
 globals_are a r = (image_stands a r).globals
 
-pub switch_is : (a : Fields) → Rules a → (k j : ℕ) (d : SwitchRow) → k < length a.switches → j < 20 → switch_field (image_words a) k j ≡ slice_index (switch_words (get_or a.switches k d)) j
+pub switch_is : (a : Fields) → Rules a → (k j : ℕ) (d : SwitchRow) → k < length a.switches → j < switch_row_words → switch_field (image_words a) k j ≡ slice_index (switch_words (get_or a.switches k d)) j
 switch_is a r = (image_stands a r).switch
 
-pub function_is : (a : Fields) → Rules a → (k j : ℕ) (d : FunctionRow) → k < length a.functions → j < 10 → function_field (image_words a) k j ≡ slice_index (function_words (get_or a.functions k d)) j
+pub function_is : (a : Fields) → Rules a → (k j : ℕ) (d : FunctionRow) → k < length a.functions → j < function_row_words → function_field (image_words a) k j ≡ slice_index (function_words (get_or a.functions k d)) j
 function_is a r = (image_stands a r).function
 
-pub variant_is : (a : Fields) → Rules a → (k j : ℕ) (d : VariantRow) → k < length a.variants → j < 5 → variant_field (image_words a) k j ≡ slice_index (variant_words (get_or a.variants k d)) j
+pub variant_is : (a : Fields) → Rules a → (k j : ℕ) (d : VariantRow) → k < length a.variants → j < variant_row_words → variant_field (image_words a) k j ≡ slice_index (variant_words (get_or a.variants k d)) j
 variant_is a r = (image_stands a r).variant
 
-pub guard_is : (a : Fields) → Rules a → (k j : ℕ) (d : GuardRow) → k < length a.guards → j < 12 → guard_field (image_words a) k j ≡ slice_index (guard_words (get_or a.guards k d)) j
+pub guard_is : (a : Fields) → Rules a → (k j : ℕ) (d : GuardRow) → k < length a.guards → j < guard_row_words → guard_field (image_words a) k j ≡ slice_index (guard_words (get_or a.guards k d)) j
 guard_is a r = (image_stands a r).guard
 
-pub site_is : (a : Fields) → Rules a → (k j : ℕ) (d : SiteRow) → k < length a.sites → j < 2 → site_field (image_words a) k j ≡ slice_index (site_words (get_or a.sites k d)) j
+pub site_is : (a : Fields) → Rules a → (k j : ℕ) (d : SiteRow) → k < length a.sites → j < site_row_words → site_field (image_words a) k j ≡ slice_index (site_words (get_or a.sites k d)) j
 site_is a r = (image_stands a r).site
 
 pub function_variants : (a : Fields) → Rules a → (k : ℕ) (d : FunctionRow) → k < length a.functions → variants_of (image_words a) k ≡ (get_or a.functions k d).variants

@@ -10,7 +10,7 @@ use Rattle.mv_descriptors.specs.declared.rows.SwitchRow.{SwitchRow}
 use Rattle.mv_descriptors.specs.declared.rows.FunctionRow.{FunctionRow}
 use Rattle.mv_descriptors.specs.declared.rows.VariantRow.{VariantRow}
 use Rattle.mv_descriptors.specs.declared.rows.GuardRow.{GuardRow}
-use Rattle.mv_image.specs.Places.{function_rows, variant_rows, guard_rows, switch_field, function_field, guard_field, variants_of, guards_of, sum_below, owner, guard_function}
+use Rattle.mv_image.specs.Places.{variants_place, guards_place, function_rows, variant_rows, guard_rows, switch_field, function_field, guard_field, variants_of, guards_of, sum_below, owner, guard_function}
 use Rattle.mv_image.specs.Rules.{header_fits, function_fits, variant_fits, guard_fits, kind_at}
 use Rattle.mv_image.specs.Spelling.{Fields}
 use Rattle.mv_image.specs.Faults.{AllFit, Rules, image_words}
@@ -27,7 +27,7 @@ variants_at_last : (ws : List ℕ) (k : ℕ) → function_fits ws k 9 ≡ true �
 unfolding function_fits
 variants_at_last ws k h last = eqb-true _ _ (not_last _ _ _ last (and_right _ _ h))
 
-no_variants : (ws : List ℕ) → header_fits ws 7 ≡ true → function_rows ws ≡ 0 → variant_rows ws ≡ 0
+no_variants : (ws : List ℕ) → header_fits ws variants_place ≡ true → function_rows ws ≡ 0 → variant_rows ws ≡ 0
 unfolding header_fits
 no_variants ws h none =
     let t : ltb 0 (function_rows ws) ≡ false = le-ltb _ _ (omega (arith, none)) in
@@ -38,7 +38,7 @@ guards_at_last : (ws : List ℕ) (k : ℕ) → variant_fits ws k 4 ≡ true → 
 unfolding variant_fits
 guards_at_last ws k h last = eqb-true _ _ (not_last _ _ _ last (and_right _ _ h))
 
-no_guards : (ws : List ℕ) → header_fits ws 8 ≡ true → variant_rows ws ≡ 0 → guard_rows ws ≡ 0
+no_guards : (ws : List ℕ) → header_fits ws guards_place ≡ true → variant_rows ws ≡ 0 → guard_rows ws ≡ 0
 unfolding header_fits
 no_guards ws h none =
     let t : ltb 0 (variant_rows ws) ≡ false = le-ltb _ _ (omega (arith, none)) in
@@ -51,7 +51,7 @@ variants_add_up ws fit =
       | inl some ↦ variants_at_last ws (function_rows ws - 1) (function_rule ws (function_rows ws - 1) 9 fit (omega arith) (omega arith)) (omega arith)
       | inr none ↦
           let z : function_rows ws ≡ 0 = omega arith in
-          ap (sum_below (variants_of ws)) z ∙ sum_below-none (variants_of ws) ∙ sym (no_variants ws (header_rule ws 7 fit (omega arith)) z)
+          ap (sum_below (variants_of ws)) z ∙ sum_below-none (variants_of ws) ∙ sym (no_variants ws (header_rule ws variants_place fit (omega arith)) z)
     ]
 
 guards_add_up : (ws : List ℕ) → AllFit ws → sum_below (guards_of ws) (variant_rows ws) ≡ guard_rows ws
@@ -60,7 +60,7 @@ guards_add_up ws fit =
       | inl some ↦ guards_at_last ws (variant_rows ws - 1) (variant_rule ws (variant_rows ws - 1) 4 fit (omega arith) (omega arith)) (omega arith)
       | inr none ↦
           let z : variant_rows ws ≡ 0 = omega arith in
-          ap (sum_below (guards_of ws)) z ∙ sum_below-none (guards_of ws) ∙ sym (no_guards ws (header_rule ws 8 fit (omega arith)) z)
+          ap (sum_below (guards_of ws)) z ∙ sum_below-none (guards_of ws) ∙ sym (no_guards ws (header_rule ws guards_place fit (omega arith)) z)
     ]
 
 -- sums over words are sums over rows

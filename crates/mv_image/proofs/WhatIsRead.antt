@@ -14,7 +14,7 @@ use Rattle.mv_descriptors.specs.WidthLaws.{switch_width, function_width, parted}
 use Rattle.std.proofs.lemmas.List.Concat.{flat_map-cons}
 use Rattle.mv_descriptors.specs.declared.rows.SwitchRow.{SwitchRow}
 use Rattle.mv_descriptors.specs.declared.rows.FunctionRow.{FunctionRow}
-use Rattle.mv_image.specs.Places.{header_words, text_words, data_words, switch_rows, function_rows, variant_rows, guard_rows, site_rows, name_bytes, data_at, switches_at, functions_at, variants_at, guards_at, sites_at, words_end, switch_field, function_field, name_length, names, sum_below, first_of}
+use Rattle.mv_image.specs.Places.{switch_row_words, function_row_words, magic_place, version_place, names_place, last_place, entry_address, header_words, text_words, data_words, switch_rows, function_rows, variant_rows, guard_rows, site_rows, name_bytes, data_at, switches_at, functions_at, variants_at, guards_at, sites_at, words_end, switch_field, function_field, name_length, names, sum_below, first_of}
 use Rattle.mv_image.specs.Rules.{header_fits, switch_fits, function_fits, name_fits}
 use Rattle.mv_image.specs.Spelling.{Fields, joined, filled, header_of, words_in, names_in, spelling}
 use Rattle.mv_image.specs.Faults.{AllFit, Spelled, Spells, lengths_in}
@@ -95,15 +95,15 @@ pub header_rule : (ws : List ℕ) (i : ℕ) → AllFit ws → i < header_words �
 header_rule ws i fit lt =
     sym (header_word ws i lt) ∙ fit i (omega (arith, switches_from ws, functions_from ws, variants_from ws, guards_from ws, sites_from ws, end_from ws))
 
-magic_is : (ws : List ℕ) → header_fits ws 0 ≡ true → slice_index ws 0 ≡ 0x3149564D
+magic_is : (ws : List ℕ) → header_fits ws magic_place ≡ true → slice_index ws magic_place ≡ 0x3149564D
 unfolding header_fits
 magic_is ws h = eqb-true _ _ h
 
-version_is : (ws : List ℕ) → header_fits ws 1 ≡ true → slice_index ws 1 ≡ 1
+version_is : (ws : List ℕ) → header_fits ws version_place ≡ true → slice_index ws version_place ≡ 1
 unfolding header_fits
 version_is ws h = eqb-true _ _ h
 
-last_is : (ws : List ℕ) → header_fits ws 11 ≡ true → slice_index ws 11 ≡ 0
+last_is : (ws : List ℕ) → header_fits ws last_place ≡ true → slice_index ws last_place ≡ 0
 unfolding header_fits
 last_is ws h = eqb-true _ _ h
 
@@ -123,7 +123,7 @@ switch_sum ws k h none last =
     let t : ltb 0 (function_rows ws) ≡ false = le-ltb _ _ (omega (arith, none)) in
     eqb-true _ _ (not_last _ _ _ last (rw t at g))
 
-no_names : (ws : List ℕ) → header_fits ws 10 ≡ true → names ws ≡ 0 → name_bytes ws ≡ 0
+no_names : (ws : List ℕ) → header_fits ws names_place ≡ true → names ws ≡ 0 → name_bytes ws ≡ 0
 unfolding header_fits
 no_names ws h none = let t : ltb 0 (names ws) ≡ false = le-ltb _ _ (omega (arith, none)) in eqb-true _ _ (rw t at h)
 
@@ -135,14 +135,14 @@ names_sum ws fit =
         | inl few ↦ switch_sum ws (switch_rows ws - 1) (switch_rule ws (switch_rows ws - 1) 0 fit (omega arith) (omega arith)) (omega arith) (omega arith)
         | inr neither ↦
             let z : names ws ≡ 0 = omega arith in
-            ap (λ (n : ℕ). sum_below (name_length ws) n) z ∙ sum_below-none (name_length ws) ∙ sym (no_names ws (header_rule ws 10 fit (omega arith)) z)
+            ap (λ (n : ℕ). sum_below (name_length ws) n) z ∙ sum_below-none (name_length ws) ∙ sym (no_names ws (header_rule ws names_place fit (omega arith)) z)
       ]
     ]
 
 -- ---- what the reader has made
 
 pub record IsRead (ws bytes : List ℕ) (image : Fields) : Type 0 where
-  pub entry : image.entry ≡ slice_index ws 2
+  pub entry : image.entry ≡ entry_address ws
   pub text : image.text ≡ slice_range ws header_words (data_at ws)
   pub globals : image.globals ≡ slice_range ws (data_at ws) (switches_at ws)
   pub switches : flat_map switch_words image.switches ≡ slice_range ws (switches_at ws) (functions_at ws)
@@ -183,19 +183,19 @@ header_is : (ws bytes : List ℕ) (image : Fields) → AllFit ws → words_end w
 unfolding header_of
 header_is ws bytes image fit room more r =
     let o = in_order ws in
-    let e0 = magic_is ws (header_rule ws 0 fit (omega arith)) in
-    let e1 = version_is ws (header_rule ws 1 fit (omega arith)) in
+    let e0 = magic_is ws (header_rule ws magic_place fit (omega arith)) in
+    let e1 = version_is ws (header_rule ws version_place fit (omega arith)) in
     let e2 = r.entry in
-    let e3 : length image.text ≡ slice_index ws 3 = ap length r.text ∙ range_length ws header_words (data_at ws) o.first (omega (arith, o.switches, o.functions, o.variants, o.guards, o.sites, o.end)) ∙ omega (arith, data_from ws) in
-    let e4 : length image.globals ≡ slice_index ws 4 = ap length r.globals ∙ range_length ws (data_at ws) (switches_at ws) o.switches (omega (arith, o.functions, o.variants, o.guards, o.sites, o.end)) ∙ omega (arith, switches_after ws) in
+    let e3 : length image.text ≡ text_words ws = ap length r.text ∙ range_length ws header_words (data_at ws) o.first (omega (arith, o.switches, o.functions, o.variants, o.guards, o.sites, o.end)) ∙ omega (arith, data_from ws) in
+    let e4 : length image.globals ≡ data_words ws = ap length r.globals ∙ range_length ws (data_at ws) (switches_at ws) o.switches (omega (arith, o.functions, o.variants, o.guards, o.sites, o.end)) ∙ omega (arith, switches_after ws) in
     let e5 = r.switches_count in
     let e6 = r.functions_count in
     let e7 = r.variants_count in
     let e8 = r.guards_count in
     let e9 = r.sites_count in
     let s = names_sum ws fit in
-    let e10 : length (joined image.names) ≡ slice_index ws 10 = ap length r.named ∙ range_length bytes (4 * words_end ws) (4 * words_end ws + sum_below (name_length ws) (names ws)) (omega arith) (omega (arith, s, more)) ∙ omega (arith, s) in
-    let e11 = last_is ws (header_rule ws 11 fit (omega arith)) in
+    let e10 : length (joined image.names) ≡ name_bytes ws = ap length r.named ∙ range_length bytes (4 * words_end ws) (4 * words_end ws + sum_below (name_length ws) (names ws)) (omega arith) (omega (arith, s, more)) ∙ omega (arith, s) in
+    let e11 = last_is ws (header_rule ws last_place fit (omega arith)) in
     let all = first_twelve ws (omega (arith, room, o.first, o.switches, o.functions, o.variants, o.guards, o.sites, o.end)) in
     let made : ℕ → ℕ → ℕ → List ℕ = λ m v z. m ∷ v ∷ slice_index ws 2 ∷ slice_index ws 3 ∷ slice_index ws 4 ∷ slice_index ws 5 ∷ slice_index ws 6 ∷ slice_index ws 7 ∷ slice_index ws 8 ∷ slice_index ws 9 ∷ slice_index ws 10 ∷ z ∷ [] in
     rw (e2, e3, e4, e5, e6, e7, e8, e9, e10)
@@ -311,42 +311,42 @@ firsts words_are first w pos is (r ∷ rows) whole ws at k room e =
     let rest = firsts words_are first w pos is rows (λ j d lt. whole (suc j) d (omega (arith, lt))) ws at (suc k) within p.1 in
     ap (λ (x : ℕ). x ∷ map first rows) here ∙ ap (λ (x : List ℕ). slice_index ws (at + w * k) ∷ x) rest
 
-switch_length : (ws : List ℕ) (i : ℕ) → i < switch_rows ws → name_length ws i ≡ slice_index ws (switches_at ws + 20 * i)
+switch_length : (ws : List ℕ) (i : ℕ) → i < switch_rows ws → name_length ws i ≡ slice_index ws (switches_at ws + switch_row_words * i)
 unfolding name_length switch_field
 switch_length ws i lt =
     let t : ltb i (switch_rows ws) ≡ true = lt-ltb _ _ lt in
-    let z : switches_at ws + 20 * i + 0 ≡ switches_at ws + 20 * i = omega arith in
+    let z : switches_at ws + switch_row_words * i + 0 ≡ switches_at ws + switch_row_words * i = omega arith in
     rw t (ap (slice_index ws) z)
 
-function_length : (ws : List ℕ) (i : ℕ) → name_length ws (switch_rows ws + i) ≡ slice_index ws (functions_at ws + 10 * i)
+function_length : (ws : List ℕ) (i : ℕ) → name_length ws (switch_rows ws + i) ≡ slice_index ws (functions_at ws + function_row_words * i)
 unfolding name_length function_field
 function_length ws i =
     let t : ltb (switch_rows ws + i) (switch_rows ws) ≡ false = le-ltb _ _ (omega arith) in
     let m : switch_rows ws + i - switch_rows ws ≡ i = omega arith in
-    let z : functions_at ws + 10 * i + 0 ≡ functions_at ws + 10 * i = omega arith in
+    let z : functions_at ws + function_row_words * i + 0 ≡ functions_at ws + function_row_words * i = omega arith in
     rw (t, m) (ap (slice_index ws) z)
 
 lengths_are : (ws bytes : List ℕ) (image : Fields) → words_end ws ≤ length ws → All SwitchWhole image.switches → All FunctionWhole image.functions → IsRead ws bytes image → map length image.names ≡ lengths_in image
 lengths_are ws bytes image room whole_switches whole_functions r =
     let o = in_order ws in
-    let zs : switches_at ws + 20 * 0 ≡ switches_at ws = omega arith in
-    let ns : switches_at ws + 20 * (0 + length image.switches) ≡ functions_at ws = omega (arith, r.switches_count, functions_from ws) in
-    let zf : functions_at ws + 10 * 0 ≡ functions_at ws = omega arith in
-    let nf : functions_at ws + 10 * (0 + length image.functions) ≡ variants_at ws = omega (arith, r.functions_count, variants_from ws) in
-    let fs : map (λ (row : SwitchRow). row.length) image.switches ≡ first_from (λ i. slice_index ws (switches_at ws + 20 * i)) 0 (length image.switches) =
-    firsts switch_words (λ row. row.length) 20 (omega arith) (λ row. refl) image.switches (λ k d lt. switch_width (get_or image.switches k d) (whole_switches k d lt)) ws (switches_at ws) 0
-    (omega (arith, ns, room, o.variants, o.guards, o.sites, o.end)) (r.switches ∙ ap (λ (x : ℕ). slice_range ws x (functions_at ws)) (sym zs) ∙ ap (λ (x : ℕ). slice_range ws (switches_at ws + 20 * 0) x) (sym ns)) in
-    let ff : map (λ (row : FunctionRow). row.length) image.functions ≡ first_from (λ i. slice_index ws (functions_at ws + 10 * i)) 0 (length image.functions) =
-    firsts function_words (λ row. row.length) 10 (omega arith) (λ row. refl) image.functions (λ k d lt. function_width (get_or image.functions k d) (whole_functions k d lt)) ws (functions_at ws) 0
-    (omega (arith, nf, room, o.guards, o.sites, o.end)) (r.functions ∙ ap (λ (x : ℕ). slice_range ws x (variants_at ws)) (sym zf) ∙ ap (λ (x : ℕ). slice_range ws (functions_at ws + 10 * 0) x) (sym nf)) in
-    let gs : first_from (name_length ws) 0 (switch_rows ws) ≡ first_from (λ i. slice_index ws (switches_at ws + 20 * i)) 0 (switch_rows ws) =
-    first_from-same (name_length ws) (λ i. slice_index ws (switches_at ws + 20 * i)) 0 0 (switch_rows ws) (λ i lt. switch_length ws (0 + i) (omega (arith, lt))) in
-    let gf : first_from (name_length ws) (0 + switch_rows ws) (function_rows ws) ≡ first_from (λ i. slice_index ws (functions_at ws + 10 * i)) 0 (function_rows ws) =
-    first_from-same (name_length ws) (λ i. slice_index ws (functions_at ws + 10 * i)) (0 + switch_rows ws) 0 (function_rows ws)
-    (λ i lt. (let m : 0 + switch_rows ws + i ≡ switch_rows ws + i = omega arith in let z : 0 + i ≡ i = omega arith in ap (name_length ws) m ∙ function_length ws i ∙ ap (λ (x : ℕ). slice_index ws (functions_at ws + 10 * x)) (sym z))) in
+    let zs : switches_at ws + switch_row_words * 0 ≡ switches_at ws = omega arith in
+    let ns : switches_at ws + switch_row_words * (0 + length image.switches) ≡ functions_at ws = omega (arith, r.switches_count, functions_from ws) in
+    let zf : functions_at ws + function_row_words * 0 ≡ functions_at ws = omega arith in
+    let nf : functions_at ws + function_row_words * (0 + length image.functions) ≡ variants_at ws = omega (arith, r.functions_count, variants_from ws) in
+    let fs : map (λ (row : SwitchRow). row.length) image.switches ≡ first_from (λ i. slice_index ws (switches_at ws + switch_row_words * i)) 0 (length image.switches) =
+    firsts switch_words (λ row. row.length) switch_row_words (omega arith) (λ row. refl) image.switches (λ k d lt. switch_width (get_or image.switches k d) (whole_switches k d lt)) ws (switches_at ws) 0
+    (omega (arith, ns, room, o.variants, o.guards, o.sites, o.end)) (r.switches ∙ ap (λ (x : ℕ). slice_range ws x (functions_at ws)) (sym zs) ∙ ap (λ (x : ℕ). slice_range ws (switches_at ws + switch_row_words * 0) x) (sym ns)) in
+    let ff : map (λ (row : FunctionRow). row.length) image.functions ≡ first_from (λ i. slice_index ws (functions_at ws + function_row_words * i)) 0 (length image.functions) =
+    firsts function_words (λ row. row.length) function_row_words (omega arith) (λ row. refl) image.functions (λ k d lt. function_width (get_or image.functions k d) (whole_functions k d lt)) ws (functions_at ws) 0
+    (omega (arith, nf, room, o.guards, o.sites, o.end)) (r.functions ∙ ap (λ (x : ℕ). slice_range ws x (variants_at ws)) (sym zf) ∙ ap (λ (x : ℕ). slice_range ws (functions_at ws + function_row_words * 0) x) (sym nf)) in
+    let gs : first_from (name_length ws) 0 (switch_rows ws) ≡ first_from (λ i. slice_index ws (switches_at ws + switch_row_words * i)) 0 (switch_rows ws) =
+    first_from-same (name_length ws) (λ i. slice_index ws (switches_at ws + switch_row_words * i)) 0 0 (switch_rows ws) (λ i lt. switch_length ws (0 + i) (omega (arith, lt))) in
+    let gf : first_from (name_length ws) (0 + switch_rows ws) (function_rows ws) ≡ first_from (λ i. slice_index ws (functions_at ws + function_row_words * i)) 0 (function_rows ws) =
+    first_from-same (name_length ws) (λ i. slice_index ws (functions_at ws + function_row_words * i)) (0 + switch_rows ws) 0 (function_rows ws)
+    (λ i lt. (let m : 0 + switch_rows ws + i ≡ switch_rows ws + i = omega arith in let z : 0 + i ≡ i = omega arith in ap (name_length ws) m ∙ function_length ws i ∙ ap (λ (x : ℕ). slice_index ws (functions_at ws + function_row_words * x)) (sym z))) in
     r.lengths ∙ first_of-from (name_length ws) (names ws) ∙ first_from-split (name_length ws) 0 (switch_rows ws) (function_rows ws)
-    ∙ ap (λ (x : List ℕ). x ++ first_from (name_length ws) (0 + switch_rows ws) (function_rows ws)) (gs ∙ ap (first_from (λ i. slice_index ws (switches_at ws + 20 * i)) 0) (sym r.switches_count) ∙ sym fs)
-    ∙ ap (λ (x : List ℕ). map (λ (row : SwitchRow). row.length) image.switches ++ x) (gf ∙ ap (first_from (λ i. slice_index ws (functions_at ws + 10 * i)) 0) (sym r.functions_count) ∙ sym ff)
+    ∙ ap (λ (x : List ℕ). x ++ first_from (name_length ws) (0 + switch_rows ws) (function_rows ws)) (gs ∙ ap (first_from (λ i. slice_index ws (switches_at ws + switch_row_words * i)) 0) (sym r.switches_count) ∙ sym fs)
+    ∙ ap (λ (x : List ℕ). map (λ (row : SwitchRow). row.length) image.switches ++ x) (gf ∙ ap (first_from (λ i. slice_index ws (functions_at ws + function_row_words * i)) 0) (sym r.functions_count) ∙ sym ff)
 
 -- ---- the whole
 
@@ -436,7 +436,7 @@ image_of entry text globals tables names = record {
 pub made_image : (bytes ws s text globals : List ℕ) (n d m k entry : ℕ) (tables : Tables) (named : List (List ℕ)) → AreBytes bytes → Spelled bytes → ws ≡ words_of bytes → s ≡ ws
     → n ≡ text_words s → text ≡ slice_range ws header_words (header_words + n) → d ≡ data_at s → m ≡ data_words s → globals ≡ slice_range ws d (d + m) → AreTables ws tables
     → k ≡ names s → joined named ≡ slice_range bytes (4 * words_end s) (4 * words_end s + sum_below (name_length s) k) → map length named ≡ first_of (name_length s) k
-    → entry ≡ slice_index s 2 → Spells bytes (image_of entry text globals tables named)
+    → entry ≡ entry_address s → Spells bytes (image_of entry text globals tables named)
 made_image bytes ws s text globals n d m k entry tables named fits sp ew es en et ed em eg t ek ej el ee =
     let n2 : n ≡ text_words ws = en ∙ ap text_words es in
     let d2 : d ≡ data_at ws = ed ∙ ap data_at es in
@@ -446,7 +446,7 @@ made_image bytes ws s text globals n d m k entry tables named fits sp ew es en e
     let joined2 : joined named ≡ slice_range bytes (4 * words_end s) (4 * words_end s + sum_below (name_length s) (names s)) = ej ∙ ap (λ (j : ℕ). slice_range bytes (4 * words_end s) (4 * words_end s + sum_below (name_length s) j)) ek in
     let lengths2 : map length named ≡ first_of (name_length s) (names s) = el ∙ ap (λ (j : ℕ). first_of (name_length s) j) ek in
     let r : IsRead ws bytes (image_of entry text globals tables named) = record {
-      entry = ee ∙ ap (λ (x : List ℕ). slice_index x 2) es;
+      entry = ee ∙ ap entry_address es;
       text = et ∙ ap (λ (x : ℕ). slice_range ws header_words x) text_end;
       globals = eg ∙ ap (λ (x : ℕ). slice_range ws x (x + m)) d2 ∙ ap (λ (x : ℕ). slice_range ws (data_at ws) x) data_end;
       switches = t.switches;

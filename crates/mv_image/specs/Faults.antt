@@ -1,5 +1,5 @@
 -- The first place at which bytes are no image, and what an image and its spelling are to each other.
-use Rattle.std.specs.Prelude.{ℕ, ◌≡◌, ◌+◌, ◌-◌, ◌*◌, ◌<◌, ◌≤◌, ◌^◌, List, length, map, ◌++◌, slice_index, Bool, true, false, nat_lt, if◌then◌else◌}
+use Rattle.std.specs.Prelude.{ℕ, ◌≡◌, ◌+◌, ◌-◌, ◌*◌, ◌<◌, ◌≤◌, ◌^◌, List, length, map, ◌++◌, Bool, true, false, nat_lt, if◌then◌else◌}
 use Rattle.std.specs.Prelude.{All}
 use Rattle.mv_num.specs.Bytes.{words_of, AreWords}
 use Rattle.mv_descriptors.specs.declared.rows.SwitchRow.{SwitchRow}
@@ -8,7 +8,7 @@ use Rattle.mv_descriptors.specs.declared.rows.VariantRow.{VariantRow}
 use Rattle.mv_descriptors.specs.Widths.{SwitchWhole, FunctionWhole, VariantWhole, GuardWhole, SwitchClean, FunctionClean, VariantClean}
 use Rattle.mv_image.specs.declared.fault.ImageError.{ImageError}
 use Rattle.mv_image.specs.declared.fault.ImageError.TheVariants.{Memory, Truncated, BadField, Trailing}
-use Rattle.mv_image.specs.Places.{words_end, text_words, data_words, switch_rows, function_rows, variant_rows, guard_rows, site_rows, name_bytes}
+use Rattle.mv_image.specs.Places.{entry_address, words_end, text_words, data_words, switch_rows, function_rows, variant_rows, guard_rows, site_rows, name_bytes}
 use Rattle.mv_image.specs.Rules.{word_fits, name_fits}
 use Rattle.mv_image.specs.Spelling.{Fields, joined, filled, words_in, spelling}
 
@@ -94,7 +94,7 @@ image_words image = words_of (spelling image)
 
 -- The numbers of the header are those of the lists.
 pub record Counts (ws : List ℕ) (image : Fields) : Type 0 where
-  pub entry : slice_index ws 2 ≡ image.entry
+  pub entry : entry_address ws ≡ image.entry
   pub text : text_words ws ≡ length image.text
   pub globals : data_words ws ≡ length image.globals
   pub switches : switch_rows ws ≡ length image.switches
