@@ -6,6 +6,7 @@ use Rattle.mv_isa.specs.declared.labelled.Line.TheVariants.{Word, Label, Jump, B
 use Rattle.mv_isa.specs.Execution.{Access, Goes, reg, put, execute, step}
 use Rattle.mv_isa.specs.Code.{LineFits, IsPlace}
 use Rattle.mv_isa.specs.Standing.{LineStands}
+use Rattle.mv_isa.specs.Registers.{ra}
 
 -- the conditions of branches over two words, by funct3 (RISC-V unprivileged ISA, 2.5.2)
 abbrev pub branch_holds : ℕ → ℕ → ℕ → Bool
@@ -44,7 +45,7 @@ module _ {M : Type 0} (access : Access M) (text : ℕ → Option ℕ) (m : M) wh
   -- two steps put the address into the register
   LineRuns at end to regs (Entry rd l) = (mid : List ℕ) × Leads regs at mid (at + 4) × Leads mid (at + 4) (put regs rd to) end
   -- a call that returns to the NOP after it, which leads to the next item
-  LineRuns at end to regs (Slot l) = Leads regs at (put regs 1 (at + 4)) to × ((regs' : List ℕ) → Leads regs' (at + 4) regs' end)
+  LineRuns at end to regs (Slot l) = Leads regs at (put regs ra (at + 4)) to × ((regs' : List ℕ) → Leads regs' (at + 4) regs' end)
 
 -- each item that stands in a text does this, whatever memory is
 abbrev pub LinesRun : Type 0 → Type 0

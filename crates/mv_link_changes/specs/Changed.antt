@@ -1,5 +1,6 @@
 -- How many words of an image's text are others under bindings.
 use Rattle.std.specs.Prelude.{ℕ, suc, ◌≡◌, ◌≢◌, ◌+◌, ◌%◌, ◌<◌, ◌≤◌, ◌==◌, if◌then◌else◌, List, [], ◌∷◌, length, slice_index, slice_index_or, is_some, Some, None}
+use Rattle.mv_isa.specs.Registers.{x0}
 use Rattle.mv_descriptors.specs.declared.rows.FunctionRow.{FunctionRow}
 use Rattle.mv_descriptors.specs.declared.rows.SiteRow.{SiteRow}
 use Rattle.mv_descriptors.specs.declared.rows.VariantRow.{VariantRow}
@@ -30,7 +31,7 @@ sum_from h f (row ∷ rows) = h f + sum_from h (suc f) rows
 -- A variant can be told from its function by the words of text: at the entry stands no jump to it, it stands elsewhere, and its inline body, if it has one,
 -- doesn't begin with a JAL.
 pub record CanBeTold (image : Fields) (row : FunctionRow) (v : VariantRow) : Type 0 where
-  pub entry : word_of image.text row.entry ≢ jump 0 row.entry v.address
+  pub entry : word_of image.text row.entry ≢ jump x0 row.entry v.address
   pub elsewhere : v.address ≢ row.entry
   pub inline : v.inlined ≡ 1 → slice_index v.words 0 % 128 ≢ 111
 

@@ -11,6 +11,7 @@ use Rattle.mv_isa.specs.declared.labelled.Line.TheVariants.{Word, Label, Jump, B
 pub use Rattle.mv_isa.specs.Labels.{trap_label, commit_label}
 use Rattle.mv_isa.specs.Requests as request
 use Rattle.mv_isa.specs.Code.{StandsOnce, LineFits}
+use Rattle.mv_isa.specs.Registers.{x0, ra, sp, t0, t1, t2, a0, a7, s11, t3}
 use Rattle.mv_linker.specs.declared.parts.Parts.{Parts}
 use Rattle.mv_linker.specs.declared.parts.PartFunction.{PartFunction}
 use Rattle.mv_linker.specs.declared.parts.PartVariant.{PartVariant}
@@ -51,11 +52,11 @@ relabelled first count (Slot f) = Slot f
 
 -- the stack pointer at the end of the stack, all calls left, a call of a function, and the exit with its result
 abbrev pub start_lines : (main : ℕ) → List Line
-start_lines main = Word (Lui 2 (pos plan_upper)) ∷ Word (Addi 27 0 (pos depth_limit)) ∷ Jump 1 main ∷ Word (Addi 17 0 (pos request.exit)) ∷ Word Ecall ∷ []
+start_lines main = Word (Lui sp (pos plan_upper)) ∷ Word (Addi s11 x0 (pos depth_limit)) ∷ Jump ra main ∷ Word (Addi a7 x0 (pos request.exit)) ∷ Word Ecall ∷ []
 
 -- the stub of a trap: the environment call of its code
 abbrev pub trap_lines : (c : ℕ) → List Line
-trap_lines c = Label (trap_label c) ∷ Word (Addi 10 0 (pos c)) ∷ Word (Addi 17 0 (pos request.trap)) ∷ Word Ecall ∷ []
+trap_lines c = Label (trap_label c) ∷ Word (Addi a0 x0 (pos c)) ∷ Word (Addi a7 x0 (pos request.trap)) ∷ Word Ecall ∷ []
 
 -- The stub of commits. The environment call that a7 names already writes its plan to the area of plans: how many pairs, and behind that the address and the
 -- word of each. They are stored one by one, then FENCE.I lets fetches see them, and the stub returns. t0 goes along the plan, t1 has how many pairs are
@@ -63,17 +64,17 @@ trap_lines c = Label (trap_label c) ∷ Word (Addi 10 0 (pos c)) ∷ Word (Addi 
 abbrev pub commit_instrs : List Instr
 commit_instrs =
     Ecall
-    ∷ Lui 5 (pos plan_upper)
-    ∷ Lw 6 5 (pos 0)
-    ∷ Beq 6 0 (pos 28)
-    ∷ Lw 7 5 (pos 4)
-    ∷ Lw 28 5 (pos 8)
-    ∷ Sw 7 28 (pos 0)
-    ∷ Addi 5 5 (pos 8)
-    ∷ Addi 6 6 (negsuc 0)
-    ∷ Jal 0 (negsuc 23)
+    ∷ Lui t0 (pos plan_upper)
+    ∷ Lw t1 t0 (pos 0)
+    ∷ Beq t1 x0 (pos 28)
+    ∷ Lw t2 t0 (pos 4)
+    ∷ Lw t3 t0 (pos 8)
+    ∷ Sw t2 t3 (pos 0)
+    ∷ Addi t0 t0 (pos 8)
+    ∷ Addi t1 t1 (negsuc 0)
+    ∷ Jal x0 (negsuc 23)
     ∷ FenceI
-    ∷ Jalr 0 1 (pos 0)
+    ∷ Jalr x0 ra (pos 0)
     ∷ []
 
 abbrev pub commit_lines : List Line

@@ -5,6 +5,7 @@ use Rattle.mv_isa.specs.declared.instr.Instr.{Instr}
 use Rattle.mv_isa.specs.declared.instr.Instr.TheVariants.{FenceI, Ecall}
 use Rattle.mv_isa.specs.Encoding.{decode}
 use Rattle.mv_isa.specs.Execution.{reg}
+use Rattle.mv_isa.specs.Registers.{a7}
 use Rattle.mv_fetch.specs.Held.{choices}
 use Rattle.mv_patch.specs.declared.prepared.Pair.{Pair}
 use Rattle.mv_patch.specs.Plans.{plan_between}
@@ -16,7 +17,7 @@ is_some_pair (pair ∷ pairs) = true
 
 -- whether the text of the bindings behind the call at pc is another than before it
 abbrev pub opens : State → Bool
-opens s = is_some_pair (plan_between s.image s.bindings (environment_call (request_of (reg s.regs 17)) s).bindings)
+opens s = is_some_pair (plan_between s.image s.bindings (environment_call (request_of (reg s.regs a7)) s).bindings)
 
 -- the instruction that a pick fetches
 abbrev pub fetched_instr : State → (pick : ℕ) → Option Instr

@@ -8,6 +8,7 @@ use Rattle.mv_bindings.specs.Acts.{act_of}
 use Rattle.mv_image.specs.Spelling.{Fields}
 use Rattle.mv_isa.specs.declared.instr.Cause.TheVariants as cause
 use Rattle.mv_isa.specs.Execution.{put, reg, Calls}
+use Rattle.mv_isa.specs.Registers.{a0, a7}
 use Rattle.mv_fetch.specs.Held.{Room, IsInText, choices}
 use Rattle.mv_rv32.specs.Stepping.{picked_step, picked_target, IsCarriedOut, Gives, Stays, Wants}
 use Rattle.mv_rv32.specs.declared.hart.Hart.{Hart}
@@ -76,12 +77,12 @@ Moves f x y stop Told = Meets (λ s. Unit {0}) f x y stop Told
 -- a read that did not fail
 abbrev pub Gets : Hart → Hart → (left left' : Option (List ℕ)) → Type 0
 Gets hart hart' left left' =
-    (byte : Option ℕ) × Takes {E = Failed} left left' (Ok byte) × (hart'.regs ≡ put hart.regs 10 (word_read byte)) × (hart'.pc ≡ add hart.pc 4)
+    (byte : Option ℕ) × Takes {E = Failed} left left' (Ok byte) × (hart'.regs ≡ put hart.regs a0 (word_read byte)) × (hart'.pc ≡ add hart.pc 4)
 
 -- a write that did not fail
 abbrev pub Puts : Hart → Hart → (written written' : Option (List ℕ)) → Type 0
 Puts hart hart' written written' =
-    (written' ≡ option_map (λ before. before ++ reg hart.regs 10 % 2 ^ 8 ∷ []) written) × (hart'.regs ≡ put hart.regs 10 (reg hart.regs 10 % 2 ^ 8)) × (hart'.pc ≡ add hart.pc 4)
+    (written' ≡ option_map (λ before. before ++ reg hart.regs a0 % 2 ^ 8 ∷ []) written) × (hart'.regs ≡ put hart.regs a0 (reg hart.regs a0 % 2 ^ 8)) × (hart'.pc ≡ add hart.pc 4)
 
 -- an answer of one instruction: a move to a stop, or a fault of the outside or want of memory, which is no move
 abbrev pub Outcomes : Option Stopped → (Stop → Type 0) → (input output memory : Type 0) → Type 0
@@ -97,7 +98,7 @@ Outcomes (Some answer.Memory) moves input output memory = memory
 -- A call of the environment: what it does where it goes on or stops the run. Where a read or a write failed, nothing changed.
 abbrev pub FromCall : Option Stopped → Seen → Seen → (input_rose output_rose : Type 0) → (Told : List Event → Type 0) → Type 0
 FromCall result x y input_rose output_rose Told =
-    let request = request_of (reg x.regs 17) in
+    let request = request_of (reg x.regs a7) in
     Outcomes result (λ stop. Moves (environment_call request) x y stop Told) ((y ≡ x) × Told [] × (request ≡ Reads) × input_rose) ((y ≡ x) × Told [] × (request ≡ Writes) × output_rose) ⊥
 
 -- a call that neither reads nor writes does what a function does to a state, with some events
@@ -124,7 +125,7 @@ Fetched (Some word) words way way' =
 
 -- the call that stands at pc is that one
 abbrev pub Called : Seen → (pick : ℕ) → Request → Type 0
-Called x pick request = (picked_step x.room pick x.regs x.pc ≡ Calls) × (request_of (reg x.regs 17) ≡ request)
+Called x pick request = (picked_step x.room pick x.regs x.pc ≡ Calls) × (request_of (reg x.regs a7) ≡ request)
 
 -- the instruction is a store into text that the definition carries out, and nothing is spare
 abbrev pub Wanting : Seen → (pick : ℕ) → Type 0

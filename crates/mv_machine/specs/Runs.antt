@@ -14,6 +14,7 @@ use Rattle.mv_isa.specs.declared.instr.Cause.TheVariants as cause
 use Rattle.mv_isa.specs.Execution.{Outcome, Goes, Calls, Faults, reg, put}
 pub use Rattle.mv_num.specs.Regions.{plan_area}
 use Rattle.mv_isa.specs.Requests as requests
+use Rattle.mv_isa.specs.Registers.{a0, a1, a7, s10}
 use Rattle.mv_fetch.specs.Held.{Room, first as first_memory, choices}
 use Rattle.mv_rv32.specs.Stepping.{access, picked_step}
 use Rattle.mv_image.specs.Spelling.{Fields}
@@ -66,15 +67,15 @@ pub data Request : Type 0 where
   Unknown : Request
 
 unfoldable pub request_of : ℕ → Request
-request_of a7 =
-    cond (eqb a7 requests.exit) Exits (cond (eqb a7 requests.read) Reads (cond (eqb a7 requests.write) Writes (cond (eqb a7 requests.trap) Traps (cond (eqb a7 requests.plan) Plans (cond (eqb a7 requests.poll) Polls Unknown)))))
+request_of number =
+    cond (eqb number requests.exit) Exits (cond (eqb number requests.read) Reads (cond (eqb number requests.write) Writes (cond (eqb number requests.trap) Traps (cond (eqb number requests.plan) Plans (cond (eqb number requests.poll) Polls Unknown)))))
 
 abbrev pub argument : State → ℕ
-argument s = reg s.regs 10
+argument s = reg s.regs a0
 
 -- behind the call, with an answer
 unfoldable pub answered : State → ℕ → State
-answered s value = record s { regs = put s.regs 10 value; pc = add s.pc 4 }
+answered s value = record s { regs = put s.regs a0 value; pc = add s.pc 4 }
 
 abbrev pub stopped : State → Stop → State
 stopped s stop = record s { stop = stop }
@@ -100,7 +101,7 @@ trap_of code = cond (eqb code 0) (Fault cause.Call) (cond (ltb code 5) (Trap cod
 
 -- how many frames of attributed functions are live
 abbrev pub live_frames : State → ℕ
-live_frames s = reg s.regs 26
+live_frames s = reg s.regs s10
 
 -- The environment stores words as SW does. Nothing is stored outside the regions.
 
@@ -184,7 +185,7 @@ environment_call Exits s = stopped s (Exit (argument s % 2 ^ 8))
 environment_call Reads s = record (answered s (word_read (next_read s.input))) { input = later_reads s.input }
 environment_call Writes s = record (answered s (argument s % 2 ^ 8)) { output = s.output ++ argument s % 2 ^ 8 ∷ [] }
 environment_call Traps s = stopped s (trap_of (argument s))
-environment_call Plans s = planned s (argument s) (reg s.regs 11)
+environment_call Plans s = planned s (argument s) (reg s.regs a1)
 environment_call Polls s = polled s
 environment_call Unknown s = stopped s (Fault cause.Call)
 
@@ -200,7 +201,7 @@ fetched_step s pick = picked_step s.room (pick % choices_at s) s.regs s.pc
 
 abbrev pub after : Outcome Room → State → State
 after (Goes regs pc room) s = record s { regs = regs; pc = pc; room = room }
-after Calls s = environment_call (request_of (reg s.regs 17)) s
+after Calls s = environment_call (request_of (reg s.regs a7)) s
 after (Faults why) s = stopped s (Fault why)
 
 abbrev pub where_going : Stop → (going ended : State) → State

@@ -7,6 +7,7 @@ use Rattle.mv_bindings.specs.Acts.{act_of}
 use Rattle.mv_image.specs.Spelling.{Fields}
 use Rattle.mv_isa.specs.Execution.{Calls, reg}
 use Rattle.mv_isa.specs.declared.instr.Cause.{Cause}
+use Rattle.mv_isa.specs.Registers.{a7}
 use Rattle.mv_fetch.specs.Held.{Room, IsInText}
 use Rattle.mv_rv32.specs.Stepping.{picked_target, IsCarriedOut}
 use Rattle.mv_probe.specs.Ways.{Way, pick_of, way_after}
@@ -42,7 +43,7 @@ Under way s picks =
 
 -- the environment call that a pick fetches
 abbrev pub Asks : State → (pick : ℕ) → Request → Type 0
-Asks s pick request = (fetched_step s pick ≡ Calls) × (request_of (reg s.regs 17) ≡ request)
+Asks s pick request = (fetched_step s pick ≡ Calls) × (request_of (reg s.regs a7) ≡ request)
 
 -- the instruction that a pick fetches is a store into text that the definition carries out, and as many words as were reserved have been stored
 -- there since the last FENCE.I

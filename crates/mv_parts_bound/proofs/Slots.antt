@@ -2,6 +2,7 @@
 use Rattle.std.proofs.Common.{◌≡◌, ℕ, ◌+◌, Bool, true, false, cond, List, [], ◌∷◌, ◌++◌, Option, map, refl, sym, subst, ap, ◌∙◌, arith}
 use Rattle.mv_isa.specs.declared.labelled.Line.{Line}
 use Rattle.mv_isa.specs.declared.labelled.Line.TheVariants.{Word, Label, Jump, Branch, Entry, Slot}
+use Rattle.mv_isa.specs.Registers.{t3 as scratch_register}
 use Rattle.mv_ir.specs.declared.tree.Tree.{Tree}
 use Rattle.mv_ir.specs.declared.stm.Callee.{Callee}
 use Rattle.mv_ir.specs.declared.stm.Callee.TheVariants as callee
@@ -18,7 +19,7 @@ use Rattle.mv_select_control.specs.FlowCode.{Plan, Emitted, in_turn, branch_line
 use Rattle.mv_select_control.proofs.StatementsDo.{code_roll}
 use Rattle.mv_select_control.proofs.TreeNames.{AnyNumber, all_any}
 use Rattle.mv_select_control.proofs.StatementsAreMade.{LineByLine, tree_made, operand_made, set_made, set_global_made, divide_made, check_made, read_made, write_made, return_made}
-use Rattle.mv_select_calls.specs.CallCode.{scratch_register, result_lines, guarded_lines, slot_lines, jump_lines, pointer_lines, argument_lines, transfer_lines, call_lines, known_lines}
+use Rattle.mv_select_calls.specs.CallCode.{result_lines, guarded_lines, slot_lines, jump_lines, pointer_lines, argument_lines, transfer_lines, call_lines, known_lines}
 use Rattle.mv_select_calls.proofs.CallsAreMade.{result_made, argument_made, known_made}
 use Rattle.mv_select_functions.specs.FunctionCode.{Shape, bytes_of, end_label, plan, body_lines, prologue_lines, epilogue_lines, function_lines}
 use Rattle.mv_select_functions.proofs.FramesAreMade.{prologue_made, epilogue_made}

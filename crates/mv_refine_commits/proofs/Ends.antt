@@ -5,6 +5,7 @@ use Rattle.mv_isa.specs.declared.instr.Instr.TheVariants.{Addi, Ecall}
 use Rattle.mv_isa.specs.declared.labelled.Line.TheVariants.{Word}
 use Rattle.mv_isa.specs.Execution.{reg, put}
 use Rattle.mv_isa.specs.Standing.{InstrStands}
+use Rattle.mv_isa.specs.Registers.{a7 as request_register}
 use Rattle.mv_image.specs.Spelling.{Fields}
 use Rattle.mv_image.specs.Faults.{Rules}
 use Rattle.mv_ir.specs.World.{World}
@@ -15,7 +16,6 @@ use Rattle.mv_select_statements.specs.StatementCode.{first, trap_label}
 use Rattle.mv_select_control.specs.Placed.{Placed}
 use Rattle.mv_select_control.specs.Runs.{Spot, Machine, outside, IsRun}
 use Rattle.mv_select_control.proofs.Walk.{before_next}
-use Rattle.mv_select_calls.specs.CallCode.{request_register}
 use Rattle.mv_select_calls.specs.Convention.{Layout, HoldsGlobals}
 use Rattle.mv_refine_machine.specs.MachineRuns.{spot_of, machine_text, machine_of, unpatched_word}
 use Rattle.mv_refine_machine.specs.MachineRuns as runs

@@ -17,6 +17,7 @@ use Rattle.mv_ast.specs.Orders.{Answered}
 use Rattle.mv_isa.specs.declared.instr.Instr.TheVariants.{Ecall}
 use Rattle.mv_isa.specs.Execution.{reg}
 use Rattle.mv_isa.specs.Standing.{InstrStands}
+use Rattle.mv_isa.specs.Registers.{ra as link_register, s10 as live_register}
 use Rattle.mv_image.specs.Spelling.{Fields}
 use Rattle.mv_image.specs.Faults.{Rules}
 use Rattle.mv_patch.specs.Orders.{is_known_order}
@@ -34,7 +35,6 @@ use Rattle.mv_machine.proofs.Calls.{request_plans, request_polls}
 use Rattle.mv_select_statements.specs.StatementCode.{first}
 use Rattle.mv_select_control.specs.Placed.{Placed}
 use Rattle.mv_select_control.specs.Runs.{Machine, outside}
-use Rattle.mv_select_calls.specs.CallCode.{link_register, live_register}
 use Rattle.mv_select_calls.specs.Convention.{Layout, IsTarget, IsSaved, IsAbove, HoldsGlobals, Stands, SetsBack, Returns}
 use Rattle.mv_select_calls.specs.Environment.{IsDirect, Asks, ServesOrders, stub_cost}
 use Rattle.mv_select_slots.specs.Narrowed.{narrowed}

@@ -2,6 +2,7 @@
 use Rattle.std.specs.Prelude.{ℕ, ◌≡◌, ◌+◌, ◌%◌, ◌^◌, ◌<◌, ◌≤◌, Bool, List, Option}
 use Rattle.mv_bindings.specs.Traps.{depth_limit}
 use Rattle.mv_isa.specs.Execution.{reg}
+use Rattle.mv_isa.specs.Registers.{ra, sp, s10, s11}
 use Rattle.mv_image.specs.Spelling.{Fields}
 use Rattle.mv_image.specs.Faults.{Rules}
 use Rattle.mv_ir.specs.World.{World}
@@ -10,23 +11,22 @@ use Rattle.mv_machine.specs.Runs.{State, Stop, Exit, Trap, bytes_to_come, first 
 use Rattle.mv_select_statements.specs.StatementCode.{first, trap_label}
 use Rattle.mv_select_control.specs.Placed.{Placed}
 use Rattle.mv_select_control.specs.Runs.{Machine}
-use Rattle.mv_select_calls.specs.CallCode.{link_register, left_register, live_register}
 use Rattle.mv_select_calls.specs.Convention.{Layout, Stands}
 use Rattle.mv_refine_machine.specs.Laws.{IsFirst}
 use Rattle.mv_refine_machine.specs.MachineRuns.{rest_of, machine_text}
 use Rattle.mv_refine_stubs.specs.Ends.{HasStopped}
 use Rattle.mv_refine_stubs.specs.Laws.{HoldsData}
-use Rattle.mv_refine_stubs.specs.Stubs.{stack_register, stack_end, start_address, return_address, start_lines, trap_lines}
+use Rattle.mv_refine_stubs.specs.Stubs.{stack_end, start_address, return_address, start_lines, trap_lines}
 use Rattle.mv_refine_commits.specs.Watched.{Watched, access, watched_machine}
 use Rattle.mv_refine_commits.specs.Served.{at, SoundAt, QuietAt}
 
 -- A time stands at a place in a world, as a call of main finds it.
 pub record EntersQuietly (y : Layout) (machine : Machine Watched) (budget far place : ℕ) (w : World) (i : ℕ) : Type 0 where
   pub stands : Stands access y machine budget far place w i
-  pub link : reg (machine.run i).regs link_register ≡ return_address
-  pub stack : reg (machine.run i).regs stack_register ≡ stack_end
-  pub left : reg (machine.run i).regs left_register ≡ depth_limit
-  pub live : reg (machine.run i).regs live_register ≡ 0
+  pub link : reg (machine.run i).regs ra ≡ return_address
+  pub stack : reg (machine.run i).regs sp ≡ stack_end
+  pub left : reg (machine.run i).regs s11 ≡ depth_limit
+  pub live : reg (machine.run i).regs s10 ≡ 0
 
 module _ (closed : (pc address : ℕ) → Bool) (image : Fields) (start : State) (picks : List ℕ) where
   abbrev pub state : ℕ → State

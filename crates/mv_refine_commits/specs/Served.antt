@@ -3,6 +3,7 @@ use Rattle.std.specs.Prelude.{ℕ, ◌≡◌, ◌≢◌, ◌+◌, ◌*◌, ◌<�
 use Rattle.mv_num.specs.Words.{add}
 use Rattle.mv_bindings.specs.declared.binding.Binding.{Binding}
 use Rattle.mv_isa.specs.Execution.{reg, put}
+use Rattle.mv_isa.specs.Registers.{ra, t0, t1, t2, a0, t3}
 use Rattle.mv_rv32.specs.Stepping.{access}
 use Rattle.mv_image.specs.Spelling.{Fields}
 use Rattle.mv_fetch.specs.Held.{Room}
@@ -23,7 +24,7 @@ use Rattle.mv_refine_commits.specs.Watched.{watched, IsQuiet}
 -- What a call for a plan leaves, of a state in which it is made, with an answer and the world afterwards: the new bindings; and of the pairs some in text already, the others in
 -- the plan area. Orders and flips have none in text, and what a hart adopts is there at once.
 pub record IsPlanned (image : Fields) (after : World) (answer : ℕ) (now next : State) : Type 0 where
-  pub regs : next.regs ≡ put now.regs 10 answer
+  pub regs : next.regs ≡ put now.regs a0 answer
   pub pc : next.pc ≡ add now.pc 4
   pub going : next.stop ≡ Going
   pub begun : Room
@@ -69,7 +70,7 @@ module _ (closed : (pc address : ℕ) → Bool) (image : Fields) (first : State)
     pub of : (at i).image ≡ image
     pub quiet : QuietAt w i
     pub registers : AreRegisters (at i).regs
-    pub link : reg (at i).regs 1 ≡ back
+    pub link : reg (at i).regs ra ≡ back
     pub target : IsTarget back
     pub planned : IsPlanned image after answer (at i) (at (i + 1))
     pub word : answer < 2 ^ 32
@@ -80,8 +81,8 @@ module _ (closed : (pc address : ℕ) → Bool) (image : Fields) (first : State)
     pub here : (at j).pc ≡ back
     pub quiet : QuietAt after j
     pub registers : AreRegisters (at j).regs
-    pub value : reg (at j).regs 10 ≡ answer
-    pub others : (q : ℕ) → q ≢ 5 → q ≢ 6 → q ≢ 7 → q ≢ 28 → q ≢ 10 → reg (at j).regs q ≡ reg (at i).regs q
+    pub value : reg (at j).regs a0 ≡ answer
+    pub others : (q : ℕ) → q ≢ t0 → q ≢ t1 → q ≢ t2 → q ≢ t3 → q ≢ a0 → reg (at j).regs q ≡ reg (at i).regs q
     pub loads : (a : ℕ) → IsOutsideText a → access.load (at j).room a 4 ≡ access.load (at (i + 1)).room a 4
     pub sound : (t : ℕ) → t < j → SoundAt t
     pub count : j ≡ i + 6 + 7 * length coming

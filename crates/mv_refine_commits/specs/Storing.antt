@@ -2,6 +2,7 @@
 use Rattle.std.specs.Prelude.{ℕ, ◌≡◌, ◌≢◌, ◌+◌, ◌*◌, ◌<◌, ◌≤◌, Bool, true, List, [], ◌∷◌, ◌++◌, length, slice_get, Option, Some, None}
 use Rattle.mv_bindings.specs.declared.binding.Binding.{Binding}
 use Rattle.mv_isa.specs.Execution.{reg}
+use Rattle.mv_isa.specs.Registers.{t0, t1, t2, t3}
 use Rattle.mv_fetch.specs.Held.{Room}
 use Rattle.mv_rv32.specs.Stepping.{access}
 use Rattle.mv_patch.specs.declared.prepared.Pair.{Pair}
@@ -24,7 +25,7 @@ HasPlan room pairs = (k word : ℕ) → slice_get (spelled_plan pairs) k ≡ Som
 
 -- the registers that the stub changes, behind the call: t0 to t3
 abbrev pub IsOther : ℕ → Type 0
-IsOther q = (q ≢ 5) × (q ≢ 6) × (q ≢ 7) × (q ≢ 28)
+IsOther q = (q ≢ t0) × (q ≢ t1) × (q ≢ t2) × (q ≢ t3)
 
 -- Texts under bindings; what is closed to what stands at a place; a run from a state by some picks.
 module _ (closed : (pc address : ℕ) → Bool) (texts : List Binding → List ℕ) (first : State) (picks : List ℕ) where
@@ -76,8 +77,8 @@ module _ (closed : (pc address : ℕ) → Bool) (texts : List Binding → List �
     pub record AtLoop (pc : ℕ) (done later : List Pair) (i : ℕ) : Type 0 where
       pub regs : List ℕ
       pub stands : Storing pc done later regs i
-      pub pointer : reg regs 5 ≡ plan_area + 8 * length done
-      pub count : reg regs 6 ≡ length later
+      pub pointer : reg regs t0 ≡ plan_area + 8 * length done
+      pub count : reg regs t1 ≡ length later
 
     -- Behind FENCE.I: text is that of the new bindings, each word has one choice, the whole reserve is spare, and no commit is under way.
     pub record Committed (pc i : ℕ) : Type 0 where

@@ -8,6 +8,7 @@ use Rattle.mv_isa.specs.declared.instr.Instr.TheVariants.{Addi}
 use Rattle.mv_isa.specs.declared.labelled.Line.{Line}
 use Rattle.mv_isa.specs.declared.labelled.Line.TheVariants.{Word, Slot}
 use Rattle.mv_isa.specs.Code.{IsPlace, line_at, address, label_address}
+use Rattle.mv_isa.specs.Registers.{sp}
 use Rattle.mv_asm.specs.Outcome.{AreWordsUnder}
 use Rattle.mv_image.specs.Spelling.{Fields}
 use Rattle.mv_image.specs.Patched.{ShowsAt, variant_under, entry_at}
@@ -46,7 +47,7 @@ module _ (attributed : List ℕ) (image : Fields) (closed : (pc address : ℕ) �
   pub record HasEntry (bytes : ℕ) : Type 0 where
     pub index : ℕ
     pub within : index < length lines
-    pub line : line_at lines index ≡ Word (Addi 2 2 (pos 0 -ℤ pos bytes))
+    pub line : line_at lines index ≡ Word (Addi sp sp (pos 0 -ℤ pos bytes))
     pub at_line : address base sizing index ≡ y.entry f
     pub alone : ShowsAlone index
     pub is_entry : entry_at image (y.entry f) ≡ Some own_number

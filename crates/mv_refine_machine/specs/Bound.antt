@@ -5,6 +5,7 @@ use Rattle.mv_descriptors.specs.declared.rows.VariantRow.{VariantRow}
 use Rattle.mv_isa.specs.declared.instr.Instr.TheVariants.{Jal}
 use Rattle.mv_isa.specs.Code.{IsPlace, distance}
 use Rattle.mv_isa.specs.Standing.{InstrStands, SlotStands}
+use Rattle.mv_isa.specs.Registers.{x0}
 use Rattle.mv_image.specs.Spelling.{Fields}
 use Rattle.mv_image.specs.Patched.{variant_under, entry_at, site_at}
 use Rattle.mv_ir.specs.World.{World}
@@ -40,7 +41,7 @@ module _ (image : Fields) (w : World) where
   -- A jump to the variant stands at the entry, and at a site a call of the variant, or its inline body where it has one.
   pub record BindingsShow : Type 0 where
     pub enters : (a : ℕ) (v : VariantRow) → AtEntry a v → IsPlace a → IsPlace v.address →
-        InstrStands (bound_word image w) a (Jal 0 (distance a v.address))
+        InstrStands (bound_word image w) a (Jal x0 (distance a v.address))
     pub calls : (a : ℕ) (v : VariantRow) → AtSite a v → v.inlined ≡ 0 → IsPlace a → IsPlace v.address →
         SlotStands (bound_word image w) a (a + 8) v.address
     pub inlines : (a : ℕ) (v : VariantRow) → AtSite a v → v.inlined ≡ 1 →

@@ -4,6 +4,7 @@ use Rattle.mv_machine.specs.Acts.{PollActs}
 use Rattle.mv_num.specs.Words.{add}
 use Rattle.mv_isa.specs.Execution.{Calls, reg, put, step}
 use Rattle.mv_isa.specs.Requests as requests
+use Rattle.mv_isa.specs.Registers.{a0, a7}
 use Rattle.mv_image.specs.Spelling.{Fields}
 use Rattle.mv_ir.specs.World.{World, Answer}
 use Rattle.mv_ir.specs.KnownFunctions.{next_byte, written}
@@ -14,7 +15,7 @@ use Rattle.mv_refine_machine.specs.MachineRuns.{access, is_sound, run_of, unpatc
 
 -- The next instruction stands behind the call, with the answer in a0. Memory is as it was, and all else is as the world that the answer leaves.
 pub record IsAnswered (image : Fields) (answer : Answer) (now next : Spot Rest) : Type 0 where
-  pub regs : next.regs ≡ put now.regs 10 answer.value
+  pub regs : next.regs ≡ put now.regs a0 answer.value
   pub pc : next.pc ≡ add now.pc 4
   pub room : next.memory.room ≡ now.memory.room
   pub calm : IsCalm image answer.world next.memory
@@ -31,10 +32,10 @@ module _ (image : Fields) (input : List (Option ℕ)) (polls : PollActs) (picks 
   pub record AtCall (number i : ℕ) (w : World) : Type 0 where
     pub calm : IsCalm image w (run i).memory
     pub calls : step access (unpatched_word image (run i).pc) (run i).regs (run i).pc (run i).memory ≡ Calls
-    pub asks : reg (run i).regs 17 ≡ number
+    pub asks : reg (run i).regs a7 ≡ number
 
   abbrev pub argument : ℕ → ℕ
-  argument i = reg (run i).regs 10
+  argument i = reg (run i).regs a0
 
   -- A read and a write do what `getchar` and `putchar` do. An exit and a trap end the run.
   pub record CallsAreAnswered (closed : (pc address : ℕ) → Bool) : Type 0 where

@@ -1,6 +1,7 @@
 -- Where the data of a program and the frame of a function lie in memory.
 use Rattle.std.specs.Prelude.{ℕ, ◌≡◌, ◌+◌, ◌*◌, ◌%◌, ◌<◌, ◌≤◌, ◌⊎◌, max, true, List, length, take, slice_index, sum}
 use Rattle.mv_num.specs.Regions.{data_start, stack_start, plan_area}
+use Rattle.mv_isa.specs.Registers.{sp}
 use Rattle.mv_select_statements.specs.Frames.{Site, Cell, IsOwn, IsThere, address}
 use Rattle.mv_select_calls.specs.Convention as convention
 
@@ -14,7 +15,7 @@ OwnOutsideText s = (x : Cell) → IsOwn s x → IsThere s x → IsOutsideText (a
 
 -- the address of the frame: what sp holds
 abbrev pub frame_at : Site → ℕ
-frame_at s = s.register 2
+frame_at s = s.register sp
 
 -- what is kept is a saved word of the frame, or lies in the stack above it
 abbrev pub IsKeptApart : (bytes : ℕ) → Site → Type 0

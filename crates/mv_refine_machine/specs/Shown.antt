@@ -7,6 +7,7 @@ use Rattle.mv_isa.specs.declared.instr.Instr.TheVariants.{Jal}
 use Rattle.mv_isa.specs.declared.labelled.Line.{Line}
 use Rattle.mv_isa.specs.Code.{IsPlace, distance, line_at, address, label_address}
 use Rattle.mv_isa.specs.Standing.{InstrStands, SlotStands, LineStands}
+use Rattle.mv_isa.specs.Registers.{x0}
 use Rattle.mv_asm.specs.Outcome.{AreWordsUnder}
 use Rattle.mv_image.specs.Spelling.{Fields}
 use Rattle.mv_image.specs.Patched.{ShowsAt, variant_under, entry_at, site_at}
@@ -47,7 +48,7 @@ pub record IsSiteOf (image : Fields) (n a : ℕ) : Type 0 where
 abbrev pub BoundFunctionsShow : Type 0
 BoundFunctionsShow =
     (image : Fields) (bs : List Binding) (n : ℕ) (vs : List ℕ) (v : VariantRow) → IsBoundIn bs n vs → length vs ≤ 6 → variant_under image n (Some vs) ≡ Some v →
-    ((a word : ℕ) → entry_at image a ≡ Some n → image_word image a ≡ Some word → IsPlace a → IsPlace v.address → InstrStands (words_under image bs) a (Jal 0 (distance a v.address)))
+    ((a word : ℕ) → entry_at image a ≡ Some n → image_word image a ≡ Some word → IsPlace a → IsPlace v.address → InstrStands (words_under image bs) a (Jal x0 (distance a v.address)))
     × ((a : ℕ) → IsSiteOf image n a → v.inlined ≡ 0 → IsPlace a → IsPlace v.address → SlotStands (words_under image bs) a (a + 8) v.address)
     × ((a : ℕ) → IsSiteOf image n a → v.inlined ≡ 1 →
     (words_under image bs a ≡ Some (slice_index v.words 0)) × (words_under image bs (a + 4) ≡ Some (slice_index v.words 1)))

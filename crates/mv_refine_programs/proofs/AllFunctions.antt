@@ -11,6 +11,7 @@ use Rattle.mv_meaning.specs.Meaning.{call_of}
 use Rattle.mv_isa.specs.declared.instr.Instr.{Instr}
 use Rattle.mv_isa.specs.Standing.{InstrStands}
 use Rattle.mv_isa.specs.Execution.{Access, reg}
+use Rattle.mv_isa.specs.Registers.{ra as link_register}
 use Rattle.mv_ir.specs.Combinations.{IsCombination}
 use Rattle.mv_ir.specs.Meaning.{cleared}
 use Rattle.mv_ir.specs.KnownFunctions.{seen_from}
@@ -22,7 +23,6 @@ use Rattle.mv_source_forms.specs.Names.{is_void}
 use Rattle.mv_lower_spec.specs.Functions.{lower_function}
 use Rattle.mv_lower_spec.specs.Law.{strict_context}
 use Rattle.mv_select_control.specs.Runs.{Machine, outside}
-use Rattle.mv_select_calls.specs.CallCode.{link_register}
 use Rattle.mv_select_calls.specs.Convention.{Layout, IsTarget, Stands, Enters, Answers, entry_cost, slot_cost, Convention, Conventions}
 use Rattle.mv_select_functions.specs.Functions.{FunctionsKeep, LaterKeeps, part, alone}
 use Rattle.mv_select_functions.proofs.Alone.{word_in}

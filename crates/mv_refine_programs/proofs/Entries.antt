@@ -8,6 +8,7 @@ use Rattle.mv_bindings.specs.declared.binding.Binding.{Binding}
 use Rattle.mv_ast.specs.Switches.{attributed_before, switch_domain}
 use Rattle.mv_isa.specs.Execution.{Access, reg}
 use Rattle.mv_isa.specs.Standing.{SlotStands}
+use Rattle.mv_isa.specs.Registers.{ra as link_register}
 use Rattle.mv_ir.specs.Combinations.{IsCombination}
 use Rattle.mv_ir.specs.KnownFunctions.{seen_from}
 use Rattle.mv_ir.specs.World as ir
@@ -20,7 +21,6 @@ use Rattle.mv_lower_spec.specs.Functions.{lower_function}
 use Rattle.mv_lower_correct.specs.Laws.{callee_frame}
 use Rattle.mv_select_control.specs.Placed.{Text}
 use Rattle.mv_select_control.specs.Runs.{Machine}
-use Rattle.mv_select_calls.specs.CallCode.{link_register}
 use Rattle.mv_select_calls.specs.Convention.{Layout, IsTarget, Stands, Enters, Conventions}
 use Rattle.mv_select_functions.specs.FunctionCode.{bytes_of}
 use Rattle.mv_select_functions.specs.Functions.{FunctionsKeep, LaterKeeps, LowersStack, IsOpen, frame_in, part, shape_of}

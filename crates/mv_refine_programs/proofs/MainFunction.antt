@@ -9,6 +9,7 @@ use Rattle.mv_bindings.specs.Acts.{Act}
 use Rattle.mv_meaning.specs.Meaning.{hart_mean}
 use Rattle.mv_meaning_numbering.specs.Numberings.{IsNumbering}
 use Rattle.mv_isa.specs.Execution.{Access, reg}
+use Rattle.mv_isa.specs.Registers.{ra as link_register}
 use Rattle.mv_ir.specs.World as ir
 use Rattle.mv_ir.specs.World.{World}
 use Rattle.mv_ir.specs.Outcome.{Calls, Call, Returned}
@@ -19,7 +20,6 @@ use Rattle.mv_lower_spec.specs.Functions.{lower_function, lower_program}
 use Rattle.mv_lower_spec.specs.Statements.{levels as levels_of}
 use Rattle.mv_lower_correct.specs.Laws.{IsExecution}
 use Rattle.mv_select_control.specs.Runs.{Machine}
-use Rattle.mv_select_calls.specs.CallCode.{link_register}
 use Rattle.mv_select_calls.specs.Convention.{Layout, IsTarget, Stands, FollowsCall}
 use Rattle.mv_select_functions.specs.Functions.{MainKeeps, Begins}
 use Rattle.mv_lower_calls.specs.SourceCalls.{source_call}

@@ -10,6 +10,7 @@ use Rattle.mv_isa.specs.declared.instr.Instr.TheVariants.{Addi, Jal}
 use Rattle.mv_isa.specs.Code.{IsPlace, distance}
 use Rattle.mv_isa.specs.Execution.{Access}
 use Rattle.mv_isa.specs.Standing.{InstrStands, SlotStands}
+use Rattle.mv_isa.specs.Registers.{x0, sp}
 use Rattle.mv_ir.specs.declared.tree.Tree.{Tree}
 use Rattle.mv_ir.specs.declared.body.Body.{Body}
 use Rattle.mv_ir.specs.Combinations.{IsCombination}
@@ -126,9 +127,9 @@ module _ (y : Layout) (text : Text) (words : List Binding → ℕ → Option ℕ
     pub here : IsPlace (y.entry f)
     pub variants : (vs : List ℕ) → IsCombination (map (switch_domain p) g.switches) vs → IsVariant vs
     pub entry_free : (bs : List Binding) → IsFreeIn bs (attributed_before p.functions f) →
-        InstrStands (words bs) (y.entry f) (Addi 2 2 (pos 0 -ℤ pos (bytes_of (shape_of true body))))
+        InstrStands (words bs) (y.entry f) (Addi sp sp (pos 0 -ℤ pos (bytes_of (shape_of true body))))
     pub entry_bound : (bs : List Binding) (vs : List ℕ) (is : IsCombination (map (switch_domain p) g.switches) vs) → IsBoundIn bs (attributed_before p.functions f) vs →
-        InstrStands (words bs) (y.entry f) (Jal 0 (distance (y.entry f) (variants vs is).address))
+        InstrStands (words bs) (y.entry f) (Jal x0 (distance (y.entry f) (variants vs is).address))
     pub slot_free : (bs : List Binding) (at : ℕ) → text.slot at ≡ Some f → IsFreeIn bs (attributed_before p.functions f) → SlotStands (words bs) at (at + 8) (y.entry f)
     pub slot_bound : (bs : List Binding) (at : ℕ) (vs : List ℕ) (is : IsCombination (map (switch_domain p) g.switches) vs) → text.slot at ≡ Some f →
         IsBoundIn bs (attributed_before p.functions f) vs → SlotShows (words bs) at (variants vs is).address (inline_of y.place (variants vs is).body)

@@ -8,6 +8,7 @@ use Rattle.mv_bindings.specs.Acts.{Act}
 use Rattle.mv_meaning.specs.Meaning.{hart_mean}
 use Rattle.mv_meaning_numbering.specs.Numberings.{IsNumbering}
 use Rattle.mv_isa.specs.Execution.{Access, reg}
+use Rattle.mv_isa.specs.Registers.{ra}
 use Rattle.mv_ir.specs.Outcome.{Call, Returned}
 use Rattle.mv_ir.specs.Programs.{execution_of, run_of_main}
 use Rattle.mv_ir.specs.World.{World}
@@ -16,7 +17,6 @@ use Rattle.mv_ir_worlds.specs.Fit.{is_fit}
 use Rattle.mv_lower_spec.specs.Functions.{lower_program}
 use Rattle.mv_lower_correct.specs.Laws.{IsExecution}
 use Rattle.mv_select_control.specs.Runs.{Machine}
-use Rattle.mv_select_calls.specs.CallCode.{link_register}
 use Rattle.mv_select_calls.specs.Convention.{Layout, IsTarget, Stands, FollowsCall, Conventions}
 use Rattle.mv_select_functions.specs.Functions.{Begins}
 use Rattle.mv_select_slots.specs.Narrowed.{narrowed}
@@ -49,7 +49,7 @@ abbrev pub MainFollows : Type 0 → Type 0
 MainFollows M =
     (access : Access M) (y : Layout) (machine : Machine M) (words : List Binding → ℕ → Option ℕ) (closed : (pc address : ℕ) → Bool) (budget far : ℕ) (p : Program) (numbers : List ℕ) → IsLoaded access y machine words closed budget far p numbers →
     IsNumbering p numbers → (hart : ℕ) (input : List ℕ) (actions : List Act) → All (λ a. IsTrue (act_fits p hart a)) actions →
-    (back i : ℕ) → IsTarget back → reg (machine.run i).regs link_register ≡ back → Begins access y machine i →
+    (back i : ℕ) → IsTarget back → reg (machine.run i).regs ra ≡ back → Begins access y machine i →
     Stands access y machine budget far (y.entry p.main) (first_seen p numbers hart input actions) i → (bound : ℕ) → MainDoes access y machine budget far p numbers hart input actions back i bound
 
 -- A machine of which nothing is known of the worlds in which it is calm is a host where these are fit.
@@ -64,5 +64,5 @@ MainFollowsOpenly M =
     (access : Access M) (y : Layout) (machine : Machine M) (words : List Binding → ℕ → Option ℕ) (closed : (pc address : ℕ) → Bool) (budget far : ℕ) (p : Program) (numbers : List ℕ) →
     IsOpenlyLoaded access y machine words closed budget far p numbers →
     IsNumbering p numbers → (hart : ℕ) (input : List ℕ) (actions : List Act) → All (λ a. IsTrue (act_fits p hart a)) actions →
-    (back i : ℕ) → IsTarget back → reg (machine.run i).regs link_register ≡ back → Begins access y machine i →
+    (back i : ℕ) → IsTarget back → reg (machine.run i).regs ra ≡ back → Begins access y machine i →
     Stands access y machine budget far (y.entry p.main) (first_seen p numbers hart input actions) i → (bound : ℕ) → MainDoes access y machine budget far p numbers hart input actions back i bound

@@ -4,6 +4,7 @@ use Rattle.mv_bindings.specs.declared.binding.Binding.{Binding}
 use Rattle.mv_image.specs.Spelling.{Fields}
 use Rattle.mv_isa.specs.declared.instr.Instr.TheVariants.{Ecall}
 use Rattle.mv_isa.specs.Execution.{reg}
+use Rattle.mv_isa.specs.Registers.{a7}
 use Rattle.mv_machine.specs.Commits.{fetched_instr, commit_after}
 use Rattle.mv_machine.specs.Runs.{State, Request, Exits, Reads, Writes, Traps, Plans, Polls, Unknown, request_of, live_frames, turn}
 use Rattle.mv_refine_runs.specs.Behaves.{IsTextSettled}
@@ -29,7 +30,7 @@ pub record IsUnchanged (s t : State) : Type 0 where
 -- A commit, a revert or a poll that is asked for while a frame of an attributed function is live changes none of it, and no commit begins.
 abbrev pub LiveFramesRefuse : Type 0
 LiveFramesRefuse =
-    (s : State) (pick : ℕ) (under_way : Option (List Binding)) → fetched_instr s pick ≡ Some Ecall → IsForPlan (request_of (reg s.regs 17)) → live_frames s ≢ 0 →
+    (s : State) (pick : ℕ) (under_way : Option (List Binding)) → fetched_instr s pick ≡ Some Ecall → IsForPlan (request_of (reg s.regs a7)) → live_frames s ≢ 0 →
     IsUnchanged s (turn s pick) × (commit_after s pick under_way ≡ under_way)
 
 -- Where text is settled and all functions are free, it is the image's, word for word.

@@ -3,6 +3,7 @@ use Rattle.std.proofs.Common.{◌≡◌, ℕ, Bool, true, false, cond, eqb, List
 use Rattle.mv_machine.specs.Acts.{PollActs}
 use Rattle.mv_bindings.specs.Traps.{depth_limit}
 use Rattle.mv_isa.specs.Execution.{reg}
+use Rattle.mv_isa.specs.Registers.{ra as link_register, s11 as left_register, s10 as live_register, sp as stack_register}
 use Rattle.mv_fetch.specs.Held.{first as first_memory}
 use Rattle.mv_image.specs.Spelling.{Fields}
 use Rattle.mv_ir.specs.World.{World}
@@ -11,12 +12,11 @@ use Rattle.mv_machine.proofs.Turns.{runs_none}
 use Rattle.mv_select_trees.specs.View.{AreRegisters}
 use Rattle.mv_select_control.specs.Placed.{Placed}
 use Rattle.mv_select_control.specs.Runs.{Spot, Machine, outside, IsRun}
-use Rattle.mv_select_calls.specs.CallCode.{link_register, left_register, live_register}
 use Rattle.mv_select_calls.specs.Convention.{Layout, HoldsGlobals, Stands}
 use Rattle.mv_refine_machine.specs.Calm.{Rest, is_calm}
 use Rattle.mv_refine_machine.specs.Laws.{CalmIsTested, RunsAreRuns, RunsBeginInCalm, IsFirst}
 use Rattle.mv_refine_machine.specs.MachineRuns.{access, machine_of, machine_text}
-use Rattle.mv_refine_stubs.specs.Stubs.{stack_register, stack_end, start_address, return_address, start_lines}
+use Rattle.mv_refine_stubs.specs.Stubs.{stack_end, start_address, return_address, start_lines}
 use Rattle.mv_refine_stubs.specs.Laws.{HoldsData, EntersMain}
 use Rattle.mv_refine_stubs.proofs.Data.{data_held}
 use Rattle.mv_refine_stubs.proofs.Walked as walked

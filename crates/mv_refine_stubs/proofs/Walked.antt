@@ -17,6 +17,7 @@ use Rattle.mv_select_trees.proofs.Instructions.{addi_sets, lui_sets}
 use Rattle.mv_select_trees.proofs.Registers.{reg_zero, put_same, put_other, put_registers}
 use Rattle.mv_select_trees.proofs.Words.{add_zero}
 use Rattle.mv_isa.proofs.LineSteps.{line_runs}
+use Rattle.mv_isa.specs.Registers.{ra as link_register, s11 as left_register, s10 as live_register, a7 as request_register, sp as stack_register}
 use Rattle.mv_select_statements.specs.Leads.{limited}
 use Rattle.mv_select_statements.specs.Frames.{Site, TempCell, Element, Kept}
 use Rattle.mv_select_statements.proofs.TreesFirst.{add_small}
@@ -24,14 +25,13 @@ use Rattle.mv_select_control.specs.Placed.{IsPlaced, Placed}
 use Rattle.mv_select_control.specs.Runs.{Spot, Machine, outside, IsRun}
 use Rattle.mv_select_control.proofs.Walk as walk
 use Rattle.mv_select_control.proofs.Walk.{line_does, steps_on}
-use Rattle.mv_select_calls.specs.CallCode.{link_register, left_register, live_register, request_register}
 use Rattle.mv_select_slots.specs.Laws.{nothing}
 use Rattle.mv_refine_machine.specs.Calm.{Rest, IsCalm, is_calm}
 use Rattle.mv_refine_machine.specs.Calls.{AtCall}
 use Rattle.mv_refine_machine.specs.Layout.{OwnOutsideText}
 use Rattle.mv_refine_machine.specs.MachineRuns.{access, unpatched_word, machine_of, machine_text}
 use Rattle.mv_refine_machine.specs.Laws.{CalmIsTested, RunsAreRuns}
-use Rattle.mv_refine_stubs.specs.Stubs.{stack_register, stack_end, start_address, return_address, start_lines, request_lines}
+use Rattle.mv_refine_stubs.specs.Stubs.{stack_end, start_address, return_address, start_lines, request_lines}
 use Rattle.mv_refine_stubs.specs.Ends.{ComesTo}
 use Rattle.mv_num.proofs.Numbers.{word_of_pos}
 

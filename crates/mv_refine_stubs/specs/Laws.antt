@@ -5,18 +5,18 @@ use Rattle.mv_num.specs.Regions.{data_start}
 use Rattle.mv_machine.specs.Acts.{PollActs}
 use Rattle.mv_bindings.specs.Traps.{depth_limit}
 use Rattle.mv_isa.specs.Execution.{reg}
+use Rattle.mv_isa.specs.Registers.{ra, sp, s10, s11}
 use Rattle.mv_image.specs.Spelling.{Fields}
 use Rattle.mv_ir.specs.World.{World}
 use Rattle.mv_machine.specs.Runs.{Exit, Trap, bytes_to_come}
 use Rattle.mv_select_statements.specs.StatementCode.{first, trap_label}
 use Rattle.mv_select_control.specs.Placed.{Placed}
 use Rattle.mv_select_control.specs.Runs.{Machine}
-use Rattle.mv_select_calls.specs.CallCode.{link_register, left_register, live_register}
 use Rattle.mv_select_calls.specs.Convention.{Layout, Stands}
 use Rattle.mv_refine_machine.specs.Calm.{Rest}
 use Rattle.mv_refine_machine.specs.Laws.{IsFirst}
 use Rattle.mv_refine_machine.specs.MachineRuns.{access, machine_of, machine_text, run_of}
-use Rattle.mv_refine_stubs.specs.Stubs.{stack_register, stack_end, start_address, return_address, start_lines, trap_lines}
+use Rattle.mv_refine_stubs.specs.Stubs.{stack_end, start_address, return_address, start_lines, trap_lines}
 use Rattle.mv_refine_stubs.specs.Ends.{ComesTo, EndsAfter}
 
 -- The data of an image are the globals of a world, one behind the other from the start of the data on. They are words, and there is room for them.
@@ -31,10 +31,10 @@ pub record HoldsData (y : Layout) (image : Fields) (w : World) : Type 0 where
 -- frame is live.
 pub record EntersMain (y : Layout) (machine : Machine Rest) (budget far place : ℕ) (w : World) (i : ℕ) : Type 0 where
   pub stands : Stands access y machine budget far place w i
-  pub link : reg (machine.run i).regs link_register ≡ return_address
-  pub stack : reg (machine.run i).regs stack_register ≡ stack_end
-  pub left : reg (machine.run i).regs left_register ≡ depth_limit
-  pub live : reg (machine.run i).regs live_register ≡ 0
+  pub link : reg (machine.run i).regs ra ≡ return_address
+  pub stack : reg (machine.run i).regs sp ≡ stack_end
+  pub left : reg (machine.run i).regs s11 ≡ depth_limit
+  pub live : reg (machine.run i).regs s10 ≡ 0
 
 -- Where the start stub stands at an image's entry, the run is at main after three instructions.
 abbrev pub StartIsRight : Type 0

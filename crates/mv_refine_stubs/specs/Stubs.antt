@@ -6,12 +6,8 @@ use Rattle.mv_isa.specs.declared.instr.Instr.TheVariants.{Lui, Addi, Ecall}
 use Rattle.mv_isa.specs.declared.labelled.Line.{Line}
 use Rattle.mv_isa.specs.declared.labelled.Line.TheVariants.{Word, Label, Jump}
 use Rattle.mv_isa.specs.Requests as requests
+use Rattle.mv_isa.specs.Registers.{x0, ra, sp, a7, s11}
 use Rattle.mv_select_statements.specs.StatementCode.{first, trap_label}
-use Rattle.mv_select_calls.specs.CallCode.{link_register, left_register, request_register}
-
--- sp
-abbrev pub stack_register : ℕ
-stack_register = 2
 
 -- where the stack ends
 abbrev pub stack_end : ℕ
@@ -26,12 +22,12 @@ return_address = 0x100C
 
 -- an environment call of a number, with its argument in a0
 abbrev pub request_lines : ℕ → List Line
-request_lines number = Word (Addi request_register 0 (pos number)) ∷ Word Ecall ∷ []
+request_lines number = Word (Addi a7 x0 (pos number)) ∷ Word Ecall ∷ []
 
 -- The stack is empty and all calls are left; main is called, and what it returns is the exit status.
 abbrev pub start_lines : (main_label : ℕ) → List Line
-start_lines main_label = Word (Lui stack_register (pos plan_upper)) ∷ Word (Addi left_register 0 (pos depth_limit)) ∷ Jump link_register main_label ∷ request_lines requests.exit
+start_lines main_label = Word (Lui sp (pos plan_upper)) ∷ Word (Addi s11 x0 (pos depth_limit)) ∷ Jump ra main_label ∷ request_lines requests.exit
 
 -- the run ends with the code of a trap
 abbrev pub trap_lines : ℕ → List Line
-trap_lines code = Label (trap_label code) ∷ Word (Addi first 0 (pos code)) ∷ request_lines requests.trap
+trap_lines code = Label (trap_label code) ∷ Word (Addi first x0 (pos code)) ∷ request_lines requests.trap

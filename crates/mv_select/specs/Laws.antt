@@ -4,6 +4,7 @@ use Rattle.mv_isa.specs.declared.instr.Instr.TheVariants.{Addi}
 use Rattle.mv_isa.specs.declared.labelled.Line.{Line}
 use Rattle.mv_isa.specs.declared.labelled.Line.TheVariants.{Word}
 use Rattle.mv_isa.specs.Code.{StandsOnce, TargetStands}
+use Rattle.mv_isa.specs.Registers.{sp}
 use Rattle.mv_ir.specs.declared.body.Body.{Body}
 use Rattle.mv_select_statements.specs.StatementCode.{trap_label}
 use Rattle.mv_select_statements.specs.Encoded.{IsCode}
@@ -40,4 +41,4 @@ SelectedTargetsStand =
 -- it begins with the instruction that moves sp, and so with no slot and no jump
 abbrev pub SelectedBegins : Type 0
 SelectedBegins =
-    (attributed : Bool) (body : Body) → (rest : List Line) × (selected_lines attributed body ≡ Word (Addi 2 2 (pos 0 -ℤ pos (frame_bytes body.temps body.arrays))) ∷ rest)
+    (attributed : Bool) (body : Body) → (rest : List Line) × (selected_lines attributed body ≡ Word (Addi sp sp (pos 0 -ℤ pos (frame_bytes body.temps body.arrays))) ∷ rest)

@@ -4,8 +4,8 @@ use Rattle.std.proofs.lemmas.List.Elements.{All-append, All-cons, All-nil}
 use Rattle.mv_isa.specs.declared.instr.Instr.{Instr}
 use Rattle.mv_isa.specs.declared.labelled.Line.{Line}
 use Rattle.mv_isa.specs.declared.labelled.Line.TheVariants.{Word, Label, Jump, Branch, Entry, Slot}
+use Rattle.mv_isa.specs.Registers.{ra as link_register}
 use Rattle.mv_select_control.proofs.StatementsAreMade.{LineByLine}
-use Rattle.mv_select_calls.specs.CallCode.{link_register}
 use Rattle.mv_select_bodies.specs.Lines.{Names, IsCounted, counts_call}
 
 -- what stands before lines without a slot at their start doesn't matter

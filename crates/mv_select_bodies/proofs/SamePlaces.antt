@@ -4,6 +4,7 @@ use Rattle.mv_ast.specs.declared.program.Known.{Known}
 use Rattle.mv_isa.specs.declared.instr.Instr.TheVariants.{Lui, Lw, Sw, Addi}
 use Rattle.mv_isa.specs.declared.labelled.Line.{Line}
 use Rattle.mv_isa.specs.declared.labelled.Line.TheVariants.{Word, Label, Jump, Branch}
+use Rattle.mv_isa.specs.Registers.{a7 as request_register, t3 as scratch_register}
 use Rattle.mv_ir.specs.declared.tree.Tree.{Tree}
 use Rattle.mv_ir.specs.declared.tree.Tree.TheOpen.{Tree-F}
 use Rattle.mv_ir.specs.declared.tree.Tree.TheOpen as tree
@@ -32,7 +33,7 @@ use Rattle.mv_select_control.specs.FlowCode.{Plan, Emitted, both, branch_code, i
 use Rattle.mv_select_control.specs.FlowCode as flow_code
 use Rattle.mv_select_control.specs.Layouts.{size_in}
 use Rattle.mv_select_control.proofs.StatementsDo.{code_roll}
-use Rattle.mv_select_calls.specs.CallCode.{scratch_register, request_register, request_of, pointer_lines, argument_lines, transfer_lines, call_lines, order_lines, ask_lines, result_lines, known_lines}
+use Rattle.mv_select_calls.specs.CallCode.{request_of, pointer_lines, argument_lines, transfer_lines, call_lines, order_lines, ask_lines, result_lines, known_lines}
 use Rattle.mv_select_functions.specs.FunctionCode.{end_label, Shape, bytes_of, plan, prologue_lines, epilogue_lines, function_lines}
 use Rattle.mv_select_functions.specs.Functions.{shape_of}
 use Rattle.mv_select_bodies.specs.SelectedBodies.{CodeIsTheSame}

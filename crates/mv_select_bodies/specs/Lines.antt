@@ -5,12 +5,13 @@ use Rattle.mv_isa.specs.declared.instr.Instr.TheVariants.{Addi, Jal, Jalr}
 use Rattle.mv_isa.specs.declared.labelled.Line.{Line}
 use Rattle.mv_isa.specs.declared.labelled.Line.TheVariants.{Word, Label, Jump, Branch, Entry, Slot}
 use Rattle.mv_isa.specs.Code.{line_at, address, label_address, IsSizing}
+use Rattle.mv_isa.specs.Registers.{x0, ra, s11}
 use Rattle.mv_ir.specs.declared.stm.Stm.{Stm}
 use Rattle.mv_select_trees.specs.TreeCode.{minus_one}
 use Rattle.mv_select_statements.specs.StatementCode.{trap_label}
 use Rattle.mv_select_control.specs.FlowCode.{code_of}
 use Rattle.mv_select_control.specs.Labels.{functions}
-use Rattle.mv_select_calls.specs.CallCode.{link_register, left_register, commit_label}
+use Rattle.mv_select_calls.specs.CallCode.{commit_label}
 use Rattle.mv_select_functions.specs.FunctionCode.{Shape, plan, function_lines}
 
 -- A label that stands is of one kind, one that is jumped to of another, and one that is called of a third; a function that is named is of a fourth, and one
@@ -18,7 +19,7 @@ use Rattle.mv_select_functions.specs.FunctionCode.{Shape, plan, function_lines}
 abbrev pub Names : (L P C Q S : ℕ → Type 0) → Line → Type 0
 Names L P C Q S (Word instr) = Unit {0}
 Names L P C Q S (Label l) = L l
-Names L P C Q S (Jump rd l) = ((rd ≡ 0) × P l) ⊎ ((rd ≡ link_register) × C l)
+Names L P C Q S (Jump rd l) = ((rd ≡ x0) × P l) ⊎ ((rd ≡ ra) × C l)
 Names L P C Q S (Branch funct3 rs1 rs2 l) = P l
 Names L P C Q S (Entry rd f) = Q f
 Names L P C Q S (Slot f) = S f
@@ -27,7 +28,7 @@ Names L P C Q S (Slot f) = S f
 
 -- the word that counts a call: one less is left
 abbrev pub counts_call : Instr
-counts_call = Addi left_register left_register minus_one
+counts_call = Addi s11 s11 minus_one
 
 -- Before each slot stands the word that counts the call, given the instruction before the lines, if there is one.
 abbrev pub IsCounted : Option Instr → List Line → Type 0

@@ -4,6 +4,7 @@ use Rattle.std.proofs.lemmas.Bool.{cases_eq}
 use Rattle.std.proofs.lemmas.List.Sums.{sum_by-append}
 use Rattle.mv_isa.specs.Code.{greatest_words}
 use Rattle.mv_isa.specs.Execution.{Access, reg, put}
+use Rattle.mv_isa.specs.Registers.{t3 as scratch_register}
 use Rattle.mv_ir.specs.declared.tree.Tree.{Tree}
 use Rattle.mv_ir.specs.World as ir
 use Rattle.mv_ir.specs.Outcome.{State}
@@ -21,7 +22,7 @@ use Rattle.mv_select_statements.specs.Leads.{limited}
 use Rattle.mv_select_statements.specs.Frames.{Site, view_of, IsFine, IsFit, Shows}
 use Rattle.mv_select_statements.proofs.FrameChanges.{frame_scratch}
 use Rattle.mv_select_statements.proofs.TreesFirst.{temps_held, named_held}
-use Rattle.mv_select_calls.specs.CallCode.{scratch_register, argument_lines}
+use Rattle.mv_select_calls.specs.CallCode.{argument_lines}
 use Rattle.mv_num.proofs.Booleans.{and_right, and_left}
 
 pub at_scratch : AreScratch scratch_register (scratch_register + 4)

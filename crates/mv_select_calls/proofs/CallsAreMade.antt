@@ -6,6 +6,7 @@ use Rattle.mv_ast.specs.declared.program.Known.TheVariants.{Getchar, Putchar, Po
 use Rattle.mv_isa.specs.declared.instr.Instr.TheVariants.{Addi, Lui, Lw, Jalr, Ecall}
 use Rattle.mv_isa.specs.declared.labelled.Line.{Line}
 use Rattle.mv_isa.specs.declared.labelled.Line.TheVariants.{Word, Jump, Branch, Entry}
+use Rattle.mv_isa.specs.Registers.{ra as link_register, s11 as left_register, a7 as request_register, t3 as scratch_register}
 use Rattle.mv_ir.specs.declared.tree.Tree.{Tree}
 use Rattle.mv_ir.specs.declared.stm.Callee.{Callee}
 use Rattle.mv_ir.specs.declared.stm.Callee.TheVariants as callee
@@ -14,7 +15,7 @@ use Rattle.mv_select_statements.specs.StatementCode.{first, second, trap_label, 
 use Rattle.mv_select_control.specs.Labels.{tree_functions, callee_functions, functions_of_all}
 use Rattle.mv_select_control.proofs.TreeNames.{all_front, all_back}
 use Rattle.mv_select_control.proofs.StatementsAreMade.{LineByLine, number_made, tree_made, into_made}
-use Rattle.mv_select_calls.specs.CallCode.{link_register, left_register, request_register, scratch_register, request_of, commit_label, result_lines, back_lines, guarded_lines, slot_lines, jump_lines, pointer_lines, argument_lines, transfer_lines, call_lines, order_lines, ask_lines, known_lines}
+use Rattle.mv_select_calls.specs.CallCode.{request_of, commit_label, result_lines, back_lines, guarded_lines, slot_lines, jump_lines, pointer_lines, argument_lines, transfer_lines, call_lines, order_lines, ask_lines, known_lines}
 
 module _ {P : List Line → Type 0} {L J Q : ℕ → Type 0} (made : LineByLine P L J Q) where
   pub result_made : (r : Option ℕ) → P (result_lines r)

@@ -9,6 +9,7 @@ use Rattle.mv_isa.specs.declared.instr.Instr.TheVariants.{Addi, Lui, Lw, Jalr, E
 use Rattle.mv_isa.specs.declared.labelled.Line.{Line}
 use Rattle.mv_isa.specs.declared.labelled.Line.TheVariants.{Jump, Branch, Entry, Slot}
 use Rattle.mv_isa.specs.Code.{LineFits}
+use Rattle.mv_isa.specs.Registers.{ra as link_register, s11 as left_register, a7 as request_register, t3 as scratch_register}
 use Rattle.mv_ir.specs.declared.tree.Tree.{Tree}
 use Rattle.mv_ir.specs.declared.stm.Callee.{Callee}
 use Rattle.mv_ir.specs.declared.stm.Callee.TheVariants as callee
@@ -22,7 +23,7 @@ use Rattle.mv_select_statements.specs.Encoded.{IsCode, IsSmall}
 use Rattle.mv_select_statements.proofs.EncodedCode.{both, wider, single, branch, write_fits, tree_code}
 use Rattle.mv_select_control.specs.FlowCode.{fine_known}
 use Rattle.mv_select_control.specs.Layouts.{any_global, any_known, is_small}
-use Rattle.mv_select_calls.specs.CallCode.{link_register, left_register, request_register, scratch_register, request_of, commit_label, result_lines, guard_lines, back_lines, guarded_lines, slot_lines, jump_lines, pointer_lines, argument_lines, transfer_lines, call_lines, order_lines, ask_lines, known_lines}
+use Rattle.mv_select_calls.specs.CallCode.{request_of, commit_label, result_lines, guard_lines, back_lines, guarded_lines, slot_lines, jump_lines, pointer_lines, argument_lines, transfer_lines, call_lines, order_lines, ask_lines, known_lines}
 use Rattle.mv_select_calls.specs.Lines.{CallsHaveCode}
 use Rattle.mv_select_calls.proofs.Small.{HasRoom, FineParts, call_callee, call_parts, known_order, known_parts}
 use Rattle.mv_num.proofs.Booleans.{and_left}

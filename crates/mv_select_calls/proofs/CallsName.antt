@@ -5,10 +5,11 @@ use Rattle.mv_isa.specs.declared.labelled.Line.TheVariants.{Word, Jump, Slot}
 use Rattle.mv_isa.specs.Code.{StandsOnce}
 use Rattle.mv_select_trees.specs.TreeCode.{minus_one}
 use Rattle.mv_isa.specs.declared.instr.Instr.TheVariants.{Addi}
+use Rattle.mv_isa.specs.Registers.{ra as link_register, s11 as left_register}
 use Rattle.mv_select_statements.specs.StatementCode.{trap_label}
 use Rattle.mv_select_control.specs.Labels.{Names, CallsName}
 use Rattle.mv_select_control.proofs.StatementsAreMade.{names_made}
-use Rattle.mv_select_calls.specs.CallCode.{link_register, left_register, commit_label, slot_lines, calls_of}
+use Rattle.mv_select_calls.specs.CallCode.{commit_label, slot_lines, calls_of}
 use Rattle.mv_select_calls.specs.Lines.{CallsHaveNoLabels, CallTargetsStand}
 use Rattle.mv_select_calls.proofs.CallsAreMade.{call_made, known_made}
 

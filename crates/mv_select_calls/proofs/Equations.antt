@@ -1,9 +1,10 @@
 -- What the code of arguments is, one argument at a time.
 use Rattle.std.proofs.Common.{◌≡◌, ℕ, suc, ◌+◌, List, ◌∷◌, ◌++◌, drop, sym, ap, ◌∙◌, arith, append_assoc}
 use Rattle.mv_isa.specs.declared.labelled.Line.{Line}
+use Rattle.mv_isa.specs.Registers.{t3 as scratch_register}
 use Rattle.mv_ir.specs.declared.tree.Tree.{Tree}
 use Rattle.mv_select_trees.specs.TreeCode.{tree_into}
-use Rattle.mv_select_calls.specs.CallCode.{scratch_register, argument_lines}
+use Rattle.mv_select_calls.specs.CallCode.{argument_lines}
 
 -- the code of the next argument, put behind some code
 pub argument_next : (place : ℕ → ℕ) (i : ℕ) (ts : List Tree) (t : Tree) (code after whole : List Line) → drop i ts ≡ t ∷ drop (i + 1) ts

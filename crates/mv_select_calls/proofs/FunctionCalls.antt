@@ -7,6 +7,7 @@ use Rattle.mv_isa.specs.declared.labelled.Line.{Line}
 use Rattle.mv_isa.specs.declared.labelled.Line.TheVariants.{Entry, Slot}
 use Rattle.mv_isa.specs.Code.{IsPlace}
 use Rattle.mv_isa.specs.Execution.{Access, reg, put}
+use Rattle.mv_isa.specs.Registers.{t3 as scratch_register}
 use Rattle.mv_ir.specs.declared.tree.Tree.{Tree}
 use Rattle.mv_ir.specs.declared.tree.Tree as at_tree
 use Rattle.mv_ir.specs.declared.tree.Tree.TheOpen as tree
@@ -39,7 +40,7 @@ use Rattle.mv_select_control.specs.Runs.{Machine, IsRun}
 use Rattle.mv_select_control.specs.Laws.{uses_of, LinesDo}
 use Rattle.mv_select_control.specs.Flow.{IsWithin}
 use Rattle.mv_select_control.proofs.Walk.{placed_split, to_stands}
-use Rattle.mv_select_calls.specs.CallCode.{scratch_register, argument_lines, guarded_lines, jump_lines, pointer_lines, transfer_lines, call_lines}
+use Rattle.mv_select_calls.specs.CallCode.{argument_lines, guarded_lines, jump_lines, pointer_lines, transfer_lines, call_lines}
 use Rattle.mv_select_calls.specs.Convention.{Layout, Conventions}
 use Rattle.mv_select_calls.specs.Environment.{IsFree}
 use Rattle.mv_select_calls.specs.Laws.{IsCaller, IsLinked}

@@ -9,6 +9,7 @@ use Rattle.mv_isa.specs.declared.labelled.Line.TheVariants.{Word, Branch}
 use Rattle.mv_isa.specs.Code.{greatest_words}
 use Rattle.mv_isa.specs.Execution.{Access, reg, put}
 use Rattle.mv_isa.specs.LineSteps.{BranchRuns}
+use Rattle.mv_isa.specs.Registers.{s11 as left_register}
 use Rattle.mv_ir.specs.declared.tree.Tree.{Tree}
 use Rattle.mv_ir.specs.World as ir
 use Rattle.mv_ir.specs.World.{World}
@@ -31,7 +32,7 @@ use Rattle.mv_select_control.specs.Laws.{uses_of}
 use Rattle.mv_select_control.specs.Flow.{AtTrap}
 use Rattle.mv_select_control.proofs.Composition.{fewer}
 use Rattle.mv_select_control.proofs.Walk.{placed_split, reaches_more, line_does, branch_passes, taken, leads_walk}
-use Rattle.mv_select_calls.specs.CallCode.{left_register, back_lines, guarded_lines}
+use Rattle.mv_select_calls.specs.CallCode.{back_lines, guarded_lines}
 use Rattle.mv_select_calls.specs.Convention.{Layout, Conventions}
 use Rattle.mv_select_calls.specs.Laws.{IsCaller, IsLinked}
 use Rattle.mv_select_calls.proofs.Transfers.{Transfers, sets_on, call_follows}

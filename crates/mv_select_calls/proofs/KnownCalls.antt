@@ -9,6 +9,7 @@ use Rattle.mv_isa.specs.declared.instr.Instr.TheVariants.{Addi, Ecall}
 use Rattle.mv_isa.specs.declared.labelled.Line.TheVariants.{Word, Jump}
 use Rattle.mv_isa.specs.Code.{greatest_words}
 use Rattle.mv_isa.specs.Execution.{Access, reg, put}
+use Rattle.mv_isa.specs.Registers.{ra as link_register, s10 as live_register, a7 as request_register}
 use Rattle.mv_ir.specs.declared.tree.Tree.{Tree}
 use Rattle.mv_ir.specs.declared.stm.Stm.TheOpen as stm
 use Rattle.mv_ir.specs.World as ir
@@ -34,7 +35,7 @@ use Rattle.mv_select_control.specs.FlowCode.{fine_known, fine_target, fine_layer
 use Rattle.mv_select_control.specs.Runs.{Spot, Machine, outside, IsRun}
 use Rattle.mv_select_control.specs.Laws.{uses_of, LinesDo}
 use Rattle.mv_select_control.proofs.Walk.{placed_split, stands_at, line_does, steps_on, to_stands}
-use Rattle.mv_select_calls.specs.CallCode.{link_register, live_register, request_register, request_of, commit_label, result_lines, argument_lines, order_lines, ask_lines, known_lines}
+use Rattle.mv_select_calls.specs.CallCode.{request_of, commit_label, result_lines, argument_lines, order_lines, ask_lines, known_lines}
 use Rattle.mv_select_calls.specs.Convention as convention
 use Rattle.mv_select_calls.specs.Convention.{Layout, IsSaved, IsAbove, HoldsGlobals, Returns}
 use Rattle.mv_select_calls.specs.Environment.{IsDirect, HoldsOrder, Asks, ServesKnown}

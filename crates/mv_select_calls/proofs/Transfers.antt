@@ -9,6 +9,7 @@ use Rattle.mv_isa.specs.declared.labelled.Line.{Line}
 use Rattle.mv_isa.specs.declared.labelled.Line.TheVariants.{Word, Slot}
 use Rattle.mv_isa.specs.Code.{IsPlace}
 use Rattle.mv_isa.specs.Execution.{Access, Goes, Faults, reg, put, execute, jumps, step}
+use Rattle.mv_isa.specs.Registers.{ra as link_register, s11 as left_register, s10 as live_register, t3 as scratch_register}
 use Rattle.mv_ir.specs.declared.tree.Tree.{Tree}
 use Rattle.mv_ir.specs.World as ir
 use Rattle.mv_ir.specs.World.{World}
@@ -32,7 +33,7 @@ use Rattle.mv_select_control.specs.Runs.{Spot, Machine, outside, IsRun}
 use Rattle.mv_select_control.specs.Laws.{uses_of}
 use Rattle.mv_select_control.specs.Flow.{AtTrap, IsCut}
 use Rattle.mv_select_control.proofs.Walk.{stands_at, line_does, steps_on, leads_walk, to_here}
-use Rattle.mv_select_calls.specs.CallCode.{link_register, left_register, live_register, scratch_register, result_lines, back_lines, jump_lines}
+use Rattle.mv_select_calls.specs.CallCode.{result_lines, back_lines, jump_lines}
 use Rattle.mv_select_calls.specs.Convention as convention
 use Rattle.mv_select_calls.specs.Convention.{Layout, frame_limit, IsSaved, IsAbove, HoldsGlobals, Enters, Returns, FollowsCall, IsTarget, Convention}
 use Rattle.mv_select_calls.specs.Laws.{IsCaller, IsLinked}

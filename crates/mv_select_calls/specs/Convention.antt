@@ -5,12 +5,12 @@ use Rattle.std.specs.Prelude.{ℕ, ◌≡◌, ◌+◌, ◌*◌, ◌%◌, ◌^◌
 use Rattle.mv_ast.specs.declared.program.Known.{Known}
 use Rattle.mv_bindings.specs.Traps.{depth_limit}
 use Rattle.mv_isa.specs.Execution.{Access, reg}
+use Rattle.mv_isa.specs.Registers.{ra, sp, s1, s2, s10, s11, t3}
 use Rattle.mv_ir.specs.World.{World}
 use Rattle.mv_ir.specs.Outcome.{End, Returned, Trapped, More, Stuck, Call, Calls, Bound}
 use Rattle.mv_select_trees.specs.View.{AreRegisters}
 use Rattle.mv_select_statements.specs.StatementCode.{first}
 use Rattle.mv_select_control.specs.Runs.{Machine, outside}
-use Rattle.mv_select_calls.specs.CallCode.{link_register, left_register, live_register}
 
 -- What the functions of a program share: the address of each global and the number of its words, where each function begins, where the stub of each trap
 -- and that of orders and polls stand, which known functions may be asked for, and from where to where the stack goes.
@@ -41,11 +41,11 @@ IsTarget a = (a < 2 ^ 32) × (a % 4 ≡ 0)
 
 -- sp and s1 to s11
 abbrev pub IsSaved : ℕ → Type 0
-IsSaved q = (q ≡ 2) ⊎ ((q ≡ 9) ⊎ ((18 ≤ q) × (q < 28)))
+IsSaved q = (q ≡ sp) ⊎ ((q ≡ s1) ⊎ ((s2 ≤ q) × (q < t3)))
 
 -- a word of the stack from an address up
 abbrev pub IsAbove : Layout → ℕ → ℕ → Type 0
-IsAbove y sp b = (sp ≤ b) × (b < y.top) × (b % 4 ≡ 0)
+IsAbove y a b = (a ≤ b) × (b < y.top) × (b % 4 ≡ 0)
 
 -- So many instructions are paid for in all, the budget; and at least `far` of them are asked for where the bound is used up.
 module _ {M : Type 0} (access : Access M) (y : Layout) (machine : Machine M) (budget far : ℕ) where
@@ -69,17 +69,17 @@ module _ {M : Type 0} (access : Access M) (y : Layout) (machine : Machine M) (bu
   -- time i has what a callee finds, called with arguments from a frame with so many above that of main and so many live attributed ones
   pub record Enters (depth frames : ℕ) (args : List ℕ) (i : ℕ) : Type 0 where
     pub arguments : (j : ℕ) → j < length args → reg (machine.run i).regs (first + j) ≡ slice_index args j
-    pub live : reg (machine.run i).regs live_register ≡ frames
+    pub live : reg (machine.run i).regs s10 ≡ frames
     pub counts : frames ≤ depth
-    pub left : reg (machine.run i).regs left_register + 1 + depth ≡ depth_limit
-    pub even : reg (machine.run i).regs 2 % 4 ≡ 0
-    pub room : y.bottom + (reg (machine.run i).regs left_register + 1) * frame_limit ≤ reg (machine.run i).regs 2
-    pub within : reg (machine.run i).regs 2 ≤ y.top
+    pub left : reg (machine.run i).regs s11 + 1 + depth ≡ depth_limit
+    pub even : reg (machine.run i).regs sp % 4 ≡ 0
+    pub room : y.bottom + (reg (machine.run i).regs s11 + 1) * frame_limit ≤ reg (machine.run i).regs sp
+    pub within : reg (machine.run i).regs sp ≤ y.top
 
   -- what a callee sets back, from time i to time j
   pub record SetsBack (i j : ℕ) : Type 0 where
     pub registers : (q : ℕ) → IsSaved q → reg (machine.run j).regs q ≡ reg (machine.run i).regs q
-    pub stack : (b : ℕ) → IsAbove y (reg (machine.run i).regs 2) b → access.load (machine.run j).memory b 4 ≡ access.load (machine.run i).memory b 4
+    pub stack : (b : ℕ) → IsAbove y (reg (machine.run i).regs sp) b → access.load (machine.run j).memory b 4 ≡ access.load (machine.run i).memory b 4
 
   -- a later time stands where a call that was made at time i returns to
   pub record Returns (spare k i back : ℕ) (w : World) (j : ℕ) : Type 0 where
@@ -118,7 +118,7 @@ module _ {M : Type 0} (access : Access M) (y : Layout) (machine : Machine M) (bu
 
   -- The functions keep the convention at a bound of k, called at their first words; and so do slots, which return behind their two words.
   pub record Convention (calls : Calls) (k : ℕ) : Type 0 where
-    pub functions : (f depth frames : ℕ) (args : List ℕ) (back i : ℕ) → length args < 9 → IsTarget back → reg (machine.run i).regs link_register ≡ back →
+    pub functions : (f depth frames : ℕ) (args : List ℕ) (back i : ℕ) → length args < 9 → IsTarget back → reg (machine.run i).regs ra ≡ back →
         Answers entry_cost k (y.entry f) back depth frames args (calls f args depth frames) i
     pub slots : (f depth frames : ℕ) (args : List ℕ) (at i : ℕ) → length args < 9 → machine.text.slot at ≡ Some f →
         Answers slot_cost k at (at + 8) depth frames args (calls f args depth frames) i

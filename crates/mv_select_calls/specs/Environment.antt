@@ -5,13 +5,14 @@ use Rattle.mv_ast.specs.declared.program.Known.TheVariants.{Getchar, Putchar, Pl
 use Rattle.mv_isa.specs.declared.instr.Instr.TheVariants.{Ecall}
 use Rattle.mv_isa.specs.Encoding.{encode}
 use Rattle.mv_isa.specs.Execution.{Access, reg}
+use Rattle.mv_isa.specs.Registers.{ra, sp, a7, s10}
 use Rattle.mv_ir.specs.World as ir
 use Rattle.mv_ir.specs.World.{World}
 use Rattle.mv_ir.specs.Trees.{scalar}
 use Rattle.mv_ir.specs.WellFormed.{known_arguments}
 use Rattle.mv_select_statements.specs.StatementCode.{first, second}
 use Rattle.mv_select_control.specs.Runs.{Machine}
-use Rattle.mv_select_calls.specs.CallCode.{link_register, live_register, request_register, request_of}
+use Rattle.mv_select_calls.specs.CallCode.{request_of}
 use Rattle.mv_select_calls.specs.Convention.{Layout, IsTarget, Stands, Returns}
 
 -- input and output are environment calls of their own, and orders and polls go to the stub
@@ -36,18 +37,18 @@ stub_cost = 15
 module _ {M : Type 0} (access : Access M) (y : Layout) (machine : Machine M) (budget far : ℕ) (setting : ir.Setting) where
   -- time i asks for what a known function does
   pub record Asks (k : Known) (args : List ℕ) (i : ℕ) : Type 0 where
-    pub number : reg (machine.run i).regs request_register ≡ request_of k
+    pub number : reg (machine.run i).regs a7 ≡ request_of k
     pub arguments : (j : ℕ) → j < length args → reg (machine.run i).regs (first + j) ≡ slice_index args j
     pub order : HoldsOrder k (machine.run i).regs
-    pub high : y.bottom ≤ reg (machine.run i).regs 2
+    pub high : y.bottom ≤ reg (machine.run i).regs sp
 
   -- The function is carried out, at no more than its cost and `extra`: a later time has its value in a0, and its world.
   abbrev pub Serves : (extra pc back : ℕ) → Known → List ℕ → ℕ → Type 0
   Serves extra pc back k args i =
       (spare bound : ℕ) (w : World) → Stands access y machine budget far pc w i → Asks k args i →
-      i + (spare + extra + (setting.known k args (reg (machine.run i).regs live_register) w).cost) ≤ budget → far ≤ i + bound →
-      (j : ℕ) × Returns access y machine budget far spare bound i back (setting.known k args (reg (machine.run i).regs live_register) w).world j
-      × (reg (machine.run j).regs first ≡ (setting.known k args (reg (machine.run i).regs live_register) w).value)
+      i + (spare + extra + (setting.known k args (reg (machine.run i).regs s10) w).cost) ≤ budget → far ≤ i + bound →
+      (j : ℕ) × Returns access y machine budget far spare bound i back (setting.known k args (reg (machine.run i).regs s10) w).world j
+      × (reg (machine.run j).regs first ≡ (setting.known k args (reg (machine.run i).regs s10) w).value)
 
   -- of the known functions that may be asked for: an environment call stands where text has an ECALL
   abbrev pub ServesCalls : Type 0
@@ -59,7 +60,7 @@ module _ {M : Type 0} (access : Access M) (y : Layout) (machine : Machine M) (bu
   abbrev pub ServesOrders : Type 0
   ServesOrders =
       (k : Known) (args : List ℕ) (back i : ℕ) → y.may_ask k ≡ true → (IsDirect k → ⊥) → length args ≡ known_arguments k → IsTarget back →
-      reg (machine.run i).regs link_register ≡ back → Serves stub_cost y.commit back k args i
+      reg (machine.run i).regs ra ≡ back → Serves stub_cost y.commit back k args i
 
   pub record ServesKnown : Type 0 where
     pub calls : ServesCalls

@@ -4,6 +4,7 @@ use Rattle.mv_ast.specs.declared.program.Known.{Known}
 use Rattle.mv_bindings.specs.Traps.{depth_limit}
 use Rattle.mv_isa.specs.Code.{IsPlace}
 use Rattle.mv_isa.specs.Execution.{Access}
+use Rattle.mv_isa.specs.Registers.{sp, s10, s11}
 use Rattle.mv_ir.specs.declared.tree.Tree.{Tree}
 use Rattle.mv_ir.specs.declared.stm.Array.TheVariants as array
 use Rattle.mv_ir.specs.World as ir
@@ -12,7 +13,7 @@ use Rattle.mv_select_statements.specs.StatementCode.{trap_label}
 use Rattle.mv_select_statements.specs.Frames.{Site, Cell, Element, IsThere, address, IsFine, IsFit}
 use Rattle.mv_select_control.specs.Runs.{Machine, IsRun}
 use Rattle.mv_select_control.specs.Laws.{CallsDo}
-use Rattle.mv_select_calls.specs.CallCode.{left_register, live_register, commit_label, calls_of}
+use Rattle.mv_select_calls.specs.CallCode.{commit_label, calls_of}
 use Rattle.mv_select_calls.specs.Convention.{Layout, frame_limit, IsAbove, Conventions}
 use Rattle.mv_select_calls.specs.Environment.{ServesKnown}
 
@@ -29,13 +30,13 @@ pub record IsCaller (y : Layout) (s : Site) (setting : ir.Setting) (frame : ir.F
   pub entries : (f : ℕ) → s.entry f ≡ y.entry f
   pub may_ask : (k : Known) → s.may_ask k ≡ true → y.may_ask k ≡ true
   pub entry_places : (f : ℕ) → f < length setting.numbers → IsPlace (s.entry f)
-  pub live : s.register live_register ≡ frame.live
+  pub live : s.register s10 ≡ frame.live
   pub counts : frame.live ≤ frame.depth
-  pub left : s.register left_register + frame.depth ≡ depth_limit
-  pub even : s.register 2 % 4 ≡ 0
-  pub room : y.bottom + s.register left_register * frame_limit ≤ s.register 2
-  pub within : s.register 2 ≤ y.top
-  pub above : (x : Cell) → IsThere s x → IsOfFrame x → IsAbove y (s.register 2) (address s x)
+  pub left : s.register s11 + frame.depth ≡ depth_limit
+  pub even : s.register sp % 4 ≡ 0
+  pub room : y.bottom + s.register s11 * frame_limit ≤ s.register sp
+  pub within : s.register sp ≤ y.top
+  pub above : (x : Cell) → IsThere s x → IsOfFrame x → IsAbove y (s.register sp) (address s x)
 
 -- the labels of stubs are where the stubs are
 pub record IsLinked (y : Layout) (place : ℕ → ℕ) : Type 0 where

@@ -2,6 +2,7 @@
 use Rattle.std.specs.Prelude.{ℕ, ◌+◌, List, [], ◌∷◌, ◌++◌, drop}
 use Rattle.mv_isa.specs.declared.labelled.Line.{Line}
 use Rattle.mv_isa.specs.declared.labelled.Line.TheVariants.{Label, Jump, Branch}
+use Rattle.mv_isa.specs.Registers.{x0}
 use Rattle.mv_ir.specs.declared.tree.Tree.{Tree}
 use Rattle.mv_select_trees.specs.TreeCode.{operand_lines, operand_register}
 use Rattle.mv_select_statements.specs.StatementCode.{first}
@@ -22,7 +23,7 @@ abbrev pub loop_opened : Emitter → Emitter
 loop_opened e = record { lines = e.lines ++ (Label e.free ∷ []); around = loop_at e.free ∷ e.around; free = e.free + 2 }
 
 abbrev pub loop_closed : Emitter → ℕ → Emitter
-loop_closed e label = record e { lines = e.lines ++ (Jump 0 label ∷ Label (label + 1) ∷ []); around = drop 1 e.around }
+loop_closed e label = record e { lines = e.lines ++ (Jump x0 label ∷ Label (label + 1) ∷ []); around = drop 1 e.around }
 
 abbrev pub block_opened : Emitter → Emitter
 block_opened e = record e { around = block_at e.free ∷ e.around; free = e.free + 1 }
@@ -33,10 +34,10 @@ block_closed e label = record e { lines = e.lines ++ (Label label ∷ []); aroun
 -- a branch has its test first
 abbrev pub branch_opened : Emitter → (ℕ → ℕ) → Tree → Emitter
 branch_opened e place t =
-    record e { lines = (e.lines ++ operand_lines place t first) ++ (Branch 0 (operand_register t first) 0 e.free ∷ []); free = e.free + 2 }
+    record e { lines = (e.lines ++ operand_lines place t first) ++ (Branch 0 (operand_register t first) x0 e.free ∷ []); free = e.free + 2 }
 
 abbrev pub branch_turned : Emitter → ℕ → Emitter
-branch_turned e label = with_lines e (Jump 0 (label + 1) ∷ Label label ∷ [])
+branch_turned e label = with_lines e (Jump x0 (label + 1) ∷ Label label ∷ [])
 
 abbrev pub branch_closed : Emitter → ℕ → Emitter
 branch_closed e label = with_lines e (Label (label + 1) ∷ [])

@@ -4,6 +4,7 @@ use Rattle.mv_ast.specs.declared.program.Known.{Known}
 use Rattle.mv_ast.specs.declared.program.Known.TheVariants as known
 use Rattle.mv_isa.specs.declared.labelled.Line.{Line}
 use Rattle.mv_isa.specs.declared.labelled.Line.TheVariants.{Label, Jump, Branch}
+use Rattle.mv_isa.specs.Registers.{x0}
 use Rattle.mv_ir.specs.declared.tree.Tree.{Tree}
 use Rattle.mv_ir.specs.declared.stm.Array.{Array}
 use Rattle.mv_ir.specs.declared.stm.Array.TheVariants as array
@@ -61,13 +62,13 @@ in_turn (a ∷ rest) = both a (in_turn rest)
 
 -- the second list, at a first label, where a register is 0, and else the first one, with a jump to the end, a second label
 abbrev pub branch_lines : (q label : ℕ) → List Line → List Line → List Line
-branch_lines q label a b = Branch 0 q 0 label ∷ (a ++ (Jump 0 (label + 1) ∷ Label label ∷ (b ++ (Label (label + 1) ∷ []))))
+branch_lines q label a b = Branch 0 q x0 label ∷ (a ++ (Jump x0 (label + 1) ∷ Label label ∷ (b ++ (Label (label + 1) ∷ []))))
 
 abbrev pub if_lines : (ℕ → ℕ) → ℕ → Tree → List Line → List Line → List Line
 if_lines place label t a b = operand_lines place t first ++ branch_lines (operand_register t first) label a b
 
 abbrev pub loop_lines : ℕ → List Line → List Line
-loop_lines label b = Label label ∷ (b ++ (Jump 0 label ∷ Label (label + 1) ∷ []))
+loop_lines label b = Label label ∷ (b ++ (Jump x0 label ∷ Label (label + 1) ∷ []))
 
 abbrev pub block_lines : ℕ → List Line → List Line
 block_lines label b = b ++ (Label label ∷ [])
@@ -96,16 +97,16 @@ abbrev pub block_code : Emitted → Emitted
 block_code b = record { labels = 1 + b.labels; lines = λ around label. block_lines label (b.lines (block_at label ∷ around) (label + 1)) }
 
 abbrev pub break_code : ℕ → ℕ → Emitted
-break_code end n = record { labels = 0; lines = λ around label. Jump 0 (enclosing_at around n end).end ∷ [] }
+break_code end n = record { labels = 0; lines = λ around label. Jump x0 (enclosing_at around n end).end ∷ [] }
 
 abbrev pub back_code : ℕ → ℕ → Emitted
-back_code end n = record { labels = 0; lines = λ around label. Jump 0 (enclosing_at around n end).start ∷ [] }
+back_code end n = record { labels = 0; lines = λ around label. Jump x0 (enclosing_at around n end).start ∷ [] }
 
 -- Each word of an array of the frame becomes 0, the first one first. The test of the loop stands behind a turn, with a label of its own, and is come to
 -- first.
 abbrev pub zero_lines : ℕ → ℕ → ℕ → List Line
 zero_lines label at n =
-    bounds_lines at n ++ (Jump 0 (label + 1) ∷ Label label ∷ (clear_lines ++ (Label (label + 1) ∷ Branch 1 first second label ∷ [])))
+    bounds_lines at n ++ (Jump x0 (label + 1) ∷ Label label ∷ (clear_lines ++ (Label (label + 1) ∷ Branch 1 first second label ∷ [])))
 
 abbrev pub zero_code : ℕ → ℕ → Emitted
 zero_code at n = record { labels = 2; lines = λ around label. zero_lines label at n }

@@ -2,10 +2,10 @@
 use Rattle.std.proofs.Common.{◌≡◌, ℕ, ◌+◌, ◌*◌, ◌%◌, ◌<◌, ◌≤◌, Bool, false, cond, List, [], length, slice_index, arith}
 use Rattle.mv_bindings.specs.Traps.{depth_limit}
 use Rattle.mv_isa.specs.Execution.{Access, reg}
+use Rattle.mv_isa.specs.Registers.{s11 as left_register, s10 as live_register}
 use Rattle.mv_ir.specs.World as ir
 use Rattle.mv_select_statements.specs.StatementCode.{first}
 use Rattle.mv_select_control.specs.Runs.{Machine}
-use Rattle.mv_select_calls.specs.CallCode.{left_register, live_register}
 use Rattle.mv_select_calls.specs.Convention.{Layout, Enters, frame_limit}
 use Rattle.mv_select_functions.specs.Functions.{Begins}
 use Rattle.mv_num.proofs.Booleans.{one_or_none}

@@ -6,12 +6,12 @@ use Rattle.std.proofs.lemmas.List.Elements.{All-nil}
 use Rattle.mv_isa.specs.declared.instr.Instr.TheVariants.{Lw, Sw, Addi, Jalr}
 use Rattle.mv_isa.specs.Encoding.{IsSigned}
 use Rattle.mv_isa.specs.Code.{LineFits}
+use Rattle.mv_isa.specs.Registers.{ra as link_register, s10 as live_register}
 use Rattle.mv_select_trees.specs.TreeCode.{one, two, minus_one, temp_register}
 use Rattle.mv_select_trees.proofs.TreesFit.{small_fits, register_below}
 use Rattle.mv_select_statements.specs.StatementCode.{first}
 use Rattle.mv_select_statements.specs.Encoded.{IsCode}
 use Rattle.mv_select_statements.proofs.EncodedCode.{both, wider, single, pair}
-use Rattle.mv_select_calls.specs.CallCode.{link_register, live_register}
 use Rattle.mv_select_functions.specs.FunctionCode.{saved_count, saved_register, save_lines, restore_lines, parameter_lines, enter_lines, leave_lines}
 use Rattle.mv_select_functions.specs.Encoded.{FramesAreEncoded}
 use Rattle.mv_select_functions.proofs.Entry.{saved_below}

@@ -4,6 +4,7 @@ use Rattle.std.proofs.Math.Nat.{min-le_left, min-le_right, le-min}
 use Rattle.std.proofs.lemmas.Bool.{cases_lt}
 use Rattle.mv_isa.specs.declared.instr.Instr.TheVariants.{Addi, Jalr}
 use Rattle.mv_isa.specs.Execution.{Access, reg, put}
+use Rattle.mv_isa.specs.Registers.{ra as link_register, s11 as left_register, s10 as live_register}
 use Rattle.mv_ir.specs.declared.body.Body.{Body}
 use Rattle.mv_ir.specs.World.{World}
 use Rattle.mv_ir.specs.Outcome.{State}
@@ -15,7 +16,6 @@ use Rattle.mv_select_statements.specs.Frames.{Kept, Shows, Reach}
 use Rattle.mv_select_statements.proofs.FrameChanges.{register_is, register_zero, register_low, register_high, one_register}
 use Rattle.mv_select_control.specs.Runs.{Machine, outside}
 use Rattle.mv_select_control.proofs.Walk.{placed_split}
-use Rattle.mv_select_calls.specs.CallCode.{link_register, live_register, left_register}
 use Rattle.mv_select_calls.specs.Convention.{Layout, IsTarget, IsSaved, IsAbove}
 use Rattle.mv_select_functions.specs.FunctionCode.{bytes_of, saved_count, saved_register, restore_lines, leave_lines, epilogue_lines}
 use Rattle.mv_select_functions.specs.Functions.{IsStack, IsLaid, IsMemory, shape_of, IsAmple, RunsWithin}

@@ -2,10 +2,10 @@
 use Rattle.std.proofs.Common.{ℕ, zero, suc, ◌*◌, ◌+◌, Bool, true, false, List, ◌++◌, pos, ◌-ℤ◌}
 use Rattle.mv_isa.specs.declared.instr.Instr.TheVariants.{Lw, Sw, Addi, Jalr}
 use Rattle.mv_isa.specs.declared.labelled.Line.{Line}
+use Rattle.mv_isa.specs.Registers.{ra as link_register, s10 as live_register}
 use Rattle.mv_select_trees.specs.TreeCode.{one, two, minus_one, temp_register}
 use Rattle.mv_select_statements.specs.StatementCode.{first}
 use Rattle.mv_select_control.proofs.StatementsAreMade.{LineByLine, words_made}
-use Rattle.mv_select_calls.specs.CallCode.{link_register, live_register}
 use Rattle.mv_select_functions.specs.FunctionCode.{saved_count, saved_register, save_lines, restore_lines, parameter_lines, enter_lines, leave_lines, lowered_lines, prologue_lines, epilogue_lines}
 
 module _ {P : List Line → Type 0} {L J Q : ℕ → Type 0} (made : LineByLine P L J Q) where

@@ -4,6 +4,7 @@ use Rattle.mv_isa.specs.declared.labelled.Line.{Line}
 use Rattle.mv_isa.specs.declared.labelled.Line.TheVariants.{Label}
 use Rattle.mv_isa.specs.Code.{IsPlace}
 use Rattle.mv_isa.specs.Execution.{Access, reg}
+use Rattle.mv_isa.specs.Registers.{ra as link_register, s11 as left_register}
 use Rattle.mv_ir.specs.declared.tree.Tree.{Tree}
 use Rattle.mv_ir.specs.declared.body.Body.{Body}
 use Rattle.mv_ir.specs.World as ir
@@ -22,7 +23,7 @@ use Rattle.mv_select_control.specs.Flow.{IsWithin, Here, Follows}
 use Rattle.mv_select_control.proofs.Composition.{rest, at_place}
 use Rattle.mv_select_control.proofs.StatementsDo.{flow_done}
 use Rattle.mv_select_control.proofs.Walk.{before_next, placed_split, stands_at, to_stands, to_here}
-use Rattle.mv_select_calls.specs.CallCode.{link_register, left_register, calls_of}
+use Rattle.mv_select_calls.specs.CallCode.{calls_of}
 use Rattle.mv_select_calls.specs.Convention as convention
 use Rattle.mv_select_calls.specs.Convention.{Layout, IsTarget, HoldsGlobals, Returns, FollowsCall, Conventions}
 use Rattle.mv_select_calls.specs.Environment.{ServesKnown}

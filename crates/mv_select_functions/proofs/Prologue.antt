@@ -2,6 +2,7 @@
 use Rattle.std.proofs.Common.{◌≡◌, ◌≢◌, ℕ, ◌+◌, ◌*◌, ◌^◌, ◌<◌, ◌≤◌, cond, List, ◌++◌, slice_index, Some, sym, ap, ◌∙◌, arith}
 use Rattle.std.proofs.Math.Nat.{le-max_right, min-le_right}
 use Rattle.mv_isa.specs.Execution.{Access, reg, put}
+use Rattle.mv_isa.specs.Registers.{s10 as live_register}
 use Rattle.mv_ir.specs.World.{World}
 use Rattle.mv_select_trees.specs.TreeCode.{temp_register}
 use Rattle.mv_select_trees.specs.View.{AreRegisters}
@@ -11,7 +12,6 @@ use Rattle.mv_select_statements.specs.Frames.{Reach}
 use Rattle.mv_select_statements.proofs.FrameChanges.{register_low, register_high}
 use Rattle.mv_select_control.specs.Runs.{Machine}
 use Rattle.mv_select_control.proofs.Walk.{placed_split}
-use Rattle.mv_select_calls.specs.CallCode.{live_register}
 use Rattle.mv_select_calls.specs.Convention.{Layout}
 use Rattle.mv_select_functions.specs.FunctionCode.{Shape, bytes_of, saved_count, saved_register, save_lines, parameter_lines, enter_lines, lowered_lines}
 use Rattle.mv_select_functions.specs.Functions.{IsStack, IsWord, IsLaid, IsMemory, IsAmple, RunsWithin}

@@ -7,6 +7,7 @@ use Rattle.mv_isa.specs.declared.instr.Cause.TheVariants as cause
 use Rattle.mv_isa.specs.declared.instr.Instr.TheVariants.{Addi, Jalr}
 use Rattle.mv_isa.specs.declared.labelled.Line.TheVariants.{Word}
 use Rattle.mv_isa.specs.Execution.{Access, Goes, Faults, reg, put, execute, jumps}
+use Rattle.mv_isa.specs.Registers.{ra as link_register, s10 as live_register}
 use Rattle.mv_ir.specs.World.{World}
 use Rattle.mv_select_trees.specs.Straight.{Sets}
 use Rattle.mv_select_trees.specs.TreeCode.{minus_one}
@@ -18,7 +19,6 @@ use Rattle.mv_select_statements.specs.Frames.{Reach}
 use Rattle.mv_select_statements.proofs.TreesFirst.{add_small}
 use Rattle.mv_select_control.specs.Runs.{Machine}
 use Rattle.mv_select_control.proofs.Walk.{line_does, steps_on, stands_at, put_zero}
-use Rattle.mv_select_calls.specs.CallCode.{link_register, live_register}
 use Rattle.mv_select_calls.specs.Convention.{Layout, IsTarget}
 use Rattle.mv_select_calls.proofs.Guarded.{one_less}
 use Rattle.mv_select_functions.specs.FunctionCode.{enter_lines, leave_lines}

@@ -2,6 +2,7 @@
 use Rattle.std.proofs.Common.{◌≡◌, ℕ, ◌+◌, ◌-◌, ◌<◌, ◌≤◌, Bool, List, length, slice_index, refl, arith}
 use Rattle.mv_isa.specs.Code.{IsPlace}
 use Rattle.mv_isa.specs.Execution.{Access, reg, put}
+use Rattle.mv_isa.specs.Registers.{ra as link_register}
 use Rattle.mv_ir.specs.declared.tree.Tree.{Tree}
 use Rattle.mv_ir.specs.declared.body.Body.{Body}
 use Rattle.mv_ir.specs.World as ir
@@ -12,7 +13,6 @@ use Rattle.mv_select_statements.specs.Frames.{Reach}
 use Rattle.mv_select_control.specs.Placed.{Placed}
 use Rattle.mv_select_control.specs.Runs.{Machine}
 use Rattle.mv_select_control.proofs.Walk.{stands_at}
-use Rattle.mv_select_calls.specs.CallCode.{link_register}
 use Rattle.mv_select_calls.specs.Convention.{Layout, IsTarget, Stands, FollowsCall, Conventions, Answers}
 use Rattle.mv_select_calls.specs.Environment.{ServesKnown}
 use Rattle.mv_select_calls.specs.Laws.{IsLinked}

@@ -3,12 +3,13 @@ use Rattle.std.specs.Prelude.{ℕ, zero, suc, ◌+◌, ◌*◌, ◌/◌, Bool, c
 use Rattle.mv_isa.specs.declared.instr.Instr.TheVariants.{Lw, Sw, Addi, Jalr}
 use Rattle.mv_isa.specs.declared.labelled.Line.{Line}
 use Rattle.mv_isa.specs.declared.labelled.Line.TheVariants.{Word, Label}
+use Rattle.mv_isa.specs.Registers.{x0, ra, sp, s10}
 use Rattle.mv_ir.specs.declared.stm.Stm.{Stm}
 use Rattle.mv_ir.specs.Measures.{total}
 use Rattle.mv_select_trees.specs.TreeCode.{one, two, minus_one, temp_register}
 use Rattle.mv_select_statements.specs.StatementCode.{first}
 use Rattle.mv_select_control.specs.FlowCode.{Plan, code_of}
-use Rattle.mv_select_calls.specs.CallCode.{link_register, live_register, calls_of}
+use Rattle.mv_select_calls.specs.CallCode.{calls_of}
 
 -- ---- frames, in words above sp: ra and the registers of temporaries, then the temporaries from number 9 on, then the arrays
 
@@ -17,7 +18,7 @@ abbrev pub saved_count : ℕ → ℕ
 saved_count temps = suc (min temps 9)
 
 abbrev pub saved_register : ℕ → ℕ
-saved_register zero = link_register
+saved_register zero = ra
 saved_register (suc t) = temp_register t
 
 -- where the arrays begin
@@ -42,11 +43,11 @@ frame_bytes temps sizes = 16 * ((arrays_start temps + total sizes + 3) / 4)
 
 abbrev pub save_lines : ℕ → List Line
 save_lines zero = []
-save_lines (suc k) = save_lines k ++ one (Sw 2 (saved_register k) (pos (4 * k)))
+save_lines (suc k) = save_lines k ++ one (Sw sp (saved_register k) (pos (4 * k)))
 
 abbrev pub restore_lines : ℕ → List Line
 restore_lines zero = []
-restore_lines (suc k) = restore_lines k ++ one (Lw (saved_register k) 2 (pos (4 * k)))
+restore_lines (suc k) = restore_lines k ++ one (Lw (saved_register k) sp (pos (4 * k)))
 
 -- the parameters come into the registers of the first temporaries
 abbrev pub parameter_lines : ℕ → List Line
@@ -55,21 +56,21 @@ parameter_lines (suc k) = parameter_lines k ++ one (Addi (temp_register k) (firs
 
 -- an attributed function counts as live
 abbrev pub enter_lines : Bool → List Line
-enter_lines attributed = cond attributed (one (Addi live_register live_register (pos 1))) []
+enter_lines attributed = cond attributed (one (Addi s10 s10 (pos 1))) []
 
 abbrev pub leave_lines : Bool → List Line
-leave_lines attributed = cond attributed (one (Addi live_register live_register minus_one)) []
+leave_lines attributed = cond attributed (one (Addi s10 s10 minus_one)) []
 
 -- what follows where sp has moved
 abbrev pub lowered_lines : Bool → (params temps : ℕ) → List Line
 lowered_lines attributed params temps = save_lines (saved_count temps) ++ (parameter_lines params ++ enter_lines attributed)
 
 abbrev pub prologue_lines : Bool → (params temps bytes : ℕ) → List Line
-prologue_lines attributed params temps bytes = Word (Addi 2 2 (pos 0 -ℤ pos bytes)) ∷ lowered_lines attributed params temps
+prologue_lines attributed params temps bytes = Word (Addi sp sp (pos 0 -ℤ pos bytes)) ∷ lowered_lines attributed params temps
 
 abbrev pub epilogue_lines : Bool → (temps bytes : ℕ) → List Line
 epilogue_lines attributed temps bytes =
-    leave_lines attributed ++ (restore_lines (saved_count temps) ++ two (Addi 2 2 (pos bytes)) (Jalr 0 link_register (pos 0)))
+    leave_lines attributed ++ (restore_lines (saved_count temps) ++ two (Addi sp sp (pos bytes)) (Jalr x0 ra (pos 0)))
 
 -- ---- functions
 

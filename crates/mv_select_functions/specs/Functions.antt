@@ -3,6 +3,7 @@ use Rattle.std.specs.Prelude.{ℕ, ◌≡◌, ◌≢◌, ◌+◌, ◌-◌, ◌*�
 use Rattle.mv_bindings.specs.Traps.{depth_limit}
 use Rattle.mv_isa.specs.Code.{IsPlace}
 use Rattle.mv_isa.specs.Execution.{Access, reg, put}
+use Rattle.mv_isa.specs.Registers.{ra, sp, s10, s11}
 use Rattle.mv_ir.specs.declared.tree.Tree.{Tree}
 use Rattle.mv_ir.specs.declared.body.Body.{Body}
 use Rattle.mv_ir.specs.Trees.{found}
@@ -14,7 +15,6 @@ use Rattle.mv_select_statements.specs.Frames.{Site, Cell, IsOwn, IsThere, addres
 use Rattle.mv_select_control.specs.FlowCode.{are_fine}
 use Rattle.mv_select_control.specs.Placed.{Text, Placed}
 use Rattle.mv_select_control.specs.Runs.{Machine, IsRun}
-use Rattle.mv_select_calls.specs.CallCode.{link_register, left_register, live_register}
 use Rattle.mv_select_calls.specs.Convention.{Layout, IsTarget, IsAbove, frame_limit, Stands, FollowsCall, Conventions, Answers}
 use Rattle.mv_select_calls.specs.Environment.{ServesKnown}
 use Rattle.mv_select_calls.specs.Laws.{IsLinked}
@@ -130,7 +130,7 @@ FunctionsKeep M =
     (attributed : Bool) (bound : List (ℕ × ℕ)) (reach : Reach) (is_fine : Tree → Bool) (body : Body) → IsAmple y reach → IsFunction y setting attributed bound reach is_fine body →
     (place : ℕ → ℕ) → IsLinked y place → (is_attributed : ℕ → Bool) (pc next : ℕ) → RunsWithin access y (alone machine pc next) reach →
     Placed machine.text place y.entry (function_lines y.place y.size is_attributed (shape_of attributed body) body.code) pc next →
-    (depth live : ℕ) (args : List ℕ) (back i : ℕ) → length args ≡ body.params → IsTarget back → reg (machine.run i).regs link_register ≡ back →
+    (depth live : ℕ) (args : List ℕ) (back i : ℕ) → length args ≡ body.params → IsTarget back → reg (machine.run i).regs ra ≡ back →
     (contents : Contents)
     × Answers access y machine budget far 44 (length levels) pc back depth live args
     (body_from setting (frame_in attributed bound depth live) contents body args levels) i
@@ -138,7 +138,7 @@ FunctionsKeep M =
 -- at time i the run moves sp down by so many bytes, from a sound place, and goes on at another
 pub record LowersStack {M : Type 0} (machine : Machine M) (bytes mid i : ℕ) : Type 0 where
   pub goes : machine.run (i + 1) ≡ record {
-    regs = put (machine.run i).regs 2 (reg (machine.run i).regs 2 - bytes);
+    regs = put (machine.run i).regs sp (reg (machine.run i).regs sp - bytes);
     pc = mid;
     memory = (machine.run i).memory;
   }
@@ -155,7 +155,7 @@ LaterKeeps M =
     (attributed : Bool) (bound : List (ℕ × ℕ)) (reach : Reach) (is_fine : Tree → Bool) (body : Body) → IsAmple y reach → IsFunction y setting attributed bound reach is_fine body →
     (place : ℕ → ℕ) → IsLinked y place → (is_attributed : ℕ → Bool) (pc mid next : ℕ) → RunsWithin access y (alone machine mid next) reach →
     Placed machine.text place y.entry (later_lines y.place y.size is_attributed (shape_of attributed body) body.code) mid next →
-    (depth live : ℕ) (args : List ℕ) (back i : ℕ) → length args ≡ body.params → IsTarget back → reg (machine.run i).regs link_register ≡ back →
+    (depth live : ℕ) (args : List ℕ) (back i : ℕ) → length args ≡ body.params → IsTarget back → reg (machine.run i).regs ra ≡ back →
     LowersStack machine (bytes_of (shape_of attributed body)) mid i →
     (contents : Contents)
     × Answers access y machine budget far 44 (length levels) pc back depth live args
@@ -165,11 +165,11 @@ module _ {M : Type 0} (access : Access M) (y : Layout) (machine : Machine M) whe
   -- Time i has what the main function finds at program startup: no attributed frame is live, all calls are left, and below sp there is room for its own
   -- frame and one for each of them.
   pub record Begins (i : ℕ) : Type 0 where
-    pub live : reg (machine.run i).regs live_register ≡ 0
-    pub left : reg (machine.run i).regs left_register ≡ depth_limit
-    pub even : reg (machine.run i).regs 2 % 4 ≡ 0
-    pub room : y.bottom + (depth_limit + 1) * frame_limit ≤ reg (machine.run i).regs 2
-    pub within : reg (machine.run i).regs 2 ≤ y.top
+    pub live : reg (machine.run i).regs s10 ≡ 0
+    pub left : reg (machine.run i).regs s11 ≡ depth_limit
+    pub even : reg (machine.run i).regs sp % 4 ≡ 0
+    pub room : y.bottom + (depth_limit + 1) * frame_limit ≤ reg (machine.run i).regs sp
+    pub within : reg (machine.run i).regs sp ≤ y.top
 
   -- Time i stands at a place with what main finds there and `extra` more than the cost paid for, at a bound of k: what follows is what its call means.
   abbrev pub AnswersStartup : (budget far extra k pc back : ℕ) → (World → Call) → ℕ → Type 0
@@ -187,6 +187,6 @@ MainKeeps M =
     (bound : List (ℕ × ℕ)) (reach : Reach) (is_fine : Tree → Bool) (body : Body) → IsAmple y reach → IsFunction y setting false bound reach is_fine body → body.params ≡ 0 →
     (place : ℕ → ℕ) → IsLinked y place → (is_attributed : ℕ → Bool) (pc next : ℕ) → RunsWithin access y (alone machine pc next) reach →
     Placed machine.text place y.entry (function_lines y.place y.size is_attributed (shape_of false body) body.code) pc next →
-    (back i : ℕ) → IsTarget back → reg (machine.run i).regs link_register ≡ back →
+    (back i : ℕ) → IsTarget back → reg (machine.run i).regs ra ≡ back →
     (contents : Contents)
     × AnswersStartup access y machine budget far 44 (length levels) pc back (body_from setting (main_frame bound) contents body [] levels) i

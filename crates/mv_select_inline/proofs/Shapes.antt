@@ -8,6 +8,7 @@ use Rattle.mv_isa.specs.declared.instr.Instr.TheVariants.{Lui, Lw, Sw, Addi}
 use Rattle.mv_isa.specs.Code.{IsPlace, nop}
 use Rattle.mv_isa.specs.Execution.{Access, reg, put, upper}
 use Rattle.mv_isa.specs.Standing.{InstrStands}
+use Rattle.mv_isa.specs.Registers.{t0 as address_register}
 use Rattle.mv_ir.specs.declared.body.Body.{Body}
 use Rattle.mv_ir.specs.Trees.{found, scalar}
 use Rattle.mv_ir.specs.World.{World}
@@ -25,7 +26,7 @@ use Rattle.mv_select_statements.proofs.Walks.{sw_moves}
 use Rattle.mv_select_control.specs.Runs.{Machine}
 use Rattle.mv_select_calls.specs.Convention.{Layout, Stands, Enters}
 use Rattle.mv_select_functions.specs.Functions.{IsLaid, IsMemory, IsAmple, RunsWithin}
-use Rattle.mv_select_inline.specs.InlineOf.{address_register, number_pair, parameter_pair, load_pair, store_pair}
+use Rattle.mv_select_inline.specs.InlineOf.{number_pair, parameter_pair, load_pair, store_pair}
 use Rattle.mv_select_functions.specs.Loads.{loads_from}
 use Rattle.mv_select_inline.specs.Laws.{LoadsRead, IsDone}
 use Rattle.mv_select_inline.proofs.Steps.{globals_site, own, nop_sets, begun, two_steps, Came, comes}

@@ -6,6 +6,7 @@ use Rattle.mv_isa.specs.Code.{IsPlace, nop}
 use Rattle.mv_isa.specs.Execution.{Access, Goes, reg, execute}
 use Rattle.mv_isa.specs.Standing.{InstrStands}
 use Rattle.mv_isa.proofs.LineSteps.{stands_steps}
+use Rattle.mv_isa.specs.Registers.{t0 as address_register}
 use Rattle.mv_ir.specs.declared.stm.Array.TheVariants as array
 use Rattle.mv_ir.specs.World.{World}
 use Rattle.mv_select_trees.specs.Straight.{Sets}
@@ -22,7 +23,6 @@ use Rattle.mv_select_control.proofs.Walk as walk
 use Rattle.mv_select_control.proofs.Walk.{put_zero, steps_on, stands_at}
 use Rattle.mv_select_calls.specs.Convention.{Layout, IsSaved, IsAbove, HoldsGlobals, Stands, Returns}
 use Rattle.mv_select_functions.specs.Functions.{StandsInWords, RunsWithin}
-use Rattle.mv_select_inline.specs.InlineOf.{address_register}
 use Rattle.mv_num.proofs.Numbers.{word_of_pos}
 
 -- a frame that has no cells but the words of globals

@@ -5,6 +5,7 @@ use Rattle.mv_isa.specs.Encoding.{Fits}
 use Rattle.mv_isa.specs.Code.{IsPlace}
 use Rattle.mv_isa.specs.Execution.{Access, reg}
 use Rattle.mv_isa.specs.Standing.{InstrStands}
+use Rattle.mv_isa.specs.Registers.{t0}
 use Rattle.mv_ir.specs.declared.tree.Tree.{Tree}
 use Rattle.mv_ir.specs.declared.body.Body.{Body}
 use Rattle.mv_ir.specs.Trees.{found}
@@ -22,7 +23,7 @@ use Rattle.mv_select_calls.specs.Convention.{Layout, Stands, Enters, Returns, An
 use Rattle.mv_select_functions.specs.Loads.{loads_from}
 use Rattle.mv_select_functions.specs.Functions.{IsLaid, IsMemory, IsAmple, RunsWithin, IsFunction, frame_in}
 use Rattle.mv_select_bodies.specs.SelectedBodies.{AreRooms}
-use Rattle.mv_select_inline.specs.InlineOf.{address_register, inline_of, inline_words}
+use Rattle.mv_select_inline.specs.InlineOf.{inline_of, inline_words}
 
 -- an instruction loads no word but that of a global that a body reads, and that isn't read as a bound value
 abbrev pub LoadsRead : Layout → List (ℕ × ℕ) → Body → Instr → List ℕ → Type 0
@@ -40,7 +41,7 @@ module _ {M : Type 0} (access : Access M) (y : Layout) (machine : Machine M) (bu
   -- reads and that isn't read as a bound value.
   pub record IsDone (bound : List (ℕ × ℕ)) (body : Body) (one two : Instr) (spare k i back : ℕ) (e : End) : Type 0 where
     pub comes : ComesBack spare k i back e
-    pub others : (q : ℕ) → q ≢ first → q ≢ address_register → reg (machine.run (i + 2)).regs q ≡ reg (machine.run i).regs q
+    pub others : (q : ℕ) → q ≢ first → q ≢ t0 → reg (machine.run (i + 2)).regs q ≡ reg (machine.run i).regs q
     pub first_loads : LoadsRead y bound body one (machine.run i).regs
     pub second_loads : LoadsRead y bound body two (machine.run (i + 1)).regs
 

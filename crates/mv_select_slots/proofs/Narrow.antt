@@ -8,6 +8,7 @@ use Rattle.mv_isa.specs.Execution.{Access, Goes, reg, put}
 use Rattle.mv_isa.specs.LineSteps.{LineRuns}
 use Rattle.mv_isa.specs.Standing.{InstrStands, SlotStands}
 use Rattle.mv_isa.proofs.LineSteps.{line_runs, stands_steps}
+use Rattle.mv_isa.specs.Registers.{ra as link_register}
 use Rattle.mv_ir.specs.World.{World}
 use Rattle.mv_ir.specs.Outcome.{End, Returned, Trapped, More, Stuck, Call}
 use Rattle.mv_select_trees.specs.View.{AreRegisters}
@@ -17,7 +18,6 @@ use Rattle.mv_select_control.specs.Placed.{Text}
 use Rattle.mv_select_control.specs.Runs.{Spot, Machine, outside, LeadsOn, IsRun}
 use Rattle.mv_select_control.proofs.Walk as walk
 use Rattle.mv_select_control.proofs.Walk.{put_zero, stands_at, steps_on}
-use Rattle.mv_select_calls.specs.CallCode.{link_register}
 use Rattle.mv_select_calls.specs.Convention.{Layout, IsTarget, IsAbove, Stands, Enters, Returns, FollowsCall, Answers, entry_cost, slot_cost}
 use Rattle.mv_select_functions.specs.Functions.{IsLaid, IsMemory, LowersStack}
 use Rattle.mv_select_functions.proofs.FrameWords.{words_site}

@@ -6,6 +6,7 @@ use Rattle.mv_isa.specs.Execution.{Access, reg, put}
 use Rattle.mv_isa.specs.LineSteps.{Leads, LineRuns}
 use Rattle.mv_isa.specs.Standing.{SlotStands}
 use Rattle.mv_isa.proofs.LineSteps.{line_runs}
+use Rattle.mv_isa.specs.Registers.{ra as link_register, s11 as left_register, s10 as live_register}
 use Rattle.mv_ir.specs.World.{World}
 use Rattle.mv_ir.specs.Outcome.{End, Returned, Trapped, More, Stuck, Call}
 use Rattle.mv_select_trees.specs.View.{AreRegisters}
@@ -15,7 +16,6 @@ use Rattle.mv_select_statements.specs.Leads.{limited}
 use Rattle.mv_select_control.specs.Runs.{Spot, Machine, outside, IsRun}
 use Rattle.mv_select_control.proofs.Walk as walk
 use Rattle.mv_select_control.proofs.Walk.{steps_on, stands_at}
-use Rattle.mv_select_calls.specs.CallCode.{link_register, left_register, live_register}
 use Rattle.mv_select_calls.specs.Convention.{Layout, IsTarget, IsSaved, HoldsGlobals, Stands, Enters, Returns, FollowsCall, Answers, entry_cost, slot_cost}
 use Rattle.mv_select_functions.specs.Functions.{IsLaid}
 use Rattle.mv_select_functions.proofs.FrameWords.{words_site, words_stand}

@@ -5,12 +5,12 @@ use Rattle.mv_isa.specs.declared.instr.Instr.TheVariants.{Addi, Jal}
 use Rattle.mv_isa.specs.Code.{IsPlace, distance}
 use Rattle.mv_isa.specs.Execution.{Access, reg}
 use Rattle.mv_isa.specs.Standing.{InstrStands, SlotStands}
+use Rattle.mv_isa.specs.Registers.{x0, ra, sp}
 use Rattle.mv_ir.specs.World.{World}
 use Rattle.mv_ir.specs.Outcome.{End, Call}
 use Rattle.mv_select_statements.specs.Frames.{Reach, Site}
 use Rattle.mv_select_control.specs.Placed.{Text}
 use Rattle.mv_select_control.specs.Runs.{Machine, outside, IsRun}
-use Rattle.mv_select_calls.specs.CallCode.{link_register}
 use Rattle.mv_select_calls.specs.Convention.{Layout, IsTarget, Stands, Enters, FollowsCall, entry_cost, slot_cost}
 use Rattle.mv_select_functions.specs.Functions.{IsLaid, IsMemory, RunsWithin, LowersStack}
 use Rattle.mv_select_slots.specs.Narrowed.{narrowed, same_bindings, LeavesTrue}
@@ -54,7 +54,7 @@ SlotsUnder M =
     (access : Access M) (y : Layout) → IsLaid y → (machine : Machine M) (test : World → Bool) (text : Text) → Runs access y (narrowed machine test text) → (budget far to at : ℕ) →
     SlotStands text.word at (at + 8) to → IsPlace at → IsPlace to → (k depth frames : ℕ) (args : List ℕ) (call : World → Call) →
     ((w : World) → test (outside w) ≡ true → LeavesTrue test (call w).end) →
-    ((back j : ℕ) → IsTarget back → reg (machine.run j).regs link_register ≡ back → (spare : ℕ) (w : World) → test (outside w) ≡ true →
+    ((back j : ℕ) → IsTarget back → reg (machine.run j).regs ra ≡ back → (spare : ℕ) (w : World) → test (outside w) ≡ true →
     Stands access y machine budget far to w j → Enters access y machine budget far depth frames args j → j + (spare + entry_cost + (call w).cost) ≤ budget → far ≤ j + k →
     FollowsCall access y machine budget far spare k j back (call w).end) →
     (i spare : ℕ) (w : World) → test (outside w) ≡ true → Stands access y machine budget far at w i → Enters access y machine budget far depth frames args i →
@@ -72,12 +72,12 @@ module _ {M : Type 0} (access : Access M) (y : Layout) (machine : Machine M) (bu
 abbrev pub JumpsUnder : Type 0 → Type 0
 JumpsUnder M =
     (access : Access M) (y : Layout) → IsLaid y → (machine : Machine M) (test : World → Bool) (text : Text) → Runs access y (narrowed machine test text) → (budget far to at : ℕ) →
-    InstrStands text.word at (Jal 0 (distance at to)) → IsPlace at → IsPlace to → (depth frames : ℕ) (args : List ℕ) (w : World) (i : ℕ) → test (outside w) ≡ true →
+    InstrStands text.word at (Jal x0 (distance at to)) → IsPlace at → IsPlace to → (depth frames : ℕ) (args : List ℕ) (w : World) (i : ℕ) → test (outside w) ≡ true →
     Stands access y machine budget far at w i → Enters access y machine budget far depth frames args i → Jumps access y machine budget far to depth frames args w i
 
 -- The first instruction of a function moves sp down.
 abbrev pub FirstsUnder : Type 0 → Type 0
 FirstsUnder M =
     (access : Access M) (y : Layout) → IsLaid y → (machine : Machine M) (test : World → Bool) (text : Text) → Runs access y (narrowed machine test text) →
-    (budget far bytes at : ℕ) → InstrStands text.word at (Addi 2 2 (pos 0 -ℤ pos bytes)) → IsPlace at → (w : World) (i : ℕ) → 0 < bytes → bytes ≤ reg (machine.run i).regs 2 →
+    (budget far bytes at : ℕ) → InstrStands text.word at (Addi sp sp (pos 0 -ℤ pos bytes)) → IsPlace at → (w : World) (i : ℕ) → 0 < bytes → bytes ≤ reg (machine.run i).regs sp →
     test (outside w) ≡ true → Stands access y machine budget far at w i → LowersStack machine bytes (at + 4) i

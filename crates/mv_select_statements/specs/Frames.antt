@@ -2,6 +2,7 @@
 use Rattle.std.specs.Prelude.{ℕ, ◌≡◌, ◌≢◌, ◌+◌, ◌*◌, ◌^◌, ◌<◌, ◌≤◌, ◌⊎◌, Bool, true, List, length, slice_index, Some, None}
 use Rattle.mv_ast.specs.declared.program.Known.{Known}
 use Rattle.mv_isa.specs.Execution.{Access, reg}
+use Rattle.mv_isa.specs.Registers.{sp, s10, t3}
 use Rattle.mv_ir.specs.declared.stm.Array.{Array}
 use Rattle.mv_ir.specs.declared.stm.Array.TheVariants as array
 use Rattle.mv_ir.specs.declared.tree.Tree.{Tree}
@@ -44,7 +45,7 @@ pub data Cell : Type 0 where
 
 -- sp, s10 and s11, which only calls change and set back
 abbrev pub IsLeft : ℕ → Type 0
-IsLeft q = (q ≡ 2) ⊎ ((26 ≤ q) × (q < 28))
+IsLeft q = (q ≡ sp) ⊎ ((s10 ≤ q) × (q < t3))
 
 module _ (s : Site) where
   -- the code may load elements of an array, and store to them, where it is one of the frame or a global of those that the code reads or writes
@@ -76,10 +77,10 @@ module _ (s : Site) where
 
   abbrev pub home_address : Home → ℕ
   home_address (home.Data at) = at
-  home_address (home.Frame at) = s.register 2 + at
+  home_address (home.Frame at) = s.register sp + at
 
   abbrev pub address : Cell → ℕ
-  address (TempCell t) = s.register 2 + temp_offset t
+  address (TempCell t) = s.register sp + temp_offset t
   address (Element a i) = home_address (home_of a) + 4 * i
   address (Kept b) = b
 

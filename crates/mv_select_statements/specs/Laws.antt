@@ -4,6 +4,7 @@ use Rattle.std.specs.Prelude.{ℕ, suc, zero, ◌≡◌, ◌+◌, ◌*◌, ◌<�
 use Rattle.mv_num.specs.Words.{add}
 use Rattle.mv_isa.specs.declared.labelled.Line.{Line}
 use Rattle.mv_isa.specs.Execution.{Access, reg}
+use Rattle.mv_isa.specs.Registers.{sp}
 use Rattle.mv_ir.specs.declared.tree.Tree.{Tree}
 use Rattle.mv_ir.specs.declared.stm.Array.{Array}
 use Rattle.mv_ir.specs.declared.stm.Array.TheVariants as array
@@ -53,8 +54,8 @@ module _ {M : Type 0} (access : Access M) (s : Site) (setting : ir.Setting) (fra
   pub record IsCleared (a n : ℕ) (l : State) (regs : List ℕ) (m : M) : Type 0 where
     pub size : length (elements (array.Local a) l) ≡ s.array_size a
     pub shown : Shows s access (with_elements (array.Local a) l (cleared n (elements (array.Local a) l))) regs m
-    pub next : reg regs first ≡ add (s.register 2) (s.array_at a + 4 * n)
-    pub stop : reg regs second ≡ add (s.register 2) (s.array_at a + 4 * s.array_size a)
+    pub next : reg regs first ≡ add (s.register sp) (s.array_at a + 4 * n)
+    pub stop : reg regs second ≡ add (s.register sp) (s.array_at a + 4 * s.array_size a)
 
   -- lines lead on to where this is so
   abbrev pub Clears : List Line → ℕ → List ℕ → M → (a n : ℕ) → State → Type 0

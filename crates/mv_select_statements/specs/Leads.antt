@@ -6,6 +6,7 @@ use Rattle.mv_isa.specs.declared.labelled.Line.{Line}
 use Rattle.mv_isa.specs.declared.labelled.Line.TheVariants.{Word, Label, Jump, Branch, Entry}
 use Rattle.mv_isa.specs.Execution.{Access, Goes, reg, put, execute}
 use Rattle.mv_isa.specs.LineSteps.{branch_holds}
+use Rattle.mv_isa.specs.Registers.{x0}
 use Rattle.mv_select_statements.specs.Frames.{Site, Cell, IsOwn, IsThere, address}
 
 -- past the end of the lines, or to a label
@@ -41,7 +42,7 @@ module _ {M : Type 0} (access : Access M) (s : Site) where
   Leads (Word i ∷ ls) n regs m exit regs' m' =
       (k : ℕ) × (k + 1 ≤ n) × (mid : List ℕ) × (memory : M) × Moves i regs m mid memory × Leads ls k mid memory exit regs' m'
   Leads (Label l ∷ ls) n regs m exit regs' m' = Leads ls n regs m exit regs' m'
-  Leads (Jump rd l ∷ ls) n regs m exit regs' m' = (rd ≡ 0) × (1 ≤ n) × (exit ≡ To l) × Stays regs m regs' m'
+  Leads (Jump rd l ∷ ls) n regs m exit regs' m' = (rd ≡ x0) × (1 ≤ n) × (exit ≡ To l) × Stays regs m regs' m'
   Leads (Branch funct3 rs1 rs2 l ∷ ls) n regs m exit regs' m' =
       ((branch_holds funct3 (reg regs rs1) (reg regs rs2) ≡ true) × (2 ≤ n) × (exit ≡ To l) × Stays regs m regs' m')
       ⊎ ((branch_holds funct3 (reg regs rs1) (reg regs rs2) ≡ false) × (k : ℕ) × (k + 1 ≤ n) × Leads ls k regs m exit regs' m')

@@ -7,6 +7,7 @@ use Rattle.mv_isa.specs.declared.instr.Instr.TheVariants.{Lui, Lw, Sw, Addi, Sll
 use Rattle.mv_isa.specs.declared.labelled.Line.{Line}
 use Rattle.mv_isa.specs.declared.labelled.Line.TheVariants.{Word, Jump, Branch}
 pub use Rattle.mv_isa.specs.Labels.{trap_label}
+use Rattle.mv_isa.specs.Registers.{x0, sp, a0, a1, a2}
 use Rattle.mv_ir.specs.declared.tree.Tree.{Tree}
 use Rattle.mv_select_trees.specs.TreeCode.{upper_bits, lower_bits, one, two, number_lines, temp_register, temp_offset, tree_into, tree_lines, operand_lines, operand_register}
 use Rattle.mv_select_statements.specs.declared.elements.Home.{Home}
@@ -14,17 +15,17 @@ use Rattle.mv_select_statements.specs.declared.elements.Home.TheVariants as home
 
 -- a0 has the first tree of a statement and its result, a1 the second tree, and a2 sizes and parts of addresses
 abbrev pub first : ℕ
-first = 10
+first = a0
 
 abbrev pub second : ℕ
-second = 11
+second = a1
 
 abbrev pub third : ℕ
-third = 12
+third = a2
 
 -- a register into a temporary
 unfoldable pub write_temp : ℕ → ℕ → Instr
-write_temp t r = cond (ltb t 9) (Addi (temp_register t) r (pos 0)) (Sw 2 r (pos (temp_offset t)))
+write_temp t r = cond (ltb t 9) (Addi (temp_register t) r (pos 0)) (Sw sp r (pos (temp_offset t)))
 
 -- the register in which the new value of a temporary is computed: its own, and the first one for a temporary of the frame
 unfoldable pub target : ℕ → ℕ
@@ -32,11 +33,11 @@ target t = cond (ltb t 9) (temp_register t) first
 
 -- from there into the frame
 unfoldable pub keep_lines : ℕ → List Line
-keep_lines t = cond (ltb t 9) [] (one (Sw 2 first (pos (temp_offset t))))
+keep_lines t = cond (ltb t 9) [] (one (Sw sp first (pos (temp_offset t))))
 
 -- a division of a by b into d, by its number; one that names none gives 0
 unfoldable pub division : (o d a b : ℕ) → Instr
-division o d a b = slice_index_or (Div d a b ∷ Divu d a b ∷ Rem d a b ∷ Remu d a b ∷ []) o (Addi d 0 (pos 0))
+division o d a b = slice_index_or (Div d a b ∷ Divu d a b ∷ Rem d a b ∷ Remu d a b ∷ []) o (Addi d x0 (pos 0))
 
 -- ---- elements: the place of one is its index times 4, and the place of the first
 
@@ -48,7 +49,7 @@ element_offset (home.Frame at) = pos at
 -- the rest of it, out of the index in a register, into the first one
 abbrev pub element_lines : Home → ℕ → List Line
 element_lines (home.Data at) q = Word (Slli first q (pos 2)) ∷ two (Lui third (pos (upper_bits at))) (Add first first third)
-element_lines (home.Frame at) q = two (Slli first q (pos 2)) (Add first first 2)
+element_lines (home.Frame at) q = two (Slli first q (pos 2)) (Add first first sp)
 
 -- an array of the frame begins within so many bytes
 abbrev pub home_below : Home → ℕ → Type 0
@@ -61,11 +62,11 @@ test_lines size q = number_lines size third ++ (Branch 7 q third (trap_label tra
 
 -- the addresses of the first of so many words of the frame, from a place on, and of their end into the first two registers
 abbrev pub bounds_lines : ℕ → ℕ → List Line
-bounds_lines at n = two (Addi first 2 (pos at)) (Addi second 2 (pos (at + 4 * n)))
+bounds_lines at n = two (Addi first sp (pos at)) (Addi second sp (pos (at + 4 * n)))
 
 -- the word at the address in the first register becomes 0, and the register goes on to the next word
 abbrev pub clear_lines : List Line
-clear_lines = two (Sw first 0 (pos 0)) (Addi first first (pos 4))
+clear_lines = two (Sw first x0 (pos 0)) (Addi first first (pos 4))
 
 -- ---- statements, given the address of each global
 
@@ -82,7 +83,7 @@ module _ (place : ℕ → ℕ) where
   divide_lines t o a b =
       let p = operand_register a first in
       let q = operand_register b second in
-      operand_lines place a first ++ (operand_lines place b second ++ (Branch 0 q 0 (trap_label traps.division_by_zero) ∷ (Word (division o (target t) p q) ∷ keep_lines t)))
+      operand_lines place a first ++ (operand_lines place b second ++ (Branch 0 q x0 (trap_label traps.division_by_zero) ∷ (Word (division o (target t) p q) ∷ keep_lines t)))
 
   abbrev pub check_lines : ℕ → Tree → List Line
   check_lines size i = operand_lines place i first ++ test_lines size (operand_register i first)
@@ -100,4 +101,4 @@ module _ (place : ℕ → ℕ) where
 
   -- to the label of the function's end
   abbrev pub return_lines : ℕ → Tree → List Line
-  return_lines end v = tree_lines place v first ++ (Jump 0 end ∷ [])
+  return_lines end v = tree_lines place v first ++ (Jump x0 end ∷ [])

@@ -8,6 +8,7 @@ use Rattle.mv_isa.specs.declared.instr.Instr.{Instr}
 use Rattle.mv_isa.specs.declared.instr.Instr.TheVariants.{Lui, Lw, Addi, Slti, Sltiu, Xori, Ori, Andi, Slli, Srli, Srai, Add, Sub, Sll, Slt, Sltu, Xor, Srl, Sra, Or, And, Mul}
 use Rattle.mv_isa.specs.declared.labelled.Line.{Line}
 use Rattle.mv_isa.specs.declared.labelled.Line.TheVariants.{Word, Entry}
+use Rattle.mv_isa.specs.Registers.{x0, sp, s1, a7}
 use Rattle.mv_ir.specs.declared.tree.Tree.{Tree}
 use Rattle.mv_ir.specs.declared.tree.Tree.TheOpen.{Tree-F}
 use Rattle.mv_ir.specs.declared.tree.Tree.TheOpen as tree
@@ -32,7 +33,7 @@ upper_bits n = (n + 2048) / 4096 % 1048576
 -- a number into a register, in one instruction where its lower bits alone give it
 unfoldable pub number_lines : ℕ → ℕ → List Line
 number_lines n r =
-    cond (eqb (upper_bits n) 0) (one (Addi r 0 (lower_bits n))) (two (Lui r (pos (upper_bits n))) (Addi r r (lower_bits n)))
+    cond (eqb (upper_bits n) 0) (one (Addi r x0 (lower_bits n))) (two (Lui r (pos (upper_bits n))) (Addi r r (lower_bits n)))
 
 -- the word at an address into a register
 abbrev pub load_lines : ℕ → ℕ → List Line
@@ -40,16 +41,16 @@ load_lines a r = two (Lui r (pos (upper_bits a))) (Lw r r (lower_bits a))
 
 -- ---- temporaries: the first nine stand in s1 to s9, the others in the frame, above the ten words for saved registers
 
--- the register of one of the first nine: x9, then x18 to x25
+-- the register of one of the first nine: s1, then s2 to s9, which stand behind a7
 unfoldable pub temp_register : ℕ → ℕ
-temp_register t = cond (eqb t 0) 9 (17 + t)
+temp_register t = cond (eqb t 0) s1 (a7 + t)
 
 -- the place of another in the frame, in bytes above sp
 unfoldable pub temp_offset : ℕ → ℕ
 temp_offset t = 4 * (t + 1)
 
 unfoldable pub read_temp : ℕ → ℕ → Instr
-read_temp t r = cond (ltb t 9) (Addi r (temp_register t) (pos 0)) (Lw r 2 (pos (temp_offset t)))
+read_temp t r = cond (ltb t 9) (Addi r (temp_register t) (pos 0)) (Lw r sp (pos (temp_offset t)))
 
 -- ---- operators, by their numbers; one that names no operator gives 0
 
@@ -57,11 +58,11 @@ abbrev pub minus_one : ℤ
 minus_one = pos 0 -ℤ pos 1
 
 abbrev pub clear : ℕ → List Line
-clear r = one (Addi r 0 (pos 0))
+clear r = one (Addi r x0 (pos 0))
 
 -- negation, complement, logical not of s into d
 unfoldable pub unary_lines : (o d s : ℕ) → List Line
-unary_lines o d s = slice_index_or (one (Sub d 0 s) ∷ one (Xori d s minus_one) ∷ one (Sltiu d s (pos 1)) ∷ []) o (clear d)
+unary_lines o d s = slice_index_or (one (Sub d x0 s) ∷ one (Xori d s minus_one) ∷ one (Sltiu d s (pos 1)) ∷ []) o (clear d)
 
 -- an operator on a and b into d
 unfoldable pub binary_lines : (o d a b : ℕ) → List Line
@@ -69,7 +70,7 @@ binary_lines o d a b =
     slice_index_or
     (one (Add d a b) ∷ one (Sub d a b) ∷ one (Mul d a b) ∷ one (And d a b) ∷ one (Or d a b) ∷ one (Xor d a b) ∷ one (Sll d a b)
     ∷ one (Sra d a b) ∷ one (Srl d a b) ∷ one (Slt d a b) ∷ one (Sltu d a b)
-    ∷ two (Sub d a b) (Sltiu d d (pos 1)) ∷ two (Sub d a b) (Sltu d 0 d) ∷ [])
+    ∷ two (Sub d a b) (Sltiu d d (pos 1)) ∷ two (Sub d a b) (Sltu d x0 d) ∷ [])
     o (clear d)
 
 -- ---- operators on a register and a number, which stands in the instruction
@@ -94,7 +95,7 @@ immediate_lines o d s i =
     slice_index_or
     (one (Addi d s i) ∷ one (Addi d s i) ∷ clear d ∷ one (Andi d s i) ∷ one (Ori d s i) ∷ one (Xori d s i) ∷ one (Slli d s i)
     ∷ one (Srai d s i) ∷ one (Srli d s i) ∷ one (Slti d s i) ∷ one (Sltiu d s i)
-    ∷ two (Addi d s i) (Sltiu d d (pos 1)) ∷ two (Addi d s i) (Sltu d 0 d) ∷ [])
+    ∷ two (Addi d s i) (Sltiu d d (pos 1)) ∷ two (Addi d s i) (Sltu d x0 d) ∷ [])
     o (clear d)
 
 -- ---- conversions
@@ -107,7 +108,7 @@ keeps_words _ = false
 
 -- a conversion of s into d: to the short types by a shift to the left and one back, with the sign or with zeros
 unfoldable pub narrow_lines : Kind → (d s : ℕ) → List Line
-narrow_lines kind.Bool d s = one (Sltu d 0 s)
+narrow_lines kind.Bool d s = one (Sltu d x0 s)
 narrow_lines kind.SChar d s = two (Slli d s (pos 24)) (Srai d d (pos 24))
 narrow_lines kind.UChar d s = two (Slli d s (pos 24)) (Srli d d (pos 24))
 narrow_lines kind.Short d s = two (Slli d s (pos 16)) (Srai d d (pos 16))
@@ -118,7 +119,7 @@ narrow_lines kind.UInt d s = one (Addi d s (pos 0))
 -- ---- trees
 
 abbrev pub own_layer : Tree-F (Option ℕ) → Option ℕ
-own_layer (tree.Number n) = cond (eqb n 0) (Some 0) None
+own_layer (tree.Number n) = cond (eqb n 0) (Some x0) None
 own_layer (tree.Temp t) = cond (ltb t 9) (Some (temp_register t)) None
 own_layer (tree.Global g) = None
 own_layer (tree.Function f) = None

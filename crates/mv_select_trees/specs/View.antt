@@ -3,6 +3,7 @@ use Rattle.std.specs.Prelude.{ℕ, ◌≡◌, ◌≢◌, ◌^◌, ◌<◌, ◌�
 use Rattle.mv_num.specs.Words.{add}
 use Rattle.mv_isa.specs.declared.labelled.Line.{Line}
 use Rattle.mv_isa.specs.Execution.{Access, reg}
+use Rattle.mv_isa.specs.Registers.{sp, a0, s2, t3}
 use Rattle.mv_ir.specs.declared.tree.Tree.{Tree}
 use Rattle.mv_ir.specs.declared.tree.Tree.TheOpen.{Tree-F}
 use Rattle.mv_ir.specs.declared.tree.Tree.TheOpen as tree
@@ -50,7 +51,7 @@ pub record AreRegisters (regs : List ℕ) : Type 0 where
 
 -- registers from one to below another that no frame counts on: some of a0 to a7, or of t3 to t6
 abbrev pub AreScratch : ℕ → ℕ → Type 0
-AreScratch lo hi = ((10 ≤ lo) × (hi ≤ 18)) ⊎ ((28 ≤ lo) × (hi ≤ 32))
+AreScratch lo hi = ((a0 ≤ lo) × (hi ≤ s2)) ⊎ ((t3 ≤ lo) × (hi ≤ 32))
 
 -- registers from lo to below hi may have changed, and no others
 pub record Changes (lo hi : ℕ) (regs regs' : List ℕ) : Type 0 where
@@ -64,7 +65,7 @@ module _ {M : Type 0} (access : Access M) (m : M) where
   pub record HoldsTemps (v : View) (regs : List ℕ) : Type 0 where
     pub words : (t : ℕ) → t < length v.temps → slice_index v.temps t < 2 ^ 32
     pub in_register : (t : ℕ) → t < length v.temps → t < 9 → reg regs (temp_register t) ≡ slice_index v.temps t
-    pub in_frame : (t : ℕ) → t < length v.temps → 9 ≤ t → access.load m (add (reg regs 2) (temp_offset t)) 4 ≡ Some (slice_index v.temps t)
+    pub in_frame : (t : ℕ) → t < length v.temps → 9 ≤ t → access.load m (add (reg regs sp) (temp_offset t)) 4 ≡ Some (slice_index v.temps t)
 
   -- memory holds the globals that are read, none of which is read as a bound value; a function's number is the address of its entry
   pub record HoldsNamed (v : View) : Type 0 where
