@@ -1,5 +1,6 @@
 -- The nodes of a unit: expressions, statements, labels, declared names, parameters and given values, each counted once.
 use Rattle.std.specs.Prelude.{◌≡◌, ℕ, ◌+◌, ◌≤◌, List, map, length, sum, Option, Some, None}
+use Rattle.mv_num.specs.Limits.{node_limit}
 use Rattle.mv_ast.specs.declared.program.Program.{Program}
 use Rattle.mv_syntax.specs.declared.unit.Unit as unit
 use Rattle.mv_syntax.specs.declared.unit.Item.{Item}
@@ -143,4 +144,4 @@ unit_nodes u = sum (map item_nodes u.items)
 
 -- conversions, cleared locals and first elements that are written out make a program at most four times as large as its unit
 abbrev pub UnitsAreSmall : Type 0
-UnitsAreSmall = (u : unit.Unit) (p : Program) → unit_judgement u ≡ Good p → unit_nodes u ≤ 4194304 → program_nodes p ≤ 16777216
+UnitsAreSmall = (u : unit.Unit) (p : Program) → unit_judgement u ≡ Good p → unit_nodes u ≤ 4194304 → program_nodes p ≤ node_limit

@@ -1,5 +1,6 @@
 -- Checked programs are well formed.
 use Rattle.std.specs.Prelude.{◌≡◌, ◌≤◌, ℕ, List, None}
+use Rattle.mv_num.specs.Limits.{node_limit}
 use Rattle.mv_ast.specs.declared.program.Program.{Program}
 use Rattle.mv_syntax.specs.declared.unit.Unit as unit
 use Rattle.mv_front.specs.Verdicts.{IsProgram}
@@ -12,7 +13,7 @@ use Rattle.mv_accepts_limits.specs.Nodes.{unit_nodes}
 -- the program of a unit that keeps the rules, where no limit is reported and it has at most so many nodes
 abbrev pub CheckedAreWellFormed : Type 0
 CheckedAreWellFormed =
-    (u : unit.Unit) (p : Program) → unit_judgement u ≡ Good p → first_exceeded p ≡ None → program_nodes p ≤ 16777216 → IsWellFormed p
+    (u : unit.Unit) (p : Program) → unit_judgement u ≡ Good p → first_exceeded p ≡ None → program_nodes p ≤ node_limit → IsWellFormed p
 
 -- the same by the nodes of the unit
 abbrev pub SmallUnitsAreWellFormed : Type 0

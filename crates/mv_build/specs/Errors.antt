@@ -1,4 +1,5 @@
 -- The answer of each error of a stage.
+use Rattle.mv_front.specs.Codes as refusals
 use Rattle.mv_front.specs.Refusals.{counted}
 use Rattle.mv_select.specs.declared.error.SelectError.{SelectError}
 use Rattle.mv_select.specs.declared.error.SelectError.TheVariants as selecting
@@ -8,11 +9,11 @@ use Rattle.mv_build.specs.declared.error.BuildError.{BuildError}
 use Rattle.mv_build.specs.declared.error.BuildError.TheVariants.{Refused, Memory}
 
 abbrev pub of_selecting : SelectError → BuildError
-of_selecting (selecting.Frame function bytes) = Refused (counted 8 function bytes)
+of_selecting (selecting.Frame function bytes) = Refused (counted refusals.frame function bytes)
 of_selecting (selecting.Memory e) = Memory e
 
 abbrev pub of_linking : LinkError → BuildError
-of_linking (linking.Sites count) = Refused (counted 14 0 count)
-of_linking (linking.DataLimit count) = Refused (counted 13 0 count)
-of_linking (linking.TextLimit count) = Refused (counted 9 0 count)
+of_linking (linking.Sites count) = Refused (counted refusals.sites 0 count)
+of_linking (linking.DataLimit count) = Refused (counted refusals.globals 0 count)
+of_linking (linking.TextLimit count) = Refused (counted refusals.text 0 count)
 of_linking (linking.Memory e) = Memory e

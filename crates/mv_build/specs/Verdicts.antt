@@ -4,6 +4,7 @@ use Rattle.mv_ast.specs.declared.program.Program.{Program}
 use Rattle.mv_isa.specs.Code.{text_start}
 use Rattle.mv_asm.specs.Outcome.{PassesText}
 use Rattle.mv_ir.specs.declared.body.Body.{Body}
+use Rattle.mv_front.specs.Codes as refusals
 use Rattle.mv_front.specs.Refusals.{counted}
 use Rattle.mv_front.specs.Verdicts.{IsProgram, IsRefused}
 use Rattle.mv_front.specs.declared.refusal.Refusal.{Refusal}
@@ -52,10 +53,10 @@ pub record PassesTextOf (p : Program) (count : ℕ) : Type 0 where
 -- A program has no image where it passes a limit: the frame of a function, which is the first such; then the sites in its code; then the words of its
 -- data; and then those of its text.
 pub data PassesLimit (p : Program) : Refusal → Type 0 where
-  large_frame : (f bytes : ℕ) → PassesFirstFrame p f bytes → PassesLimit p (counted 8 f bytes)
-  many_sites : (count : ℕ) → FramesFit p (length p.functions) → PassesSites p count → PassesLimit p (counted 14 0 count)
-  much_data : FramesFit p (length p.functions) → FitsSites p → data_limit < data_words p → PassesLimit p (counted 13 0 (data_words p))
-  long_text : (count : ℕ) → FramesFit p (length p.functions) → data_words p ≤ data_limit → PassesTextOf p count → PassesLimit p (counted 9 0 count)
+  large_frame : (f bytes : ℕ) → PassesFirstFrame p f bytes → PassesLimit p (counted refusals.frame f bytes)
+  many_sites : (count : ℕ) → FramesFit p (length p.functions) → PassesSites p count → PassesLimit p (counted refusals.sites 0 count)
+  much_data : FramesFit p (length p.functions) → FitsSites p → data_limit < data_words p → PassesLimit p (counted refusals.globals 0 (data_words p))
+  long_text : (count : ℕ) → FramesFit p (length p.functions) → data_words p ≤ data_limit → PassesTextOf p count → PassesLimit p (counted refusals.text 0 count)
 
 -- ---- a source
 

@@ -18,13 +18,14 @@ use mv_isa::labelled::Labelled;
 use mv_link_data::{data_words, first_data};
 use mv_linker::{PartFunction, Parts, link};
 use mv_num::list::List;
+use mv_num::{limits, regions};
 use mv_parts::{labels_fit, part_switches, parts_law, site_count};
 use std::alloc::{AllocError, Global};
 
 /// How many sites there may be.
-const SITE_LIMIT: u64 = 16_384;
+const SITE_LIMIT: u64 = limits::SITE_LIMIT as u64;
 /// How many words of data there may be.
-const DATA_LIMIT: u64 = 262_144;
+const DATA_LIMIT: u64 = regions::DATA_LIMIT as u64;
 
 /// The image of a program with this code, or the limit that it passes: that of sites, of data, or of text, in this order.
 pub(crate) fn image_of(

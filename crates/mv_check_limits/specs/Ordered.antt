@@ -2,6 +2,7 @@
 use Rattle.std.specs.Prelude.{ℕ, Bool, false, if◌then◌else◌, List, [], ◌∷◌, ◌++◌, map, length, nat_eq, Option, Some, None, unwrap_or}
 use Rattle.std.specs.List.{concat}
 use Rattle.std.specs.Cmp.Lexicographic.{pointwise}
+use Rattle.mv_num.specs.Limits.{parameter_limit}
 use Rattle.mv_ast.specs.declared.program.Function.{Function}
 use Rattle.mv_ast.specs.declared.program.Global.{Global}
 use Rattle.mv_ast.specs.declared.program.Program.{Program}
@@ -139,7 +140,7 @@ abbrev pub counts_of : unit.Unit → Program → Counts
 counts_of u p = record {
   functions = length p.functions;
   globals = length p.globals;
-  parameters = first_above 8 (ordered_parameters u p).counts;
+  parameters = first_above parameter_limit (ordered_parameters u p).counts;
   switches = length p.switches;
 }
 

@@ -1,5 +1,6 @@
 -- How many words the code of a function's bodies has, and how large their frames are.
 use Rattle.std.specs.Prelude.{ℕ, ◌+◌, ◌*◌, ◌<◌, ◌≤◌, Bool, List, length, sum_by}
+use Rattle.mv_num.specs.Limits.{slot_limit}
 use Rattle.mv_ast.specs.declared.program.Program.{Program}
 use Rattle.mv_ast.specs.declared.program.Function.{Function}
 use Rattle.mv_ast.specs.Counts.{nodes, depth, declared_words}
@@ -53,15 +54,15 @@ abbrev pub frame_count : Function → ℕ
 frame_count g = declared_words g + 8 * depth g
 
 abbrev pub FramesFit : Type 0
-FramesFit = (p : Program) (f : ℕ) (g : Function) → IsFunctionOf p f g → (b : Body) → IsBodyOf p g b → frame_count g ≤ 480 → FitsFrame b
+FramesFit = (p : Program) (f : ℕ) (g : Function) → IsFunctionOf p f g → (b : Body) → IsBodyOf p g b → frame_count g ≤ slot_limit → FitsFrame b
 
 -- Where the frame of a body passes the limit, the count does;
 abbrev pub FramesPass : Type 0
 FramesPass =
-    (p : Program) (f : ℕ) (g : Function) → IsFunctionOf p f g → (b : Body) → IsBodyOf p g b → (named bytes : ℕ) → PassesFrame f b named bytes → 480 < frame_count g
+    (p : Program) (f : ℕ) (g : Function) → IsFunctionOf p f g → (b : Body) → IsBodyOf p g b → (named bytes : ℕ) → PassesFrame f b named bytes → slot_limit < frame_count g
 
 -- and where a frame for all that the lowered code has in use at one place would.
 abbrev pub LoweredFramesPass : Type 0
 LoweredFramesPass =
     (p : Program) (f : ℕ) (g : Function) → IsFunctionOf p f g →
-    frame_limit < frame_bytes (most_intervals (lower_function p g)) (lower_function p g).arrays → 480 < frame_count g
+    frame_limit < frame_bytes (most_intervals (lower_function p g)) (lower_function p g).arrays → slot_limit < frame_count g

@@ -1,6 +1,7 @@
 -- The limits on what a program is compiled to, by counts over the source.
 use Rattle.std.specs.Prelude.{ℕ, ◌≡◌, ◌<◌, ◌≤◌, List, Some, slice_get}
 use Rattle.mv_num.specs.Regions.{text_limit}
+use Rattle.mv_num.specs.Limits.{slot_limit}
 use Rattle.mv_ast.specs.declared.program.Program.{Program}
 use Rattle.mv_ast.specs.declared.program.Function.{Function}
 use Rattle.mv_front.specs.Verdicts.{IsProgram}
@@ -15,7 +16,7 @@ use Rattle.mv_build.specs.Verdicts.{PassesSites, PassesTextOf, PassesLimit}
 
 abbrev pub FramesAreCounted : Type 0
 FramesAreCounted =
-    (text : List ℕ) (p : Program) → IsProgram text p → (f : ℕ) (g : Function) → slice_get p.functions f ≡ Some g → frame_limit < frame_size p g → 480 < frame_count g
+    (text : List ℕ) (p : Program) → IsProgram text p → (f : ℕ) (g : Function) → slice_get p.functions f ≡ Some g → frame_limit < frame_size p g → slot_limit < frame_count g
 
 abbrev pub SitesAreCounted : Type 0
 SitesAreCounted = (text : List ℕ) (p : Program) → IsProgram text p → (count : ℕ) → PassesSites p count → site_limit < site_count p
@@ -26,7 +27,7 @@ TextsAreCounted = (text : List ℕ) (p : Program) → IsProgram text p → (word
 -- The declared words of each function and eight for each level of its depth are at most 480, there are few enough words of data, and the counts of sites
 -- and of text are within their limits.
 pub record IsWithinCounts (p : Program) : Type 0 where
-  pub frames : (f : ℕ) (g : Function) → slice_get p.functions f ≡ Some g → frame_count g ≤ 480
+  pub frames : (f : ℕ) (g : Function) → slice_get p.functions f ≡ Some g → frame_count g ≤ slot_limit
   pub sites : site_count p ≤ site_limit
   pub data_fits : data_words p ≤ data_limit
   pub text : text_count p ≤ text_limit

@@ -2,6 +2,7 @@
 use Rattle.std.specs.Prelude.{ℕ, Bool, ◌||◌, nat_eq, if◌then◌else◌, List, ◌++◌, codes}
 use Rattle.std.specs.Fmt.{decimal}
 use Rattle.mv_syntax.specs.declared.place.Place.{Place}
+use Rattle.mv_front.specs.Codes as refusals
 use Rattle.mv_front.specs.declared.refusal.Refusal.{Refusal}
 
 -- ---- the refusals of a source
@@ -12,7 +13,7 @@ at_place code place = record { code = code; place = place; detail = 0; count = 0
 
 -- a rule that is broken at a place
 abbrev pub of_rule : Place → (rule : ℕ) → Refusal
-of_rule place rule = record { code = 6; place = place; detail = rule; count = 0 }
+of_rule place rule = record { code = refusals.rule; place = place; detail = rule; count = 0 }
 
 -- a count that is too great
 abbrev pub counted : (code detail count : ℕ) → Refusal
@@ -25,14 +26,14 @@ place_text place = decimal place.line ++ (codes ":" ++ decimal place.column)
 
 -- the refusals that name a place alone
 abbrev pub has_place : ℕ → Bool
-has_place code = nat_eq code 1 || (nat_eq code 2 || (nat_eq code 4 || (nat_eq code 5 || nat_eq code 16)))
+has_place code = nat_eq code refusals.token || (nat_eq code refusals.unsupported || (nat_eq code refusals.unit || (nat_eq code refusals.nesting || nat_eq code 16)))
 
 abbrev pub cause_text : Refusal → List ℕ
 cause_text r =
     if has_place r.code then place_text r.place else (
-    if nat_eq r.code 6 then place_text r.place ++ (codes " rule " ++ decimal r.detail) else (
-    if nat_eq r.code 7 then codes "limit " ++ (decimal r.detail ++ (codes " count " ++ decimal r.count)) else (
-    if nat_eq r.code 8 then codes "function " ++ (decimal r.detail ++ (codes " count " ++ decimal r.count)) else
+    if nat_eq r.code refusals.rule then place_text r.place ++ (codes " rule " ++ decimal r.detail) else (
+    if nat_eq r.code refusals.limit then codes "limit " ++ (decimal r.detail ++ (codes " count " ++ decimal r.count)) else (
+    if nat_eq r.code refusals.frame then codes "function " ++ (decimal r.detail ++ (codes " count " ++ decimal r.count)) else
     codes "count " ++ decimal r.count)))
 
 abbrev pub refusal_text : Refusal → List ℕ

@@ -1,5 +1,6 @@
 -- What a source is: a program, or a text that is refused, with the cause of each refusal.
 use Rattle.std.specs.Prelude.{ℕ, ◌≡◌, ◌<◌, List, length, Some, None, Result, Ok, Err}
+use Rattle.mv_num.specs.Limits.{source_limit}
 use Rattle.mv_syntax.specs.declared.place.Place.{Place}
 use Rattle.mv_ast.specs.declared.program.Program.{Program}
 use Rattle.mv_syntax.specs.declared.token.Tokens.{Tokens}
@@ -11,6 +12,7 @@ use Rattle.mv_parser.specs.Verdict.{IsShallow, IsTooDeep, IsBroken}
 use Rattle.mv_check_expressions.specs.Judged.{Good, Broken}
 use Rattle.mv_check_limits.specs.Ordered.{first_excess}
 use Rattle.mv_check_rules.specs.Units.{judged_by_rules}
+use Rattle.mv_front.specs.Codes as refusals
 use Rattle.mv_front.specs.Refusals.{at_place, of_rule, counted}
 use Rattle.mv_front.specs.declared.refusal.Refusal.{Refusal}
 use Rattle.mv_front.specs.declared.refusal.FrontError.{FrontError}
@@ -31,15 +33,15 @@ pub record IsProgram (text : List ℕ) (p : Program) : Type 0 where
 -- A source is refused for one of these causes. The length comes before all else, then the first lexeme that is refused, then the nesting, the grammar,
 -- the rules and the limits.
 pub data IsRefused (text : List ℕ) : Refusal → Type 0 where
-  long_source : 1048576 < length text → IsRefused text (counted 3 0 (length text))
-  long_name : (n : ℕ) (place : Place) → IsFirstRefused text (lexing.too_long n) place → IsRefused text (counted 3 0 n)
-  no_token : (place : Place) → IsFirstRefused text lexing.bad place → IsRefused text (at_place 1 place)
-  unsupported : (place : Place) → IsFirstRefused text lexing.unsupported place → IsRefused text (at_place 2 place)
-  too_deep : (tokens : Tokens) (place : Place) → AreTokens text tokens.items tokens.end → IsTooDeep tokens place → IsRefused text (at_place 5 place)
-  no_unit : (tokens : Tokens) (place : Place) → AreTokens text tokens.items tokens.end → IsBroken text tokens place → IsRefused text (at_place 4 place)
+  long_source : source_limit < length text → IsRefused text (counted refusals.length 0 (length text))
+  long_name : (n : ℕ) (place : Place) → IsFirstRefused text (lexing.too_long n) place → IsRefused text (counted refusals.length 0 n)
+  no_token : (place : Place) → IsFirstRefused text lexing.bad place → IsRefused text (at_place refusals.token place)
+  unsupported : (place : Place) → IsFirstRefused text lexing.unsupported place → IsRefused text (at_place refusals.unsupported place)
+  too_deep : (tokens : Tokens) (place : Place) → AreTokens text tokens.items tokens.end → IsTooDeep tokens place → IsRefused text (at_place refusals.nesting place)
+  no_unit : (tokens : Tokens) (place : Place) → AreTokens text tokens.items tokens.end → IsBroken text tokens place → IsRefused text (at_place refusals.unit place)
   broken_rule : (u : tree.Unit) (place : Place) (rule : ℕ) → IsUnit text u → judged_by_rules u ≡ Broken place rule → IsRefused text (of_rule place rule)
   over_limit : (u : tree.Unit) (p : Program) (limit count : ℕ) → IsUnit text u → judged_by_rules u ≡ Good p →
-      first_excess u p ≡ Some (record { limit = limit; count = count }) → IsRefused text (counted 7 limit count)
+      first_excess u p ≡ Some (record { limit = limit; count = count }) → IsRefused text (counted refusals.limit limit count)
 
 -- ---- answers
 

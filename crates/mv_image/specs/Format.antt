@@ -3,6 +3,7 @@ use Rattle.std.specs.Prelude.{ℕ, ◌≡◌, ◌+◌, ◌<◌, ◌≤◌, ◌�
 use Rattle.std.specs.Prelude.{All}
 use Rattle.mv_num.specs.Bytes.{AreWords}
 use Rattle.mv_num.specs.Regions.{text_limit, data_limit}
+use Rattle.mv_num.specs.Limits.{function_limit, switch_limit, row_limit, site_limit}
 use Rattle.mv_descriptors.specs.declared.rows.SwitchRow.{SwitchRow}
 use Rattle.mv_descriptors.specs.declared.rows.FunctionRow.{FunctionRow}
 use Rattle.mv_descriptors.specs.declared.rows.VariantRow.{VariantRow}
@@ -20,11 +21,11 @@ pub record IsWithin (image : Fields) : Type 0 where
   pub some_text : 1 ≤ length image.text
   pub text : length image.text ≤ text_limit
   pub globals : length image.globals ≤ data_limit
-  pub switches : length image.switches ≤ 64
-  pub functions : length image.functions ≤ 1000
-  pub variants : length image.variants ≤ 64000
-  pub guards : length image.guards ≤ 64000
-  pub sites : length image.sites ≤ 16384
+  pub switches : length image.switches ≤ switch_limit
+  pub functions : length image.functions ≤ function_limit
+  pub variants : length image.variants ≤ row_limit
+  pub guards : length image.guards ≤ row_limit
+  pub sites : length image.sites ≤ site_limit
   pub entry : IsInText image image.entry
 
 -- Each row has as many words as its kind has.

@@ -8,6 +8,7 @@ use Rattle.mv_descriptors.specs.declared.rows.FunctionRow.{FunctionRow}
 use Rattle.mv_descriptors.specs.declared.rows.VariantRow.{VariantRow}
 use Rattle.mv_descriptors.specs.declared.rows.GuardRow.{GuardRow}
 use Rattle.mv_descriptors.specs.declared.rows.SiteRow.{SiteRow}
+use Rattle.mv_image.specs.Places.{magic}
 
 pub record Fields : Type 0 where
   pub entry : ℕ
@@ -39,7 +40,7 @@ joined names = flat_map (λ name. name) names
 
 unfoldable pub header_of : Fields → List ℕ
 header_of image =
-    0x3149564D ∷ 1 ∷ image.entry ∷ length image.text ∷ length image.globals ∷ length image.switches ∷ length image.functions
+    magic ∷ 1 ∷ image.entry ∷ length image.text ∷ length image.globals ∷ length image.switches ∷ length image.functions
     ∷ length image.variants ∷ length image.guards ∷ length image.sites ∷ length (joined image.names) ∷ 0 ∷ []
 
 unfoldable pub words_in : Fields → List ℕ

@@ -2,6 +2,7 @@
 use Rattle.std.specs.Prelude.{ℕ, ◌≡◌, ◌+◌, ◌-◌, ◌*◌, ◌/◌, ◌%◌, ◌<◌, ◌≤◌, true, length, slice_index, slice_index_or}
 use Rattle.mv_num.specs.Kinds.{kind_number, is_value, is_at_most}
 use Rattle.mv_num.specs.Regions.{text_start, data_start}
+use Rattle.mv_num.specs.Limits.{name_limit, value_limit, own_switch_limit, assignment_limit}
 use Rattle.mv_descriptors.specs.declared.rows.SwitchRow.{SwitchRow}
 use Rattle.mv_descriptors.specs.declared.rows.FunctionRow.{FunctionRow}
 use Rattle.mv_descriptors.specs.declared.rows.VariantRow.{VariantRow}
@@ -25,27 +26,27 @@ pub record IsInData (image : Fields) (a : ℕ) : Type 0 where
 
 pub record FitsSwitch (image : Fields) (row : SwitchRow) : Type 0 where
   pub named : 1 ≤ row.length
-  pub name : row.length ≤ 63
+  pub name : row.length ≤ name_limit
   pub address : IsInData image row.address
   pub some : 1 ≤ row.count
-  pub count : row.count ≤ 16
+  pub count : row.count ≤ value_limit
   pub values : (i : ℕ) → i < row.count → is_value (kind_number row.kind) (slice_index row.values i) ≡ true
 
 pub record FitsFunction (image : Fields) (row : FunctionRow) : Type 0 where
   pub named : 1 ≤ row.length
-  pub name : row.length ≤ 63
+  pub name : row.length ≤ name_limit
   pub entry : IsInText image row.entry
-  pub count : row.count ≤ 6
+  pub count : row.count ≤ own_switch_limit
   pub switches : (i : ℕ) → i < row.count → slice_index row.switches i < length image.switches
   pub ascend : (i : ℕ) → i + 1 < row.count → slice_index row.switches i < slice_index row.switches (i + 1)
   pub some : 1 ≤ row.variants
-  pub variants : row.variants ≤ 64
+  pub variants : row.variants ≤ assignment_limit
 
 pub record FitsVariant (image : Fields) (row : VariantRow) : Type 0 where
   pub address : IsInText image row.address
   pub inlined : row.inlined ≤ 1
   pub some : 1 ≤ row.guards
-  pub guards : row.guards ≤ 64
+  pub guards : row.guards ≤ assignment_limit
 
 -- A site holds a call of its function, and NOP.
 pub record FitsSite (image : Fields) (row : SiteRow) : Type 0 where
@@ -60,5 +61,5 @@ pub record FitsGuard (image : Fields) (function : FunctionRow) (row : GuardRow) 
   pub low : (i : ℕ) → i < function.count → is_value (kind_of image (slice_index function.switches i)) (slice_index row.low i) ≡ true
   pub high : (i : ℕ) → i < function.count → is_value (kind_of image (slice_index function.switches i)) (slice_index row.high i) ≡ true
   pub ordered : (i : ℕ) → i < function.count → is_at_most (kind_of image (slice_index function.switches i)) (slice_index row.low i) (slice_index row.high i) ≡ true
-  pub low_unused : (i : ℕ) → function.count ≤ i → i < 6 → slice_index row.low i ≡ 0
-  pub high_unused : (i : ℕ) → function.count ≤ i → i < 6 → slice_index row.high i ≡ 0
+  pub low_unused : (i : ℕ) → function.count ≤ i → i < own_switch_limit → slice_index row.low i ≡ 0
+  pub high_unused : (i : ℕ) → function.count ≤ i → i < own_switch_limit → slice_index row.high i ≡ 0

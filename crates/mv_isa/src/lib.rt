@@ -8,7 +8,7 @@
 //!   leads to its label, a branch in one step or in two over the inverse, an entry puts its address into a register, a
 //!   slot calls.
 //! - `labels` has the labels of the stubs and `requests` the numbers of the environment calls, as `specs/Labels.antt` and
-//!   `specs/Requests.antt` do.
+//!   `specs/Requests.antt` do. `specs/Registers.antt` has the registers by name.
 //! - Only tested: 554 words of GNU as (`mv_test_asmtext`).
 #![tactic(auto)]
 

@@ -4,6 +4,7 @@ use Rattle.mv_lexer.specs.Tables.{IsEntry}
 use Rattle.mv_lexer.specs.Include.{IsFrontLexeme}
 use Rattle.mv_num.specs.declared.kind.Kind.{Kind}
 use Rattle.mv_num.specs.declared.kind.Kind.TheVariants.{Int}
+use Rattle.mv_num.specs.Limits.{name_limit, source_limit}
 use Rattle.mv_lexer.specs.Characters.{IsQuoted}
 use Rattle.mv_lexer.specs.Numbers.{IsIntegerConstant, IsLongConstant, kind_of, base, value, is_floating}
 use Rattle.mv_lexer.specs.Place.{start, after}
@@ -34,8 +35,8 @@ pub data Evaluates : TokenClass → List ℕ → Evaluation → Type 0 where
   unclosed : {s : List ℕ} → Evaluates UnclosedComment s bad
   keyword : {s : List ℕ} (k : ℕ) → IsEntry Keywords k s → Evaluates Identifier s (token (Is.Keyword k))
   unsupported_keyword : {s : List ℕ} (k : ℕ) → IsEntry UnsupportedKeywords k s → Evaluates Identifier s unsupported
-  name : {s : List ℕ} → length s ≤ 63 → ((k : ℕ) → IsEntry Keywords k s → ⊥) → ((k : ℕ) → IsEntry UnsupportedKeywords k s → ⊥) → Evaluates Identifier s (token Is.Name)
-  long_name : {s : List ℕ} → 63 < length s → Evaluates Identifier s (too_long (length s))
+  name : {s : List ℕ} → length s ≤ name_limit → ((k : ℕ) → IsEntry Keywords k s → ⊥) → ((k : ℕ) → IsEntry UnsupportedKeywords k s → ⊥) → Evaluates Identifier s (token Is.Name)
+  long_name : {s : List ℕ} → name_limit < length s → Evaluates Identifier s (too_long (length s))
   constant : {s : List ℕ} (unsigned : Bool) (kind : Kind) → IsIntegerConstant s unsigned → kind_of (base s) unsigned (value s) ≡ Some kind → Evaluates PreprocessingNumber s (token (Is.Number (value s) kind))
   large : {s : List ℕ} (unsigned : Bool) → IsIntegerConstant s unsigned → kind_of (base s) unsigned (value s) ≡ None → Evaluates PreprocessingNumber s unsupported
   long : {s : List ℕ} → IsLongConstant s → Evaluates PreprocessingNumber s unsupported
@@ -91,7 +92,7 @@ tokens_of at (lexeme ∷ lexemes) = token_of at lexeme.bytes lexeme.evaluation +
 
 -- the tokens of a text, and the place of its end
 pub record AreTokens (text : List ℕ) (items : List Token) (end : Place) : Type 0 where
-  pub fits : length text ≤ 1048576
+  pub fits : length text ≤ source_limit
   pub lexemes : List Lexeme
   pub reading : Scans start lexemes text []
   pub tokens : items ≡ tokens_of start lexemes
@@ -104,7 +105,7 @@ AreSlices at size (t ∷ ts) = (at ≤ t.start) × (t.start < t.stop) × AreSlic
 
 -- the first lexeme that is refused stands at the place and evaluates to this
 pub record IsFirstRefused (text : List ℕ) (evaluation : Evaluation) (place : Place) : Type 0 where
-  pub fits : length text ≤ 1048576
+  pub fits : length text ≤ source_limit
   pub lexemes : List Lexeme
   pub rest : List ℕ
   pub refused : Lexeme
@@ -148,7 +149,7 @@ Refuses at_line_start rest place (Memory e) = Unit {0}
 abbrev pub IsCause : List ℕ → LexError → Type 0
 IsCause text (BadToken at) = IsFirstRefused text bad at
 IsCause text (Unsupported at) = IsFirstRefused text unsupported at
-IsCause text (TooLong n) = ((1048576 < length text) × (n ≡ length text)) ⊎ ((at : Place) × IsFirstRefused text (too_long n) at)
+IsCause text (TooLong n) = ((source_limit < length text) × (n ≡ length text)) ⊎ ((at : Place) × IsFirstRefused text (too_long n) at)
 IsCause text (Memory e) = Unit {0}
 
 -- the answer has these tokens, unless memory was wanting

@@ -1,5 +1,6 @@
 -- The image of parts, and why there is none.
 use Rattle.std.specs.Prelude.{ℕ, ◌<◌, ◌≤◌, ◌≡◌, List, ◌++◌, length, map}
+pub use Rattle.mv_num.specs.Limits.{site_limit}
 pub use Rattle.mv_num.specs.Regions.{data_limit}
 use Rattle.mv_isa.specs.Code.{IsLeast, address, label_address, text_start}
 use Rattle.mv_asm.specs.Outcome.{AreWordsUnder, PassesText}
@@ -34,9 +35,6 @@ image_with address at text parts = record {
 }
 
 -- ---- limits
-
-abbrev pub site_limit : ℕ
-site_limit = 16384
 
 abbrev pub HasFewSites : Parts → Type 0
 HasFewSites parts = site_count parts ≤ site_limit

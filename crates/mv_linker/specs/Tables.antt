@@ -4,6 +4,7 @@ use Rattle.std.specs.List.{flat_map}
 use Rattle.mv_num.specs.Kinds.{kind_number, is_value, is_at_most}
 pub use Rattle.mv_num.specs.Regions.{data_start}
 use Rattle.mv_num.specs.Regions.{data_limit}
+use Rattle.mv_num.specs.Limits.{name_limit, function_limit, switch_limit, value_limit, own_switch_limit, assignment_limit}
 use Rattle.mv_descriptors.specs.declared.rows.SwitchRow.{SwitchRow}
 use Rattle.mv_descriptors.specs.declared.rows.FunctionRow.{FunctionRow}
 use Rattle.mv_descriptors.specs.declared.rows.VariantRow.{VariantRow}
@@ -32,7 +33,7 @@ switch_row s = record {
   address = data_start + 4 * s.word;
   kind = s.kind;
   count = length s.values;
-  values = padded 16 s.values;
+  values = padded value_limit s.values;
 }
 
 -- the row of a function, given the address of each code's entry
@@ -41,7 +42,7 @@ function_row address a = record {
   length = length a.name;
   entry = address a.function;
   count = length a.switches;
-  switches = padded 6 a.switches;
+  switches = padded own_switch_limit a.switches;
   variants = length a.variants;
 }
 
@@ -64,13 +65,13 @@ variant_rows address number (v ∷ rest) = variant_row (address number) v ∷ va
 pub record FitsSwitchRow (s : PartSwitch) : Type 0 where
   pub name : length s.name < 2 ^ 32
   pub word : s.word < data_limit
-  pub values : length s.values ≤ 16
+  pub values : length s.values ≤ value_limit
 
 -- a function, of so many codes
 pub record FitsFunctionRow (count : ℕ) (a : PartFunction) : Type 0 where
   pub name : length a.name < 2 ^ 32
   pub there : a.function < count
-  pub switches : length a.switches ≤ 6
+  pub switches : length a.switches ≤ own_switch_limit
   pub variants : length a.variants < 2 ^ 32
 
 abbrev pub HasFewGuards : PartVariant → Type 0
@@ -109,14 +110,14 @@ site_count parts = sum_by (λ (code : Labelled). slot_count code.items) (codes p
 -- an identifier of at most 63 bytes
 pub record IsName (name : List ℕ) : Type 0 where
   pub identifier : IsIdentifier name
-  pub short : length name ≤ 63
+  pub short : length name ≤ name_limit
 
 -- a switch, whose word is among so many of data
 pub record FitsPartSwitch (words : ℕ) (s : PartSwitch) : Type 0 where
   pub name : IsName s.name
   pub word : s.word < words
   pub some : 1 ≤ length s.values
-  pub few : length s.values ≤ 16
+  pub few : length s.values ≤ value_limit
   pub values : All (λ v. is_value (kind_number s.kind) v ≡ true) s.values
 
 -- A guard row gives a range of values for each switch of a function, by their kinds, and zeros for no switch.
@@ -124,8 +125,8 @@ pub record IsRange (kinds : List ℕ) (row : GuardRow) : Type 0 where
   pub low : (i : ℕ) → i < length kinds → is_value (slice_index kinds i) (slice_index row.low i) ≡ true
   pub high : (i : ℕ) → i < length kinds → is_value (slice_index kinds i) (slice_index row.high i) ≡ true
   pub ordered : (i : ℕ) → i < length kinds → is_at_most (slice_index kinds i) (slice_index row.low i) (slice_index row.high i) ≡ true
-  pub low_unused : (i : ℕ) → length kinds ≤ i → i < 6 → slice_index row.low i ≡ 0
-  pub high_unused : (i : ℕ) → length kinds ≤ i → i < 6 → slice_index row.high i ≡ 0
+  pub low_unused : (i : ℕ) → length kinds ≤ i → i < own_switch_limit → slice_index row.low i ≡ 0
+  pub high_unused : (i : ℕ) → length kinds ≤ i → i < own_switch_limit → slice_index row.high i ≡ 0
 
 -- code begins with a line that has words and is no slot
 pub record BeginsWithWords (code : Labelled) : Type 0 where
@@ -156,12 +157,12 @@ pub record FitsPartFunction (parts : Parts) (a : PartFunction) : Type 0 where
   pub name : IsName a.name
   pub there : a.function < length parts.functions
   pub begins : (code : Labelled) → slice_get parts.functions a.function ≡ Some code → BeginsWithWords code
-  pub few_switches : length a.switches ≤ 6
+  pub few_switches : length a.switches ≤ own_switch_limit
   pub switches : All (λ s. s < length parts.switches) a.switches
   pub ascend : (i : ℕ) → i + 1 < length a.switches → slice_index a.switches i < slice_index a.switches (i + 1)
   pub some : 1 ≤ length a.variants
   pub variants : All (FitsPartVariant (kinds_of parts.switches a.switches)) a.variants
-  pub few_guards : length (guards_of a.variants) ≤ 64
+  pub few_guards : length (guards_of a.variants) ≤ assignment_limit
 
 -- a slot calls one of some functions
 abbrev pub CallsAmong : List ℕ → Line → Type 0
@@ -170,9 +171,9 @@ CallsAmong numbers _ = Unit {0}
 
 -- What of parts goes into tables can: attributed functions ascend, and slots call these alone.
 pub record FitTables (parts : Parts) : Type 0 where
-  pub few_switches : length parts.switches ≤ 64
+  pub few_switches : length parts.switches ≤ switch_limit
   pub switches : All (FitsPartSwitch (length parts.globals)) parts.switches
-  pub few_functions : length parts.attributed ≤ 1000
+  pub few_functions : length parts.attributed ≤ function_limit
   pub functions : All (FitsPartFunction parts) parts.attributed
   pub ascend : (i : ℕ) → i + 1 < length parts.attributed → slice_index (attributed_numbers parts.attributed) i < slice_index (attributed_numbers parts.attributed) (i + 1)
   pub slots : All (λ (code : Labelled). All (CallsAmong (attributed_numbers parts.attributed)) code.items) (codes parts)

@@ -14,12 +14,10 @@ use mv_asm::error::AsmError;
 use mv_asm::{Placed, place};
 use mv_image::Image;
 use mv_image::facts::format_law;
+use mv_num::limits::SITE_LIMIT;
 use mv_num::list::List;
 use mv_num::regions::{DATA_LIMIT, TEXT_START};
 use std::alloc::{AllocError, Global};
-
-/// How many sites there may be.
-const SITE_LIMIT: usize = 16_384;
 
 /// The image of parts. A run of it begins at a stub that calls `main`, with an empty stack and all calls left, and exits
 /// with its result. Its tables say what a commit may patch: the entries of the attributed functions, and as sites all slots.

@@ -9,6 +9,7 @@
 //!   list and hands the item back, and an `append` that is refused leaves it too.
 //! - `Kind::number` and `Kind::of_number` are each other's inverses, `None` exactly above 6.
 //! - `regions` says where the regions of the machine's memory begin and how long they may be, as `specs/Regions.antt` does.
+//! - `limits` has a limit that several crates test; `specs/Limits.antt` has all.
 //! - `results::both`: what is there with what the next step gives. Where the step fails, what is there is let go.
 //! - Only tested: conversions, by what gcc gives (`mv_test_top`).
 #![tactic(auto)]
@@ -16,6 +17,7 @@
 pub mod boxed;
 pub mod bytes;
 pub mod kind;
+pub mod limits;
 pub mod list;
 pub mod regions;
 pub mod results;

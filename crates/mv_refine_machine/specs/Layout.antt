@@ -1,6 +1,6 @@
 -- Where the data of a program and the frame of a function lie in memory.
 use Rattle.std.specs.Prelude.{ℕ, ◌≡◌, ◌+◌, ◌*◌, ◌%◌, ◌<◌, ◌≤◌, ◌⊎◌, max, true, List, length, take, slice_index, sum}
-use Rattle.mv_num.specs.Regions.{data_start, stack_start, plan_area}
+use Rattle.mv_num.specs.Regions.{data_start, stack_start, plan_area, data_limit}
 use Rattle.mv_isa.specs.Registers.{sp}
 use Rattle.mv_select_statements.specs.Frames.{Site, Cell, IsOwn, IsThere, address}
 use Rattle.mv_select_calls.specs.Convention as convention
@@ -48,7 +48,7 @@ pub record IsLaidOut (bytes : ℕ) (s : Site) : Type 0 where
 pub record IsPacked (globals arrays : List ℕ) (bytes : ℕ) (s : Site) : Type 0 where
   pub sizes : (g : ℕ) → s.size g ≡ slice_index globals g
   pub places : (g : ℕ) → g < length globals → s.place g ≡ data_start + 4 * sum (take g globals)
-  pub data_fits : 4 * sum globals ≤ 0x0010_0000
+  pub data_fits : 4 * sum globals ≤ 4 * data_limit
   pub array_sizes : (a : ℕ) → s.array_size a ≡ slice_index arrays a
   pub array_places : (a : ℕ) → a < length arrays → s.array_at a ≡ 4 * (max 9 s.temps + 1) + 4 * sum (take a arrays)
   pub frame_fits : 4 * (max 9 s.temps + 1) + 4 * sum arrays ≤ bytes

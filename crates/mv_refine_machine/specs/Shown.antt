@@ -1,5 +1,6 @@
 -- What stands at entries and sites while some bindings hold, of what a function is in them.
 use Rattle.std.specs.Prelude.{ℕ, ◌≡◌, ◌+◌, ◌%◌, ◌<◌, ◌≤◌, List, length, slice_index, Some, None}
+use Rattle.mv_num.specs.Limits.{own_switch_limit}
 use Rattle.mv_bindings.specs.declared.binding.Binding.{Binding}
 use Rattle.mv_descriptors.specs.declared.rows.SiteRow.{SiteRow}
 use Rattle.mv_descriptors.specs.declared.rows.VariantRow.{VariantRow}
@@ -20,7 +21,7 @@ use Rattle.mv_refine_machine.specs.Under.{words_under}
 -- An image reads a function that is free as one without values, and one that is bound as these.
 abbrev pub BindingsHaveValues : Type 0
 BindingsHaveValues =
-    (bs : List Binding) (n : ℕ) → (IsFreeIn bs n → values_of bs n ≡ None) × ((vs : List ℕ) → IsBoundIn bs n vs → length vs ≤ 6 → values_of bs n ≡ Some vs)
+    (bs : List Binding) (n : ℕ) → (IsFreeIn bs n → values_of bs n ≡ None) × ((vs : List ℕ) → IsBoundIn bs n vs → length vs ≤ own_switch_limit → values_of bs n ≡ Some vs)
 
 -- A line stands while the one function that shows in it is free.
 abbrev pub FreeFunctionsShow : Type 0
@@ -47,7 +48,7 @@ pub record IsSiteOf (image : Fields) (n a : ℕ) : Type 0 where
 -- While a function is bound to values for which it has a variant, its entry jumps there, and its sites call it or have its inline words.
 abbrev pub BoundFunctionsShow : Type 0
 BoundFunctionsShow =
-    (image : Fields) (bs : List Binding) (n : ℕ) (vs : List ℕ) (v : VariantRow) → IsBoundIn bs n vs → length vs ≤ 6 → variant_under image n (Some vs) ≡ Some v →
+    (image : Fields) (bs : List Binding) (n : ℕ) (vs : List ℕ) (v : VariantRow) → IsBoundIn bs n vs → length vs ≤ own_switch_limit → variant_under image n (Some vs) ≡ Some v →
     ((a word : ℕ) → entry_at image a ≡ Some n → image_word image a ≡ Some word → IsPlace a → IsPlace v.address → InstrStands (words_under image bs) a (Jal x0 (distance a v.address)))
     × ((a : ℕ) → IsSiteOf image n a → v.inlined ≡ 0 → IsPlace a → IsPlace v.address → SlotStands (words_under image bs) a (a + 8) v.address)
     × ((a : ℕ) → IsSiteOf image n a → v.inlined ≡ 1 →

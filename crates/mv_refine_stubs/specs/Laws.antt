@@ -1,7 +1,7 @@
 -- What is proved of stubs that stand in the text of an image.
 use Rattle.std.specs.Prelude.{ℕ, ◌≡◌, ◌+◌, ◌*◌, ◌%◌, ◌^◌, ◌<◌, ◌≤◌, Bool, List, length, map, sum, take, slice_index_or, [], Option}
 use Rattle.std.specs.List.{All, flat_map}
-use Rattle.mv_num.specs.Regions.{data_start}
+use Rattle.mv_num.specs.Regions.{data_start, data_limit}
 use Rattle.mv_machine.specs.Acts.{PollActs}
 use Rattle.mv_bindings.specs.Traps.{depth_limit}
 use Rattle.mv_isa.specs.Execution.{reg}
@@ -25,7 +25,7 @@ pub record HoldsData (y : Layout) (image : Fields) (w : World) : Type 0 where
   pub sizes : (g : ℕ) → y.size g ≡ length (slice_index_or w.globals g [])
   pub places : (g : ℕ) → g < length w.globals → y.place g ≡ data_start + 4 * sum (take g (map length w.globals))
   pub words : All (λ word. word < 2 ^ 32) image.globals
-  pub room : 4 * length image.globals ≤ 0x0010_0000
+  pub room : 4 * length image.globals ≤ 4 * data_limit
 
 -- A time stands at a place in a world, as a call of main finds it: it returns into the stub, the stack is empty, all calls are left and no attributed
 -- frame is live.

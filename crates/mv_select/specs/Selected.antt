@@ -1,5 +1,6 @@
 -- The code of a body, which bodies have one, and why another has none.
 use Rattle.std.specs.Prelude.{ℕ, suc, ◌≡◌, ◌+◌, ◌*◌, ◌<◌, ◌≤◌, Bool, min, List, [], ◌∷◌, All}
+use Rattle.mv_num.specs.Limits.{slot_limit}
 use Rattle.mv_isa.specs.declared.labelled.Line.{Line}
 use Rattle.mv_isa.specs.declared.labelled.Labelled.{Labelled}
 use Rattle.mv_ir.specs.declared.body.Body.{Body}
@@ -71,7 +72,7 @@ pub record PassesFrame (function : ℕ) (body : Body) (named bytes : ℕ) : Type
   pub is_function : named ≡ function
   pub count : bytes ≡ min (frame_bytes body.temps body.arrays) 18446744073709551615
   pub past : frame_limit < frame_bytes body.temps body.arrays
-  pub many : 480 < body.temps + total body.arrays
+  pub many : slot_limit < body.temps + total body.arrays
 
 -- a fact of the function and the bytes that are named
 abbrev pub OnFrame : SelectError → (ℕ → ℕ → Type 0) → Type 0

@@ -3,6 +3,7 @@ use Rattle.std.specs.Prelude.{ℕ, ◌≡◌, ◌+◌, ◌*◌, ◌<◌, ◌≤�
 use Rattle.mv_ast.specs.declared.program.Known.{Known}
 use Rattle.mv_ast.specs.declared.program.Known.TheVariants.{Plan}
 use Rattle.mv_num.specs.Lists.{is_among}
+use Rattle.mv_num.specs.Limits.{temp_limit}
 use Rattle.mv_ir.specs.declared.tree.Tree.{Tree}
 use Rattle.mv_ir.specs.declared.tree.Tree.TheOpen.{Tree-F}
 use Rattle.mv_ir.specs.declared.tree.Tree.TheOpen as tree
@@ -110,7 +111,7 @@ pub record IsWithin (attributed : Bool) (b : Body) : Type 0 where
 
 -- Such a body has at most 507 temporaries, and its code is small.
 abbrev pub BodiesAreSmall : Type 0
-BodiesAreSmall = (attributed : Bool) (b : Body) → IsWithin attributed b → (b.temps ≤ 507) × (are_small b.code ≡ true)
+BodiesAreSmall = (attributed : Bool) (b : Body) → IsWithin attributed b → (b.temps ≤ temp_limit) × (are_small b.code ≡ true)
 
 -- ---- rooms of a program
 

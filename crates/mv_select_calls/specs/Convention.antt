@@ -2,6 +2,7 @@
 -- sp and s1 to s11 and leaves the stack from sp up as it was; every other register it may change. s10 has the number of live attributed frames, and s11
 -- how many calls are left: one less in the callee than in its caller. For each of these, and one more, there is room for a frame below sp.
 use Rattle.std.specs.Prelude.{ℕ, ◌≡◌, ◌+◌, ◌*◌, ◌%◌, ◌^◌, ◌<◌, ◌≤◌, ◌⊎◌, Bool, true, List, [], ◌∷◌, length, slice_index, slice_index_or, Some, None}
+pub use Rattle.mv_num.specs.Limits.{frame_limit}
 use Rattle.mv_ast.specs.declared.program.Known.{Known}
 use Rattle.mv_bindings.specs.Traps.{depth_limit}
 use Rattle.mv_isa.specs.Execution.{Access, reg}
@@ -23,10 +24,6 @@ pub record Layout : Type 0 where
   pub may_ask : Known → Bool
   pub bottom : ℕ
   pub top : ℕ
-
--- the greatest number of bytes of a frame
-abbrev pub frame_limit : ℕ
-frame_limit = 2032
 
 -- of what a call costs, what is left at the callee's first word for its entry, its return and a jump where it is bound; and at a slot's first word
 abbrev pub entry_cost : ℕ

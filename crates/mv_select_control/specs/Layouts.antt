@@ -1,5 +1,6 @@
 -- What a layout says of the places of globals and arrays, and which statements there are registers and room for.
 use Rattle.std.specs.Prelude.{ℕ, ◌+◌, ◌*◌, ◌≤◌, ◌&&◌, Bool, true, cond, eqb, ltb, leb, length, List, [], ◌∷◌, map, Option, slice_index_or}
+use Rattle.mv_num.specs.Limits.{temp_limit, frame_limit}
 use Rattle.mv_ast.specs.declared.program.Known.{Known}
 use Rattle.mv_ir.specs.declared.body.Room.{Room}
 use Rattle.mv_ir.specs.declared.tree.Tree.{Tree}
@@ -30,7 +31,7 @@ array_size_in arrays a = (space_in arrays a).size
 
 -- an array lies within the greatest frame
 abbrev pub IsInFrame : Space → Type 0
-IsInFrame space = space.at + 4 * space.size ≤ 2032
+IsInFrame space = space.at + 4 * space.size ≤ frame_limit
 
 abbrev pub plan_in : Layout → CallLines → Plan
 plan_in layout calls = record {
@@ -44,7 +45,7 @@ plan_in layout calls = record {
 
 -- there are registers for a tree, and its temporaries are within the greatest frame
 abbrev pub is_small : Tree → Bool
-is_small t = leb (depth t) 4 && leb (temps_of t) 507
+is_small t = leb (depth t) 4 && leb (temps_of t) temp_limit
 
 abbrev pub any_global : Uses
 any_global = record { has_word = λ g. true; is_read = λ g. true; is_written = λ g. true }
@@ -55,16 +56,16 @@ any_known k = true
 -- likewise for the trees of a call, which has at most eight arguments, and of a known function, which has its own number
 abbrev pub small_call : Option ℕ → Callee → List Tree → Bool
 small_call r f args =
-    ltb (length args) 9 && (fine_target is_small any_known 507 any_global r && (fine_callee is_small any_known 507 any_global f && all_true (map is_small args)))
+    ltb (length args) 9 && (fine_target is_small any_known temp_limit any_global r && (fine_callee is_small any_known temp_limit any_global f && all_true (map is_small args)))
 
 abbrev pub small_known : Option ℕ → Known → List Tree → Bool
 small_known r k args =
     eqb (length args) (known_arguments k)
-    && (fine_known is_small any_known 507 any_global k && (fine_target is_small any_known 507 any_global r && all_true (map is_small args)))
+    && (fine_known is_small any_known temp_limit any_global k && (fine_target is_small any_known temp_limit any_global r && all_true (map is_small args)))
 
 -- and for all trees of statements
 abbrev pub is_small_statement : Stm → Bool
-is_small_statement = is_fine_statement is_small any_known 507 any_global
+is_small_statement = is_fine_statement is_small any_known temp_limit any_global
 
 abbrev pub are_small : List Stm → Bool
-are_small = are_fine is_small any_known 507 any_global
+are_small = are_fine is_small any_known temp_limit any_global

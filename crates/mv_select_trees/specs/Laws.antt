@@ -1,5 +1,6 @@
 -- What the code of trees promises.
 use Rattle.std.specs.Prelude.{ℕ, ◌≡◌, ◌+◌, ◌*◌, ◌<◌, ◌≤◌, true, List, All, sum_by}
+use Rattle.mv_num.specs.Limits.{temp_limit}
 use Rattle.mv_isa.specs.Execution.{Access}
 use Rattle.mv_isa.specs.Code.{LineFits, greatest_words}
 use Rattle.mv_ir.specs.declared.tree.Tree.{Tree}
@@ -35,4 +36,4 @@ TreesAreShort = (place : ℕ → ℕ) (t : Tree) (r : ℕ) → sum_by greatest_w
 
 -- the fields of its instructions fit, where the registers are there and the temporaries are within the greatest frame
 abbrev pub TreesFit : Type 0
-TreesFit = (place : ℕ → ℕ) (t : Tree) (r : ℕ) → r + depth t ≤ 32 → temps_of t ≤ 507 → All LineFits (tree_lines place t r)
+TreesFit = (place : ℕ → ℕ) (t : Tree) (r : ℕ) → r + depth t ≤ 32 → temps_of t ≤ temp_limit → All LineFits (tree_lines place t r)

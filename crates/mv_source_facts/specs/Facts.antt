@@ -3,6 +3,7 @@ use Rattle.std.specs.Prelude.{◌≡◌, ◌≢◌, ◌<◌, ◌≤◌, ℕ, tru
 use Rattle.std.specs.List.Sorted.{IsStrictlyIncreasing}
 use Rattle.mv_num.specs.declared.kind.Kind.{Kind}
 use Rattle.mv_num.specs.Kinds.{kind_number, is_value}
+use Rattle.mv_num.specs.Limits.{name_limit, function_limit, switch_limit, value_limit, own_switch_limit, assignment_limit}
 use Rattle.mv_ast.specs.declared.program.CType.TheVariants.{Scalar}
 use Rattle.mv_ast.specs.declared.program.Function.{Function}
 use Rattle.mv_ast.specs.declared.program.Global.{Global}
@@ -17,7 +18,7 @@ use Rattle.mv_lexer.specs.declared.table.Table.TheVariants.{Keywords, Unsupporte
 -- A name in a source: an identifier of at most 63 bytes that is no keyword (C11 6.4.1, 6.4.2.1).
 pub record IsName (name : List ℕ) : Type 0 where
   pub identifier : IsIdentifier name
-  pub short : length name ≤ 63
+  pub short : length name ≤ name_limit
   pub no_keyword : (k : ℕ) → IsEntry Keywords k name → ⊥
   pub no_unsupported : (k : ℕ) → IsEntry UnsupportedKeywords k name → ⊥
 
@@ -30,19 +31,19 @@ pub record IsTableSwitch (p : Program) (s : Switch) : Type 0 where
   pub integer : global.ctype ≡ Scalar kind
   pub scalar : global.size ≡ None
   pub some : 1 ≤ length s.values
-  pub most : length s.values ≤ 16
+  pub most : length s.values ≤ value_limit
   pub values : All (λ v. is_value (kind_number kind) v ≡ true) s.values
   pub different : AllPairs (λ v w. v ≢ w) s.values
 
 -- An attributed function has at most six of the program's switches, each once and in order, and 1 to 64 assignments.
 pub record IsTableFunction (p : Program) (f : Function) : Type 0 where
   pub named : IsName f.name
-  pub most : length f.switches ≤ 6
+  pub most : length f.switches ≤ own_switch_limit
   pub there : All (λ s. s < length p.switches) f.switches
   pub ascend : IsStrictlyIncreasing f.switches
   pub apart : AllPairs (λ s t. switch_global p s ≢ switch_global p t) f.switches
   pub some_assignment : 1 ≤ assignments p f
-  pub assignments_most : assignments p f ≤ 64
+  pub assignments_most : assignments p f ≤ assignment_limit
 
 -- The switches are different globals; each global and each local has a word; and there are no more switches and attributed functions than an image may have.
 pub record HasTableFacts (p : Program) : Type 0 where
@@ -50,5 +51,5 @@ pub record HasTableFacts (p : Program) : Type 0 where
   pub apart : AllPairs (λ (s t : Switch). s.global ≢ t.global) p.switches
   pub functions : All (IsTableFunction p) (attributed_functions p)
   pub words : All (λ (g : Global). 1 ≤ words_of_size g.size) p.globals
-  pub few_switches : length p.switches ≤ 64
-  pub few_functions : length (attributed_functions p) ≤ 1000
+  pub few_switches : length p.switches ≤ switch_limit
+  pub few_functions : length (attributed_functions p) ≤ function_limit

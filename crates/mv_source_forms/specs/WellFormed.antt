@@ -1,5 +1,6 @@
 -- Well-formed programs: what a checked program is.
 use Rattle.std.specs.Prelude.{◌≡◌, ◌≢◌, ℕ, ◌+◌, ◌≤◌, All, AllPairs, true, false, length, map, sum, take, Some, None, nat_lt, slice_get}
+use Rattle.mv_num.specs.Limits.{function_limit, global_limit, parameter_limit, switch_limit, pointer_limit, value_limit, own_switch_limit, assignment_limit, element_limit, node_limit}
 use Rattle.mv_ast.specs.declared.program.Program.{Program}
 use Rattle.mv_ast.specs.declared.program.Global.{Global}
 use Rattle.mv_ast.specs.declared.program.Switch.{Switch}
@@ -56,18 +57,18 @@ program_nodes p = length p.functions + sum (map nodes p.functions) + (length p.g
 
 -- the limits on what a source declares, and on the size of the program
 pub record IsWithinLimits (p : Program) : Type 0 where
-  pub functions : length p.functions ≤ 1000
-  pub globals : length p.globals ≤ 4096
-  pub parameters : All (λ g. g.params ≤ 8) p.functions
-  pub pointed_parameters : All (λ s. length s.params ≤ 8) p.signatures
-  pub switches : length p.switches ≤ 64
-  pub pointers : length p.pointers ≤ 64
-  pub domains : All (λ s. length s.values ≤ 16) p.switches
-  pub own_switches : All (λ g. length g.switches ≤ 6) (attributed_functions p)
-  pub assignments : All (λ g. assignments p g ≤ 64) (attributed_functions p)
-  pub global_elements : All (λ g. words_of_size g.size ≤ 262144) p.globals
-  pub local_elements : All (λ g. All (λ l. words_of_size l.size ≤ 262144) g.locals) p.functions
-  pub nodes : program_nodes p ≤ 16777216
+  pub functions : length p.functions ≤ function_limit
+  pub globals : length p.globals ≤ global_limit
+  pub parameters : All (λ g. g.params ≤ parameter_limit) p.functions
+  pub pointed_parameters : All (λ s. length s.params ≤ parameter_limit) p.signatures
+  pub switches : length p.switches ≤ switch_limit
+  pub pointers : length p.pointers ≤ pointer_limit
+  pub domains : All (λ s. length s.values ≤ value_limit) p.switches
+  pub own_switches : All (λ g. length g.switches ≤ own_switch_limit) (attributed_functions p)
+  pub assignments : All (λ g. assignments p g ≤ assignment_limit) (attributed_functions p)
+  pub global_elements : All (λ g. words_of_size g.size ≤ element_limit) p.globals
+  pub local_elements : All (λ g. All (λ l. words_of_size l.size ≤ element_limit) g.locals) p.functions
+  pub nodes : program_nodes p ≤ node_limit
 
 -- A program is well formed where it is well typed, its functions, globals, switches and pointer switches are well formed, no pointer switch stands twice, `main`
 -- isn't attributed, and it is within the limits.

@@ -2,6 +2,7 @@
 use Rattle.std.specs.Prelude.{ℕ, ◌≡◌, List, []}
 use Rattle.mv_bindings.specs.declared.action.Action.{Action}
 use Rattle.mv_bindings.specs.declared.binding.Event.{Event}
+use Rattle.mv_front.specs.Codes as refusals
 use Rattle.mv_front.specs.Refusals.{counted}
 use Rattle.mv_front.specs.declared.refusal.Refusal.{Refusal}
 use Rattle.mv_build.specs.Verdicts.{HasNoImage, IsBuiltFrom}
@@ -26,7 +27,7 @@ use Rattle.mv_top.specs.declared.run.Prepared.{Prepared}
 
 -- the refusal of an item that is no action of the program, by its number from 1
 abbrev pub no_action : ℕ → Refusal
-no_action item = counted 15 0 item
+no_action item = counted refusals.action 0 item
 
 -- A source isn't run for one of these causes: it has no image; or it has one, and this is the first item of the operator that is no action of its program.
 pub data IsNotRun (text : List ℕ) (items : List Item) : Refusal → Type 0 where
