@@ -3,6 +3,7 @@ use Rattle.std.specs.Prelude.{◌≡◌, ◌⊎◌, ℕ, ◌+◌, ◌*◌, ◌�
 use Rattle.mv_ast.specs.declared.program.Program.{Program}
 use Rattle.mv_ast.specs.declared.program.Function.{Function}
 use Rattle.mv_ast.specs.Worlds.{World, Outcome, Came, Stopped}
+use Rattle.mv_ast.specs.Counts.{instructions_per_work}
 use Rattle.mv_meaning.specs.declared.state.Frame.{Frame}
 use Rattle.mv_meaning.specs.Meaning.{call_of}
 use Rattle.mv_ir.specs.KnownFunctions.{seen_from, seen}
@@ -20,8 +21,8 @@ meaningless = record { cost = 0; end = Stuck }
 -- What a call in the source comes to, as code sees it: at a cost of 20 and 100 for one of work, and without a meaning where a call through a pointer
 -- reaches no function that fits.
 abbrev pub as_call : Bool → Outcome Frame ℕ → Call
-as_call void (Came v frame w work) = record { cost = 20 + 100 * work; end = Returned (unless_void void v) (seen w) }
-as_call void (Stopped why w work) = record { cost = 20 + 100 * work; end = cond (is_astray why) Stuck (end_of why (seen w)) }
+as_call void (Came v frame w work) = record { cost = 20 + instructions_per_work * work; end = Returned (unless_void void v) (seen w) }
+as_call void (Stopped why w work) = record { cost = 20 + instructions_per_work * work; end = cond (is_astray why) Stuck (end_of why (seen w)) }
 
 -- the frame of a caller: a call gives it back, and nothing depends on it
 abbrev pub any_frame : Frame

@@ -5,6 +5,7 @@ use Rattle.mv_ast.specs.declared.program.Function.{Function}
 use Rattle.mv_ast.specs.Actions.{act_fits}
 use Rattle.mv_ast.specs.Switches.{attributed_before}
 use Rattle.mv_ast.specs.Worlds.{World, Outcome, Came, Stopped}
+use Rattle.mv_ast.specs.Counts.{instructions_per_work}
 use Rattle.mv_bindings.specs.Acts.{Act}
 use Rattle.mv_meaning.specs.declared.state.Frame.{Frame}
 use Rattle.mv_meaning.specs.declared.meant.Meant.{Meant}
@@ -34,8 +35,8 @@ HasGlobals p w = (x : ℕ) → length (slice_index_or w.globals x []) ≡ global
 -- A call in the code is one in the source: it returns the same value, or none where the function is void, or stops in the same way, with the same world,
 -- at a cost of at most 20 and 100 for one of work.
 abbrev pub IsCall : Bool → Call → Outcome Frame ℕ → Type 0
-IsCall void c (Came v frame w work) = (c.end ≡ Returned (unless_void void v) (seen w)) × (c.cost ≤ 20 + 100 * work)
-IsCall void c (Stopped why w work) = (c.end ≡ end_of why (seen w)) × (c.cost ≤ 20 + 100 * work)
+IsCall void c (Came v frame w work) = (c.end ≡ Returned (unless_void void v) (seen w)) × (c.cost ≤ 20 + instructions_per_work * work)
+IsCall void c (Stopped why w work) = (c.end ≡ end_of why (seen w)) × (c.cost ≤ 20 + instructions_per_work * work)
 
 -- whether an evaluation comes to a call through a pointer that reaches no function that fits
 abbrev pub goes_astray : Outcome Frame ℕ → Bool
@@ -71,7 +72,7 @@ pub record IsExecution (m : Meant) (e : Execution) : Type 0 where
   pub ending : e.ending ≡ ending_of m.«end»
   pub bindings : e.bindings ≡ m.bindings
   pub log : e.log ≡ m.log
-  pub paid : e.cost ≤ 20 + 100 * m.work
+  pub paid : e.cost ≤ 20 + instructions_per_work * m.work
 
 -- The lowering of a well-formed program means what the program means: in each hart, under each numbering, on each input, with all actions
 -- that fit, at each bound.

@@ -15,7 +15,7 @@ use Rattle.mv_bindings.specs.declared.stop.Stop.{Stop}
 use Rattle.mv_bindings.specs.declared.stop.Stop.TheVariants as stop
 use Rattle.mv_ast.specs.Worlds as worlds
 use Rattle.mv_ast.specs.Worlds.{World, Outcome, Came, Stopped}
-use Rattle.mv_ast.specs.Counts.{words_of_size}
+use Rattle.mv_ast.specs.Counts.{words_of_size, instructions_per_work}
 use Rattle.mv_num.specs.Lists.{is_among}
 use Rattle.mv_ast.specs.Switches.{word_at, bound_value}
 use Rattle.mv_meaning.specs.declared.state.Frame.{Frame}
@@ -171,13 +171,13 @@ module _ (scene : Scene) (bound : Bound) where
     pub shows : Shows scene f w state
     pub value : val scene tree state ≡ v
     pub kept : Kept scene n s state
-    pub paid : cost + 3 * nodes tree + due ≤ 100 * work + credit
+    pub paid : cost + 3 * nodes tree + due ≤ instructions_per_work * work + credit
 
   -- code that ends the function as the source stops; where the source goes astray nothing is said of it
   pub record Halted (credit : ℕ) (s : State) (code : List Stm) (why : Stop) (w : World) (work : ℕ) : Type 0 where
     pub cost : ℕ
     pub runs : is_astray why ≡ false → Runs code s (Ends (end_of why (seen w))) cost
-    pub paid : cost ≤ 100 * work + credit
+    pub paid : cost ≤ instructions_per_work * work + credit
 
   abbrev pub Shown : (due credit n : ℕ) → State → List Stm → Tree → Outcome Frame ℕ → Type 0
   Shown due credit n s code tree (Came v f w work) = Reached due credit n s code tree v f w work
@@ -202,7 +202,7 @@ module _ (scene : Scene) (bound : Bound) where
     pub shows : Shows scene f w state
     pub values : map (λ t. val scene t state) trees ≡ vs
     pub kept : Kept scene n s state
-    pub paid : cost + 3 * nodes_of_all trees ≤ 100 * work
+    pub paid : cost + 3 * nodes_of_all trees ≤ instructions_per_work * work
 
   abbrev pub AllShown : ℕ → State → List Stm → List Tree → Outcome Frame (List ℕ) → Type 0
   AllShown n s code trees (Came vs f w work) = AllReached n s code trees vs f w work
@@ -219,7 +219,7 @@ module _ (scene : Scene) (bound : Bound) where
 pub record CallHalted (c : Call) (why : Stop) (w2 : World) (work : ℕ) : Type 0 where
   pub cost : ℕ
   pub ends : is_astray why ≡ false → c ≡ record { cost = cost; end = end_of why (seen w2) }
-  pub paid : cost ≤ 20 + 100 * work
+  pub paid : cost ≤ 20 + instructions_per_work * work
 
 -- a call through a pointer switch sees the same number in the code as in the source
 abbrev pub SwitchedAgrees : Program → Setting → Type 0
@@ -241,7 +241,7 @@ module _ (p : Program) (frame : code_world.Frame) (own : ℕ) where
     pub value : a.value ≡ v
     pub world : a.world ≡ seen w2
     pub unmoved : Unmoved f f2 w w2
-    pub paid : a.cost ≤ 100 * work
+    pub paid : a.cost ≤ instructions_per_work * work
 
   abbrev pub KnownShown : code_world.Answer → Frame → World → Outcome Frame ℕ → Type 0
   KnownShown a f w (Came v f2 w2 work) = KnownReached a v f f2 w w2 work
@@ -257,7 +257,7 @@ module _ (p : Program) (frame : code_world.Frame) (own : ℕ) where
     pub ends : c.end ≡ Returned (unless_void void v) (seen w2)
     pub nothing : void ≡ true → v ≡ 0
     pub unmoved : Unmoved f f2 w w2
-    pub paid : c.cost ≤ 20 + 100 * work
+    pub paid : c.cost ≤ 20 + instructions_per_work * work
 
   abbrev pub CallShown : Bool → Call → Frame → World → Outcome Frame ℕ → Type 0
   CallShown void c f w (Came v f2 w2 work) = CallReached void c v f f2 w w2 work

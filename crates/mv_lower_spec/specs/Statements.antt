@@ -9,7 +9,7 @@ use Rattle.mv_ir.specs.Outcome.{State, Returned, Next, Leaves, Ends, Run, Bound,
 use Rattle.mv_ir.specs.Outcome as ir
 use Rattle.mv_ir.specs.Meaning.{code_meaning}
 use Rattle.mv_bindings.specs.declared.stop.Stop.{Stop}
-use Rattle.mv_ast.specs.Counts.{words_of_size}
+use Rattle.mv_ast.specs.Counts.{words_of_size, instructions_per_work}
 use Rattle.mv_ast.specs.Worlds.{World, Outcome, Came, Stopped}
 use Rattle.mv_meaning.specs.declared.state.Frame.{Frame}
 use Rattle.mv_meaning.specs.declared.state.Flow.{Flow}
@@ -207,12 +207,12 @@ module _ (ground : Ground) (void : Bool) where
     pub runs : r ≡ ran cost (out flow state)
     pub shows : Shows (resting ground) f w state
     pub nothing : void ≡ true → returned_value flow ≡ 0
-    pub paid : cost ≤ 100 * work + credit
+    pub paid : cost ≤ instructions_per_work * work + credit
 
   pub record FlowHalted (credit : ℕ) (r : Run) (why : Stop) (w : World) (work : ℕ) : Type 0 where
     pub cost : ℕ
     pub runs : is_astray why ≡ false → r ≡ ran cost (Ends (end_of why (seen w)))
-    pub paid : cost ≤ 100 * work + credit
+    pub paid : cost ≤ instructions_per_work * work + credit
 
   abbrev pub FlowShown : (out : Flow → State → ir.Outcome) → ℕ → Run → Outcome Frame Flow → Type 0
   FlowShown out credit r (Came flow f w work) = FlowReached out credit r flow f w work
