@@ -1,4 +1,4 @@
--- The words of linked code, and the slots in it.
+-- The words of linked code.
 use Rattle.std.proofs.Common.{arith, lit≤, ◌≡◌, ℕ, zero, suc, ◌+◌, ◌*◌, ◌<◌, ◌≤◌, Bool, true, false, cond, All, List, [], ◌∷◌, length, map, Some, refl, sym, ap, ◌∙◌, subst}
 use Rattle.std.specs.Prelude.{sum, sum_by, filter, slice_get, slice_index}
 use Rattle.std.proofs.lemmas.List.{map-append}
@@ -13,12 +13,11 @@ use Rattle.mv_isa.specs.declared.labelled.Labelled.{Labelled}
 use Rattle.mv_isa.specs.declared.labelled.Line.{Line}
 use Rattle.mv_isa.specs.declared.labelled.Line.TheVariants.{Word, Label, Jump, Branch, Entry, Slot}
 use Rattle.mv_isa.specs.Code.{line_at, greatest_words}
-use Rattle.mv_parts_bound.specs.Slots.{SlotsArePatchable}
 use Rattle.mv_linker.specs.declared.parts.PartFunction.{PartFunction}
 use Rattle.mv_linker.specs.declared.parts.PartVariant.{PartVariant}
 use Rattle.mv_linker.specs.Linked.{function_variants, variant_codes, codes, relabelled, stub_lines, function_part, function_parts, linked_lines}
 use Rattle.mv_count_code.specs.Sizes.{LinesAreShort, words_of}
-use Rattle.mv_count_code.specs.Texts.{IsCodeOf, TextsPass, SitesAreFew}
+use Rattle.mv_count_code.specs.Texts.{IsCodeOf, TextsPass}
 
 abbrev words : List Line → ℕ
 words = sum_by greatest_words
@@ -212,8 +211,3 @@ texts_pass short p formed parts own variants count text =
         (All-weaker (λ (v : PartVariant). IsCodeOf p g v.code) (λ (v : PartVariant). code_words v.code ≤ words_of g) (λ v c. short_code at.0 g at.1 v.code c) a.variants h.each) in
         let less = mul-le-mul_right (words_of g) h.few in
         omega (arith, most, less)
-
--- ---- sites
-
-pub sites_few : SlotsArePatchable → SitesAreFew
-sites_few within p own variants o v = let h = within p own variants o v in omega (arith, h)

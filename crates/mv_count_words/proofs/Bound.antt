@@ -1,14 +1,15 @@
 -- Each function that is bound in a state of a run has a variant.
-use Rattle.std.proofs.Common.{arith, ◌≡◌, ℕ, zero, suc, ◌+◌, ◌-◌, ◌^◌, ◌<◌, ◌≤◌, Bool, true, false, cond, if◌then◌else◌, nat_eq, min, List, [], ◌∷◌, ◌++◌, length, take, drop, replicate, is_some, Option, Some, None, refl, sym, ap, ◌∙◌, subst}
+use Rattle.std.proofs.Common.{arith, ◌≡◌, ℕ, zero, suc, ◌+◌, ◌-◌, ◌^◌, ◌<◌, ◌≤◌, Bool, true, false, ◌&&◌, cond, if◌then◌else◌, nat_eq, min, List, [], ◌∷◌, ◌++◌, length, map, take, drop, replicate, is_some, Option, Some, None, refl, sym, ap, ◌∙◌, subst}
 use Rattle.std.specs.Prelude.{option_and_then, slice_get}
 use Rattle.std.specs.List.{list_any}
 use Rattle.std.proofs.lemmas.List.{length-map, length-take, length-drop, length-replicate}
 use Rattle.std.proofs.lemmas.Option.{slice_get-get_or, slice_get_within, get_or_from_slice_get}
 use Rattle.mv_bindings.specs.declared.action.Action.{Action}
-use Rattle.mv_bindings.specs.declared.action.Action.TheVariants.{Skip, Flip}
+use Rattle.mv_bindings.specs.declared.action.Action.TheVariants as action
 use Rattle.mv_bindings.specs.declared.binding.Binding.{Binding}
 use Rattle.mv_bindings.specs.Bindings.{free, bound_to}
 use Rattle.mv_bindings.specs.OrderNumbers.{is_commit}
+use Rattle.mv_bindings.specs.Acts.{Act, Skip, Flip, Adopt, act_of}
 use Rattle.mv_descriptors.specs.declared.rows.FunctionRow.{FunctionRow}
 use Rattle.mv_descriptors.specs.declared.rows.GuardRow.{GuardRow}
 use Rattle.mv_descriptors.specs.declared.rows.VariantRow.{VariantRow}
@@ -21,10 +22,28 @@ use Rattle.mv_image.proofs.RowsFit.{functions_fit}
 use Rattle.mv_patch.specs.Orders.{bound_values, bound_now, next_binding, words_now, word_in, ordered_rows, is_ordered, is_known_order, bindings_after}
 use Rattle.mv_patch.specs.Plans.{plan_of}
 use Rattle.mv_patch.proofs.Rebinding.{ordered_count}
-use Rattle.mv_machine.specs.Runs.{State, Fault, answered, stopped, live_frames, refused, ordered, planned, act, acted, polled, with_value, runs_from, first}
+use Rattle.mv_machine.specs.Acts.{polls_of}
+use Rattle.mv_machine.specs.Runs.{State, Fault, answered, stopped, live_frames, refused, ordered, planned, acted, polled, with_value, runs_from, first}
 use Rattle.mv_refine_machine.proofs.Keeping.{runs_keep, plans_keep}
 use Rattle.mv_count_words.specs.Bound.{RunsAreBound}
 use Rattle.mv_machine.proofs.Leaving.{either}
+
+-- ---- what polls take
+
+-- no bindings of another hart
+abbrev IsOwn : Act → Type 0
+IsOwn Skip = Unit {0}
+IsOwn (Flip switch value) = Unit {0}
+IsOwn (Adopt bs) = ⊥
+
+abbrev AreOwn : List Act → Type 0
+AreOwn [] = Unit {0}
+AreOwn (a ∷ acts) = IsOwn a × AreOwn acts
+
+own_actions : (actions : List Action) → AreOwn (map act_of actions)
+own_actions [] = tt
+own_actions (action.Skip ∷ actions) = (tt, own_actions actions)
+own_actions (action.Flip switch value ∷ actions) = (tt, own_actions actions)
 
 -- ---- values that a variant fits have a row of it
 
@@ -154,7 +173,7 @@ module _ (image : Fields) where
     }
 
     abbrev Has : State → Type 0
-    Has s = (s.image ≡ image) × AreAll s.bindings
+    Has s = (s.image ≡ image) × AreAll s.bindings × AreOwn s.actions
 
     plan_all : (s : State) (held : Held) (code index : ℕ) → Has s → AreAll (plan_of s.image held s.bindings code index).bound
     plan_all s held code index h = subst (λ (i : Fields). AreAll (plan_of i held s.bindings code index).bound) (sym h.0) (order_all held s.bindings code index h.1)
@@ -162,28 +181,25 @@ module _ (image : Fields) where
     planned_has : (s : State) (code index : ℕ) → Has s → Has (planned s code index)
     unfolding planned answered
     planned_has s code index h =
-        either Has (is_known_order s.image code index) (if nat_eq (live_frames s) 0 then ordered s code index else refused s (2 ^ 32 - 1)) (stopped s (Fault cause.Call))
-        (either Has (nat_eq (live_frames s) 0) (ordered s code index) (refused s (2 ^ 32 - 1)) (h.0, plan_all s s.room.held code index h) h) h
+        either Has (is_known_order s.image code index) (if nat_eq s.hart 0 && nat_eq (live_frames s) 0 then ordered s code index else refused s (2 ^ 32 - 1)) (stopped s (Fault cause.Call))
+        (either Has (nat_eq s.hart 0 && nat_eq (live_frames s) 0) (ordered s code index) (refused s (2 ^ 32 - 1)) (h.0, plan_all s s.room.held code index h, h.2) h) h
 
-    act_has : (action : Action) (s : State) → Has s → Has (act action s)
+    acted_has : (s : State) (left : List Act) → AreOwn left → Has s → Has (acted s left)
     unfolding answered
-    act_has Skip s h = h
-    act_has (Flip switch value) s h = (h.0, plan_all s (with_value s.image s.room switch value).held 0 0 h)
-
-    acted_has : (s : State) (left : List Action) → Has s → Has (acted s left)
-    unfolding answered
-    acted_has s [] h = h
-    acted_has s (action ∷ later) h = act_has action (record s { actions = later }) h
+    acted_has s [] own h = h
+    acted_has s (Skip ∷ later) own h = (h.0, h.1, own.1)
+    acted_has s (Flip switch value ∷ later) own h = (h.0, plan_all s (with_value s.image s.room switch value).held 0 0 h, own.1)
+    acted_has s (Adopt bs ∷ later) own h = absurd own.0
 
     polled_has : (s : State) → Has s → Has (polled s)
     unfolding polled answered
-    polled_has s h = either Has (nat_eq (live_frames s) 0) (acted s s.actions) (refused s 0) (acted_has s s.actions h) h
+    polled_has s h = either Has (nat_eq (live_frames s) 0) (acted s s.actions) (refused s 0) (acted_has s s.actions h.2 h) h
 
-    run_has : (input : List (Option ℕ)) (actions : List Action) (picks : List ℕ) (n : ℕ) → Has (runs_from (first image input actions) picks n)
+    run_has : (input : List (Option ℕ)) (actions : List Action) (picks : List ℕ) (n : ℕ) → Has (runs_from (first image input (polls_of actions)) picks n)
     unfolding first
     run_has input actions picks n =
-        runs_keep Has (plans_keep Has (record { others = λ regs pc room input output stop s h. h; plans = planned_has; polls = polled_has })) (first image input actions) picks n
-        (refl, record { count = length-replicate (length image.functions) free; each = first_from 0 (length image.functions) })
+        runs_keep Has (plans_keep Has (record { others = λ regs pc room input output stop s h. h; plans = planned_has; polls = polled_has })) (first image input (polls_of actions)) picks n
+        (refl, record { count = length-replicate (length image.functions) free; each = first_from 0 (length image.functions) }, own_actions actions)
 
 few_rows : (image : Fields) (rows : List FunctionRow) → ((i : ℕ) (row : FunctionRow) → slice_get rows i ≡ Some row → row.count ≤ 6) → HaveFew image rows
 few_rows image [] h = tt
@@ -194,7 +210,7 @@ runs_are_bound image r input actions picks n =
     let few = few_rows image image.functions (λ i row e. few_switches i row e) in
     let has = run_has image few input actions picks n in record {
       count = has.1.count;
-      fit = λ f b e. (let same : 0 + f ≡ f = omega arith in subst (λ m. IsOne image m b) same (from_at image 0 (runs_from (first image input actions) picks n).bindings f b has.1.each e));
+      fit = λ f b e. (let same : 0 + f ≡ f = omega arith in subst (λ m. IsOne image m b) same (from_at image 0 (runs_from (first image input (polls_of actions)) picks n).bindings f b has.1.each e));
     }
   where
     few_switches : (i : ℕ) (row : FunctionRow) → slice_get image.functions i ≡ Some row → row.count ≤ 6

@@ -6,6 +6,7 @@ use Rattle.mv_image.specs.Faults.{Rules}
 use Rattle.mv_image.specs.Patched.{variant_under}
 use Rattle.mv_image.specs.Spelling.{Fields}
 use Rattle.mv_patch.specs.Orders.{bound_values}
+use Rattle.mv_machine.specs.Acts.{polls_of}
 use Rattle.mv_machine.specs.Runs.{runs}
 
 -- There is one for each function of an image, and where it binds the function, one of its variants fits the values.
@@ -16,4 +17,4 @@ pub record AreBound (image : Fields) (bs : List Binding) : Type 0 where
 -- In each state of a run, each bound function has a variant.
 abbrev pub RunsAreBound : Type 0
 RunsAreBound =
-    (image : Fields) → Rules image → (input : List (Option ℕ)) (actions : List Action) (picks : List ℕ) (n : ℕ) → AreBound image (runs image input actions picks n).bindings
+    (image : Fields) → Rules image → (input : List (Option ℕ)) (actions : List Action) (picks : List ℕ) (n : ℕ) → AreBound image (runs image input (polls_of actions) picks n).bindings

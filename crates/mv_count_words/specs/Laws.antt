@@ -10,6 +10,7 @@ use Rattle.mv_image.specs.Faults.{Rules}
 use Rattle.mv_image.specs.Patched.{text_of}
 use Rattle.mv_image.specs.Spelling.{Fields}
 use Rattle.mv_patch.specs.Orders.{values_of}
+use Rattle.mv_machine.specs.Acts.{polls_of}
 use Rattle.mv_machine.specs.Runs.{runs}
 use Rattle.mv_linker.specs.declared.parts.Parts.{Parts}
 use Rattle.mv_linker.specs.Outcome.{IsLinked}
@@ -32,8 +33,8 @@ ImagesCountWords =
 -- Where a memory holds the text of the bindings in a state of a run, the words that are other than the image's have as many lines as these bindings owe.
 abbrev pub ShowsBindings : Program → Fields → Type 0
 ShowsBindings p image =
-    (input : List (Option ℕ)) (actions : List Action) (picks : List ℕ) (n : ℕ) (held : Held) → held.text ≡ text_of image (values_of (runs image input actions picks n).bindings) →
-    CountsWords p (runs image input actions picks n).bindings (line_count (patched_text image held))
+    (input : List (Option ℕ)) (actions : List Action) (picks : List ℕ) (n : ℕ) (held : Held) → held.text ≡ text_of image (values_of (runs image input (polls_of actions) picks n).bindings) →
+    CountsWords p (runs image input (polls_of actions) picks n).bindings (line_count (patched_text image held))
 
 abbrev pub ImagesShowBindings : Type 0
 ImagesShowBindings =

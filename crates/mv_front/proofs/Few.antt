@@ -8,8 +8,10 @@ use Rattle.mv_syntax.specs.declared.unit.Unit as tree
 use Rattle.mv_check_expressions.specs.Judged.{Judged, Good, Broken, and_then}
 use Rattle.mv_check_limits.specs.Limits.{excess, reported, first_some, functions_limit, first_exceeded}
 use Rattle.mv_check_limits.specs.declared.excess.Exceeded.{Exceeded}
-use Rattle.mv_check_rules.specs.Rules.{unless_broken}
-use Rattle.mv_check_rules.specs.Units.{Declarations, program, unit_end, judged_by_rules}
+use Rattle.mv_check_rules.specs.Declarations.{in_order}
+use Rattle.mv_check_rules.specs.Nodes as node
+use Rattle.mv_check_rules.specs.Rules.{meaning_here, least_broken, unless_broken}
+use Rattle.mv_check_rules.specs.Units.{Declarations, none_declared, item, program, main_number, unit_end, judged_by_rules}
 
 pub first_none : (o : Option Exceeded) (os : List (Option Exceeded)) → first_some (o ∷ os) ≡ None → o ≡ None
 first_none None os h = refl
@@ -29,17 +31,20 @@ no_excess p h = at_most 1000 (length p.functions) h
 pub few_functions : (p : Program) → first_exceeded p ≡ None → length p.functions ≤ 1000
 few_functions p h = no_excess p (first_none (excess (functions_limit p)) _ h)
 
+none_broken : (place : Place) (broken : Option ℕ) (q p : Program) → unless_broken place broken q ≡ Good p → q ≡ p
+none_broken place None q p h = cc
+none_broken place (Some rule) q p h = absurd (cc)
+
 at_end : (place : Place) (c : Declarations) (p : Program) → unit_end place c ≡ Good p → p.pointers ≡ []
-at_end place c p = by _
-  where
-    by : {main : ℕ} (broken : Option ℕ) → unless_broken place broken (program c main) ≡ Good p → p.pointers ≡ []
-    by {main = main} None h = let same : program c main ≡ p = cc in sym (ap (λ (q : Program). q.pointers) same)
-    by (Some rule) h = cc
+at_end place c p h =
+    let main = main_number c.scope.signatures (meaning_here c.scope (codes "main")) in
+    let same : program c (unwrap_or main 0) ≡ p = none_broken place (least_broken c.scope (node.End main)) (program c (unwrap_or main 0)) p h in
+    sym (ap (λ (q : Program). q.pointers) same)
 
 pub no_pointers : (u : tree.Unit) (p : Program) → judged_by_rules u ≡ Good p → p.pointers ≡ []
 unfolding judged_by_rules
-no_pointers u p = by _
+no_pointers u p h = by (in_order (item u.items) u.items (none_declared u.items)) h
   where
     by : (declared : Judged Declarations) → and_then declared (unit_end u.end) ≡ Good p → p.pointers ≡ []
-    by (Good c) h = at_end u.end c p h
-    by (Broken place rule) h = cc
+    by (Good c) q = at_end u.end c p q
+    by (Broken place rule) q = absurd (cc)

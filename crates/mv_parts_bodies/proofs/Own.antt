@@ -48,7 +48,7 @@ module _ (laws : Laws) (p : Program) (bodies : List Body) (tables : List (List V
   of_program = record { formed = out.formed; there = there }
 
   pub rooms : AreRooms y (lower_function p g).rooms
-  rooms = rooms_are laws.rooms_stand p y out.layout out.globals out.data_fits (names_global (lower_function_code g).code)
+  rooms = rooms_are laws.rooms_stand p y out.layout out.globals out.data_fits (names_global (lower_function_code p.pointers g).code)
 
   pub may_ask : All (IsIn y.may_ask) (knowns (lower_function p g).code)
   may_ask = All-weaker (IsIn (known_is_there p)) (IsIn y.may_ask) (λ k h. out.layout.asked k ∙ h) (knowns (lower_function p g).code) (laws.orders_there p f g of_program)

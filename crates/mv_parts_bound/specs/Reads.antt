@@ -1,4 +1,4 @@
--- A variant of a function of a well-formed program reads no switch of the function, neither as a scalar nor as an array.
+-- A variant of a function of a well-formed program reads no switch of the function, neither as a scalar nor as an array, and calls through none.
 use Rattle.std.specs.Prelude.{ℕ, ◌≡◌, false, List, length, All}
 use Rattle.std.specs.List.{zip}
 use Rattle.mv_ast.specs.declared.program.Program.{Program}

@@ -66,8 +66,8 @@ pub fn variants_can_be_selected()
     ensures frames { MadeFramesAreNoLarger }
 {}
 
-/// A variant of a function of a well-formed program reads none of the function's switches, neither as a scalar nor as an array. The call does nothing: its
-/// contract is the law.
+/// A variant of a function of a well-formed program reads none of the function's switches, neither as a scalar nor as an array, and calls through none. The call
+/// does nothing: its contract is the law.
 pub fn variants_read_no_switch()
     ensures { VariantsReadNoSwitch }
 {}

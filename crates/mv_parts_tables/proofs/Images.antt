@@ -1,7 +1,7 @@
 -- The tables of the image that is linked of a program have what its orders and polls ask for.
-use Rattle.std.proofs.Common.{◌≡◌, ℕ, ◌+◌, ◌*◌, ◌<◌, ◌≤◌, Bool, true, false, ◌&&◌, ◌||◌, cond, nat_lt, List, Option, Some, None, option_map, is_some, length, map, take, replicate, slice_get, All, refl, sym, ap, ap₂, ◌∙◌, subst, arith}
+use Rattle.std.proofs.Common.{◌≡◌, ℕ, ◌+◌, ◌*◌, ◌<◌, ◌≤◌, Bool, true, false, ◌&&◌, ◌||◌, cond, nat_lt, List, [], ◌++◌, Option, Some, None, option_map, is_some, length, map, take, replicate, slice_get, All, refl, sym, ap, ap₂, ◌∙◌, subst, arith}
 use Rattle.std.specs.Prelude.{sum}
-use Rattle.std.proofs.lemmas.List.{length-map}
+use Rattle.std.proofs.lemmas.List.{append-nil, length-map}
 use Rattle.std.proofs.lemmas.Option.{slice_get_within, slice_get-map, same_Some}
 use Rattle.mv_num.specs.Kinds.{kind_number, is_value}
 use Rattle.mv_ast.specs.declared.program.Program.{Program}
@@ -84,7 +84,7 @@ or_else false x e = e
 abbrev is_counted : (code index functions switches : ℕ) → Bool
 is_counted code index functions switches = cond (nat_lt code 4) (nat_lt index functions) (nat_lt code 6 && nat_lt index switches)
 
-same_orders : (p : Program) (image : Fields) → length image.functions ≡ length (attributed_functions p) → length image.switches ≡ length p.switches → (code index : ℕ) →
+same_orders : (p : Program) (image : Fields) → length image.functions ≡ length (attributed_functions p) → length image.switches ≡ length p.switches + length p.pointers → (code index : ℕ) →
     known_is_there p (Plan code index) ≡ true → is_known_order image code index ≡ true
 unfolding is_known_order
 same_orders p image functions switches code index is =
@@ -101,7 +101,7 @@ of_integer (Pointer signature) w v e = absurd (let bad : ⊥ = cc in bad)
 
 -- ---- of a program
 
-module _ (leads : RowsLeadToVariants) (counted : PartsAreCounted) (p : Program) (formed : IsWellFormed p) (bodies : List Body) (tables : List (List Variant)) (parts : Parts)
+module _ (leads : RowsLeadToVariants) (counted : PartsAreCounted) (p : Program) (formed : IsWellFormed p) (none : p.pointers ≡ []) (bodies : List Body) (tables : List (List Variant)) (parts : Parts)
     (are : ArePartsOf p bodies tables parts) (image : Fields) (linked : IsLinked parts image) where
   open linked_text parts linked.sizing linked.text use {entry}
 
@@ -186,6 +186,7 @@ module _ (leads : RowsLeadToVariants) (counted : PartsAreCounted) (p : Program) 
     there = λ n g at. there_at n g (one_at n g at);
     combinations = λ n g vs at is. ap is_some ((leads_at n g (one_at n g at)).assignments vs is).fits;
     others = λ n g vs at. (leads_at n g (one_at n g at)).others vs;
+    none = none;
   }
 
   few_places : patchable image ≤ counts.patchable p
@@ -201,7 +202,8 @@ module _ (leads : RowsLeadToVariants) (counted : PartsAreCounted) (p : Program) 
   have_tables = record {
     tabled = tabled;
     places = few_places;
-    orders = same_orders p image functions_count switches_count;
+    orders = same_orders p image functions_count (let no_more = ap length none in omega (arith, switches_count, no_more));
     fits = same_actions;
-    bindings = λ numbers bytes actions. same_for_all free (attributed_functions p) ∙ ap (λ n. replicate n free) (sym functions_count);
+    bindings = λ numbers hart bytes acts. ap (λ gs. map (λ f. free) (attributed_functions p) ++ map (λ g. free) gs) none ∙ append-nil (map (λ f. free) (attributed_functions p)) ∙
+        same_for_all free (attributed_functions p) ∙ ap (λ n. replicate n free) (sym functions_count);
   }

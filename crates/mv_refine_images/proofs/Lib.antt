@@ -9,4 +9,5 @@ pub mod Standing
 pub mod Host
 pub mod Own
 pub mod Main
+pub mod Calls
 pub mod Whole

@@ -1,5 +1,5 @@
 -- An attributed function stands on the machine with an image that has it in its tables.
-use Rattle.std.proofs.Common.{◌≡◌, ℕ, ◌+◌, ◌≤◌, Bool, true, All, List, [], map, length, Option, Some, None, sym, ap, subst, ◌∙◌, arith, pos, ◌-ℤ◌}
+use Rattle.std.proofs.Common.{◌≡◌, ℕ, ◌+◌, ◌≤◌, Bool, true, All, List, map, length, Option, Some, None, sym, ap, subst, ◌∙◌, arith, pos, ◌-ℤ◌}
 use Rattle.std.specs.Prelude.{slice_get}
 use Rattle.std.proofs.lemmas.List.{length-map}
 use Rattle.std.proofs.lemmas.Option.{slice_get_within, get_or_from_slice_get}

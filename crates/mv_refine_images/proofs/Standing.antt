@@ -149,7 +149,7 @@ module _ (p : Program) (image : Fields) (basis : Basis p image) where
     abbrev later : IsPlacedCode parts image sizing f rest (at f + 4)
     later = stands.0
 
-    entry : HasEntry attributed image shut text_start (linked_lines parts) sizing y p numbers f g (bytes_of (shape_of true is_generic.body))
+    pub entry : HasEntry attributed image shut text_start (linked_lines parts) sizing y p numbers f g (bytes_of (shape_of true is_generic.body))
     entry = let e = stands.1 in record { index = e.index; within = e.within; line = e.line; at_line = e.at_line; alone = e.alone; is_entry = e.is_entry; word = e.word; in_text = e.in_text; here = e.here }
 
     called : (a : ℕ) → called_at attributed image a ≡ Some f → text.HasSlot parts image sizing n f a

@@ -31,6 +31,7 @@ use Rattle.mv_refine_images.proofs.LinkedProgram.{Basis, linked_program}
 use Rattle.mv_refine_images.specs.Layouts.{address_of}
 use Rattle.mv_refine_images.specs.Laws.{BuiltProgramsBehave}
 use Rattle.mv_refine_images.specs.Own.{LoadsNoOwnSwitch}
+use Rattle.mv_refine_images.proofs.Calls.{calls_are_plain}
 use Rattle.mv_refine_images.proofs.Data.{addresses, numbering, size_is, sizes_counted}
 use Rattle.mv_refine_images.proofs.Facts.{Laws}
 use Rattle.mv_refine_images.proofs.Host.{loaded, stubs, tables}
@@ -124,7 +125,7 @@ module _ (p : Program) (image : Fields) (basis : Basis p image) (bytes : List �
 
   pub behaves_and_loads : Behaves p image bytes polls picks × LoadsWhatIsOpen image shut bytes polls picks × LoadsNoOwnSwitch image bytes polls picks
   behaves_and_loads =
-      let behaves = laws.images_behave attributed shut p image bytes polls picks y built.rules has_stubs record { first = first; input = omega arith; calls = calls_main } in
+      let behaves = laws.images_behave attributed shut p image bytes polls picks y built.rules (calls_are_plain p image basis) has_stubs record { first = first; input = omega arith; calls = calls_main } in
       (behaves.0, behaves.1, no_own_switch p image basis bytes polls picks behaves.1)
 
 pub built_behaves : Laws → BuiltProgramsBehave

@@ -17,13 +17,13 @@ use mv_refine_machine::{functions_show, packed_is_laid_out};
 use mv_refine_runs::images_behave;
 use mv_select_bodies::bodies_are_functions;
 
-/// The run of an image that is built of a well-formed program does what the program means, on each input of bytes, with any actions
-/// of the operator that fit the program, and by any picks of the fetches: `Behaves` of `mv_refine_runs` says how. `IsBuilt` says what
-/// a compiler has to give: a body for each function that means what the function is lowered to, and variants for each attributed
-/// one; the code that is selected for them; the first words of the globals; and the image that is linked of them, with its tables.
-/// And no instruction loads a data word of a global that is closed to what stands at its place (`closed`): a function's code loads
-/// from no global that the function doesn't read, and a variant, and its inline body at a site, from no switch of its function. The
-/// call does nothing: its contract is the law.
+/// The run of an image that is built of a well-formed program without pointer switches does, in each hart, what the program means, on
+/// each input of bytes, with any acts of its polls that fit there, and by any picks of the fetches: `Behaves` of `mv_refine_runs` says
+/// how. `IsBuilt` says what a compiler has to give: a body for each function that means what the function is lowered to, and variants
+/// for each attributed one; the code that is selected for them; the first words of the globals; and the image that is linked of them,
+/// with its tables. And no instruction loads a data word of a global that is closed to what stands at its place (`closed`): a
+/// function's code loads from no global that the function doesn't read, and a variant, and its inline body at a site, from no switch
+/// of its function. The call does nothing: its contract is the law.
 pub fn built_programs_behave()
     ensures { BuiltProgramsBehave }
 {

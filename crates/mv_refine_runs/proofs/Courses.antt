@@ -34,8 +34,9 @@ use Rattle.mv_refine_commits.specs.Tells.{SoundTells, SoundPlacesTell}
 use Rattle.mv_refine_commits.specs.Watch.{texts_of}
 use Rattle.mv_refine_commits.specs.Watched.{Watched, access, is_quiet, watched_machine}
 use Rattle.mv_refine_commits.proofs.Orders.{quiet_inside}
-use Rattle.mv_refine_runs.specs.Behaves.{IsWithin, IsWhole, EndsRight, HasDone, IsTextSettled, IsTextChanging, commit_at, Behaves, word_loads, LoadsWhatIsOpen}
+use Rattle.mv_refine_runs.specs.Behaves.{IsWithin, IsWhole, EndsRight, HasDone, IsTextSettled, IsTextChanging, commit_at, CallsArePlain, Behaves, word_loads, LoadsWhatIsOpen}
 use Rattle.mv_refine_runs.specs.Main.{HasStubs, main_cost, RunsMain}
+use Rattle.mv_refine_runs.proofs.Calls.{call_is_plain}
 use Rattle.mv_refine_runs.proofs.Growing.{run_grew, going_before}
 use Rattle.mv_refine_runs.proofs.Stopping.{none_behind, sound_behind}
 
@@ -155,7 +156,7 @@ none_calls (Some old) never = absurd (never old refl)
 
 module _ (quiet_tested : QuietIsTested) (tells : SoundPlacesTell) (tested : BetweenIsTested) (rooms : RoomsAreWhole) (exit_right : WatchedExitIsRight) (trap_right : WatchedTrapIsRight)
     (attributed : List ℕ) (closed : (pc address : ℕ) → Bool) (p : Program) (image : Fields) (bytes : List ℕ) (polls : PollActs) (picks : List ℕ) (y : Layout)
-    (rules : Rules image) (stubs : HasStubs attributed image y) (main : RunsMain attributed closed p image bytes polls picks y) where
+    (rules : Rules image) (plain : CallsArePlain image) (stubs : HasStubs attributed image y) (main : RunsMain attributed closed p image bytes polls picks y) where
   abbrev input : List (Option ℕ)
   input = bytes_to_come bytes
 
@@ -397,10 +398,12 @@ module _ (quiet_tested : QuietIsTested) (tells : SoundPlacesTell) (tested : Betw
       settled = λ n e. settled_told tested rooms closed image (state n) (told_under n None e);
       between = λ n old e. changing_told tested rooms closed image (state n) old (told_under n (Some old) e);
       over = none;
-      calls = λ n e. none_calls (under n) (λ old is. (told n).calls old is e);
+      calls = λ n e.
+          let none = none_calls (under n) (λ old is. (told n).calls old is e) in
+          (none, call_is_plain image plain (state n) (settled_told tested rooms closed image (state n) (told_under n None none)) (told n).one e);
       roomy = λ n pick. (told n).roomy pick;
     },
     λ n a going word c is.
-        let plain = (told n).unbarred in
-        loads_open closed (state n) plain (choices (state n).room.held (state n).pc) (parts closed (state n) plain).1 word c a is,
+        let open_there = (told n).unbarred in
+        loads_open closed (state n) open_there (choices (state n).room.held (state n).pc) (parts closed (state n) open_there).1 word c a is,
   )

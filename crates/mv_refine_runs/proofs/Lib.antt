@@ -1,4 +1,5 @@
 pub mod Growing
 pub mod Stopping
 pub mod Unchanged
+pub mod Calls
 pub mod Courses

@@ -1,11 +1,11 @@
 -- What the run of an image does, by what a program means.
-use Rattle.std.specs.Prelude.{ℕ, ◌≡◌, ◌≢◌, ◌+◌, ◌-◌, ◌*◌, ◌^◌, ◌<◌, ◌≤◌, Bool, false, IsTrue, List, [], length, replicate, All, Option, Some, None, option_and_then, Contains}
+use Rattle.std.specs.Prelude.{ℕ, ◌≡◌, ◌≢◌, ◌+◌, ◌-◌, ◌*◌, ◌^◌, ◌<◌, ◌≤◌, Bool, false, IsTrue, List, [], length, replicate, All, Option, Some, None, option_and_then, slice_get, Contains}
 use Rattle.mv_bindings.specs.declared.binding.Binding.{Binding}
 use Rattle.mv_ast.specs.declared.program.Program.{Program}
 use Rattle.mv_ast.specs.Actions.{act_fits}
 use Rattle.mv_bindings.specs.Acts.{IsActOfWord}
 use Rattle.mv_ast.specs.Counts.{instructions_per_work}
-use Rattle.mv_fetch.specs.Held.{choices}
+use Rattle.mv_fetch.specs.Held.{choices, index_of}
 use Rattle.mv_image.specs.Patched.{text_of}
 use Rattle.mv_image.specs.Spelling.{Fields}
 use Rattle.mv_isa.specs.declared.instr.Instr.TheVariants.{Ecall}
@@ -69,6 +69,15 @@ pub record IsTextChanging (image : Fields) (old : List Binding) (s : State) : Ty
   pub words : IsBetween (text_of image (values_of old)) (text_of image (values_of s.bindings)) s.room.held
   pub apart : All (λ (pair : Pair). pair.address ≢ s.pc) (plan_between image old s.bindings)
 
+-- No binding shows at an address: text has the same word there under any.
+abbrev pub IsPlain : Fields → (address : ℕ) → Type 0
+IsPlain image a = (some other : List Binding) → slice_get (text_of image (values_of some)) (index_of a) ≡ slice_get (text_of image (values_of other)) (index_of a)
+
+-- No binding shows at a word that is an environment call under some bindings: none is ever patched.
+abbrev pub CallsArePlain : Fields → Type 0
+CallsArePlain image =
+    (bs : List Binding) (a word : ℕ) → slice_get (text_of image (values_of bs)) (index_of a) ≡ Some word → decode word ≡ Some Ecall → IsPlain image a
+
 -- ---- runs
 
 -- the bindings from which the commit began that is under way after n instructions of a run; none where none is under way
@@ -90,8 +99,8 @@ module _ (p : Program) (image : Fields) (bytes : List ℕ) (polls : PollActs) (p
   -- The run of an image in a hart, on an input, with some acts of its polls and by any picks of the fetches, does what a program means with them. After n
   -- instructions it has done no more than the meaning at the bound n, and all of the meaning at each bound whose work is less than a hundredth of n. It ends
   -- only as the meaning does. Each fetch has one choice, so that no pick matters. Text is that of the bindings, but while a commit is under way, when it is
-  -- between that of the bindings before and that of those behind it; no commit is under way in a run that has ended, nor where an environment call is made. No
-  -- instruction wants memory, whatever is picked.
+  -- between that of the bindings before and that of those behind it; no commit is under way in a run that has ended. An environment call is made while no
+  -- commit is under way, at a word that no binding changes. No instruction wants memory, whatever is picked.
   pub record Behaves : Type 0 where
     pub within : (n : ℕ) → IsWithin bytes (at n) (meant n)
     pub ends : (n : ℕ) → EndsRight bytes (at n) (meant n) (at n).stop
@@ -100,7 +109,7 @@ module _ (p : Program) (image : Fields) (bytes : List ℕ) (polls : PollActs) (p
     pub settled : (n : ℕ) → under_way n ≡ None → IsTextSettled image (at n)
     pub between : (n : ℕ) (old : List Binding) → under_way n ≡ Some old → IsTextChanging image old (at n)
     pub over : (n : ℕ) → ((at n).stop ≡ Going → ⊥) → under_way n ≡ None
-    pub calls : (n : ℕ) → fetched_instr (at n) 0 ≡ Some Ecall → under_way n ≡ None
+    pub calls : (n : ℕ) → fetched_instr (at n) 0 ≡ Some Ecall → (under_way n ≡ None) × IsPlain image (at n).pc
     pub roomy : (n pick : ℕ) → WantsMemory (at n) pick → ⊥
 
 -- where a word, read as an instruction, loads from, if it is a load

@@ -5,11 +5,12 @@ use Rattle.mv_image.specs.Faults.{Rules}
 use Rattle.mv_image.specs.Spelling.{Fields}
 use Rattle.mv_machine.specs.Acts.{PollActs}
 use Rattle.mv_select_calls.specs.Convention.{Layout}
-use Rattle.mv_refine_runs.specs.Behaves.{Behaves, LoadsWhatIsOpen}
+use Rattle.mv_refine_runs.specs.Behaves.{Behaves, CallsArePlain, LoadsWhatIsOpen}
 use Rattle.mv_refine_runs.specs.Main.{HasStubs, RunsMain}
 
--- Where the stubs stand in an image that keeps the rules, and its run does what main does, it does what the program means, and loads only what is open.
+-- Where the stubs stand in an image that keeps the rules, no environment call is patched, and its run does what main does, it does what the program means, and loads
+-- only what is open.
 abbrev pub ImagesBehave : Type 0
 ImagesBehave =
     (attributed : List ℕ) (closed : (pc address : ℕ) → Bool) (p : Program) (image : Fields) (bytes : List ℕ) (polls : PollActs) (picks : List ℕ) (y : Layout) →
-    Rules image → HasStubs attributed image y → RunsMain attributed closed p image bytes polls picks y → Behaves p image bytes polls picks × LoadsWhatIsOpen image closed bytes polls picks
+    Rules image → CallsArePlain image → HasStubs attributed image y → RunsMain attributed closed p image bytes polls picks y → Behaves p image bytes polls picks × LoadsWhatIsOpen image closed bytes polls picks

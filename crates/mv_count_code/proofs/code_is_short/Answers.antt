@@ -1,5 +1,6 @@
+use Rattle.mv_parts_bound.proofs.Patchable.{slots_called}
 use Rattle.mv_count_code.proofs.Sizes.{code_short, lines_short, variants_short, frames_fit, frames_pass, lowered_frames_pass}
-use Rattle.mv_count_code.proofs.Texts.{texts_pass, sites_few}
+use Rattle.mv_count_code.proofs.Texts.{texts_pass}
 use Rattle.mv_count_code.proofs.Sites.{code_slots, slots_counted}
 use Rattle.mv_count_code.proofs.code_is_short.Goals as goal
 
@@ -27,9 +28,9 @@ returns-clause-text c =
     texts_pass (lines_short c.made_bodies_are_variants.ensures.all c.lowered_forms_are_right.ensures.small c.selection_law.ensures.encoded)
 
 pub returns-clause-sites : goal.returns-clause-sites
-returns-clause-sites c = sites_few c.slots_are_counted.ensures.patchable
+returns-clause-sites c = slots_called
 
 pub returns-clause-slots : goal.returns-clause-slots
 returns-clause-slots c =
     let counted = c.slots_are_counted.ensures in
-    slots_counted (code_slots c.lowered_forms_are_right.ensures.calls counted.renamed counted.own counted.few) counted.patchable (sites_few counted.patchable)
+    slots_counted (code_slots c.lowered_forms_are_right.ensures.calls counted.renamed counted.own counted.few) counted.patchable slots_called
