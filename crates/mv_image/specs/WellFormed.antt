@@ -3,6 +3,7 @@ use Rattle.std.specs.Prelude.{ℕ, ◌≡◌, ◌+◌, ◌-◌, ◌*◌, ◌/◌
 use Rattle.mv_num.specs.Kinds.{kind_number, is_value, is_at_most}
 use Rattle.mv_num.specs.Regions.{text_start, data_start}
 use Rattle.mv_num.specs.Limits.{name_limit, value_limit, own_switch_limit, assignment_limit}
+use Rattle.mv_isa.specs.Registers.{ra}
 use Rattle.mv_descriptors.specs.declared.rows.SwitchRow.{SwitchRow}
 use Rattle.mv_descriptors.specs.declared.rows.FunctionRow.{FunctionRow}
 use Rattle.mv_descriptors.specs.declared.rows.VariantRow.{VariantRow}
@@ -53,7 +54,7 @@ pub record FitsSite (image : Fields) (row : SiteRow) : Type 0 where
   pub address : IsInText image row.address
   pub next : IsInText image (row.address + 4)
   pub function : row.function < length image.functions
-  pub call : (d : FunctionRow) → slice_index image.text ((row.address - text_start) / 4) ≡ jump 1 row.address (slice_index_or image.functions row.function d).entry
+  pub call : (d : FunctionRow) → slice_index image.text ((row.address - text_start) / 4) ≡ jump ra row.address (slice_index_or image.functions row.function d).entry
   pub pad : slice_index image.text ((row.address + 4 - text_start) / 4) ≡ nop
 
 -- A guard row of a function gives a range of values for each of the function's switches, and zeros for no switch.

@@ -4,6 +4,7 @@ use Rattle.mv_bindings.specs.declared.binding.Binding.{Binding}
 use Rattle.mv_bindings.specs.declared.action.Action.{Action}
 use Rattle.mv_bindings.specs.declared.binding.Event.{Event}
 use Rattle.mv_bindings.specs.Bindings.{is_same_binding}
+use Rattle.mv_bindings.specs.OrderNumbers as orders
 use Rattle.mv_image.specs.Spelling.{Fields}
 use Rattle.mv_patch.specs.Tables.{patchable}
 use Rattle.mv_patch.specs.Plans.{Prepared}
@@ -23,12 +24,12 @@ Taken (Some action) was is = was ≡ action ∷ is
 
 -- an order has this code, and where it is of a function or a switch this index
 abbrev pub IsAsked : (code index : ℕ) → Order → Type 0
-IsAsked code index CommitAll = code ≡ 0
-IsAsked code index RevertAll = code ≡ 1
-IsAsked code index (CommitFunction f) = (code ≡ 2) × (f ≡ index)
-IsAsked code index (RevertFunction f) = (code ≡ 3) × (f ≡ index)
-IsAsked code index (CommitRefs s) = (code ≡ 4) × (s ≡ index)
-IsAsked code index (RevertRefs s) = (code ≡ 5) × (s ≡ index)
+IsAsked code index CommitAll = code ≡ orders.commit
+IsAsked code index RevertAll = code ≡ orders.revert
+IsAsked code index (CommitFunction f) = (code ≡ orders.commit_function) × (f ≡ index)
+IsAsked code index (RevertFunction f) = (code ≡ orders.revert_function) × (f ≡ index)
+IsAsked code index (CommitRefs s) = (code ≡ orders.commit_references) × (s ≡ index)
+IsAsked code index (RevertRefs s) = (code ≡ orders.revert_references) × (s ≡ index)
 
 -- the event of a function whose binding differs, and none where it is the same
 abbrev pub change : (function : ℕ) → (old new : Binding) → List Event
