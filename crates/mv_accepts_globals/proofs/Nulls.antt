@@ -38,7 +38,7 @@ module _ (p : Program) (f : Function) (comes : (e : Expr) (v : ℕ) → computed
       frame = record { function = 0; locals = [] }
 
       world : World
-      world = record { globals = []; depth = 0; live = 0; input = []; taken = 0; output = []; bindings = []; actions = []; log = [] }
+      world = record { globals = []; hart = 0; depth = 0; live = 0; input = []; taken = 0; output = []; bindings = []; actions = []; log = [] }
 
   abbrev ExprNull : Expr → Type 0
   ExprNull e = TypedExpr p f e → (s : ℕ) → e.ctype ≡ Pointer s → (v : ℕ) → computed e ≡ Some v → v ≡ 0
