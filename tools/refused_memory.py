@@ -84,6 +84,8 @@ __attribute__((destructor)) static void tell(void) {
 MEMORY, OWN = 4, 1
 M = "__attribute__((multiverse))"
 HELLO = "int main(void){putchar(72);putchar(105);return 3;}"
+TRAP = "int zero; int main(void){ putchar(42); return 1 / zero; }"
+POLLED = f"{M} int s; {M} int f(void){{ return s; }} int main(void){{ putchar(48 + f()); multiverse_poll(); putchar(48 + f()); }}"
 LOCK = (
     f"{M} int smp; int taken; {M} void lock(void){{ if (smp) taken++; }} "
     "int main(void){ multiverse_commit(); lock(); putchar(48+taken); smp=1; lock(); putchar(48+taken); "
@@ -96,7 +98,7 @@ LISTED = b"switch smp int values 0 1\n"
 
 
 class Case(NamedTuple):
-    """A command, the files that it finds, and its answer with ample memory. Of `list` the first line is given."""
+    """A command, the files that it finds, and its answer with ample memory. Of `list` and `gen` the first line is given."""
 
     words: list
     files: dict
@@ -105,7 +107,7 @@ class Case(NamedTuple):
     notes: bytes
 
     def is_met(self, answer):
-        wrote = answer.out.startswith(self.out) if self.words[0] == "list" else answer.out == self.out
+        wrote = answer.out.startswith(self.out) if self.words[0] in ("list", "gen") else answer.out == self.out
         return wrote and (answer.status, answer.notes) == (self.status, self.notes)
 
 
@@ -120,7 +122,22 @@ def cases(image):
     """The commands; `image` is that of the program with a lock, as `build` saves it."""
     with_lock = {"lock.c": LOCK.encode()}
     built = {"lock.mvi": image}
+    polled = {"polled.c": POLLED.encode()}
     return [
+        Case(["fly"], {}, 2, b"", b"usage\n"),
+        Case(["run", "none.c"], {}, 7, b"", b"shelf fault\n"),
+        Case(["run", "trap.c"], {"trap.c": TRAP.encode()}, 1, b"*", b"trapped 1\n"),
+        Case(["run", "hello.c", "--steps", "1"], {"hello.c": HELLO.encode()}, 8, b"", b"steps\n"),
+        Case(["run", "polled.c", "--at", "1:s=1", "--bindings"], polled, 0, b"01", b"binding f s=1\nended 0\n"),
+        Case(["run", "polled.c", "--at", "1:t=1"], polled, 3, b"", b"refused 15 count 1\n"),
+        Case(["run", "none.c"], {"none.c": b"int main(void){ x }"}, 3, b"", b"refused 4 1:19\n"),
+        Case(["run", "none.c"], {"none.c": b"int main(void){ return y; }"}, 3, b"", b"refused 6 1:24 rule 1\n"),
+        Case(["build", "none.c", "none.mvi"], {"none.c": b"int main(void){ x }", "none.mvi": b"old"}, 3, b"", b"refused 4 1:19\n"),
+        Case(["eval", "lock.c", "--bound", "100"], with_lock, 0, b"0011", b"ended 0\n"),
+        Case(["eval", "trap.c", "--bound", "100"], {"trap.c": TRAP.encode()}, 1, b"*", b"trapped 1\n"),
+        Case(["exec", "lock.mvi", "--steps", "1"], built, 8, b"", b"steps\n"),
+        Case(["exec", "lock.mvi", "--at", "1:smp=1", "--bindings", "--words"], built, 0, b"0011", b"binding lock free\nended 0\n"),
+        Case(["gen", "1", "--source"], {}, 0, b"#include <multiverse.h>\n", b"done\n"),
         Case(["run", "hello.c"], {"hello.c": HELLO.encode()}, 0, b"Hi", b"ended 3\n"),
         Case(["run", "lock.c"], with_lock, 0, b"0011", b"ended 0\n"),
         Case(["run", "lock.c", "--bindings", "--words"], with_lock, 0, b"0011", b"binding lock free\nended 0\n"),
@@ -176,6 +193,9 @@ def try_case(runner, case):
     if not case.is_met(whole):
         print(f"{' '.join(case.words)}: {whole.status} {whole.out[:80]} {whole.notes[:80]} with ample memory")
         return 1
+    if calls == 0:
+        print(f"{' '.join(case.words)}: no allocation was seen, so none was refused")
+        return 1
     wants, same, wrong = 0, 0, 0
     with ThreadPoolExecutor(max_workers=os.cpu_count()) as pool:
         for number, (answer, _) in enumerate(pool.map(lambda n: runner.run(case.words, case.files, b"", n), range(1, calls + 1)), 1):
@@ -213,6 +233,9 @@ def try_row(runner):
     text = whole.out.decode()
     if whole.status != 0 or not text.endswith(HEARD):
         print(f"the row with probes: {whole.status} {text}")
+        return 1
+    if calls == 0:
+        print("the row with probes: no allocation was seen, so none was refused")
         return 1
     own, same, wants, wrong = 0, 0, 0, 0
     with ThreadPoolExecutor(max_workers=os.cpu_count()) as pool:
