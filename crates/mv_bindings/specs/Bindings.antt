@@ -1,15 +1,16 @@
 -- Bindings, when two are the same, and the events that tell of those that differ.
 use Rattle.std.specs.Prelude.{ℕ, suc, Bool, true, false, ◌&&◌, not, List, [], ◌∷◌, ◌++◌, length, min, take, replicate, if◌then◌else◌, nat_eq}
+use Rattle.mv_num.specs.Limits.{own_switch_limit}
 use Rattle.mv_bindings.specs.declared.binding.Binding.{Binding}
 use Rattle.mv_bindings.specs.declared.binding.Event.{Event}
 
 -- the binding of what is bound to nothing
 abbrev pub free : Binding
-free = record { bound = false; count = 0; values = replicate 6 0 }
+free = record { bound = false; count = 0; values = replicate own_switch_limit 0 }
 
--- the binding to the values of at most six switches, as many as a function has
+-- the binding to the values of the switches of a function
 abbrev pub bound_to : List ℕ → Binding
-bound_to vs = record { bound = true; count = min 6 (length vs); values = take 6 (vs ++ replicate 6 0) }
+bound_to vs = record { bound = true; count = min own_switch_limit (length vs); values = take own_switch_limit (vs ++ replicate own_switch_limit 0) }
 
 abbrev pub same_words : List ℕ → List ℕ → Bool
 same_words [] [] = true

@@ -8,6 +8,7 @@ use Rattle.mv_bindings.specs.OrderNumbers as orders
 use Rattle.mv_descriptors.specs.declared.rows.SwitchRow.{SwitchRow}
 use Rattle.mv_isa.specs.declared.instr.Cause.TheVariants as cause
 use Rattle.mv_isa.specs.Execution.{reg}
+use Rattle.mv_isa.specs.Registers.{a1}
 use Rattle.mv_fetch.specs.declared.memory.AccessError.TheVariants.{Misaligned}
 use Rattle.mv_fetch.specs.Held.{Room, region_of, index_of, words_of, present, joined, with_word, found, store}
 use Rattle.mv_fetch.specs.Stores.{spared}
@@ -127,7 +128,7 @@ module _ (rooms : RoomsAreWhole) where
     idle_kept true s a of own = act_kept a (record s { actions = [] }) of (own true refl)
     idle_kept false s a of own = plan_kept s.room (0 ∷ spelled_pairs [])
 
-    pub call_kept : (request : Request) (s : State) (a : Act) → s.image ≡ image → (place_by request (is_known_order s.image (argument s) (reg s.regs 11)) (nat_eq (live_frames s) 0) ≡ AtPoll → IsOwn a)
+    pub call_kept : (request : Request) (s : State) (a : Act) → s.image ≡ image → (place_by request (is_known_order s.image (argument s) (reg s.regs a1)) (nat_eq (live_frames s) 0) ≡ AtPoll → IsOwn a)
         → Kept s.room (environment_call request (handed s a)).room
     unfolding answered planned polled
     call_kept Exits s a of own = kept_none s.room
@@ -137,10 +138,10 @@ module _ (rooms : RoomsAreWhole) where
     call_kept Plans s a of own =
         let h = handed s a in
         let code = argument s in
-        let index = reg s.regs 11 in
+        let index = reg s.regs a1 in
         either_kept (is_known_order s.image code index) s (if nat_eq s.hart 0 && nat_eq (live_frames s) 0 then ordered h code index else refused h (2 ^ 32 - 1)) (stopped h (Fault cause.Call))
         (either_kept (nat_eq s.hart 0 && nat_eq (live_frames s) 0) s (ordered h code index) (refused h (2 ^ 32 - 1)) (plan_kept s.room _) (plan_kept s.room (0 ∷ spelled_pairs []))) (kept_none s.room)
-    call_kept Polls s a of own = idle_kept (nat_eq (live_frames s) 0) s a of (λ known e. own (by_known known (is_known_order s.image (argument s) (reg s.regs 11)) (nat_eq (live_frames s) 0) e))
+    call_kept Polls s a of own = idle_kept (nat_eq (live_frames s) 0) s a of (λ known e. own (by_known known (is_known_order s.image (argument s) (reg s.regs a1)) (nat_eq (live_frames s) 0) e))
       where
         by_known : (j k idle : Bool) → place_by Polls j idle ≡ AtPoll → place_by Polls k idle ≡ AtPoll
         by_known j k true e = refl
@@ -170,16 +171,16 @@ orders_bind true false false s a code index never = refl
 orders_bind false idle leads s a code index never = refl
 
 pub call_binds : (request : Request) (s : State) (a : Act)
-    → (place_by request (is_known_order s.image (argument s) (reg s.regs 11)) (nat_eq (live_frames s) 0) ≡ AtOrder → nat_eq s.hart 0 ≡ false)
-    → (place_by request (is_known_order s.image (argument s) (reg s.regs 11)) (nat_eq (live_frames s) 0) ≡ AtPoll → a ≡ Skip)
+    → (place_by request (is_known_order s.image (argument s) (reg s.regs a1)) (nat_eq (live_frames s) 0) ≡ AtOrder → nat_eq s.hart 0 ≡ false)
+    → (place_by request (is_known_order s.image (argument s) (reg s.regs a1)) (nat_eq (live_frames s) 0) ≡ AtPoll → a ≡ Skip)
     → (environment_call request (handed s a)).bindings ≡ s.bindings
 unfolding answered planned polled
 call_binds Exits s a never skips = refl
 call_binds Reads s a never skips = refl
 call_binds Writes s a never skips = refl
 call_binds Traps s a never skips = refl
-call_binds Plans s a never skips = orders_bind (is_known_order s.image (argument s) (reg s.regs 11)) (nat_eq (live_frames s) 0) (nat_eq s.hart 0) s a (argument s) (reg s.regs 11) never
-call_binds Polls s a never skips = idle_binds (nat_eq (live_frames s) 0) s a (λ known e. skips (by_known known (is_known_order s.image (argument s) (reg s.regs 11)) (nat_eq (live_frames s) 0) e))
+call_binds Plans s a never skips = orders_bind (is_known_order s.image (argument s) (reg s.regs a1)) (nat_eq (live_frames s) 0) (nat_eq s.hart 0) s a (argument s) (reg s.regs a1) never
+call_binds Polls s a never skips = idle_binds (nat_eq (live_frames s) 0) s a (λ known e. skips (by_known known (is_known_order s.image (argument s) (reg s.regs a1)) (nat_eq (live_frames s) 0) e))
   where
     by_known : (j k idle : Bool) → place_by Polls j idle ≡ AtPoll → place_by Polls k idle ≡ AtPoll
     by_known j k true e = refl

@@ -8,6 +8,7 @@ use Rattle.mv_isa.specs.declared.instr.Instr.{Instr}
 use Rattle.mv_isa.specs.declared.instr.Cause.{Cause}
 use Rattle.mv_isa.specs.declared.instr.Instr.TheVariants.{Ecall}
 use Rattle.mv_isa.specs.Execution.{Outcome, Goes, Calls, Faults, reg}
+use Rattle.mv_isa.specs.Registers.{a7}
 use Rattle.mv_fetch.specs.Held.{Room, fence}
 use Rattle.mv_image.specs.Spelling.{Fields}
 use Rattle.mv_rv32.specs.Stepping.{access}
@@ -59,7 +60,7 @@ module _ (rooms : RoomsAreWhole) (image : Fields) (in_data : (k : ℕ) (row : Sw
   abbrev t : State
   t = turn (handed s a) pick
 
-  called : fetched_instr s pick ≡ Some Ecall → t ≡ environment_call (request_of (reg s.regs 17)) (handed s a)
+  called : fetched_instr s pick ≡ Some Ecall → t ≡ environment_call (request_of (reg s.regs a7)) (handed s a)
   called e = turn_by (handed s a) pick Calls going (step_acts s (a ∷ []) pick ∙ calls_where s pick e)
 
   went : (o : Outcome Room) → fetched_step s pick ≡ o → t ≡ after o (handed s a)
@@ -72,7 +73,7 @@ module _ (rooms : RoomsAreWhole) (image : Fields) (in_data : (k : ℕ) (row : Sw
     where
       by_call : (fetched_instr s pick ≡ Some Ecall) ⊎ IsNoCall (fetched_instr s pick) → Stays s.room t.room
       by_call (inl e) =
-          let k = call_kept rooms image in_data (request_of (reg s.regs 17)) s a of (λ p. own (place_at_call s pick e ∙ p)) in
+          let k = call_kept rooms image in_data (request_of (reg s.regs a7)) s a of (λ p. own (place_at_call s pick e ∙ p)) in
           subst (λ (x : State). Stays s.room x.room) (sym (called e)) (record { text = k.text; whole = k.whole })
       by_call (inr q) = by_outcome (fetched_step s pick) refl
         where
@@ -105,7 +106,7 @@ module _ (rooms : RoomsAreWhole) (image : Fields) (in_data : (k : ℕ) (row : Sw
       by_outcome q (Faults why) e = ap (λ (x : State). x.bindings) (went (Faults why) e)
 
       by_call : (fetched_instr s pick ≡ Some Ecall) ⊎ IsNoCall (fetched_instr s pick) → t.bindings ≡ s.bindings
-      by_call (inl e) = ap (λ (x : State). x.bindings) (called e) ∙ call_binds (request_of (reg s.regs 17)) s a (λ p. never (place_at_call s pick e ∙ p)) (λ p. skips (place_at_call s pick e ∙ p))
+      by_call (inl e) = ap (λ (x : State). x.bindings) (called e) ∙ call_binds (request_of (reg s.regs a7)) s a (λ p. never (place_at_call s pick e ∙ p)) (λ p. skips (place_at_call s pick e ∙ p))
       by_call (inr q) = by_outcome q (fetched_step s pick) refl
 
   -- then no commit begins; one that is under way may end
@@ -117,7 +118,7 @@ module _ (rooms : RoomsAreWhole) (image : Fields) (in_data : (k : ℕ) (row : Sw
 
       by_call : (fetched_instr s pick ≡ Some Ecall) ⊎ IsNoCall (fetched_instr s pick) → u ≡ Some old
       by_call (inl q) =
-          let none : plan_between s.image s.bindings (environment_call (request_of (reg s.regs 17)) (handed s a)).bindings ≡ [] =
+          let none : plan_between s.image s.bindings (environment_call (request_of (reg s.regs a7)) (handed s a)).bindings ≡ [] =
           ap (λ bs. plan_between s.image s.bindings bs) (ap (λ (x : State). x.bindings) (sym (called q)) ∙ same) ∙ no_pairs s.image s.bindings in
           sym (ap (λ ps. cond (is_some_pair ps) (Some s.bindings) u) none) ∙ sym (ap (λ i. after_instr (handed s a) i u) q) ∙ at
       by_call (inr q) = q.stays (handed s a) u old at

@@ -2,6 +2,7 @@
 use Rattle.std.proofs.Common.{◌≡◌, ℕ, zero, suc, ◌^◌, ◌-◌, ◌&&◌, Bool, true, false, nat_eq, if◌then◌else◌, List, [], ◌∷◌, slice_index, refl, ◌∙◌}
 use Rattle.mv_isa.specs.declared.instr.Cause.TheVariants as cause
 use Rattle.mv_isa.specs.Execution.{Outcome, Goes, Calls, Faults, reg}
+use Rattle.mv_isa.specs.Registers.{a1, a7}
 use Rattle.mv_fetch.specs.Held.{Room}
 use Rattle.mv_patch.specs.Orders.{is_known_order}
 use Rattle.mv_bindings.specs.Acts.{Act, Skip, Flip, Adopt}
@@ -37,7 +38,7 @@ call_owns Writes s = record { image = refl; hart = refl }
 call_owns Traps s = record { image = refl; hart = refl }
 call_owns Plans s =
     let code = argument s in
-    let index = reg s.regs 11 in
+    let index = reg s.regs a1 in
     either (is_known_order s.image code index) s (if nat_eq s.hart 0 && nat_eq (live_frames s) 0 then ordered s code index else refused s (2 ^ 32 - 1)) (stopped s (Fault cause.Call))
     (either (nat_eq s.hart 0 && nat_eq (live_frames s) 0) s (ordered s code index) (refused s (2 ^ 32 - 1)) (record { image = refl; hart = refl }) (record { image = refl; hart = refl }))
     (record { image = refl; hart = refl })
@@ -46,7 +47,7 @@ call_owns Unknown s = record { image = refl; hart = refl }
 
 after_owns : (o : Outcome Room) (s : State) → Owns s (after o s)
 after_owns (Goes regs pc room) s = record { image = refl; hart = refl }
-after_owns Calls s = call_owns (request_of (reg s.regs 17)) s
+after_owns Calls s = call_owns (request_of (reg s.regs a7)) s
 after_owns (Faults why) s = record { image = refl; hart = refl }
 
 by_stop : (stop : Stop) (s x : State) → Owns s x → Owns s (where_going stop x s)

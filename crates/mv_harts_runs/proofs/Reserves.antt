@@ -5,6 +5,7 @@ use Rattle.mv_descriptors.specs.declared.rows.SwitchRow.{SwitchRow}
 use Rattle.mv_isa.specs.declared.instr.Cause.TheVariants as cause
 use Rattle.mv_isa.specs.declared.instr.Instr.{Instr}
 use Rattle.mv_isa.specs.Execution.{Outcome, Goes, Calls, Faults, reg}
+use Rattle.mv_isa.specs.Registers.{a1, a7}
 use Rattle.mv_fetch.specs.Held.{Held, Room, store}
 use Rattle.mv_image.specs.Spelling.{Fields}
 use Rattle.mv_rv32.specs.Stepping.{access, with_held}
@@ -97,7 +98,7 @@ call_reserve Writes s = refl
 call_reserve Traps s = refl
 call_reserve Plans s =
     let code = argument s in
-    let index = reg s.regs 11 in
+    let index = reg s.regs a1 in
     either (is_known_order s.image code index) s (if nat_eq s.hart 0 && nat_eq (live_frames s) 0 then ordered s code index else refused s (2 ^ 32 - 1)) (stopped s (Fault cause.Call))
     (either (nat_eq s.hart 0 && nat_eq (live_frames s) 0) s (ordered s code index) (refused s (2 ^ 32 - 1)) (ordered_reserve s code index) (refused_reserve s (2 ^ 32 - 1))) refl
 call_reserve Polls s = either (nat_eq (live_frames s) 0) s (acted s s.actions) (refused s 0) (acted_reserve s s.actions) (refused_reserve s 0)
@@ -105,7 +106,7 @@ call_reserve Unknown s = refl
 
 after_reserve : (s : State) (pick : ℕ) (o : Outcome Room) → fetched_step s pick ≡ o → Same s (after o s)
 after_reserve s pick (Goes regs pc room) e = led_reserve (fetched_instr s pick) s.regs regs pc s.room room (subst (λ o. FetchedLed (fetched_instr s pick) s.regs s.room o) e (fetched_led s pick))
-after_reserve s pick Calls e = call_reserve (request_of (reg s.regs 17)) s
+after_reserve s pick Calls e = call_reserve (request_of (reg s.regs a7)) s
 after_reserve s pick (Faults why) e = refl
 
 by_stop : (stop : Stop) (s x : State) → Same s x → Same s (where_going stop x s)

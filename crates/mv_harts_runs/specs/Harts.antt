@@ -5,6 +5,7 @@ use Rattle.mv_bindings.specs.declared.binding.Binding.{Binding}
 use Rattle.mv_isa.specs.declared.instr.Instr.{Instr}
 use Rattle.mv_isa.specs.declared.instr.Instr.TheVariants.{Sb, Sh, Sw, Ecall}
 use Rattle.mv_isa.specs.Execution.{reg}
+use Rattle.mv_isa.specs.Registers.{a1, a7}
 use Rattle.mv_fetch.specs.Held.{Room}
 use Rattle.mv_num.specs.Regions.{text_start, data_start}
 use Rattle.mv_image.specs.Spelling.{Fields}
@@ -66,7 +67,7 @@ place_of i called = Elsewhere
 
 -- at an environment call
 abbrev pub called_place : State → Place
-called_place s = place_by (request_of (reg s.regs 17)) (is_known_order s.image (argument s) (reg s.regs 11)) (nat_eq (live_frames s) 0)
+called_place s = place_by (request_of (reg s.regs a7)) (is_known_order s.image (argument s) (reg s.regs a1)) (nat_eq (live_frames s) 0)
 
 unfoldable pub place : State → (pick : ℕ) → Place
 place s pick = place_of (fetched_instr s pick) (called_place s)
@@ -93,7 +94,7 @@ outside_of (Some Ecall) called = called
 outside_of i called = false
 
 unfoldable pub is_outside : State → (pick : ℕ) → Bool
-is_outside s pick = outside_of (fetched_instr s pick) (reads_or_writes (request_of (reg s.regs 17)))
+is_outside s pick = outside_of (fetched_instr s pick) (reads_or_writes (request_of (reg s.regs a7)))
 
 -- ---- stores into text are made in the memories of all harts
 

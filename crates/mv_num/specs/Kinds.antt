@@ -12,6 +12,10 @@ kind_number kinds.UShort = 4
 kind_number kinds.Int = 5
 kind_number kinds.UInt = 6
 
+-- the greatest of these numbers
+abbrev pub last_kind : ℕ
+last_kind = 6
+
 abbrev pub is_signed : ℕ → Bool
 is_signed kind = kind == 1 || kind == 3 || kind == 5
 

@@ -1,6 +1,7 @@
 //! The bindings behind an order, and the variants that they lead to.
 
 ghost use Rattle.std.specs.Prelude.{◌≡◌, ◌++◌, ◌≤◌, ◌<◌, ◌^◌, ◌&&◌, ℕ, if◌then◌else◌, length, take, replicate, slice_get, slice_index, Some};
+ghost use Rattle.mv_num.specs.Limits.{own_switch_limit};
 ghost use Rattle.mv_bindings.specs.Bindings.{bound_to, free};
 ghost use Rattle.mv_image.specs.Patched.{variant_under};
 ghost use Rattle.mv_patch.specs.Groups.{IsGroup, IsRow};
@@ -24,7 +25,7 @@ fn value_at(values: &[u32], i: usize) -> u32
 
 /// The first six values, with zeros behind the last.
 fn padded(values: &[u32]) -> [u32; 6]
-    ensures { result ≡ take 6 (values.now ++ replicate 6 0) }
+    ensures { result ≡ take own_switch_limit (values.now ++ replicate own_switch_limit 0) }
 {
     [
         value_at(values, 0),
@@ -49,7 +50,7 @@ fn switch_word(image: &Image, memory: &Memory, switch: u32) -> u32
 /// The words of a function's switches, and zeros behind them.
 fn switch_words(image: &Image, memory: &Memory, row: &FunctionRow) -> [u32; 6]
     requires { row.now.count ≤ 6 }
-    ensures { result ≡ take 6 (words_now image.now memory.now.held row.now ++ replicate 6 0) }
+    ensures { result ≡ take own_switch_limit (words_now image.now memory.now.held row.now ++ replicate own_switch_limit 0) }
 {
     row.has_width();
     let mut words = [0; 6];

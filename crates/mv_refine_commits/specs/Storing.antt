@@ -15,6 +15,10 @@ use Rattle.mv_patch.specs.Stores.{stored_all}
 use Rattle.mv_refine_stores.specs.Between.{IsSettled}
 use Rattle.mv_refine_commits.specs.Watch.{is_sound}
 
+-- A plan has fewer pairs than this, so that no address of its words wraps round.
+abbrev pub plan_bound : ℕ
+plan_bound = 65536
+
 -- the words of a plan: the count, then address and word of each pair
 abbrev pub spelled_plan : List Pair → List ℕ
 spelled_plan pairs = length pairs ∷ spelled_pairs pairs
@@ -59,7 +63,7 @@ module _ (closed : (pc address : ℕ) → Bool) (texts : List Binding → List �
       pub room : (run start).room ≡ stored_all begun before
       pub settled : IsSettled (texts old) begun
       pub plan : HasPlan begun coming
-      pub few : length pairs < 65536
+      pub few : length pairs < plan_bound
       pub reserved : length pairs ≤ begun.reserve
       pub registers : AreRegisters (run start).regs
       pub sound : (t : ℕ) → t < start → Sound t
