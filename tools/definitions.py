@@ -7,7 +7,8 @@
 
 Each part begins at some definitions and goes on through the text of each: a name is an item of the same file, or what a `use` line of the file
 brings. A definition stands behind those that it names; what an earlier part has isn't listed again. Names of the toolchain's libraries end the walk.
-Types that are declared in Rust are named by their file in `src/`.
+Types that are declared in Rust are named by their file in `src/`. A name of a number, as of a register or a limit, is listed in a part of its own with the
+number.
 """
 import os
 import re
@@ -29,6 +30,7 @@ CLOSED = {("mv_build/specs/Images.antt", "IsImageOf"), ("mv_build/specs/Verdicts
 
 USE = re.compile(r"^ *(?:pub )?(?:ghost )?use +Rattle\.(?P<path>[^\s{;]+?)(?:\.\{(?P<names>[^}]*)\})?(?: as (?P<alias>[^\s;]+))?;? *$")
 ITEM = re.compile(r"^ *(?:(?:pub|abbrev|unfoldable|private) )*(?:(?:record|data) )?(?P<name>[^\s(){}:,;=]+)(?: +[({].*?)? *:(?: |$)")
+NUMBER = re.compile(r"^ *abbrev pub (?P<name>\w+) : ℕ\n *(?P=name) = (?P<value>[\w+*^ ()-]+)\s*$")
 WORD = re.compile(r"[^\s(){}\[\],;λ\"«»]+")
 
 
@@ -131,6 +133,13 @@ class Walk:
             self.seen.add((path, name))
             self.order.append((path, name))
 
+    def number(self, path, name):
+        """The number that a name stands for, as it is written, or None for a definition that is no name of a number."""
+        if not path.endswith(".antt"):
+            return None
+        found = NUMBER.match(self.file(path).items[name].strip("\n"))
+        return found["value"].strip() if found else None
+
     def visit(self, path, name):
         if (path, name) in self.seen:
             return
@@ -170,15 +179,25 @@ def grouped(order):
     return [f"- `{short}`: " + ", ".join(f"`{name}`" for name in names) for short, names in files.items()]
 
 
+def numbered(walk, order):
+    """Returns lines of names of numbers by file, each with its number."""
+    files = {}
+    for path, name in order:
+        files.setdefault(os.path.relpath(path, os.path.join(TOP, "crates")), []).append(f"`{name}` {walk.number(path, name)}")
+    return [f"- `{short}`: " + ", ".join(names) for short, names in files.items()]
+
+
 def listing():
     """Returns the lines of all parts."""
     walk, lines, before = Walk(TOP), [], 0
     for title, starts in PARTS:
         for path, name in starts:
             walk.visit(os.path.join(TOP, "crates", path), name)
-        part = grouped(walk.order[before:])
-        lines += ["", f"### {title}", "", f"{len(walk.order) - before} definitions in {len(part)} files.", ""] + part
+        part = [(path, name) for path, name in walk.order[before:] if walk.number(path, name) is None]
+        lines += ["", f"### {title}", "", f"{len(part)} definitions in {len(grouped(part))} files.", ""] + grouped(part)
         before = len(walk.order)
+    numbers = [(path, name) for path, name in walk.order if walk.number(path, name) is not None]
+    lines += ["", "### Numbers that have a name", "", f"{len(numbers)} names in {len(numbered(walk, numbers))} files.", ""] + numbered(walk, numbers)
     return lines
 
 
