@@ -2,7 +2,6 @@
 use Rattle.std.specs.Prelude.{ℕ, ◌≡◌, ◌≢◌, List, Option, Some, None, Result, Ok, Err, IfOk, Vec, ⊤}
 use Rattle.std.specs.declared.alloc.Global.{Global}
 use Rattle.mv_io.specs.declared.outside.ShelfError.{ShelfError}
-use Rattle.mv_io.specs.declared.outside.ShelfError.TheVariants.{Failed, Memory}
 
 -- the bytes of each name that has a file
 abbrev pub Files : Type 0
@@ -26,11 +25,10 @@ Loads (Some files) name result = IfOk result (λ v. files name ≡ Some v.items)
 abbrev pub KeepsOthers : Files → Files → List ℕ → Type 0
 KeepsOthers old now name = (other : List ℕ) → other ≢ name → now other ≡ old other
 
--- the name has these bytes after success, its old ones after want of memory, and either or others after a fault
+-- the name has these bytes after success, and its old ones after an error
 abbrev pub Puts : Files → Files → List ℕ → List ℕ → Result ⊤ ShelfError → Type 0
 Puts old now name bytes (Ok done) = now name ≡ Some bytes
-Puts old now name bytes (Err Failed) = ⊤
-Puts old now name bytes (Err (Memory e)) = now name ≡ old name
+Puts old now name bytes (Err e) = now name ≡ old name
 
 abbrev pub Saves : Option Files → Option Files → List ℕ → List ℕ → Result ⊤ ShelfError → Type 0
 Saves None now name bytes result = now ≡ None

@@ -6,7 +6,7 @@ ghost use Rattle.mv_io.specs.Shelves.{untold, Lacks, Loads};
 use crate::faults::count_fault;
 use crate::outside::{Failed, Shelf, ShelfError, Sink, Source};
 use std::alloc::{AllocError, Global};
-use std::fs::File;
+use std::fs::{File, OpenFile};
 use std::io::{ErrorKind, Read, Write};
 use std::marker::Model;
 use std::rt::Files;
@@ -130,7 +130,8 @@ fn write_flushed<W: Write>(writer: &mut W, bytes: &[u8]) -> io::Result<usize>
 
 /// A shelf over the files of the machine, by their paths. Each error is a fault, that of an absent file too;
 /// only memory that a `load` is refused is answered as such. To load a file of more than 268,435,456 bytes is an error.
-/// A `save` that fails may leave its file absent, empty or with a front of the bytes.
+/// A `save` writes a file beside, `NAME.part0` or the first of ten such names that is free, and gives it the name when it is whole, so that
+/// the name has its old bytes or the new ones, whatever happens. A symbolic link, a device or a pipe is written in place.
 #[derive(Drop)]
 pub struct FileShelf<R: Files + Drop> {
     files: R,
@@ -179,13 +180,65 @@ impl<R: Files + Drop> Shelf for FileShelf<R> {
         }
     }
 
-    fn save(&mut self, _: Global, name: &str, bytes: &[u8]) -> Result<(), ShelfError> {
-        if fs::write(&self.files, name, bytes).is_err() {
-            count_fault(&mut self.faults);
-            return Err(ShelfError::Failed);
+    fn save(&mut self, alloc: Global, name: &str, bytes: &[u8]) -> Result<(), ShelfError> {
+        match write_file(alloc, &self.files, name, bytes) {
+            Ok(()) => Ok(()),
+            Err(error) if error.kind() == ErrorKind::OutOfMemory => {
+                Err(ShelfError::Memory(AllocError))
+            }
+            Err(_) => {
+                count_fault(&mut self.faults);
+                Err(ShelfError::Failed)
+            }
         }
-        Ok(())
     }
+}
+
+/// How many names for a file beside another are tried: killed runs may have left some.
+const PARTS: u32 = 10;
+
+// Whether another file can take the name of this one: it is a regular file, or there is none.
+fn is_replaceable<R: Files>(files: &R, name: &str) -> bool {
+    match files.symlink_metadata(name) {
+        Ok(metadata) => metadata.is_file(),
+        Err(error) => error.kind() == ErrorKind::NotFound,
+    }
+}
+
+// A new file with these bytes, which are on the disk.
+fn write_new<R: Files>(files: &R, name: &str, bytes: &[u8]) -> io::Result<()> {
+    let mut file = File::create_new(files, name)?;
+    file.write_all(bytes)?;
+    file.sync_all()
+}
+
+// Writes a new file under a name that is free, and gives it another name. Where that fails, the new file goes.
+fn write_beside<R: Files>(files: &R, part: &str, name: &str, bytes: &[u8]) -> io::Result<()> {
+    let written = write_new(files, part, bytes);
+    if let Err(error) = &written {
+        if error.kind() == ErrorKind::AlreadyExists {
+            return written;
+        }
+    }
+    let renamed = written.and_then(|()| files.rename(part, name));
+    if renamed.is_err() {
+        let _removed = files.remove_file(part);
+    }
+    renamed
+}
+
+fn write_file<R: Files>(alloc: Global, files: &R, name: &str, bytes: &[u8]) -> io::Result<()> {
+    if !is_replaceable(files, name) {
+        return fs::write(files, name, bytes);
+    }
+    for number in 0..PARTS {
+        let part = format!(in alloc; "{name}.part{number}")?;
+        match write_beside(files, part.as_str(), name, bytes) {
+            Err(error) if error.kind() == ErrorKind::AlreadyExists => {}
+            done => return done,
+        }
+    }
+    Err(ErrorKind::AlreadyExists.into())
 }
 
 fn read_file<R: Files>(alloc: Global, files: &R, name: &str) -> io::Result<Vec<u8>>

@@ -1,4 +1,5 @@
 use mv_io::{Failed, FileShelf, Shelf, ShelfError, Sink, Source, StdSink, StdSource};
+use std::fs::Files;
 use std::io::{ErrorKind, Read, Write};
 use std::test::Fail;
 use std::{fs, io};
@@ -119,5 +120,35 @@ fn files_are_saved_and_loaded(rt: HostRuntime) -> Result<(), Fail> {
     let refused = shelf.save(alloc, "mv_io_shelf", b"a folder");
     assert!(rt; matches!(refused, Err(ShelfError::Failed)));
     fs::remove_dir_all(&rt, "mv_io_shelf")?;
+    Ok(())
+}
+
+#[test]
+fn a_file_is_saved_beside_what_others_left(rt: HostRuntime) -> Result<(), Fail> {
+    let alloc = rt.alloc();
+    let _ = fs::remove_dir_all(&rt, "mv_io_beside");
+    fs::create_dir(&rt, "mv_io_beside")?;
+    fs::write(&rt, "mv_io_beside/a", b"old")?;
+    fs::write(&rt, "mv_io_beside/a.part0", b"left behind")?;
+    rt.symlink("target", "mv_io_beside/link")?;
+    let mut old = fs::open(&rt, "mv_io_beside/a")?;
+    let mut shelf = FileShelf::new(&rt);
+    shelf.save(alloc, "mv_io_beside/a", b"whole")?;
+    shelf.save(alloc, "mv_io_beside/link", b"in place")?;
+    // Whoever had the old file open still has it, whole.
+    let mut bytes = Vec::new(alloc);
+    old.read_to_end(&mut bytes)?;
+    assert_eq!(rt; bytes.as_slice(), b"old".as_slice());
+    let rows = [
+        ("mv_io_beside/a", Some(b"whole".as_slice())),
+        ("mv_io_beside/a.part0", Some(b"left behind".as_slice())),
+        ("mv_io_beside/a.part1", None),
+        ("mv_io_beside/target", Some(b"in place".as_slice())),
+    ];
+    for (name, want) in rows {
+        let loaded = shelf.load(alloc, name).ok();
+        assert!(rt; loaded.as_ref().map(|bytes| bytes.as_slice()) == want);
+    }
+    fs::remove_dir_all(&rt, "mv_io_beside")?;
     Ok(())
 }
