@@ -2,9 +2,10 @@
 use Rattle.std.proofs.Common.{◌≡◌, ◌≢◌, ℕ, ◌+◌, ◌-◌, ◌<◌, ◌≤◌, ⊎_elim, List, [], ◌∷◌, ◌++◌, length, replicate, take, slice_index, slice_set, refl, sym, ap, ◌∙◌, subst, arith, length-append, length-set}
 use Rattle.std.proofs.lemmas.List.{get_or-set_same, get_or-set_other, get_or_append_left, get_or_at, take-append-le, get_or_past, take_all, get_or-replicate, length-replicate}
 use Rattle.std.proofs.lemmas.Bool.{cases_eq, cases_lt}
-use Rattle.mv_fetch.specs.View.{olds, item, EndsAt, IsLinked}
+use Rattle.mv_fetch.specs.View.{olds, item, number_until, EndsAt, LeadsTo, IsLinked}
 use Rattle.mv_fetch.specs.declared.log.Older.{Older}
 use Rattle.mv_fetch.proofs.Histories.{olds_none, step_same, step_other}
+use Rattle.mv_fetch.proofs.Numbers.{numbered_first, numbered_push, number_is}
 
 -- a way is not changed by later stores
 kept : (log more : List Older) (count k end : ℕ) → count ≤ length log → EndsAt log count k end → EndsAt (log ++ more) count k end
@@ -14,7 +15,7 @@ kept log more count k end le h = let within = h.within in record {
   last = λ q e. ap (λ (o : Older). o.index) (get_or_append_left log more _ q (omega (arith, e, le, within))) ∙ h.last q e;
 }
 
-module _ (ends : List ℕ) (log : List Older) (e : Older) (old : IsLinked ends log) (lt : e.index < length ends) (before : e.before ≡ slice_index ends e.index) where
+module _ (ends : List ℕ) (log : List Older) (e : Older) (old : IsLinked ends log) (lt : e.index < length ends) (before : e.before ≡ slice_index ends e.index) (number : e.number ≡ length (olds e.index log) + 1) (farther : LeadsTo log (length log) e.index e.farther) where
   abbrev after : List Older
   after = log ++ e ∷ []
 
@@ -68,6 +69,7 @@ module _ (ends : List ℕ) (log : List Older) (e : Older) (old : IsLinked ends l
       let words = length-set ends e.index (length log + 1) in record {
         newest = λ k below. subst (λ n. EndsAt after n k (slice_index (slice_set ends e.index (length log + 1)) k)) (sym len) (newest_at k (omega (arith, below, words)));
         earlier = λ q below. let h = earlier_at q (omega (arith, below, len)) in (omega (arith, h.0, words), h.1);
+        numbered = numbered_push log e old.numbered number farther;
       }
 
 -- a word has older words exactly where it has an end
@@ -150,4 +152,14 @@ linked_first n = record {
         last = λ (q : ℕ) (e : q + 1 ≡ slice_index (replicate n 0) k). absurd (omega (arith, e, none));
       };
   earlier = λ (q : ℕ) (below : q < 0). absurd (omega (arith, below));
+  numbered = numbered_first;
 }
+
+-- an end is one of the word's stores
+pub leads : (log : List Older) (count k end : ℕ) → EndsAt log count k end → LeadsTo log count k end
+leads log count k end h = record { within = h.within; last = h.last }
+
+-- the number of the newest store into a word is how many there are
+pub newest_number : (ends : List ℕ) (log : List Older) (k : ℕ) → IsLinked ends log → k < length ends → number_until log (slice_index ends k) ≡ length (olds k log)
+newest_number ends log k linked lt =
+    number_is log k (slice_index ends k) linked.numbered (leads log (length log) k (slice_index ends k) (linked.newest k lt)) ∙ ap length (begin ends log k linked lt)

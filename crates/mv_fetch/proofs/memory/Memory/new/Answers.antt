@@ -10,6 +10,8 @@ invariant_of-result c =
     let ends : c.in_ok-vec.field-0.items ≡ replicate c.len.result 0 = search rules in
     record {
       room = search rules;
+      reserve = c.requires.patchable;
+      log = search rules;
       words = search rules;
       linked = rw c.in_ok-with_capacity.ensures.items (subst (λ (xs : List ℕ). IsLinked xs []) (sym ends) (linked_first c.len.result));
       text = search rules;
