@@ -5,8 +5,11 @@
 #![tactic(auto)]
 
 use mv_io::{FileShelf, StdSink, StdSource};
+use mv_notes::{Performed, report};
 use mv_probe::{FetchOracle, Oldest, Probe};
 use mv_top::{Status, multiverse};
+use std::alloc::AllocError;
+use std::io::ErrorKind;
 use std::process::ExitCode;
 use std::{env, io};
 
@@ -19,8 +22,8 @@ fn words(rt: &HostRuntime) -> io::Result<Vec<String>> {
     Ok(words)
 }
 
-fn run(rt: &HostRuntime) -> io::Result<Status> {
-    let words = words(rt)?;
+// What the words ask for.
+fn run(rt: &HostRuntime, words: &[String]) -> Result<Status, AllocError> {
     let mut shelf = FileShelf::new(rt);
     let mut input = StdSource::new(rt.stdin());
     let mut out = StdSink::new(rt.stdout());
@@ -29,7 +32,7 @@ fn run(rt: &HostRuntime) -> io::Result<Status> {
     let mut probes: Vec<Box<dyn Probe>> = Vec::new(rt.alloc());
     Ok(multiverse(
         rt.alloc(),
-        words.as_slice(),
+        words,
         &mut shelf,
         &mut input,
         &mut out,
@@ -39,7 +42,20 @@ fn run(rt: &HostRuntime) -> io::Result<Status> {
     ))
 }
 
+// Where the words can't be had: words that are no text are no command.
+fn refused(rt: &HostRuntime, error: &io::Error) -> Status {
+    if error.kind() != ErrorKind::InvalidData {
+        return Status::Memory;
+    }
+    let mut notes = StdSink::new(rt.stderr());
+    let usage = Performed::alone(rt.alloc(), Status::Usage);
+    report(rt.alloc(), usage, &mut notes)
+}
+
 fn main(rt: HostRuntime) -> ExitCode {
-    let status = run(&rt).unwrap_or(Status::Memory);
+    let status = match words(&rt) {
+        Ok(words) => run(&rt, words.as_slice()).unwrap_or(Status::Memory),
+        Err(error) => refused(&rt, &error),
+    };
     ExitCode::from(status.number())
 }
