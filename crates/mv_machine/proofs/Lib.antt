@@ -9,3 +9,4 @@ pub mod Storing
 pub mod Telling
 pub mod Orders
 pub mod Leaving
+pub mod Opening

@@ -1,5 +1,5 @@
 -- Calls for plans, and polls: what the engine does is what the definition does to a state.
-use Rattle.std.proofs.Common.{◌≡◌, ◌≢◌, ⊎_elim, ℕ, ◌-◌, ◌<◌, ◌≤◌, ◌^◌, ltb, Bool, true, false, nat_eq, if◌then◌else◌, List, [], ◌∷◌, ◌++◌, map, Option, Some, None, refl, sym, ap, ap₂, ◌∙◌, subst, arith, append-nil, Result, Ok, Err, OnOk, OnErr}
+use Rattle.std.proofs.Common.{◌≡◌, ◌≢◌, ⊎_elim, ℕ, ◌-◌, ◌<◌, ◌≤◌, ◌^◌, ltb, Bool, true, false, ◌&&◌, nat_eq, if◌then◌else◌, List, [], ◌∷◌, ◌++◌, map, Option, Some, None, refl, sym, ap, ap₂, ◌∙◌, subst, arith, append-nil, Result, Ok, Err, OnOk, OnErr}
 use Rattle.std.proofs.lemmas.Bool.{ne_eqb, cases_lt, le-ltb}
 use Rattle.mv_num.specs.Words.{add}
 use Rattle.mv_bindings.specs.declared.binding.Binding.{Binding}
@@ -17,40 +17,48 @@ use Rattle.mv_patch.specs.declared.order.Order.{Order}
 use Rattle.mv_patch.specs.declared.planning.PlanError.{PlanError}
 use Rattle.mv_patch.specs.declared.order.Order.TheVariants.{CommitAll, RevertAll, CommitFunction, RevertFunction, CommitRefs, RevertRefs}
 use Rattle.mv_machine.specs.declared.engine.Engine.{Engine}
-use Rattle.mv_machine.specs.Runs.{State, Stop, Going, Fault, Plans, Polls, environment_call, answered, stopped, with_plan, with_value, refused, carried_out, ordered, planned, flipped, act, acted, polled}
+use Rattle.mv_machine.specs.Runs.{State, Stop, Going, Fault, Plans, Polls, environment_call, answered, stopped, with_plan, with_value, refused, carried_out, ordered, planned, flipped, act, acted, polled, adopts}
 use Rattle.mv_machine.specs.Moves.{Seen, seen, shown, Moves, Does}
 use Rattle.mv_machine.specs.Engines.{Taken, IsAsked}
 use Rattle.mv_machine.proofs.Moved.{moves_telling, moves_quietly}
 
 -- ---- states by their fields
 
-abbrev of : Fields → (regs : List ℕ) → (pc : ℕ) → Room → List Binding → List (Option ℕ) → List Action → (output : List ℕ) → List Event → Stop → State
-of image regs pc room bindings input actions output log stop =
-    record { hart = 0; image = image; regs = regs; pc = pc; room = room; bindings = bindings; input = input; actions = map act_of actions; output = output; log = log; stop = stop }
+abbrev of : (hart : ℕ) → Fields → (regs : List ℕ) → (pc : ℕ) → Room → List Binding → List (Option ℕ) → List Action → (output : List ℕ) → List Event → Stop → State
+of hart image regs pc room bindings input actions output log stop =
+    record { hart = hart; image = image; regs = regs; pc = pc; room = room; bindings = bindings; input = input; actions = map act_of actions; output = output; log = log; stop = stop }
 
 -- a state with these fields
-same_state : (image image' : Fields) (regs regs' : List ℕ) (pc pc' : ℕ) (room room' : Room) (bindings bindings' : List Binding) (input : List (Option ℕ)) (actions : List Action) (output : List ℕ) (log : List Event) → image' ≡ image → regs' ≡ regs → pc' ≡ pc → room' ≡ room → bindings' ≡ bindings
-    → of image regs pc room bindings input actions output log Going ≡ of image' regs' pc' room' bindings' input actions output log Going
-same_state image image' regs regs' pc pc' room room' bindings bindings' input actions output log i r p m b =
-    ap₂ (λ (x : Fields) (y : List ℕ). of x y pc room bindings input actions output log Going) (sym i) (sym r)
-    ∙ ap₂ (λ (x : ℕ) (y : Room). of image' regs' x y bindings input actions output log Going) (sym p) (sym m)
-    ∙ ap (λ (x : List Binding). of image' regs' pc' room' x input actions output log Going) (sym b)
+same_state : (hart : ℕ) (image image' : Fields) (regs regs' : List ℕ) (pc pc' : ℕ) (room room' : Room) (bindings bindings' : List Binding) (input : List (Option ℕ)) (actions : List Action) (output : List ℕ) (log : List Event) → image' ≡ image → regs' ≡ regs → pc' ≡ pc → room' ≡ room → bindings' ≡ bindings
+    → of hart image regs pc room bindings input actions output log Going ≡ of hart image' regs' pc' room' bindings' input actions output log Going
+same_state hart image image' regs regs' pc pc' room room' bindings bindings' input actions output log i r p m b =
+    ap₂ (λ (x : Fields) (y : List ℕ). of hart x y pc room bindings input actions output log Going) (sym i) (sym r)
+    ∙ ap₂ (λ (x : ℕ) (y : Room). of hart image' regs' x y bindings input actions output log Going) (sym p) (sym m)
+    ∙ ap (λ (x : List Binding). of hart image' regs' pc' room' x input actions output log Going) (sym b)
 
 -- the answer to a call that changes nothing, by what is left of the engine
 pub refuses : (engine : Engine) (value : ℕ) (regs : List ℕ) (pc : ℕ) (room : Room) → regs ≡ put engine.hart.regs 10 value → pc ≡ add engine.hart.pc 4 → room ≡ with_plan engine.memory []
     → (actions : List Action) (left written : Option (List ℕ)) (input : List (Option ℕ)) (output : List ℕ) (log : List Event)
-    → refused (shown (seen engine actions left written) Going input output log) value ≡ of engine.image regs pc room engine.bindings input actions output (log ++ []) Going
+    → refused (shown (seen engine actions left written) Going input output log) value ≡ of engine.number engine.image regs pc room engine.bindings input actions output (log ++ []) Going
 unfolding answered
 refuses engine value regs pc room r p m actions left written input output log =
-    same_state engine.image engine.image (put engine.hart.regs 10 value) regs (add engine.hart.pc 4) pc (with_plan engine.memory []) room engine.bindings engine.bindings input actions output log refl r p m refl
-    ∙ ap (λ (all : List Event). of engine.image regs pc room engine.bindings input actions output all Going) (sym (append-nil log))
+    same_state engine.number engine.image engine.image (put engine.hart.regs 10 value) regs (add engine.hart.pc 4) pc (with_plan engine.memory []) room engine.bindings engine.bindings input actions output log refl r p m refl
+    ∙ ap (λ (all : List Event). of engine.number engine.image regs pc room engine.bindings input actions output all Going) (sym (append-nil log))
 
 pub carries : (engine : Engine) (value : ℕ) (plan : Planned) (regs : List ℕ) (pc : ℕ) (room : Room) (bindings : List Binding) → regs ≡ put engine.hart.regs 10 value → pc ≡ add engine.hart.pc 4 → room ≡ with_plan engine.memory plan.pairs → bindings ≡ plan.bound
     → (actions : List Action) (left written : Option (List ℕ)) (input : List (Option ℕ)) (output : List ℕ) (log : List Event)
-    → carried_out (shown (seen engine actions left written) Going input output log) plan value ≡ of engine.image regs pc room bindings input actions output (log ++ events_from 0 engine.bindings plan.bound) Going
+    → carried_out (shown (seen engine actions left written) Going input output log) plan value ≡ of engine.number engine.image regs pc room bindings input actions output (log ++ events_from 0 engine.bindings plan.bound) Going
 unfolding answered
 carries engine value plan regs pc room bindings r p m b actions left written input output log =
-    same_state engine.image engine.image (put engine.hart.regs 10 value) regs (add engine.hart.pc 4) pc (with_plan engine.memory plan.pairs) room plan.bound bindings input actions output (log ++ events_from 0 engine.bindings plan.bound) refl r p m b
+    same_state engine.number engine.image engine.image (put engine.hart.regs 10 value) regs (add engine.hart.pc 4) pc (with_plan engine.memory plan.pairs) room plan.bound bindings input actions output (log ++ events_from 0 engine.bindings plan.bound) refl r p m b
+
+-- bindings of a commit that another hart has made
+pub takes_on : (engine : Engine) (bound : List Binding) (regs : List ℕ) (pc : ℕ) (room : Room) (bindings : List Binding) → regs ≡ put engine.hart.regs 10 1 → pc ≡ add engine.hart.pc 4 → room ≡ with_plan engine.memory [] → bindings ≡ bound
+    → (actions : List Action) (left written : Option (List ℕ)) (input : List (Option ℕ)) (output : List ℕ) (log : List Event)
+    → adopts (shown (seen engine actions left written) Going input output log) bound ≡ of engine.number engine.image regs pc room bindings input actions output (log ++ events_from 0 engine.bindings bound) Going
+unfolding answered
+takes_on engine bound regs pc room bindings r p m b actions left written input output log =
+    same_state engine.number engine.image engine.image (put engine.hart.regs 10 1) regs (add engine.hart.pc 4) pc (with_plan engine.memory []) room bound bindings input actions output (log ++ events_from 0 engine.bindings bound) refl r p m b
 
 -- ---- orders
 
@@ -74,6 +82,18 @@ known_below image code index h = ⊎_elim (λ (lt : code < 6). lt)
     let g : ltb code 6 ≡ false = le-ltb code 6 ge in
     absurd (let k = rw (e, f, g) at h in cc))
     (cases_lt code 6)
+
+-- with a live frame, and in another hart than 0, nothing is planned
+
+pub live_refuses : (number live : ℕ) → 0 < live → (nat_eq number 0 && nat_eq live 0) ≡ false
+live_refuses number live busy = ap (λ (idle : Bool). nat_eq number 0 && idle) (ne_eqb live 0 (λ none. omega (arith, none, busy))) ∙ never (nat_eq number 0)
+  where
+    never : (b : Bool) → (b && false) ≡ false
+    never true = refl
+    never false = refl
+
+pub other_refuses : (number live : ℕ) → number ≢ 0 → (nat_eq number 0 && nat_eq live 0) ≡ false
+other_refuses number live other = ap (λ (leads : Bool). leads && nat_eq live 0) (ne_eqb number 0 other)
 
 -- the three ways of a call for a plan
 abbrev chosen : (known idle : Bool) → (s : State) → (code index : ℕ) → State
@@ -99,20 +119,20 @@ module _ (engine engine' : Engine) (left written : Option (List ℕ)) (Told : Li
   unfolding planned
   unknown_order actions e same quiet = subst (λ (y : Seen). Moves (environment_call Plans) (from actions) y (Fault cause.Call) Told) same
       (moves_quietly (environment_call Plans) (from actions) (from actions) (Fault cause.Call) Told refl refl quiet
-      (λ i o l. let s = shown (from actions) Going i o l in ap (λ (known : Bool). chosen known (nat_eq live 0) s code index) e))
+      (λ i o l. let s = shown (from actions) Going i o l in ap (λ (known : Bool). chosen known (nat_eq engine.number 0 && nat_eq live 0) s code index) e))
 
-  pub refused_order : (actions : List Action) → is_known_order engine.image code index ≡ true → 0 < live → Told [] → Does (λ s. refused s (2 ^ 32 - 1)) engine actions engine' actions Going [] → Moves (environment_call Plans) (from actions) (to actions) Going Told
+  pub refused_order : (actions : List Action) → is_known_order engine.image code index ≡ true → (nat_eq engine.number 0 && nat_eq live 0) ≡ false → Told [] → Does (λ s. refused s (2 ^ 32 - 1)) engine actions engine' actions Going [] → Moves (environment_call Plans) (from actions) (to actions) Going Told
   unfolding planned
   refused_order actions e busy quiet does = moves_telling (environment_call Plans) (from actions) (to actions) Going Told [] refl refl quiet
       (λ i o l. let s = shown (from actions) Going i o l in
-      ap₂ (λ (known idle : Bool). chosen known idle s code index) e (ne_eqb live 0 (λ none. omega (arith, none, busy))) ∙ does left written i o l)
+      ap₂ (λ (known idle : Bool). chosen known idle s code index) e busy ∙ does left written i o l)
 
-  pub carried_order : (actions : List Action) (plan : Planned) (news : List Event) → is_known_order engine.image code index ≡ true → live ≡ 0 → plan ≡ plan_of engine.image engine.memory.held engine.bindings code index → Told news → Does (λ s. carried_out s plan plan.answer) engine actions engine' actions Going news
+  pub carried_order : (actions : List Action) (plan : Planned) (news : List Event) → is_known_order engine.image code index ≡ true → engine.number ≡ 0 → live ≡ 0 → plan ≡ plan_of engine.image engine.memory.held engine.bindings code index → Told news → Does (λ s. carried_out s plan plan.answer) engine actions engine' actions Going news
       → Moves (environment_call Plans) (from actions) (to actions) Going Told
   unfolding planned
-  carried_order actions plan news e idle is told does = moves_telling (environment_call Plans) (from actions) (to actions) Going Told news refl refl told
+  carried_order actions plan news e leads idle is told does = moves_telling (environment_call Plans) (from actions) (to actions) Going Told news refl refl told
       (λ i o l. let s = shown (from actions) Going i o l in
-      ap₂ (λ (known quiet : Bool). chosen known quiet s code index) e (ap (λ (n : ℕ). nat_eq n 0) idle) ∙ ap (λ (p : Planned). carried_out s p p.answer) (sym is) ∙ does left written i o l)
+      ap₂ (λ (known quiet : Bool). chosen known quiet s code index) e (ap₂ (λ (m n : ℕ). nat_eq m 0 && nat_eq n 0) leads idle) ∙ ap (λ (p : Planned). carried_out s p p.answer) (sym is) ∙ does left written i o l)
 
   -- ---- polls
 
@@ -160,12 +180,12 @@ acts x y Told action same e m = subst (λ (a : Action). Moves (act (act_of a)) x
 -- a flip: the memory behind its store, and the plan of a commit of all functions then
 pub flips : (engine engine' : Engine) (switch value : ℕ) (memory : Room) (plan : Planned) (news : List Event) (Told : List Event → Type 0) → memory ≡ with_value engine.image engine.memory switch value → plan ≡ plan_of engine.image memory.held engine.bindings 0 0 → Told news
     → (actions : List Action) (left written : Option (List ℕ))
-    → ((input : List (Option ℕ)) (output : List ℕ) (log : List Event) → carried_out (of engine.image engine.hart.regs engine.hart.pc memory engine.bindings input actions output log Going) plan 1 ≡ shown (seen engine' actions left written) Going input output (log ++ news))
+    → ((input : List (Option ℕ)) (output : List ℕ) (log : List Event) → carried_out (of engine.number engine.image engine.hart.regs engine.hart.pc memory engine.bindings input actions output log Going) plan 1 ≡ shown (seen engine' actions left written) Going input output (log ++ news))
     → Moves (λ s. flipped s switch value) (seen engine actions left written) (seen engine' actions left written) Going Told
 flips engine engine' switch value memory plan news Told stores plans told actions left written does = moves_telling (λ s. flipped s switch value) (seen engine actions left written) (seen engine' actions left written) Going Told news refl refl told
     (λ i o l.
-    ap (λ (m : Room). carried_out (of engine.image engine.hart.regs engine.hart.pc m engine.bindings i actions o l Going) (plan_of engine.image m.held engine.bindings 0 0) 1) (sym stores)
-    ∙ ap (λ (p : Planned). carried_out (of engine.image engine.hart.regs engine.hart.pc memory engine.bindings i actions o l Going) p 1) (sym plans)
+    ap (λ (m : Room). carried_out (of engine.number engine.image engine.hart.regs engine.hart.pc m engine.bindings i actions o l Going) (plan_of engine.image m.held engine.bindings 0 0) 1) (sym stores)
+    ∙ ap (λ (p : Planned). carried_out (of engine.number engine.image engine.hart.regs engine.hart.pc memory engine.bindings i actions o l Going) p 1) (sym plans)
     ∙ does i o l)
 
 -- with no live frame no order is refused

@@ -19,6 +19,7 @@ use Rattle.mv_machine.proofs.Moved.{SoFar, way_more, under_more, Joins, meets_mo
 
 -- what is seen of a machine
 pub record IsSeen (m : Snapshot) (x : Seen) : Type 0 where
+  pub hart : x.hart ≡ 0
   pub image : m.image ≡ x.image
   pub regs : m.regs ≡ x.regs
   pub pc : m.pc ≡ x.pc
@@ -27,7 +28,7 @@ pub record IsSeen (m : Snapshot) (x : Seen) : Type 0 where
 
 resumed_is : (m : Snapshot) (x : Seen) (input : List (Option ℕ)) → IsSeen m x → shown x Going input [] [] ≡ resumed m input x.actions
 unfolding resumed
-resumed_is m x input i = rw (i.image, i.regs, i.pc, i.room, i.bindings) refl
+resumed_is m x input i = rw (i.hart, i.image, i.regs, i.pc, i.room, i.bindings) refl
 
 reached : (e : State) (y : Seen) (stop : Stop) (is : Snapshot) (later : List (Option ℕ)) (more : List ℕ) (news : List Event) (written : Option (List ℕ)) (Told : List Event → Type 0) → IsSeen is y → y.written ≡ option_map (λ before. before ++ more) written → Told news → e ≡ shown y stop later more news → Reached e stop is later written y.written Told
 reached e y stop is later more news written Told i w told at = record {

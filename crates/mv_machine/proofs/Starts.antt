@@ -13,20 +13,40 @@ use Rattle.mv_image.specs.Spelling.{Fields}
 use Rattle.mv_image.specs.Format.{FitsFormat}
 use Rattle.mv_patch.specs.Tables.{patchable}
 use Rattle.mv_machine.specs.Acts.{polls_of}
-use Rattle.mv_machine.specs.Runs.{first}
-use Rattle.mv_machine.specs.Snapshots.{Snapshot, kept, resumed}
+use Rattle.mv_machine.specs.declared.engine.Engine.{Engine}
+use Rattle.mv_machine.specs.Runs.{State, Going, first}
+use Rattle.mv_machine.specs.Moves.{seen, shown}
+use Rattle.mv_machine.specs.Snapshots.{kept, resumed}
 
-abbrev snapshot : (image : Fields) (pc : ℕ) (held : Held) (spare reserve : ℕ) (bindings : List Binding) → Snapshot
-snapshot image pc held spare reserve bindings = record { image = image; regs = replicate 32 0; pc = pc; room = record { held = held; spare = spare; reserve = reserve }; bindings = bindings; last = None }
+abbrev start_of : (hart : ℕ) (image : Fields) (pc : ℕ) (held : Held) (spare reserve : ℕ) (bindings : List Binding) (input : List (Option ℕ)) → State
+start_of hart image pc held spare reserve bindings input = record {
+  hart = hart;
+  image = image;
+  regs = replicate 32 0;
+  pc = pc;
+  room = record { held = held; spare = spare; reserve = reserve };
+  bindings = bindings;
+  input = input;
+  actions = [];
+  output = [];
+  log = [];
+  stop = Going;
+}
 
-pub started : (image same : Fields) (pc : ℕ) (room : Room) (bindings : List Binding) (count n : ℕ) → same ≡ image → pc ≡ image.entry → room.held ≡ first_memory image.text image.globals → room.spare ≡ n → room.reserve ≡ n → n ≡ length image.functions + 2 * length image.sites → bindings ≡ replicate count free → count ≡ length image.functions
-    → snapshot same pc room.held room.spare room.reserve bindings ≡ kept (first image [] (polls_of [])) None
-unfolding kept first patchable
-started image same pc room bindings count n w p h s r e b c =
-    ap (λ (i : Fields). snapshot i pc room.held room.spare room.reserve bindings) w
-    ∙ ap₂ (λ (q : ℕ) (m : Held). snapshot image q m room.spare room.reserve bindings) p h
-    ∙ ap₂ (λ (k l : ℕ). snapshot image image.entry (first_memory image.text image.globals) k l bindings) (s ∙ e) (r ∙ e)
-    ∙ ap (λ (l : List Binding). snapshot image image.entry (first_memory image.text image.globals) (patchable image) (patchable image) l) (b ∙ ap (λ (k : ℕ). replicate k free) c)
+-- the parts that a hart starts with are those of the first state
+pub started : (hart : ℕ) (image same : Fields) (pc : ℕ) (room : Room) (bindings : List Binding) (count n : ℕ) → same ≡ image → pc ≡ image.entry → room.held ≡ first_memory image.text image.globals → room.spare ≡ n → room.reserve ≡ n → n ≡ length image.functions + 2 * length image.sites → bindings ≡ replicate count free → count ≡ length image.functions
+    → (input : List (Option ℕ)) → start_of hart same pc room.held room.spare room.reserve bindings input ≡ first image input (record { hart = hart; acts = [] })
+unfolding first patchable
+started hart image same pc room bindings count n w p h s r e b c input =
+    ap (λ (i : Fields). start_of hart i pc room.held room.spare room.reserve bindings input) w
+    ∙ ap₂ (λ (q : ℕ) (m : Held). start_of hart image q m room.spare room.reserve bindings input) p h
+    ∙ ap₂ (λ (k l : ℕ). start_of hart image image.entry (first_memory image.text image.globals) k l bindings input) (s ∙ e) (r ∙ e)
+    ∙ ap (λ (l : List Binding). start_of hart image image.entry (first_memory image.text image.globals) (patchable image) (patchable image) l input) (b ∙ ap (λ (k : ℕ). replicate k free) c)
+
+-- what a machine keeps of the first state of its hart
+pub kept_start : (engine : Engine) (image : Fields) → ((input : List (Option ℕ)) → shown (seen engine [] None None) Going input [] [] ≡ first image input (record { hart = 0; acts = [] }))
+    → kept (shown (seen engine [] None None) Going [] [] []) None ≡ kept (first image [] (polls_of [])) None
+kept_start engine image starts = ap (λ (s : State). kept s None) (starts [])
 
 -- parts that are an image's fit the format
 pub copied_fits : (image : Fields) (entry : ℕ) (text globals : List ℕ) (switches : List SwitchRow) (functions : List FunctionRow) (variants : List VariantRow) (guards : List GuardRow) (sites : List SiteRow) (names : List (List ℕ))

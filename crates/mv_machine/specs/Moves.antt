@@ -21,11 +21,14 @@ use Rattle.mv_probe.specs.Ways.{Way, Follows, way_after}
 use Rattle.mv_machine.specs.declared.turning.Stride.{Stride}
 use Rattle.mv_machine.specs.declared.machine.Stopped.{Stopped}
 use Rattle.mv_machine.specs.declared.machine.Stopped.TheVariants as answer
+use Rattle.mv_patch.specs.Plans.{plan_between}
+use Rattle.mv_machine.specs.Commits.{is_some_pair}
 use Rattle.mv_machine.specs.Runs.{State, Stop, Going, Exit, Trap, Fault, Request, Reads, Writes, request_of, environment_call, word_read, turn, runs_from, executed}
 use Rattle.mv_machine.specs.Snapshots.{Tells, Under}
 
--- the engine of a machine, the actions that are left, and what the source and the sink tell
+-- an engine, the actions that are left, and what the source and the sink tell
 pub record Seen : Type 0 where
+  pub hart : ℕ
   pub image : Fields
   pub regs : List ℕ
   pub pc : ℕ
@@ -37,6 +40,7 @@ pub record Seen : Type 0 where
 
 abbrev pub seen : Engine → List Action → (left written : Option (List ℕ)) → Seen
 seen engine actions left written = record {
+  hart = engine.number;
   image = engine.image;
   regs = engine.hart.regs;
   pc = engine.hart.pc;
@@ -50,7 +54,7 @@ seen engine actions left written = record {
 -- the state of which that is seen
 abbrev pub shown : Seen → Stop → (input : List (Option ℕ)) → (output : List ℕ) → (log : List Event) → State
 shown x stop input output log = record {
-  hart = 0;
+  hart = x.hart;
   image = x.image;
   regs = x.regs;
   pc = x.pc;
@@ -179,6 +183,10 @@ Walked Told p q steps None x y way way' input_rose output_rose = Goes steps x y 
 Walked {P} Told p q steps (Some stopped) x y way way' input_rose output_rose =
     (n : ℕ) × (mid : Seen) × (probes : P) × (v : Option Way)
     × (n < steps) × Goes n x mid way v (Told p probes) × Turns (Some stopped) mid y v way' input_rose output_rose (Told probes q)
+
+-- an engine says whether its bindings have another text than those that it had
+abbrev pub TellsOpened : Engine → Engine → Type 0
+TellsOpened was is = is.opened ≡ is_some_pair (plan_between was.image was.bindings is.bindings)
 
 -- a fault is told with its place
 abbrev pub FaultAt : Stopped → ℕ → Type 0

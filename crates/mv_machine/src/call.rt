@@ -1,12 +1,12 @@
 //! Environment calls.
 
-ghost use Rattle.std.specs.Prelude.{◌≡◌, ◌≤◌, [], All, OnOk, OnErr, IfSome};
+ghost use Rattle.std.specs.Prelude.{◌≡◌, ◌≤◌, [], false, All, OnOk, OnErr, IfSome};
 ghost use Rattle.mv_isa.specs.Execution.{reg};
 ghost use Rattle.mv_io.specs.Outside.{Rose};
 ghost use Rattle.mv_probe.specs.Hearing.{hearing, IsPatient, object_at, Becomes};
 ghost use Rattle.mv_probe.specs.Fates.{Fates};
 ghost use Rattle.mv_machine.specs.Runs.{trap_of};
-ghost use Rattle.mv_machine.specs.Moves.{Gets, Puts, FromCall, seen, FaultAt, IsStop};
+ghost use Rattle.mv_machine.specs.Moves.{Gets, Puts, FromCall, TellsOpened, seen, FaultAt, IsStop};
 
 use crate::engine::Engine;
 use crate::machine::Stopped;
@@ -72,6 +72,8 @@ pub(crate) fn call<I: Source, O: Sink>(
     ensures place { IfSome result (λ stopped. FaultAt stopped engine.new.hart.pc) }
     ensures quiet { engine.old.image.functions ≡ [] → probes.new ≡ probes.old }
     ensures image { engine.new.image ≡ engine.old.image }
+    ensures number { engine.new.number ≡ engine.old.number }
+    ensures opened { engine.old.opened ≡ false → TellsOpened engine.old engine.new }
     ensures input { I.faults source.old ≤ I.faults source.new }
     ensures output { O.faults sink.old ≤ O.faults sink.new }
     ensures moves { FromCall result (seen engine.old operator.old (I.left source.old) (O.written sink.old)) (seen engine.new operator.new (I.left source.new) (O.written sink.new))

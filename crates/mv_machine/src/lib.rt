@@ -14,6 +14,9 @@
 //!   each that differs. Text is stored by the program alone, but for the words that come with bindings which a poll of
 //!   another hart adopts. On an image without attributed functions the probes are left as they were, a clause
 //!   says.
+//! - For several harts the engine of one is exported: `Engine::start` gives the first state of any hart, `turn` is one instruction of the
+//!   definition or a failed read or write, and tells whether it left bindings with another text, and `adopt` takes on the bindings of a commit that hart 0
+//!   has made, which `Machine` never does. `Operator` holds what polls take; `is_known` and `registers` tell what stands before a call.
 //! - `specs/Commits.antt` says which commit is under way in a run. It is a definition for the laws above.
 //! - Only tested: that each pick is told the address of its instruction; two images that store over their own words under
 //!   three oracles, seven faults with their places, and an echo whose read or write fails (`mv_test_top`).
@@ -25,7 +28,12 @@ mod machine;
 mod operator;
 mod patching;
 mod plans;
-mod registers;
+pub mod registers;
+mod starting;
 mod turning;
 
+pub use engine::Engine;
 pub use machine::{Machine, Stopped};
+pub use operator::Operator;
+pub use patching::{adopt, is_known};
+pub use turning::turn;

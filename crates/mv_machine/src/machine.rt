@@ -1,9 +1,8 @@
 //! A machine and its runs.
 
-ghost use Rattle.std.specs.Prelude.{◌≡◌, ◌≤◌, [], Some, None, replicate, IfOk, IsTrue, All};
+ghost use Rattle.std.specs.Prelude.{◌≡◌, ◌≤◌, [], Some, None, IfOk, IsTrue, All};
 ghost use Rattle.std.specs.Result.{result_ok};
 ghost use Rattle.mv_fetch.specs.Held.{load};
-ghost use Rattle.mv_bindings.specs.Bindings.{free};
 ghost use Rattle.mv_io.specs.Outside.{Rose};
 ghost use Rattle.mv_probe.specs.Hearing.{hearing, IsPatient, object_at, Becomes};
 ghost use Rattle.mv_probe.specs.Fates.{Fates};
@@ -12,19 +11,16 @@ ghost use Rattle.mv_machine.specs.Acts.{polls_of};
 ghost use Rattle.mv_machine.specs.Runs.{first};
 ghost use Rattle.mv_machine.specs.Snapshots.{kept, Ran, Unless, last_of};
 
-use crate::engine::{Engine, copied};
+use crate::engine::Engine;
 use crate::operator::Operator;
 use crate::turning::walk;
 use mv_bindings::action::Action;
 use mv_bindings::binding::Binding;
-use mv_fetch::Memory;
 use mv_image::Image;
-use mv_image::facts::within_limits;
 use mv_io::{Sink, Source};
 use mv_num::list::List;
-use mv_patch::Plan;
 use mv_probe::{FetchOracle, Probe};
-use mv_rv32::{Cause, Hart};
+use mv_rv32::Cause;
 use std::alloc::{AllocError, Global};
 use std::marker::Model;
 
@@ -47,14 +43,7 @@ pub enum Stopped {
     Memory,
 }
 
-// Functions that are all free, so many.
-fn all_free(alloc: Global, count: usize) -> Result<List<Binding>, AllocError>
-    ensures { IfOk result (λ bindings. bindings ≡ replicate count free) }
-{
-    Ok(List::from_vec(vec![in alloc; Binding::free(); count]?))
-}
-
-/// An image, a hart, its memory and the bindings of the attributed functions, and the last answer where a run has ended.
+/// An image, hart 0, its memory and the bindings of the attributed functions, and the last answer where a run has ended.
 #[derive(Drop)]
 pub struct Machine {
     engine: Engine,
@@ -67,6 +56,10 @@ impl Model for Machine {
     ghost Value = { Snapshot };
 
     ghost view = { λ m. record { image = m.engine.image; regs = m.engine.hart.regs; pc = m.engine.hart.pc; room = m.engine.memory; bindings = m.engine.bindings; last = m.last } };
+
+    ghost use Rattle.std.specs.Prelude.{◌≡◌};
+
+    ghost invariant = { λ m. m.engine.number ≡ 0 };
 }
 
 impl Machine {
@@ -75,19 +68,10 @@ impl Machine {
     pub fn start(alloc: Global, image: &Image) -> Result<Machine, AllocError>
         ensures { IfOk result (λ machine. machine ≡ kept (first image.now [] (polls_of [])) None) }
     {
-        within_limits(image);
-        let patchable = image.functions().len() + 2 * image.sites().len();
-        let engine = Engine {
-            image: copied(alloc, image)?,
-            hart: Hart {
-                regs: [0; 32],
-                pc: image.entry(),
-            },
-            memory: Memory::new(alloc, image.text(), image.globals(), patchable as u32)?,
-            bindings: all_free(alloc, image.functions().len())?,
-            plan: Plan::new(alloc, image)?,
-        };
-        Ok(Machine { engine, last: None })
+        Ok(Machine {
+            engine: Engine::start(alloc, image, 0)?,
+            last: None,
+        })
     }
 
     /// Runs so many instructions, or up to the one that ends the run. After `Steps` a further call goes on; after any other answer it gives
@@ -111,7 +95,7 @@ impl Machine {
             (λ events. Fates (Becomes (λ probe. object_at probe.ptr probe.vtable) (λ probe. hearing (told probe) (patience probe)) events) probes.old.items probes.new.items)) }
         ensures quiet { self.old.image.functions ≡ [] → probes.new ≡ probes.old }
         ensures last { self.old.last ≡ None → self.new.last ≡ last_of result }
-        ensures again { (last : Stopped) → self.old.last ≡ Some last → (result ≡ last) × (self.new ≡ self.old) × (source.new ≡ source.old) × (sink.new ≡ sink.old) × (way oracle.new ≡ way oracle.old) }
+        ensures again { (last : Stopped) → self.old.last ≡ Some last → (result ≡ last) × (self.new ≡ self.old) × (source.new ≡ source.old) × (sink.new ≡ sink.old) × (way oracle.new ≡ way oracle.old) × (probes.new ≡ probes.old) }
         ensures input { I.faults source.old ≤ I.faults source.new }
         ensures output { O.faults sink.old ≤ O.faults sink.new }
     {

@@ -8,7 +8,7 @@ use std::marker::Model;
 
 /// The actions that were handed in, of which so many are taken. A contract sees those that are left.
 #[derive(Drop)]
-pub(crate) struct Operator<'a> {
+pub struct Operator<'a> {
     actions: &'a [Action],
     taken: usize,
 }
@@ -26,7 +26,7 @@ impl<'a> Model for Operator<'a> {
 
 impl<'a> Operator<'a> {
     /// Nothing is taken yet.
-    pub(crate) fn new(actions: &'a [Action]) -> Operator<'a>
+    pub fn new(actions: &'a [Action]) -> Operator<'a>
         ensures { result ≡ actions.now }
     {
         Operator { actions, taken: 0 }

@@ -1,8 +1,9 @@
 //! Environment calls that commit, revert and poll.
 
-ghost use Rattle.std.specs.Prelude.{◌≡◌, ◌≤◌, ◌<◌, [], All, IfSome, length, ℕ, Option, List};
+ghost use Rattle.std.specs.Prelude.{◌≡◌, ◌≤◌, ◌<◌, [], ◌++◌, All, IfSome, length, ℕ, false, Option, List};
 ghost use Rattle.mv_bindings.specs.OrderNumbers as orders;
 ghost use Rattle.mv_bindings.specs.Bindings.{events_from};
+ghost use Rattle.mv_bindings.specs.declared.binding.Event.{Event};
 ghost use Rattle.mv_bindings.specs.declared.action.Action.{Action};
 ghost use Rattle.mv_bindings.specs.Acts.{act_of};
 ghost use Rattle.mv_isa.specs.Execution.{reg};
@@ -11,8 +12,9 @@ ghost use Rattle.mv_patch.specs.Tables.{patchable};
 ghost use Rattle.mv_machine.specs.Engines.{IsAsked};
 ghost use Rattle.mv_probe.specs.Hearing.{hearing, IsPatient, object_at, Becomes};
 ghost use Rattle.mv_probe.specs.Fates.{Fates};
-ghost use Rattle.mv_machine.specs.Runs.{Going, Plans, Polls, environment_call, with_value, carried_out, refused, flipped, act};
-ghost use Rattle.mv_machine.specs.Moves.{Does, Moves, Outcomes, seen, FaultAt};
+ghost use Rattle.mv_machine.specs.Runs.{Going, Plans, Polls, environment_call, with_value, carried_out, refused, flipped, act, adopts};
+ghost use Rattle.mv_machine.specs.Commits.{is_some_pair};
+ghost use Rattle.mv_machine.specs.Moves.{Does, Moves, Outcomes, TellsOpened, seen, shown, FaultAt};
 
 use crate::engine::Engine;
 use crate::machine::Stopped;
@@ -20,6 +22,7 @@ use crate::operator::Operator;
 use crate::plans::{store_word, take_on, tell_changes, write_plan};
 use crate::registers::{answer, argument, index, live_frames};
 use mv_bindings::action::Action;
+use mv_bindings::binding::Binding;
 use mv_bindings::orders;
 use mv_fetch::Memory;
 use mv_image::Image;
@@ -32,9 +35,12 @@ use mv_rv32::Cause;
 fn refuse(engine: &mut Engine, value: u32)
     ensures does { (actions : List Action) → Does (λ s. refused s value) engine.old actions engine.new actions Going [] }
     ensures image { engine.new.image ≡ engine.old.image }
+    ensures number { engine.new.number ≡ engine.old.number }
+    ensures opened { TellsOpened engine.old engine.new }
 {
     write_plan(&mut engine.memory, &[]);
     answer(&mut engine.hart, value);
+    engine.opened = false;
 }
 
 // Carries out the plan, and tells the probes of each binding that changes.
@@ -44,6 +50,9 @@ fn carry_out(engine: &mut Engine, value: u32, probes: &mut Vec<Box<dyn Probe>>)
     ensures does { (actions : List Action) → Does (λ s. carried_out s engine.old.plan.planned value) engine.old actions engine.new actions Going (events_from 0 engine.old.bindings engine.old.plan.planned.bound) }
     ensures quiet { engine.old.image.functions ≡ [] → probes.new ≡ probes.old }
     ensures image { engine.new.image ≡ engine.old.image }
+    ensures number { engine.new.number ≡ engine.old.number }
+    ensures opened { engine.new.opened ≡ is_some_pair engine.old.plan.planned.pairs }
+    ensures bindings { engine.new.bindings ≡ engine.old.plan.planned.bound }
     ensures told { Fates (Becomes (λ probe. object_at probe.ptr probe.vtable) (λ probe. hearing (told probe) (patience probe)) (events_from 0 engine.old.bindings engine.old.plan.planned.bound)) probes.old.items probes.new.items }
 {
     within_limits(&engine.image);
@@ -51,11 +60,12 @@ fn carry_out(engine: &mut Engine, value: u32, probes: &mut Vec<Box<dyn Probe>>)
     take_on(&mut engine.bindings, engine.plan.bound());
     write_plan(&mut engine.memory, engine.plan.pairs());
     answer(&mut engine.hart, value);
+    engine.opened = !engine.plan.pairs().is_empty();
 }
 
-// Whether there is an order with a code, and the image has the function or the switch.
+/// Whether there is an order with a code, and the image has the function or the switch.
 #[tactic(auto, unfolding(mv_patch::specs::Orders::is_known_order))]
-fn is_known(image: &Image, code: u32, index: u32) -> bool
+pub fn is_known(image: &Image, code: u32, index: u32) -> bool
     ensures { result ≡ is_known_order image.now code index }
 {
     if code < u32::from(orders::COMMIT_FUNCTION) {
@@ -82,12 +92,14 @@ fn order_of(code: u32, index: u32) -> Order
     }
 }
 
-/// The commit or revert that a program asks for, and a fault where there is no such order.
+/// The commit or revert that a program asks for, and a fault where there is no such order. In another hart than 0 it is refused.
 pub(crate) fn order(engine: &mut Engine, probes: &mut Vec<Box<dyn Probe>>) -> Option<Stopped>
     requires { All (λ probe. IsPatient (hearing (told probe) (patience probe))) probes.old.items }
     ensures place { IfSome result (λ stopped. FaultAt stopped engine.new.hart.pc) }
     ensures quiet { engine.old.image.functions ≡ [] → probes.new ≡ probes.old }
     ensures image { engine.new.image ≡ engine.old.image }
+    ensures number { engine.new.number ≡ engine.old.number }
+    ensures opened { engine.old.opened ≡ false → TellsOpened engine.old engine.new }
     ensures moves { (actions : List Action) (left written : Option (List ℕ)) → Outcomes result
         (λ stop. Moves (environment_call Plans) (seen engine.old actions left written) (seen engine.new actions left written) stop
         (λ events. Fates (Becomes (λ probe. object_at probe.ptr probe.vtable) (λ probe. hearing (told probe) (patience probe)) events) probes.old.items probes.new.items))
@@ -97,6 +109,10 @@ pub(crate) fn order(engine: &mut Engine, probes: &mut Vec<Box<dyn Probe>>) -> Op
     let index = index(&engine.hart);
     if !is_known(&engine.image, code, index) {
         return Some(Stopped::Fault(engine.hart.pc, Cause::Call));
+    }
+    if engine.number != 0 {
+        refuse(engine, u32::MAX);
+        return None;
     }
     let order = order_of(code, index);
     let live = live_frames(&engine.hart);
@@ -135,6 +151,8 @@ fn flip(engine: &mut Engine, switch: u32, value: u32, probes: &mut Vec<Box<dyn P
     requires { All (λ probe. IsPatient (hearing (told probe) (patience probe))) probes.old.items }
     ensures quiet { engine.old.image.functions ≡ [] → probes.new ≡ probes.old }
     ensures image { engine.new.image ≡ engine.old.image }
+    ensures number { engine.new.number ≡ engine.old.number }
+    ensures opened { TellsOpened engine.old engine.new }
     ensures moves { (actions : List Action) (left written : Option (List ℕ)) → Moves (λ s. flipped s switch value) (seen engine.old actions left written) (seen engine.new actions left written) Going
         (λ events. Fates (Becomes (λ probe. object_at probe.ptr probe.vtable) (λ probe. hearing (told probe) (patience probe)) events) probes.old.items probes.new.items) }
 {
@@ -155,6 +173,8 @@ fn act(engine: &mut Engine, action: Action, probes: &mut Vec<Box<dyn Probe>>)
     requires { All (λ probe. IsPatient (hearing (told probe) (patience probe))) probes.old.items }
     ensures quiet { engine.old.image.functions ≡ [] → probes.new ≡ probes.old }
     ensures image { engine.new.image ≡ engine.old.image }
+    ensures number { engine.new.number ≡ engine.old.number }
+    ensures opened { TellsOpened engine.old engine.new }
     ensures moves { (actions : List Action) (left written : Option (List ℕ)) → Moves (act (act_of action)) (seen engine.old actions left written) (seen engine.new actions left written) Going
         (λ events. Fates (Becomes (λ probe. object_at probe.ptr probe.vtable) (λ probe. hearing (told probe) (patience probe)) events) probes.old.items probes.new.items) }
 {
@@ -169,6 +189,8 @@ pub(crate) fn poll(engine: &mut Engine, operator: &mut Operator, probes: &mut Ve
     requires { All (λ probe. IsPatient (hearing (told probe) (patience probe))) probes.old.items }
     ensures quiet { engine.old.image.functions ≡ [] → probes.new ≡ probes.old }
     ensures image { engine.new.image ≡ engine.old.image }
+    ensures number { engine.new.number ≡ engine.old.number }
+    ensures opened { TellsOpened engine.old engine.new }
     ensures moves { (left written : Option (List ℕ)) → Moves (environment_call Polls) (seen engine.old operator.old left written) (seen engine.new operator.new left written) Going
         (λ events. Fates (Becomes (λ probe. object_at probe.ptr probe.vtable) (λ probe. hearing (told probe) (patience probe)) events) probes.old.items probes.new.items) }
 {
@@ -180,4 +202,19 @@ pub(crate) fn poll(engine: &mut Engine, operator: &mut Operator, probes: &mut Ve
         None => refuse(engine, 0),
         Some(action) => act(engine, action, probes),
     }
+}
+
+/// Takes on bindings that a commit of hart 0 has made, of which text has the words already: in place of a poll, with the answer 1.
+pub fn adopt(engine: &mut Engine, bindings: &[Binding])
+    requires { length bindings.now ≡ length engine.old.image.functions }
+    ensures image { engine.new.image ≡ engine.old.image }
+    ensures number { engine.new.number ≡ engine.old.number }
+    ensures opened { engine.new.opened ≡ engine.old.opened }
+    ensures adopts { (left written : Option (List ℕ)) (input : List (Option ℕ)) (output : List ℕ) (log : List Event) →
+        adopts (shown (seen engine.old [] left written) Going input output log) bindings.now
+        ≡ shown (seen engine.new [] left written) Going input output (log ++ events_from 0 engine.old.bindings bindings.now) }
+{
+    write_plan(&mut engine.memory, &[]);
+    take_on(&mut engine.bindings, bindings);
+    answer(&mut engine.hart, 1);
 }

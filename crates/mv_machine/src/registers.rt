@@ -19,7 +19,7 @@ pub(crate) fn answer(hart: &mut Hart, value: u32)
 
 /// What a0 holds, the argument of a call.
 #[tactic(auto, unfolding(mv_isa::specs::Execution::reg))]
-pub(crate) fn argument(hart: &Hart) -> u32
+pub fn argument(hart: &Hart) -> u32
     ensures { result ≡ reg hart.now.regs 10 }
 {
     hart.regs[10]
@@ -27,7 +27,7 @@ pub(crate) fn argument(hart: &Hart) -> u32
 
 /// What a7 holds, the number of a call.
 #[tactic(auto, unfolding(mv_isa::specs::Execution::reg))]
-pub(crate) fn number(hart: &Hart) -> u32
+pub fn number(hart: &Hart) -> u32
     ensures { result ≡ reg hart.now.regs 17 }
 {
     hart.regs[17]
@@ -35,7 +35,7 @@ pub(crate) fn number(hart: &Hart) -> u32
 
 /// What a1 holds, the number of a function or a switch.
 #[tactic(auto, unfolding(mv_isa::specs::Execution::reg))]
-pub(crate) fn index(hart: &Hart) -> u32
+pub fn index(hart: &Hart) -> u32
     ensures { result ≡ reg hart.now.regs 11 }
 {
     hart.regs[11]
@@ -43,7 +43,7 @@ pub(crate) fn index(hart: &Hart) -> u32
 
 /// What s10 holds: how many frames of attributed functions are live.
 #[tactic(auto, unfolding(mv_isa::specs::Execution::reg))]
-pub(crate) fn live_frames(hart: &Hart) -> u32
+pub fn live_frames(hart: &Hart) -> u32
     ensures { result ≡ reg hart.now.regs 26 }
 {
     hart.regs[26]

@@ -1,12 +1,12 @@
 //! One instruction after the other.
 
-ghost use Rattle.std.specs.Prelude.{◌≡◌, ◌≤◌, ◌<◌, [], All, IfSome};
+ghost use Rattle.std.specs.Prelude.{◌≡◌, ◌≤◌, ◌<◌, [], false, All, IfSome};
 ghost use Rattle.mv_fetch.specs.Held.{choices};
 ghost use Rattle.mv_io.specs.Outside.{Rose};
 ghost use Rattle.mv_probe.specs.Ways.{Follows};
 ghost use Rattle.mv_probe.specs.Hearing.{hearing, IsPatient, object_at, Becomes};
 ghost use Rattle.mv_probe.specs.Fates.{Fates};
-ghost use Rattle.mv_machine.specs.Moves.{Fetched, Steps, Strides, Settles, Walked, seen, FaultAt};
+ghost use Rattle.mv_machine.specs.Moves.{Fetched, Steps, Strides, Settles, Turns, TellsOpened, Walked, seen, FaultAt};
 
 use crate::call::call;
 use crate::engine::Engine;
@@ -106,6 +106,8 @@ fn settle<I: Source, O: Sink>(
     ensures place { IfSome result (λ stopped. FaultAt stopped engine.new.hart.pc) }
     ensures quiet { engine.old.image.functions ≡ [] → probes.new ≡ probes.old }
     ensures image { engine.new.image ≡ engine.old.image }
+    ensures number { engine.new.number ≡ engine.old.number }
+    ensures opened { engine.old.opened ≡ false → TellsOpened engine.old engine.new }
     ensures input { I.faults source.old ≤ I.faults source.new }
     ensures output { O.faults sink.old ≤ O.faults sink.new }
 {
@@ -115,6 +117,32 @@ fn settle<I: Source, O: Sink>(
         Stepped::Fault(cause) => Some(Stopped::Fault(engine.hart.pc, cause)),
         Stepped::Memory => Some(Stopped::Memory),
     }
+}
+
+/// One instruction, and the answer of the run where it doesn't go on. The instruction that `InputFault`, `OutputFault` or `Memory` names wasn't carried
+/// out, and `Steps` never comes.
+pub fn turn<I: Source, O: Sink>(
+    engine: &mut Engine,
+    operator: &mut Operator,
+    source: &mut I,
+    sink: &mut O,
+    oracle: &mut Box<dyn FetchOracle>,
+    probes: &mut Vec<Box<dyn Probe>>,
+) -> Option<Stopped>
+    requires { All (λ probe. IsPatient (hearing (told probe) (patience probe))) probes.old.items }
+    ensures turns { Turns result (seen engine.old operator.old (I.left source.old) (O.written sink.old)) (seen engine.new operator.new (I.left source.new) (O.written sink.new)) (way oracle.old) (way oracle.new)
+        (Rose (I.faults source.old) (I.faults source.new)) (Rose (O.faults sink.old) (O.faults sink.new))
+        (λ events. Fates (Becomes (λ probe. object_at probe.ptr probe.vtable) (λ probe. hearing (told probe) (patience probe)) events) probes.old.items probes.new.items) }
+    ensures opened { TellsOpened engine.old engine.new }
+    ensures place { IfSome result (λ stopped. FaultAt stopped engine.new.hart.pc) }
+    ensures image { engine.new.image ≡ engine.old.image }
+    ensures number { engine.new.number ≡ engine.old.number }
+    ensures input { I.faults source.old ≤ I.faults source.new }
+    ensures output { O.faults sink.old ≤ O.faults sink.new }
+{
+    engine.opened = false;
+    let stepped = step(&mut engine.hart, &mut engine.memory, oracle);
+    settle(stepped, engine, operator, source, sink, probes)
 }
 
 /// So many instructions, and the answer of the run where one of them doesn't go on.
@@ -134,6 +162,7 @@ pub(crate) fn walk<I: Source, O: Sink>(
     ensures place { IfSome result (λ stopped. FaultAt stopped engine.new.hart.pc) }
     ensures quiet { engine.old.image.functions ≡ [] → probes.new ≡ probes.old }
     ensures image { engine.new.image ≡ engine.old.image }
+    ensures number { engine.new.number ≡ engine.old.number }
     ensures input { I.faults source.old ≤ I.faults source.new }
     ensures output { O.faults sink.old ≤ O.faults sink.new }
 {

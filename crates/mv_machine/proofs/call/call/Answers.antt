@@ -2,6 +2,7 @@ use Rattle.std.proofs.Common.{refl, sym, ap, ◌∙◌, rules}
 use Rattle.mv_probe.proofs.Logs.{told_nothing}
 use Rattle.mv_machine.specs.Runs.{request_of, trap_of}
 use Rattle.mv_machine.proofs.Calls.{request_exits, request_reads, request_writes, request_traps, request_plans, request_polls, request_unknown, exits, traps, unknown, reads, writes, same, plans, polls, outcomes_stop}
+use Rattle.mv_machine.proofs.Opening.{stays_closed}
 use Rattle.mv_machine.proofs.call.call.Goals as goal
 
 pub returns-then-number-eq-EXIT-clause-moves : goal.returns-then-number-eq-EXIT-clause-moves
@@ -34,3 +35,24 @@ returns-then-number-eq-POLL-clause-moves g c = polls c.args.engine.now c.args.op
 pub returns-clause-moves : goal.returns-clause-moves
 returns-clause-moves g c =
     unknown c.args.engine.now c.args.operator.now _ _ _ (told_nothing _ _ c.args.probes.now.items c.requires) (sym (ap request_of c.number-number.ensures) ∙ request_unknown _ c.if-number-eq-EXIT.false c.if-number-eq-READ.false c.if-number-eq-WRITE.false c.if-number-eq-TRAP.false c.if-number-eq-PLAN.false c.if-number-eq-POLL.false)
+
+pub returns-then-number-eq-EXIT-clause-opened : goal.returns-then-number-eq-EXIT-clause-opened
+returns-then-number-eq-EXIT-clause-opened g c = stays_closed c.args.engine.now.image c.args.engine.now.bindings c.args.engine.now.opened
+
+pub returns-in-Ok-clause-opened : goal.returns-in-Ok-clause-opened
+returns-in-Ok-clause-opened g c = stays_closed c.args.engine.now.image c.args.engine.now.bindings c.args.engine.now.opened
+
+pub returns-in-Err-clause-opened : goal.returns-in-Err-clause-opened
+returns-in-Err-clause-opened g c = stays_closed c.args.engine.now.image c.args.engine.now.bindings c.args.engine.now.opened
+
+pub returns-in-Ok-putchar-clause-opened : goal.returns-in-Ok-putchar-clause-opened
+returns-in-Ok-putchar-clause-opened g c = stays_closed c.args.engine.now.image c.args.engine.now.bindings c.args.engine.now.opened
+
+pub returns-in-Err-putchar-clause-opened : goal.returns-in-Err-putchar-clause-opened
+returns-in-Err-putchar-clause-opened g c = stays_closed c.args.engine.now.image c.args.engine.now.bindings c.args.engine.now.opened
+
+pub returns-then-number-eq-TRAP-clause-opened : goal.returns-then-number-eq-TRAP-clause-opened
+returns-then-number-eq-TRAP-clause-opened g c = stays_closed c.args.engine.now.image c.args.engine.now.bindings c.args.engine.now.opened
+
+pub returns-clause-opened : goal.returns-clause-opened
+returns-clause-opened g c = stays_closed c.args.engine.now.image c.args.engine.now.bindings c.args.engine.now.opened

@@ -8,7 +8,7 @@ use Rattle.mv_machine.proofs.turning.walk.Goals as goal
 use Rattle.mv_io.proofs.Common.{rose_later}
 
 pub loop-left-init : goal.loop-left-init
-loop-left-init g c = record { few = omega arith; goes = goes_at _ _ _ _ _ 0 (c.args.steps - c.args.steps) (omega arith) (goes_none _ _ _ (told_nothing _ _ c.args.probes.now.items c.requires)); image = refl; quiet = λ none. refl; input = omega arith; output = omega arith }
+loop-left-init g c = record { few = omega arith; goes = goes_at _ _ _ _ _ 0 (c.args.steps - c.args.steps) (omega arith) (goes_none _ _ _ (told_nothing _ _ c.args.probes.now.items c.requires)); image = refl; number = refl; quiet = λ none. refl; input = omega arith; output = omega arith }
 
 pub settle-requires : goal.settle-requires
 settle-requires g c = let i = c.loop-left.invariant in patient_after _ _ i.goes.3.1 c.args.probes.now.items c.loop-left.probes.items i.goes.3.3
@@ -38,6 +38,7 @@ loop-left-preserved g c =
           (goes_more (c.args.steps - l.left + s.0) x (seen last l.operator (g.I.Source.left l.source) (g.O.Sink.written l.sink)) z _ _ _ A B _ _ _
           (λ xs ys before behind. told_then _ _ xs ys c.args.probes.now.items l.probes.items n.probes.items before behind) goes turn);
       image = c.in_default.ensures.image ∙ i.image;
+      number = c.in_default.ensures.number ∙ i.number;
       quiet = λ none. c.in_default.ensures.quiet (ap (λ (f : Fields). f.functions) i.image ∙ none) ∙ i.quiet none;
       input = omega (arith, i.input, c.in_default.ensures.input);
       output = omega (arith, i.output, c.in_default.ensures.output);

@@ -13,6 +13,7 @@ invariant-loop-left g l =
       goes : Goes (l.steps - l.left) (seen l.initial.engine l.initial.operator (g.I.Source.left l.initial.source) (g.O.Sink.written l.initial.sink)) (seen l.engine l.operator (g.I.Source.left l.source) (g.O.Sink.written l.sink)) ((goal.FetchOracle-dyn g (was.vtable, was.value)).way was.value) ((goal.FetchOracle-dyn g (is.vtable, is.value)).way is.value)
           (λ events. Fates (Becomes (λ probe. object_at probe.ptr probe.vtable) (λ probe. hearing ((goal.Probe-dyn g (probe.vtable, probe.value)).told probe.value) ((goal.Probe-dyn g (probe.vtable, probe.value)).patience probe.value)) events) l.initial.probes.items l.probes.items);
       image : l.engine.image ≡ l.initial.engine.image;
+      number : l.engine.number ≡ l.initial.engine.number;
       quiet : l.initial.engine.image.functions ≡ [] → l.probes ≡ l.initial.probes;
       input : g.I.Source.faults l.initial.source ≤ g.I.Source.faults l.source;
       output : g.O.Sink.faults l.initial.sink ≤ g.O.Sink.faults l.sink;

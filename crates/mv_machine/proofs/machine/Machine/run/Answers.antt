@@ -15,13 +15,14 @@ returns-clause-runs g c =
     let is : Snapshot = record { image = e.image; regs = e.hart.regs; pc = e.hart.pc; room = e.memory; bindings = e.bindings; last = walk.result } in
     ran was is (seen c.self.inside.engine c.new-operator.result (g.I.Source.left c.args.source.now) (g.O.Sink.written c.args.sink.now)) (seen e walk.new.operator (g.I.Source.left walk.new.source) (g.O.Sink.written walk.new.sink))
     (record {
+      hart = c.self.invariant;
       image = sym (ap (λ (m : Snapshot). m.image) c.self.view_is);
       regs = sym (ap (λ (m : Snapshot). m.regs) c.self.view_is);
       pc = sym (ap (λ (m : Snapshot). m.pc) c.self.view_is);
       room = sym (ap (λ (m : Snapshot). m.room) c.self.view_is);
       bindings = sym (ap (λ (m : Snapshot). m.bindings) c.self.view_is);
     })
-    (record { image = refl; regs = refl; pc = refl; room = refl; bindings = refl })
+    (record { hart = walk.ensures.number ∙ c.self.invariant; image = refl; regs = refl; pc = refl; room = refl; bindings = refl })
     (walk.ensures.image ∙ ap (λ (m : Snapshot). m.image) c.self.view_is)
     _ _ _ _
     (λ before now events. Fates (Becomes (λ probe. object_at probe.ptr probe.vtable) (λ probe. hearing ((goal.Probe-dyn g (probe.vtable, probe.value)).told probe.value) ((goal.Probe-dyn g (probe.vtable, probe.value)).patience probe.value)) events) before now)

@@ -1,16 +1,7 @@
-use Rattle.std.proofs.Common.{ap, ap₂, ◌∙◌, ◌+◌, ◌*◌, length}
-use Rattle.mv_fetch.specs.Held.{first as first_memory}
-use Rattle.mv_machine.proofs.Starts.{started}
+use Rattle.mv_machine.specs.Snapshots.{kept}
+use Rattle.mv_machine.proofs.Starts.{kept_start}
 use Rattle.mv_machine.proofs.machine.Machine.start.Goals as goal
 
 pub returns : goal.returns
-returns c =
-    started c.args.image.now c.in_ok-copied.field-0 c.entry.result c.in_ok-new.field-0 c.in_ok-all_free.field-0 c.len-3.result (c.len.result + 2 * c.len-2.result)
-    c.in_ok-copied.ensures
-    c.entry.ensures.value
-    (c.in_ok-new.ensures.held ∙ ap₂ (λ a b. first_memory a b) c.text.ensures.value c.globals.ensures)
-    c.in_ok-new.ensures.spare
-    c.in_ok-new.ensures.reserve
-    (ap₂ (λ a b. a + 2 * b) (c.len.ensures ∙ ap length c.functions.ensures) (c.len-2.ensures ∙ ap length c.sites.ensures))
-    c.in_ok-all_free.ensures
-    (c.len-3.ensures ∙ ap length c.functions-2.ensures)
+unfolding kept
+returns c = kept_start c.in_ok-start.field-0 c.args.image.now c.in_ok-start.ensures.1

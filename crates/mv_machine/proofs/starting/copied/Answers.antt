@@ -1,6 +1,6 @@
 use Rattle.std.proofs.Common.{rules}
 use Rattle.mv_machine.proofs.Starts.{copied_fits}
-use Rattle.mv_machine.proofs.engine.copied.Goals as goal
+use Rattle.mv_machine.proofs.starting.copied.Goals as goal
 
 pub of_parts-requires : goal.of_parts-requires
 of_parts-requires c =
