@@ -1,0 +1,5 @@
+mod Bound
+mod Lone
+mod Fit
+mod Meant
+mod Picks
