@@ -1,0 +1,3 @@
+pub mod Words
+pub mod Sitting
+pub mod Executing

@@ -1,0 +1,21 @@
+//! One hart of several, in code.
+//!
+//! - A `Seat` is one hart with its engine and how it stands: `Sits` (`specs/Seats.antt`) says which hart of a run of harts it is (`mv_harts_runs`), and
+//!   what its source has left.
+//! - `Seat::start` is a hart before its first instruction. `is_on`: it has not ended. `glance`: where the instruction at pc stands, and the store that it
+//!   is. `adopt`: it takes on the bindings of a commit of hart 0. `take_store`: it makes another hart's store into text.
+//! - `Seat::execute` is one instruction, as `move` and `executes` of that run define it, or a read or write that failed (`Did`, in
+//!   `specs/Executions.antt`): what was written, what is left, the state, and whether the commit of hart 0 is under way behind it.
+//! - All of this is under two premises: the source tells its bytes, and a fetch has one choice, as in each run of harts on an image that is right.
+//! - Want of memory: where a store into text finds none, the instruction isn't executed and nothing is written.
+#![tactic(auto)]
+
+mod execute;
+mod fields;
+mod glance;
+mod seat;
+mod store;
+
+pub use glance::{Glance, Place};
+pub use seat::{Mode, Seat, Taken};
+pub use store::{Store, Width};
