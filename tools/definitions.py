@@ -7,7 +7,8 @@
 
 Each part begins at some definitions and goes on through the text of each: a name is an item of the same file, or what a `use` line of the file
 brings. A definition stands behind those that it names; what an earlier part has isn't listed again. Names of the toolchain's libraries end the walk.
-Types that are declared in Rust are named by their file in `src/`. A name of a number, as of a register or a limit, is listed in a part of its own with the
+The last part begins at a call's signature, with its clauses, and goes on through the traits that it names, with theirs.
+Types that are declared in Rust, traits and calls are named by their file in `src/`. A name of a number, as of a register or a limit, is listed in a part of its own with the
 number.
 """
 import os
@@ -23,7 +24,7 @@ PARTS = [
     ("What a run of an image does", [("mv_machine/specs/Runs.antt", "runs")]),
     ("That the run does what the program means", [("mv_refine_runs/specs/Behaves.antt", "BehavesAlways"), ("mv_refine_images/specs/Own.antt", "LoadsNoOwnSwitch")]),
     ("Which text is which program", [("mv_front/specs/Verdicts.antt", "IsProgram")]),
-    ("What the command does", [("mv_top/specs/Outcomes.antt", "IsCarriedOut")]),
+    ("What the command does", [("mv_top/src/top.rt", "multiverse")]),
 ]
 # Of these only what an earlier part has is to be believed: the rest says which bodies and tables an image was made of.
 CLOSED = {("mv_build/specs/Images.antt", "IsImageOf"), ("mv_build/specs/Verdicts.antt", "PassesLimit")}
@@ -31,6 +32,9 @@ CLOSED = {("mv_build/specs/Images.antt", "IsImageOf"), ("mv_build/specs/Verdicts
 USE = re.compile(r"^ *(?:pub )?(?:ghost )?use +Rattle\.(?P<path>[^\s{;]+?)(?:\.\{(?P<names>[^}]*)\})?(?: as (?P<alias>[^\s;]+))?;? *$")
 ITEM = re.compile(r"^ *(?:(?:pub|abbrev|unfoldable|private) )*(?:(?:record|data) )?(?P<name>[^\s(){}:,;=]+)(?: +[({].*?)? *:(?: |$)")
 NUMBER = re.compile(r"^ *abbrev pub (?P<name>\w+) : ℕ\n *(?P=name) = (?P<value>[\w+*^ ()-]+)\s*$")
+IMPORT = re.compile(r"^use +(?P<crate>mv_\w+)::(?:\{(?P<names>[^}]*)\}|(?P<name>\w+));$", re.M)
+CALL = re.compile(r"^pub fn (?P<name>\w+)(?P<text>.*?)^\{$", re.M | re.S)
+TRAIT = re.compile(r"^pub trait (?P<name>\w+)(?P<text>.*?)^\}$", re.M | re.S)
 WORD = re.compile(r"[^\s(){}\[\],;λ\"«»]+")
 
 
@@ -83,7 +87,7 @@ class File:
     @staticmethod
     def is_field(line, starts, lines, indent):
         """A field of a record, or a constructor: it stands deeper than a record or data that is open."""
-        if line.lstrip().startswith(('abbrev', 'pub abbrev', 'abbrev pub', 'unfoldable', 'record', 'pub record', 'data', 'pub data')):
+        if line.lstrip().startswith(('abbrev ', 'pub abbrev ', 'unfoldable ', 'record ', 'pub record ', 'data ', 'pub data ')):
             return False
         for number, name, head in reversed(starts):
             depth = len(head) - len(head.lstrip())
@@ -92,13 +96,32 @@ class File:
         return False
 
 
+class Code(File):
+    """A file of Rust: what its `ghost use` lines bring, the crate of each name that it imports, and the text of public calls up to their bodies and of
+    traits."""
+
+    def __init__(self, path):
+        self.path, self.names, self.modules, self.items, self.crates = path, {}, {}, {}, {}
+        lines = [line for line in open(path, encoding='utf-8').read().split('\n') if not line.lstrip().startswith('//')]
+        for line in lines:
+            use = USE.match(line)
+            if use:
+                self.take(use)
+        text = '\n'.join(lines)
+        for found in IMPORT.finditer(text):
+            for name in (found['names'] or found['name']).split(','):
+                self.crates[name.strip()] = found['crate']
+        for found in [*CALL.finditer(text), *TRAIT.finditer(text)]:
+            self.items[found['name']] = re.sub('[<>&:]', ' ', found['text'])
+
+
 class Walk:
     def __init__(self, root):
         self.root, self.files, self.order, self.seen = root, {}, [], set()
 
     def file(self, path):
         if path not in self.files:
-            self.files[path] = File(path) if os.path.exists(path) else None
+            self.files[path] = (Code if path.endswith('.rt') else File)(path) if os.path.exists(path) else None
         return self.files[path]
 
     def place(self, module):
@@ -127,6 +150,8 @@ class Walk:
             self.declared(crate, parts[:-1], parts[-1])
 
     def declared(self, crate, folders, name):
+        if not crate.startswith('mv_'):
+            return
         base = os.path.join(self.root, 'crates', crate, 'src', *folders)
         path = next((p for p in (base + '.rt', os.path.join(base, 'mod.rt'), os.path.join(self.root, 'crates', crate, 'src', 'lib.rt')) if os.path.exists(p)), base + '.rt')
         if (path, name) not in self.seen:
@@ -155,9 +180,20 @@ class Walk:
                 continue
             self.word(file, word, path)
 
+    def trait(self, crate, name):
+        """A trait of a crate, or nothing where the name is another's."""
+        folder = os.path.join(self.root, 'crates', crate, 'src')
+        for short in sorted(os.listdir(folder)):
+            path = os.path.join(folder, short)
+            if path.endswith('.rt') and f'\npub trait {name}' in open(path, encoding='utf-8').read():
+                self.visit(path, name)
+
     def word(self, file, word, path):
         if path and word in file.items:
             self.visit(path, word)
+            return
+        if isinstance(file, Code) and word in file.crates:
+            self.trait(file.crates[word], word)
             return
         if word in file.names:
             self.follow(*file.names[word])

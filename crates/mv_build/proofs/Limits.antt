@@ -27,7 +27,7 @@ use Rattle.mv_build.specs.declared.error.BuildError.{BuildError}
 use Rattle.mv_build.specs.declared.error.BuildError.TheVariants.{Refused, Memory}
 use Rattle.mv_build.specs.Compiled.{IsLinkedOf, IsLinkedTo, IsLinkRefusal, IsSound, IsWithinLimits, OnRefusal, parts_of, without_data}
 use Rattle.mv_build.specs.Errors.{of_linking, of_selecting}
-use Rattle.mv_build.specs.Verdicts.{IsCoded, PassesLimit, large_frame, many_sites, much_data, long_text}
+use Rattle.mv_build.specs.Verdicts.{IsCoded, PassesLimit, PassesWith, large_frame, large_parts, many_sites, much_data, long_text}
 use Rattle.mv_num.proofs.Lists.{there_at}
 use Rattle.std.proofs.lemmas.Option.{same_Some}
 
@@ -53,29 +53,33 @@ cause_told parts (linking.DataLimit n) h = record { cause = linking.DataLimit n;
 cause_told parts (linking.TextLimit n) h = record { cause = linking.TextLimit n; is = refl; why = h }
 cause_told parts (linking.Memory e) h = tt
 
-module _ (p : Program) (parts : Parts) (frames : FramesFit p (length p.functions)) (coded : IsCoded p parts) where
-  pub sites_past : (sites : ℕ) → sites ≡ up_to_greatest (site_count parts) → site_limit < sites → PassesLimit p (counted 14 0 sites)
-  sites_past sites is past = many_sites sites frames (record { parts = parts; coded = coded; past = omega (arith, is, past); is = is })
+module _ (p : Program) (parts : Parts) where
+  pub sites_past : (sites : ℕ) → sites ≡ up_to_greatest (site_count parts) → site_limit < sites → PassesWith p parts (counted 14 0 sites)
+  sites_past sites is past = subst (λ n. PassesWith p parts (counted 14 0 n)) (sym is) (many_sites (omega (arith, is, past)))
 
   pub few_sites : (sites : ℕ) → sites ≡ up_to_greatest (site_count parts) → sites ≤ site_limit → HasFewSites parts
   few_sites sites is few = omega (arith, is, few)
 
-  pub data_past : HasFewSites parts → data_limit < data_words p → PassesLimit p (counted 13 0 (data_words p))
-  data_past few past = much_data frames (record { parts = parts; coded = coded; few = few }) past
+  pub data_past : HasFewSites parts → data_limit < data_words p → PassesWith p parts (counted 13 0 (data_words p))
+  data_past few past = much_data few past
 
-  module _ (few : HasFewSites parts) (fits : data_words p ≤ data_limit) (count : length parts.globals ≡ data_words p) (are : ArePartsOf p coded.bodies coded.tables parts) where
-    link_refused : (r : Refusal) (cause : LinkError) → Refused r ≡ of_linking cause → IsRefusal parts cause → PassesLimit p r
+  module _ (few : HasFewSites parts) (fits : data_words p ≤ data_limit) (count : length parts.globals ≡ data_words p) where
+    link_refused : (r : Refusal) (cause : LinkError) → Refused r ≡ of_linking cause → IsRefusal parts cause → PassesWith p parts r
     link_refused r (linking.Sites n) e h = absurd (omega (arith, h.0, h.1, few))
     link_refused r (linking.DataLimit n) e h = absurd (omega (arith, h.1, h.2, count, fits))
     link_refused r (linking.TextLimit n) e h =
         let same : counted 9 0 n ≡ r = cc e in
-        subst (PassesLimit p) same
-        (long_text n frames fits (record { bodies = coded.bodies; tables = coded.tables; parts = parts; are_parts = are; few = few; past = h.2 }))
+        subst (PassesWith p parts) same (long_text n few fits h.2)
     link_refused r (linking.Memory m) e h = absurd (cc e)
 
-    pub refusal_is : (e : BuildError) → OnRefusal e (IsLinkRefusal parts) → OnRefusal e (PassesLimit p)
+    pub refusal_is : (e : BuildError) → OnRefusal e (IsLinkRefusal parts) → OnRefusal e (PassesWith p parts)
     refusal_is (Refused r) h = link_refused r h.cause h.is h.why
     refusal_is (Memory e) h = tt
+
+  -- and so the program passes it
+  pub limit_of : FramesFit p (length p.functions) → IsCoded p parts → (e : BuildError) → OnRefusal e (PassesWith p parts) → OnRefusal e (PassesLimit p)
+  limit_of frames coded (Refused r) h = large_parts parts r frames coded h
+  limit_of frames coded (Memory e) h = tt
 
 -- ---- parts with their data
 
@@ -84,8 +88,16 @@ module _ (p : Program) (functions : List Labelled) (attributed : List PartFuncti
       record parts { globals = words } ≡ parts_of p functions attributed
   with_data parts words is all = ap₂ (λ (x : Parts) (ds : List Datum). record x { globals = ds }) is all
 
-  pub coded_without : (parts : Parts) → parts ≡ without_data (parts_of p functions attributed) → IsCoded p (parts_of p functions attributed) → IsCoded p parts
-  coded_without parts is h = subst (IsCoded p) (sym is) (record { bodies = h.bodies; tables = h.tables; codes = h.codes })
+  -- a limit that they pass without their data is one that they pass
+  passes_with : (r : Refusal) → PassesWith p (without_data (parts_of p functions attributed)) r → PassesWith p (parts_of p functions attributed) r
+  passes_with r (many_sites past) = many_sites past
+  passes_with r (much_data few past) = much_data few past
+  passes_with r (long_text count few fits past) = long_text count few fits past
+
+  pub limit_with : (parts : Parts) → parts ≡ without_data (parts_of p functions attributed) → (e : BuildError) → OnRefusal e (PassesWith p parts) →
+      OnRefusal e (PassesWith p (parts_of p functions attributed))
+  limit_with parts is (Refused r) h = passes_with r (subst (λ (x : Parts). PassesWith p x r) is h)
+  limit_with parts is (Memory e) h = tt
 
   pub within : (parts : Parts) → parts ≡ without_data (parts_of p functions attributed) → IsWithinLimits p parts → IsWithinLimits p (parts_of p functions attributed)
   within parts is h =
@@ -99,5 +111,5 @@ module _ (p : Program) (functions : List Labelled) (attributed : List PartFuncti
     pub linked_to : (image : Fields) → IsLinkedOf (parts_of p functions attributed) image → IsLinkedTo p (parts_of p functions attributed) image
     linked_to image of = record { data_fits = fit.data_fits; labels = fit.labels; of = of }
 
-    pub not_linked : FramesFit p (length p.functions) → (e : BuildError) → OnRefusal e (IsLinkRefusal (parts_of p functions attributed)) → OnRefusal e (PassesLimit p)
-    not_linked frames = refusal_is p (parts_of p functions attributed) frames coded fit.sites fit.data_fits (counts p sound.formed) linkable
+    pub not_linked : (e : BuildError) → OnRefusal e (IsLinkRefusal (parts_of p functions attributed)) → OnRefusal e (PassesWith p (parts_of p functions attributed))
+    not_linked = refusal_is p (parts_of p functions attributed) fit.sites fit.data_fits (counts p sound.formed)

@@ -13,50 +13,38 @@ use Rattle.mv_linker.specs.declared.parts.Parts.{Parts}
 use Rattle.mv_linker.specs.Linked.{linked_lines}
 use Rattle.mv_linker.specs.Tables.{site_count}
 use Rattle.mv_linker.specs.Outcome.{HasFewSites, data_limit, site_limit}
-use Rattle.mv_link_data.specs.FirstData.{data_words}
+use Rattle.mv_link_data.specs.FirstData.{data_words, first_data}
 use Rattle.mv_parts.specs.Codes.{FramesFit, PassesFirstFrame}
 use Rattle.mv_parts.specs.Counts.{up_to_greatest}
-use Rattle.mv_parts.specs.Parts.{AreCodesOf, ArePartsOf}
+use Rattle.mv_parts.specs.Parts.{AreCodesOf}
+use Rattle.mv_parts.specs.Switches.{part_switches}
 use Rattle.mv_build.specs.declared.built.Built.{Built}
 use Rattle.mv_build.specs.Images.{IsImageOf}
 
 -- ---- limits
 
--- A program's code: that of bodies of its functions, and of variants of its attributed ones. With it stand the parts that are linked.
+-- What a program is compiled to: bodies of its functions and variants of its attributed ones, and the parts that are linked of their code, with its switches
+-- and the first words of its globals.
 pub record IsCoded (p : Program) (parts : Parts) : Type 0 where
   pub bodies : List Body
   pub tables : List (List Variant)
   pub codes : AreCodesOf p bodies tables parts.functions parts.attributed
+  pub switches : parts.switches ≡ part_switches p
+  pub main : parts.main ≡ p.main
+  pub globals : parts.globals ≡ first_data p
 
--- it has so many slots, which are more than an image may have sites
-pub record PassesSites (p : Program) (count : ℕ) : Type 0 where
-  pub parts : Parts
-  pub coded : IsCoded p parts
-  pub past : site_limit < site_count parts
-  pub is : count ≡ up_to_greatest (site_count parts)
+-- These parts pass a limit: their slots are more than an image may have sites; else the words of data are too many; else those of text, with the stubs and as
+-- many short branches as can be, pass its end. The refusal has their count.
+pub data PassesWith (p : Program) (parts : Parts) : Refusal → Type 0 where
+  many_sites : site_limit < site_count parts → PassesWith p parts (counted refusals.sites 0 (up_to_greatest (site_count parts)))
+  much_data : HasFewSites parts → data_limit < data_words p → PassesWith p parts (counted refusals.globals 0 (data_words p))
+  long_text : (count : ℕ) → HasFewSites parts → data_words p ≤ data_limit → PassesText text_start (linked_lines parts) count →
+      PassesWith p parts (counted refusals.text 0 count)
 
--- it has few enough
-pub record FitsSites (p : Program) : Type 0 where
-  pub parts : Parts
-  pub coded : IsCoded p parts
-  pub few : HasFewSites parts
-
--- it has few enough, and with the stubs, and as many short branches as can be, so many words, which pass the end of text
-pub record PassesTextOf (p : Program) (count : ℕ) : Type 0 where
-  pub bodies : List Body
-  pub tables : List (List Variant)
-  pub parts : Parts
-  pub are_parts : ArePartsOf p bodies tables parts
-  pub few : HasFewSites parts
-  pub past : PassesText text_start (linked_lines parts) count
-
--- A program has no image where it passes a limit: the frame of a function, which is the first such; then the sites in its code; then the words of its
--- data; and then those of its text.
+-- A program has no image where it passes a limit: that of the frame of a function, which is the first such; or else one of the parts that it is compiled to.
 pub data PassesLimit (p : Program) : Refusal → Type 0 where
   large_frame : (f bytes : ℕ) → PassesFirstFrame p f bytes → PassesLimit p (counted refusals.frame f bytes)
-  many_sites : (count : ℕ) → FramesFit p (length p.functions) → PassesSites p count → PassesLimit p (counted refusals.sites 0 count)
-  much_data : FramesFit p (length p.functions) → FitsSites p → data_limit < data_words p → PassesLimit p (counted refusals.globals 0 (data_words p))
-  long_text : (count : ℕ) → FramesFit p (length p.functions) → data_words p ≤ data_limit → PassesTextOf p count → PassesLimit p (counted refusals.text 0 count)
+  large_parts : (parts : Parts) (r : Refusal) → FramesFit p (length p.functions) → IsCoded p parts → PassesWith p parts r → PassesLimit p r
 
 -- ---- a source
 

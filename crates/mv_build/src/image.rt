@@ -1,13 +1,12 @@
 //! The image of a program's code.
 
-ghost use Rattle.std.specs.Prelude.{◌≡◌, length, IfErr, IfOk, OnOk};
+ghost use Rattle.std.specs.Prelude.{◌≡◌, IfErr, IfOk, OnOk};
 ghost use Rattle.mv_front.specs.Refusals.{counted};
 ghost use Rattle.mv_linker.specs.Linked.{AreParts};
 ghost use Rattle.mv_linker.specs.Tables.{FitTables};
-ghost use Rattle.mv_parts.specs.Codes.{FramesFit};
 ghost use Rattle.mv_parts.specs.Switches.{HasSwitches};
 ghost use Rattle.mv_build.specs.Compiled.{IsLinkedOf, IsLinkedTo, IsLinkRefusal, IsSound, IsWithinLimits, OnRefusal, parts_of, without_data};
-ghost use Rattle.mv_build.specs.Verdicts.{IsCoded, PassesLimit};
+ghost use Rattle.mv_build.specs.Verdicts.{IsCoded, PassesWith};
 ghost use Rattle.mv_build.specs.declared.error.BuildError.TheVariants.{Refused};
 
 use crate::error::BuildError;
@@ -27,7 +26,7 @@ const SITE_LIMIT: u64 = limits::SITE_LIMIT as u64;
 /// How many words of data there may be.
 const DATA_LIMIT: u64 = regions::DATA_LIMIT as u64;
 
-/// The image of a program with this code, or the limit that it passes: that of sites, of data, or of text, in this order.
+/// The image of a program with this code, or the limit that it passes: that of sites, of data, or of text, in this order. The count is that of this code.
 pub(crate) fn image_of(
     alloc: Global,
     program: &Program,
@@ -35,10 +34,9 @@ pub(crate) fn image_of(
     attributed: List<PartFunction>,
 ) -> Result<Image, BuildError>
     requires sound { IsSound program.now }
-    requires frames { FramesFit program.now (length program.now.functions) }
     requires coded { IsCoded program.now (parts_of program.now functions attributed) }
     ensures ok { IfOk result (IsLinkedTo program.now (parts_of program.now functions attributed)) }
-    ensures err { IfErr result (λ e. OnRefusal e (PassesLimit program.now)) }
+    ensures err { IfErr result (λ e. OnRefusal e (PassesWith program.now (parts_of program.now functions attributed))) }
 {
     parts_law();
     let mut parts = parts_without_data(alloc, program, functions, attributed)?;
@@ -69,11 +67,9 @@ fn parts_without_data(
 
 /// Whether a program's code has few enough sites, and its data few enough words. There are numbers for all labels, or memory is wanting.
 fn test_limits(program: &Program, parts: &Parts) -> Result<(), BuildError>
-    requires sound { IsSound program.now }
-    requires frames { FramesFit program.now (length program.now.functions) }
-    requires coded { IsCoded program.now parts.now }
+    requires { IsSound program.now }
     ensures ok { OnOk result (IsWithinLimits program.now parts.now) }
-    ensures err { IfErr result (λ e. OnRefusal e (PassesLimit program.now)) }
+    ensures err { IfErr result (λ e. OnRefusal e (PassesWith program.now parts.now)) }
 {
     let sites = site_count(parts);
     if sites > SITE_LIMIT {

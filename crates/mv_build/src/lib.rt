@@ -14,8 +14,8 @@
 //!   the source, and each has its line (`ShowsBindings`).
 //! - Each other answer has its cause, and each cause its answer unless memory is wanting: refusals 1 to 7 are those of
 //!   `mv_front`; 8 names the first function whose frame is above 2,032 bytes and its bytes, then 14 the sites above
-//!   16,384, then 13 the words of data above 262,144, then 9 the words of text above 131,072. A program that passes none
-//!   of these limits has an image.
+//!   16,384, then 13 the words of data above 262,144, then 9 the words of text above 131,072: each the count of the code
+//!   that was made, which is linked where it is within these limits. A program that passes none of them has an image.
 //! - `compiled`: the same from a well-formed program without pointer switches, as `front` gives each.
 //! - The codes and counts of small sources are rows of `mv_test_top`.
 #![tactic(auto)]

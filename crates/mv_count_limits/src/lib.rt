@@ -17,9 +17,9 @@ use mv_parts::parts_law;
 
 /// A source is refused for no frame, no sites and no text below the counts over it. The call does nothing: its contract is the law.
 ///
-/// `frames`: of a function whose frame passes the limit, the declared words and eight for each level of its depth are more than 480. `sites`: of a program
-/// whose sites pass the limit, so does the count over the source; `texts`: and so it is of its text. `none`: a program that is within these counts, and whose
-/// globals have few enough words, passes no limit, so `build` answers it with an image, unless memory is wanting.
+/// `frames`: of a function whose frame passes the limit, the declared words and eight for each level of its depth are more than 480. `sites`: what a program
+/// is compiled to has at most as many sites as the count over the source; `texts`: where its text passes the limit, so does that count. `none`: a program
+/// that is within these counts, and whose globals have few enough words, passes no limit, so `build` answers it with an image, unless memory is wanting.
 pub fn counted_programs_pass_no_limit()
     ensures frames { FramesAreCounted }
     ensures sites { SitesAreCounted }

@@ -227,7 +227,7 @@ module _ (p : Program) (image : Fields) (behaves : BehavesAlways p image) (actio
         let s = r.0 in
         let part = stuck_part (λ s pick. Asks s pick Writes) s in
         (_, part, r.1, outputs_more p image behaves actions words fit bytes are s.picks s.count steps s.fewer (goes_on (λ s pick. Asks s pick Writes) s) (comes_next (λ s pick. Asks s pick Writes) s))
-    does (answer.Fault pc why) r = ends (Fault why) r.0
+    does (answer.Fault pc why) r = ends (Fault why) r.stands
     does answer.Memory r = roomy r
 
   module _ (stopped : Stopped) (runs : Runs image (polls_of actions) before after Heard machine steps stopped) where

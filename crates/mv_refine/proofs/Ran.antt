@@ -1,10 +1,11 @@
 -- From the contract of the machine to the one run that was made.
-use Rattle.std.proofs.Common.{◌≡◌, ℕ, ◌-◌, ◌<◌, List, [], length, take, slice_index, Option, Some, None, refl, sym, ap, ◌∙◌, subst, arith}
+use Rattle.std.proofs.Common.{◌≡◌, ℕ, ◌+◌, ◌-◌, ◌<◌, List, [], length, take, slice_index, Option, Some, None, refl, sym, ap, ◌∙◌, subst, arith}
 use Rattle.std.specs.Prelude.{IfSome, option_map}
 use Rattle.mv_bindings.specs.declared.action.Action.{Action}
 use Rattle.mv_bindings.specs.declared.binding.Event.{Event}
 use Rattle.mv_eval.specs.Grown.{Lost}
 use Rattle.mv_image.specs.Spelling.{Fields}
+use Rattle.mv_isa.specs.declared.instr.Cause.{Cause}
 use Rattle.mv_refine_runs.specs.Behaves.{taken_of}
 use Rattle.mv_machine.specs.Acts.{PollActs, polls_of}
 use Rattle.mv_machine.specs.declared.machine.Stopped.{Stopped}
@@ -13,7 +14,7 @@ use Rattle.mv_machine.specs.Runs.{State, Stop, Going, Exit, Trap, Fault, Reads, 
 use Rattle.mv_machine.specs.Snapshots.{Snapshot, kept, resumed, Tells, Under, Asks, WantsMemory, Reached, Whole, Broken, Answered, Ran, Unless}
 use Rattle.mv_probe.specs.Ways.{way_after}
 use Rattle.mv_refine.specs.Environment.{Environment, ReadFailed, WriteFailed}
-use Rattle.mv_refine.specs.Run.{IsDone, Stands, RanTo, StandsBefore, Runs}
+use Rattle.mv_refine.specs.Run.{IsDone, Stands, RanTo, FaultedAt, StandsBefore, Runs}
 use Rattle.mv_refine.proofs.Leaves.{runs_leave}
 use Rattle.mv_refine.proofs.Inputs.{lost}
 use Rattle.mv_machine.proofs.Resumed.{some_input}
@@ -69,22 +70,27 @@ module _ (image : Fields) (polls : PollActs) (before after : Environment) (Told 
   abbrev now_tells : Tells after.input.left now
   now_tells = (some_input after.input.left).1
 
-  done : (n : ℕ) (stop : Stop) → (always : Always n stop) → IsDone image polls before after Told is (always now now_tells).0 picks n
-  done n stop always =
+  -- the oracle's way went on by the picks
+  abbrev WentOn : Type 0
+  WentOn = after.way ≡ option_map (λ w. way_after w (length picks)) before.way
+
+  done : WentOn → (n : ℕ) (stop : Stop) → (always : Always n stop) → IsDone image polls before after Told is (always now now_tells).0 picks n
+  done way n stop always =
       let r = always now now_tells in record {
         told = r.1.told;
         picked = r.1.picked;
+        way = way;
         output = r.1.reached.output;
         taken = taken_by before.input.left refl n stop always r.0 r.1.told;
         heard = r.1.reached.told;
         state = shows (state r.0 n) is r.1.reached.image r.1.reached.regs r.1.reached.pc r.1.reached.memory r.1.reached.bindings;
       }
 
-  stands : (n : ℕ) (stop : Stop) → (always : Always n stop) → Stands image polls before after Told is stop n
-  stands n stop always = record {
+  stands : WentOn → (n : ℕ) (stop : Stop) → (always : Always n stop) → Stands image polls before after Told is stop n
+  stands way n stop always = record {
     input = (always now now_tells).0;
     picks = picks;
-    done = done n stop always;
+    done = done way n stop always;
     stops = (always now now_tells).1.reached.stopped;
   }
 
@@ -126,14 +132,14 @@ module _ (image : Fields) (actions : List Action) (before after : Environment) (
       let always : Always image polls before after Told is picks steps stop = (λ later t. let r = all later t in (r.0, record { told = r.1; picked = r.2; reached = r.3.reached })) in
       let r = all (now image polls before after Told is picks) (now_tells image polls before after Told is picks) in
       record {
-        stands = stands image polls before after Told is picks steps stop always;
-        way = subst (λ (k : ℕ). after.way ≡ option_map (λ w. way_after w k) before.way) (sym r.3.picked) ran.way_is;
+        stands = stands image polls before after Told is picks ran.way_is steps stop always;
+        each = r.3.picked;
       }
 
   before_next : (Why : State → ℕ → Type 0) → ((later : List (Option ℕ)) → Tells after.input.left later → (input : List (Option ℕ)) × Tells before.input.left input
       × Under before.way (first image input polls) picks × Broken (first image input polls) picks steps (At image polls before after Told is picks later) Why) →
       (input : List (Option ℕ)) × IsDone image polls before after Told is input picks (length picks - 1) × ((runs image input polls picks (length picks - 1)).stop ≡ Going)
-      × Why (runs image input polls picks (length picks - 1)) (slice_index picks (length picks - 1)) × (length picks - 1 < steps)
+      × Why (runs image input polls picks (length picks - 1)) (slice_index picks (length picks - 1)) × (length picks - 1 < steps) × (length picks - 1 + 1 ≡ length picks)
   before_next Why all =
       let at : (later : List (Option ℕ)) → (t : Tells after.input.left later) → (all later t).3.count ≡ length picks - 1 =
       (λ later t. let h = (all later t).3.picked in omega (arith, h)) in
@@ -150,12 +156,14 @@ module _ (image : Fields) (actions : List Action) (before after : Environment) (
       let t = now_tells image polls before after Told is picks in
       let r = all later t in
       let fewer = r.3.within in
+      let each = r.3.picked in
       let count = at later t in (
         r.0,
-        done image polls before after Told is picks (length picks - 1) Going always,
+        done image polls before after Told is picks ran.way_is (length picks - 1) Going always,
         (always later t).1.reached.stopped,
         subst (λ (k : ℕ). Why (runs image r.0 polls picks k) (slice_index picks k)) count r.3.cause,
         omega (arith, fewer, count),
+        omega (arith, each, count),
       )
 
   stuck : (Next : State → ℕ → Type 0) (Why : State → ℕ → Type 0) → ((s : State) (pick : ℕ) → Why s pick → Next s pick) →
@@ -168,10 +176,18 @@ module _ (image : Fields) (actions : List Action) (before after : Environment) (
         picks = picks;
         count = length picks - 1;
         fewer = r.4;
+        each = r.5;
         done = r.1;
         going = r.2;
         next = why _ _ r.3;
       }
+
+  faulted : (pc : ℕ) (why : Cause) → Leads (answer.Fault pc why) → FaultedAt image polls before after Told is pc why steps
+  unfolding stands
+  faulted pc why l =
+      let always : Always image polls before after Told is picks steps (Fault why) = (λ later t. let r = l later t in (r.0, record { told = r.1; picked = r.2; reached = r.3.reached })) in
+      let r = l (now image polls before after Told is picks) (now_tells image polls before after Told is picks) in
+      record { stands = stands image polls before after Told is picks ran.way_is steps (Fault why) always; place = r.3.reached.pc ∙ r.3.place; each = r.3.picked }
 
   runs_by : (answer : Stopped) → Leads answer → Runs image polls before after Told is steps answer
   runs_by (answer.Ended status) l = whole (Exit status) l
@@ -185,10 +201,7 @@ module _ (image : Fields) (actions : List Action) (before after : Environment) (
     stuck (λ s pick. Asks s pick Writes) (λ s pick. Asks s pick Writes × WriteFailed before after) (λ s pick w. w.0) l,
     (l (now image polls before after Told is picks) (now_tells image polls before after Told is picks)).3.cause.1,
   )
-  runs_by (answer.Fault pc why) l =
-      let always : Always image polls before after Told is picks steps (Fault why) = (λ later t. let r = l later t in (r.0, record { told = r.1; picked = r.2; reached = r.3.reached })) in
-      let r = l (now image polls before after Told is picks) (now_tells image polls before after Told is picks) in
-      (stands image polls before after Told is picks steps (Fault why) always, r.3.reached.pc ∙ r.3.place)
+  runs_by (answer.Fault pc why) l = faulted pc why l
   runs_by answer.Memory l = stuck WantsMemory WantsMemory (λ s pick w. w) l
 
   pub made : Runs image (polls_of actions) before after Told is steps stopped

@@ -5,9 +5,10 @@
 //!
 //! - *The run* (`specs/Run.antt`): one run of that image by the machine's definition is what was done: its stop after the
 //!   given number of instructions is the answer (`Steps` where it goes on), the output grew by what it wrote, the input
-//!   lost what it took, each probe was told its log and left exactly where that used up its patience, the machine handed
-//!   back is in its state, and the oracle's place went on by its instructions. Before a read or a write that failed it is
-//!   a state after fewer instructions.
+//!   lost what it took, each probe was told its log and left exactly where that used up its patience, and the machine
+//!   handed back is in its state. The oracle picked for each instruction that was executed, by its way, and its place
+//!   went on by as many picks. Before a read or a write that failed it is a state after fewer instructions, and the
+//!   oracle picked once more.
 //! - *What the program means* with the actions (`specs/Meant.antt`), where the image does what its program means, the
 //!   same actions fit both, and the source tells bytes: after `Ended` and `Trapped` the meaning at the number of
 //!   instructions as its bound has that end, all its output was written and all that it takes was taken. After `Steps`,

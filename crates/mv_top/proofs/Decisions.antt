@@ -3,9 +3,9 @@ use Rattle.std.proofs.Common.{ℕ, ◌≡◌, ◌⊎◌, inl, inr, true, false, 
 use Rattle.mv_ast.specs.declared.program.Program.{Program}
 use Rattle.mv_bindings.specs.declared.binding.Event.{Event}
 use Rattle.mv_io.specs.Shelves.{Files, Lacks}
+use Rattle.mv_count_limits.specs.Counted.{CountedPassNone}
 use Rattle.mv_front.specs.Verdicts.{IsRefused}
 use Rattle.mv_front.specs.declared.refusal.Refusal.{Refusal}
-use Rattle.mv_build.specs.Verdicts.{PassesLimit}
 use Rattle.mv_exec.specs.Loading.{IsBadImage}
 use Rattle.mv_refine.specs.Environment.{Writing}
 use Rattle.mv_command.specs.Commands.{Asked, Runs, Builds, Executes, Lists, Evaluates, Generates, IsCommand, IsNoCommand}
@@ -14,13 +14,13 @@ use Rattle.mv_notes.specs.Lines.{Noted, written, unmade, cut}
 use Rattle.mv_notes.specs.declared.status.Status.{Status}
 use Rattle.mv_notes.specs.declared.status.Status.TheVariants.{Usage, Refused, Memory, ShelfFault, BadImage}
 use Rattle.mv_top.specs.Decisions as decisions
-use Rattle.mv_top.specs.Decisions.{Decides, Is, IsLoaded, IsWithinLimits, Quiet, Stands, reads_source}
+use Rattle.mv_top.specs.Decisions.{Decides, Is, IsLoaded, IsSummedUp, IsTooLarge, IsWithinLimits, Quiet, Stands, reads_source}
 use Rattle.mv_top.specs.Outcomes as outcomes
 use Rattle.mv_top.specs.Outcomes.{Comes, Does, IsCarriedOut, IsDue}
 use Rattle.mv_top.specs.Outside as outsides
 use Rattle.mv_top.specs.Outside.{Outside, Holds, OfFile, ShelfFailed, Tells}
-use Rattle.mv_top.proofs.RunsDecided.{run_ended, run_refused, run_wrong_item}
-use Rattle.mv_top.proofs.OthersDecided.{build_done, build_refused, eval_ended, eval_refused, exec_bad, exec_stands, exec_wrong_item, gen_ended, gen_stands, list_bad, list_done, show_done}
+use Rattle.mv_top.proofs.RunsDecided.{run_ended, run_refused, run_stands, run_wrong_item}
+use Rattle.mv_top.proofs.OthersDecided.{build_done, build_refused, eval_ended, eval_refused, exec_bad, exec_stands, exec_wrong_item, gen_ended, gen_summed, list_bad, list_done, show_done}
 
 -- ---- one file
 
@@ -65,13 +65,21 @@ or_limits : {Came : Type 0} {status due : Status} {p : Program} → (Came → Is
 or_limits so (inl came) = so came
 or_limits so (inr none) = inl (inr none)
 
+or_large : {Came : Type 0} {status : Status} {p : Program} → (Came → Stands status ⊎ IsTooLarge p status) → Came ⊎ (status ≡ Memory) → Stands status ⊎ IsTooLarge p status
+or_large so (inl came) = so came
+or_large so (inr none) = inl (inr none)
+
+or_summed : {Came : Type 0} {status : Status} → (Came → IsSummedUp status) → Came ⊎ (status ≡ Memory) → IsSummedUp status
+or_summed so (inl came) = so came
+or_summed so (inr none) = inr none
+
 or_stands : {Came : Type 0} {status : Status} → (Came → Stands status) → Came ⊎ (status ≡ Memory) → Stands status
 or_stands so (inl came) = so came
 or_stands so (inr none) = inr none
 
 -- ---- each command
 
-module _ (before after : Outside) (Heard : List Event → Type 0) (was is : Writing) (quiet : Quiet before after was is) where
+module _ (counted : CountedPassNone) (before after : Outside) (Heard : List Event → Type 0) (was is : Writing) (quiet : Quiet before after was is) where
   abbrev Did : Asked → List ℕ → Status → Type 0
   Did asked lines status = Does before after Heard asked lines status
 
@@ -134,13 +142,16 @@ module _ (before after : Outside) (Heard : List Event → Type 0) (was is : Writ
         refused = λ asked text r l source why. or_memory (λ does. refused l.file text l.tells asked lines status does l.loaded source r why) (did came asked l.command);
         bad_image = λ asked bytes code offset l image_file why. or_memory (λ does. bad l.file bytes l.tells asked lines status does l.loaded image_file code offset why) (did came asked l.command);
         wrong_item = λ file text options p item l good wrong.
-            or_limits (λ does. or_limits (λ ran. run_wrong_item before.environment after.environment quiet.input quiet.output text Heard options p good ran item wrong)
+            or_limits (λ does. or_limits (λ ran. run_wrong_item before.environment after.environment quiet.input quiet.output text Heard options counted p good ran item wrong)
             (given before after quiet.shelf _ file _ does.0 l.file text l.loaded l.tells)) (did came (Runs file options) l.command);
         ended = λ file text bytes options bound p actions e l good are told are_bytes ends.
-            or_limits (λ does. or_limits (λ ran. run_ended before.environment after.environment quiet.input quiet.output text Heard options p good actions are ran bytes bound e told are_bytes ends)
+            or_limits (λ does. or_limits (λ ran. run_ended before.environment after.environment quiet.input quiet.output text Heard options counted p good actions are ran bytes bound e told are_bytes ends)
+            (given before after quiet.shelf _ file _ does.0 l.file text l.loaded l.tells)) (did came (Runs file options) l.command);
+        ran = λ file text options p actions l good are.
+            or_large (λ does. or_large (λ ran. run_stands before.environment after.environment quiet.input quiet.output text Heard options counted p good actions are ran)
             (given before after quiet.shelf _ file _ does.0 l.file text l.loaded l.tells)) (did came (Runs file options) l.command);
         built = λ file image text p l good.
-            or_limits (λ does. or_limits (λ made. build_done before after quiet.shelf image text made.0 p good)
+            or_limits (λ does. or_limits (λ made. build_done before after quiet.shelf image text counted made.0 p good)
             (given before after quiet.shelf _ file _ does.0 l.file text l.loaded l.tells)) (did came (Builds file image) l.command);
         no_action_of_image = λ file bytes options image item l spells wrong.
             or_memory (λ does. or_memory (λ ran. exec_wrong_item before.environment after.environment quiet.input quiet.output bytes Heard options image spells ran item wrong)
@@ -156,14 +167,9 @@ module _ (before after : Outside) (Heard : List Event → Type 0) (was is : Writ
             (given before after quiet.shelf _ file _ does.0 l.file text l.loaded l.tells)) (did came (Evaluates file bound) l.command);
         shown = λ number c. or_memory (λ does. show_done before.environment after.environment quiet.output Heard number does.0.0) (did came (Generates number true) c);
         generated_ended = λ number bound p e c good ends.
-            or_limits (λ does. gen_ended before.environment after.environment quiet.output Heard number p good does.0 bound e ends) (did came (Generates number false) c);
-        generated_runs = λ number p c good. or_left (λ does. gen_stands before.environment after.environment quiet.output Heard number p good does.0) (did came (Generates number false) c);
+            or_memory (λ does. gen_ended before.environment after.environment quiet.output Heard number counted p good does.0 bound e ends) (did came (Generates number false) c);
+        generated_runs = λ number c. or_summed (λ does. gen_summed before.environment after.environment quiet.output Heard number does.0) (did came (Generates number false) c);
       }
-        where
-          or_left : {Came' : Type 0} {status' : Status} {p : Program} → (Came' → Stands status' ⊎ ((r : Refusal) × PassesLimit p r × (status' ≡ Refused r))) → Came' ⊎ (status' ≡ Memory) →
-              Stands status' ⊎ ((r : Refusal) × PassesLimit p r × (status' ≡ Refused r))
-          or_left so (inl came') = so came'
-          or_left so (inr none) = inl (inr none)
 
     memory_decided : Decides words before.shelf.files before.environment.input.left Memory
     memory_decided = record {
@@ -173,14 +179,15 @@ module _ (before after : Outside) (Heard : List Event → Type 0) (was is : Writ
       bad_image = λ asked bytes code offset l image_file why. inr refl;
       wrong_item = λ file text options p item l good wrong. inl (inr refl);
       ended = λ file text bytes options bound p actions e l good are told are_bytes ends. inl (inr refl);
+      ran = λ file text options p actions l good are. inl (inr refl);
       built = λ file image text p l good. inl (inr refl);
       no_action_of_image = λ file bytes options image item l spells wrong. inr refl;
       executed = λ file bytes options image actions l spells are. inr refl;
       listed = λ file bytes image l spells. inr refl;
       evaluated = λ file text bytes bound p l good told. inr refl;
       shown = λ number c. inr refl;
-      generated_ended = λ number bound p e c good ends. inl (inr refl);
-      generated_runs = λ number p c good. inl (inr refl);
+      generated_ended = λ number bound p e c good ends. inr refl;
+      generated_runs = λ number c. inr refl;
     }
 
     noted : (lines : List ℕ) (due status : Status) → Came lines due → Noted lines due was.written is.written was.faults is.faults status →
@@ -192,9 +199,9 @@ module _ (before after : Outside) (Heard : List Event → Type 0) (was is : Writ
 -- ---- from the command to its notes
 
 module _ (before after : Outside) (Heard : List Event → Type 0) (words : List (List ℕ)) (was is : Writing) where
-  pub carried_out : (due : IsDue (Comes before after Heard words)) (status : Status) → Noted due.lines due.status was.written is.written was.faults is.faults status →
+  pub carried_out : CountedPassNone → (due : IsDue (Comes before after Heard words)) (status : Status) → Noted due.lines due.status was.written is.written was.faults is.faults status →
       IsCarriedOut before after Heard words was is status
-  carried_out due status noted_so = record {
+  carried_out counted due status noted_so = record {
     gives = record { due = due; noted = noted_so };
-    decides = λ quiet. noted before after Heard was is quiet words due.lines due.status status due.comes noted_so;
+    decides = λ quiet. noted counted before after Heard was is quiet words due.lines due.status status due.comes noted_so;
   }

@@ -5,7 +5,10 @@ use Rattle.std.proofs.lemmas.List.Elements.{All-nil}
 use Rattle.mv_ast.specs.declared.program.Program.{Program}
 use Rattle.mv_bindings.specs.declared.action.Action.{Action}
 use Rattle.mv_bindings.specs.declared.binding.Event.{Event}
+use Rattle.mv_front.specs.declared.refusal.Refusal.{Refusal}
 use Rattle.mv_gen.specs.Generated.{generated}
+use Rattle.mv_gen_accepted.specs.Accepted.{TextsHaveImages}
+use Rattle.mv_operator.proofs.Acting.{not_both}
 use Rattle.mv_image.specs.Spelling.{Fields}
 use Rattle.mv_io.specs.Outside.{Rose}
 use Rattle.mv_command.specs.declared.command.RunOptions.{RunOptions}
@@ -27,7 +30,7 @@ use Rattle.mv_top.specs.Generating.{is_cut_short, is_summed_up, no_input, plain,
 use Rattle.mv_top.specs.Outcomes.{IsDue}
 use Rattle.mv_top.specs.Outside.{Writes}
 use Rattle.mv_top.specs.Running as running
-use Rattle.mv_top.specs.Running.{RunDoes, status_of_stop}
+use Rattle.mv_top.specs.Running.{IsNotRun, RunDoes, status_of_stop}
 
 -- ---- the run of a text without input
 
@@ -58,11 +61,16 @@ module _ (was is : Writing) (way way' : Option Way) (Heard : List Event → Type
   stop_is p image actions steps machine (stop.Fault pc why) runs does = absurd (does (All-nil (λ b. b < 2 ^ 8)))
   stop_is p image actions steps machine stop.Memory runs does = refl
 
-  pub stands_so : (text lines : List ℕ) (options : RunOptions) (status : Status) → Ran options text lines status → IsTrue (is_summed_up status || is_cut_short status)
-  stands_so text lines options status (running.unread unused) = refl
-  stands_so text lines options status (running.not_run r why unused) = refl
-  stands_so text lines options status (running.ran built actions e good are execution words) =
-      stop_is built.program built.image actions options.steps e.machine e.stopped execution.runs (execution.does good.image.behaves good.image.fits)
+  -- the text that is generated of a number is not refused, and its run no action
+  never_refused : TextsHaveImages → (number : ℕ) (r : Refusal) → IsNotRun (generated number) [] r → ⊥
+  never_refused images number r (running.unbuilt s none) = images number s none
+  never_refused images number r (running.wrong_item built item good wrong) = not_both built.program [] [] item (record { right = refl; are = refl }) wrong
+
+  pub stands_so : TextsHaveImages → (number : ℕ) (lines : List ℕ) (status : Status) → Ran plain (generated number) lines status → IsTrue (is_summed_up status || is_cut_short status)
+  stands_so images number lines status (running.unread unused) = refl
+  stands_so images number lines status (running.not_run r why unused) = absurd (never_refused images number r why)
+  stands_so images number lines status (running.ran built actions e good are execution words) =
+      stop_is built.program built.image actions DEFAULT_STEPS e.machine e.stopped execution.runs (execution.does good.image.behaves good.image.fits)
 
   -- options that ask for nothing but these items
   abbrev with_items : List Item → RunOptions
@@ -97,12 +105,14 @@ module _ (number : ℕ) (input : Reading) (was between is : Writing) (way way' :
       let both = silent number between is status quiet in
       subst (λ (s : Status). Sums number between is stands s) (sym both.1) (spec.unmade both.0)
 
-  pub ran_and_summed : (text : List ℕ) (ran status : Status) → text ≡ generated number → was.faults ≤ between.faults → between.faults ≤ is.faults →
+  pub ran_and_summed : TextsHaveImages → (text : List ℕ) (ran status : Status) → text ≡ generated number → was.faults ≤ between.faults → between.faults ≤ is.faults →
       RunsPlainly (environment input was way) (environment input between way') Heard text ran →
       (IsTrue (is_summed_up ran || is_cut_short ran) → Sums number between is ran status) → RunsText (environment input was way) (environment input is way') Heard number status
-  ran_and_summed text ran status same later latest plainly sums =
-      spec.ran between plainly.stands status (subst (λ t. RunDoes (environment no_input was way) (environment no_input between way') Heard plain t [] plainly.stands) same plainly.does)
-      later latest (summed_up plainly.stands ran status (stands_so was between way way' Heard text [] plain plainly.stands plainly.does) plainly.is sums)
+  ran_and_summed images text ran status same later latest plainly sums =
+      let does : RunDoes (environment no_input was way) (environment no_input between way') Heard plain (generated number) [] plainly.stands =
+      subst (λ t. RunDoes (environment no_input was way) (environment no_input between way') Heard plain t [] plainly.stands) same plainly.does in
+      spec.ran between plainly.stands status does later latest
+      (summed_up plainly.stands ran status (stands_so was between way way' Heard images number [] plainly.stands does) plainly.is sums)
 
 -- ---- what is written behind a run
 

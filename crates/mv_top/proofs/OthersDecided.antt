@@ -1,6 +1,6 @@
 -- Which status comes of what is evaluated, built, run as an image, listed or generated.
 use Rattle.std.proofs.Common.{ℕ, ◌≡◌, ◌≤◌, ◌<◌, ◌^◌, ◌⊎◌, inl, inr, List, [], take, refl, sym, ap, ◌∙◌, subst, Some, arith}
-use Rattle.std.specs.Prelude.{Result, Ok, Err, ⊤}
+use Rattle.std.specs.Prelude.{Result, Ok, Err, IsTrue, ⊤}
 use Rattle.std.proofs.lemmas.List.Elements.{All-nil}
 use Rattle.mv_ast.specs.declared.program.Program.{Program}
 use Rattle.mv_bindings.specs.declared.action.Action.{Action}
@@ -27,24 +27,28 @@ use Rattle.mv_machine.specs.Acts.{polls_of}
 use Rattle.mv_operator.specs.Operator.{IsImageActions, IsImageFirstWrong}
 use Rattle.mv_operator.proofs.Acting as operator
 use Rattle.mv_notes.specs.declared.status.Status.{Status}
-use Rattle.mv_notes.specs.declared.status.Status.TheVariants.{Refused, BadImage, Done}
-use Rattle.mv_build.specs.Verdicts.{PassesLimit}
+use Rattle.mv_notes.specs.declared.status.Status.TheVariants.{Refused, Memory, BadImage, Done}
 use Rattle.mv_top.specs.Building as building
 use Rattle.mv_top.specs.Building.{BuildDoes}
-use Rattle.mv_top.specs.Decisions.{Ends, Is, IsWithinLimits, Stands}
+use Rattle.mv_count_limits.specs.Counted.{CountedPassNone}
+use Rattle.mv_machine.specs.declared.machine.Stopped.{Stopped}
+use Rattle.mv_machine.specs.declared.machine.Stopped.TheVariants as stop
+use Rattle.mv_machine.specs.Snapshots.{Snapshot}
+use Rattle.mv_refine.specs.Run.{Runs}
+use Rattle.mv_top.specs.Decisions.{Ends, Is, IsSummedUp, IsWithinLimits, Stands}
 use Rattle.mv_top.specs.Evaluating as evaluating
 use Rattle.mv_top.specs.Evaluating.{EvalDoes, status_of_end, status_of_evaluation}
 use Rattle.mv_top.specs.Executing as executing
 use Rattle.mv_top.specs.Executing.{ExecDoes}
 use Rattle.mv_top.specs.Generating as generating
-use Rattle.mv_top.specs.Generating.{no_input, plain, RunsText, ShowsText, Sums}
+use Rattle.mv_top.specs.Generating.{is_cut_short, no_input, plain, RunsText, ShowsText, Sums}
 use Rattle.mv_top.specs.Listing as listing
 use Rattle.mv_top.specs.Listing.{ListDoes}
 use Rattle.mv_top.specs.Outside as outsides
 use Rattle.mv_top.specs.Outside.{Outside, ShelfFailed, Writes}
 use Rattle.mv_top.specs.Running as running
-use Rattle.mv_top.specs.Running.{no_action}
-use Rattle.mv_top.proofs.RunsDecided.{one_cause, only_limits, run_ended, run_stands, stands}
+use Rattle.mv_top.specs.Running.{no_action, RunDoes, status_of_stop}
+use Rattle.mv_top.proofs.RunsDecided.{one_cause, only_limits, run_ended, stands, too_large}
 use Rattle.mv_io.proofs.Common.{rose_later}
 
 -- ---- a text that is written
@@ -91,10 +95,10 @@ module _ (before after : Outside) (no_shelf_fault : ShelfFailed before after →
   save_is (Err shelf.Failed) failed = absurd (no_shelf_fault (failed refl))
   save_is (Err (shelf.Memory e)) failed = inr refl
 
-  pub build_done : {status : Status} → BuildDoes before after image text status → (p : Program) → IsProgram text p → IsWithinLimits status Done p
-  build_done (building.unbuilt keeps) p is = inl (inr refl)
-  build_done (building.not_built s why keeps) p is = inr (s, only_limits text p is s why, refl)
-  build_done (building.built of bytes result good spells saves failed) p is = inl (save_is result failed)
+  pub build_done : CountedPassNone → {status : Status} → BuildDoes before after image text status → (p : Program) → IsProgram text p → IsWithinLimits status Done p
+  build_done counted (building.unbuilt keeps) p is = inl (inr refl)
+  build_done counted (building.not_built s why keeps) p is = inr (too_large counted text p is s (only_limits text p is s why))
+  build_done counted (building.built of bytes result good spells saves failed) p is = inl (save_is result failed)
 
 -- ---- a run of an image
 
@@ -162,26 +166,54 @@ module _ (before after : Environment) (no_output_fault : WriteFailed before afte
   no_fault_before : (between : Writing) → between.faults ≤ after.output.faults → WriteFailed (environment no_input before.output before.way) (environment no_input between after.way) → ⊥
   no_fault_before between latest rose = no_output_fault (grind (arith, latest, rose))
 
-  -- what holds of the status of the run, or of want of memory, holds of the status that stands
-  module _ (p : Program) (is : IsProgram (generated number) p) where
-    within : {ran status e : Status} → Is status ran → IsWithinLimits ran e p → IsWithinLimits status e p
-    within {e = e} (inl same) limits = subst (λ s. IsWithinLimits s e p) (sym same) limits
-    within (inr none) limits = inl (inr none)
+  -- a run that was refused is not summed up, and no refusal stands
+  none_refused : (between : Writing) (r : Refusal) {status : Status} → Sums number between after.output (Refused r) status → status ≡ Memory
+  none_refused between r (generating.summed over grew) = cc
+  none_refused between r (generating.part over less rose) = cc
+  none_refused between r (generating.cut_short short same) = cc
+  none_refused between r (generating.unmade same) = refl
 
-    pub gen_ended : {status : Status} → RunsText before after Heard number status → (bound : ℕ) (e : End) → Ends p [] [] DEFAULT_STEPS bound e → IsWithinLimits status (status_of_end e) p
-    gen_ended (generating.unmade unused) bound e ends = inl (inr refl)
+  module _ (between : Writing) (latest : between.faults ≤ after.output.faults) where
+    -- a run that isn't summed up though no write failed is one for which there was no memory
+    stop_summed : (image : Fields) (actions : List Action) (machine : Snapshot) (s : Stopped) →
+        Runs image (polls_of actions) (environment no_input before.output before.way) (environment no_input between after.way) Heard machine DEFAULT_STEPS s →
+        IsTrue (is_cut_short (status_of_stop s)) → IsSummedUp (status_of_stop s)
+    stop_summed image actions machine (stop.Ended s) runs short = inl refl
+    stop_summed image actions machine (stop.Trapped c) runs short = inl refl
+    stop_summed image actions machine stop.Steps runs short = inl refl
+    stop_summed image actions machine stop.InputFault runs short = cc
+    stop_summed image actions machine stop.OutputFault runs short = absurd (no_fault_before between latest runs.1)
+    stop_summed image actions machine (stop.Fault pc why) runs short = cc
+    stop_summed image actions machine stop.Memory runs short = inr refl
+
+    cut_summed : {lines : List ℕ} {ran : Status} → RunDoes (environment no_input before.output before.way) (environment no_input between after.way) Heard plain (generated number) lines ran →
+        IsTrue (is_cut_short ran) → IsSummedUp ran
+    cut_summed (running.unread unused) short = inr refl
+    cut_summed (running.not_run r why unused) short = cc
+    cut_summed (running.ran built actions e good are execution words) short = stop_summed built.image actions e.machine e.stopped execution.runs short
+
+    summed_up : before.output.faults ≤ between.faults → (ran : Status) →
+        RunDoes (environment no_input before.output before.way) (environment no_input between after.way) Heard plain (generated number) [] ran →
+        {status : Status} → Sums number between after.output ran status → IsSummedUp status
+    summed_up later ran does (generating.summed over grew) = inl over
+    summed_up later ran does (generating.part over less rose) = absurd (no_output_fault (rose_later before.output.faults between.faults after.output.faults later rose))
+    summed_up later ran does (generating.cut_short short same) = cut_summed does short
+    summed_up later ran does (generating.unmade same) = inr refl
+
+  pub gen_summed : {status : Status} → RunsText before after Heard number status → IsSummedUp status
+  gen_summed (generating.unmade unused) = inr refl
+  gen_summed (generating.ran between ran status does later latest sums) = summed_up between latest later ran does sums
+
+  module _ (counted : CountedPassNone) (p : Program) (is : IsProgram (generated number) p) where
+    ended_so : (between : Writing) (ran status e : Status) → Is status ran → Sums number between after.output ran status → IsWithinLimits ran e p → Is status e
+    ended_so between ran status e (inl same) sums (inl (inl due)) = inl (same ∙ due)
+    ended_so between ran status e (inl same) sums (inl (inr none)) = inr (same ∙ none)
+    ended_so between ran status e (inr none) sums (inl due) = inr none
+    ended_so between ran status e stands sums (inr large) = inr (none_refused between large.refusal (subst (λ s. Sums number between after.output s status) large.is sums))
+
+    pub gen_ended : {status : Status} → RunsText before after Heard number status → (bound : ℕ) (e : End) → Ends p [] [] DEFAULT_STEPS bound e → Is status (status_of_end e)
+    gen_ended (generating.unmade unused) bound e ends = inr refl
     gen_ended (generating.ran between ran status does later latest sums) bound e ends =
-        within (summed_so between ran later sums)
+        ended_so between ran status (status_of_end e) (summed_so between ran later sums) sums
         (run_ended (environment no_input before.output before.way) (environment no_input between after.way) (no_reading_fault before.output between) (no_fault_before between latest)
-        (generated number) Heard plain p is [] (record { right = refl; are = refl }) does [] bound e refl (All-nil (λ b. b < 2 ^ 8)) ends)
-
-    or_limits : {ran status : Status} → Is status ran → Stands ran ⊎ ((r : Refusal) × PassesLimit p r × (ran ≡ Refused r)) → Stands status ⊎ ((r : Refusal) × PassesLimit p r × (status ≡ Refused r))
-    or_limits (inl same) so = subst (λ s. Stands s ⊎ ((r : Refusal) × PassesLimit p r × (s ≡ Refused r))) (sym same) so
-    or_limits (inr none) so = inl (inr none)
-
-    pub gen_stands : {status : Status} → RunsText before after Heard number status → Stands status ⊎ ((r : Refusal) × PassesLimit p r × (status ≡ Refused r))
-    gen_stands (generating.unmade unused) = inl (inr refl)
-    gen_stands (generating.ran between ran status does later latest sums) =
-        or_limits (summed_so between ran later sums)
-        (run_stands (environment no_input before.output before.way) (environment no_input between after.way) (no_reading_fault before.output between) (no_fault_before between latest)
-        (generated number) Heard plain p is [] (record { right = refl; are = refl }) does)
+        (generated number) Heard plain counted p is [] (record { right = refl; are = refl }) does [] bound e refl (All-nil (λ b. b < 2 ^ 8)) ends)

@@ -27,7 +27,8 @@ use Rattle.mv_operator.specs.Operator.{IsActions, IsFirstWrong}
 use Rattle.mv_operator.proofs.Acting as operator
 use Rattle.mv_notes.specs.declared.status.Status.{Status}
 use Rattle.mv_notes.specs.declared.status.Status.TheVariants.{Refused}
-use Rattle.mv_top.specs.Decisions.{Ends, Is, IsWithinLimits, Stands}
+use Rattle.mv_count_limits.specs.Counted.{CountedPassNone}
+use Rattle.mv_top.specs.Decisions.{Ends, Is, IsTooLarge, IsWithinLimits, Stands}
 use Rattle.mv_top.specs.Evaluating.{status_of_end}
 use Rattle.mv_top.specs.Running as running
 use Rattle.mv_top.specs.Running.{IsNotRun, no_action, RunDoes, status_of_stop}
@@ -43,6 +44,10 @@ one_cause text s r (build.over_limit p u good passes) is = absurd (not_both text
 pub only_limits : (text : List ℕ) (p : Program) → IsProgram text p → (s : Refusal) → HasNoImage text s → PassesLimit p s
 only_limits text p is s (build.refused u there) = absurd (not_both text p u is there)
 only_limits text p is s (build.over_limit q u good passes) = subst (λ z. PassesLimit z u) (one_program text q p good is) passes
+
+-- and so it isn't within the counts over the source
+pub too_large : CountedPassNone → (text : List ℕ) (p : Program) → IsProgram text p → (s : Refusal) → PassesLimit p s → IsTooLarge p (Refused s)
+too_large counted text p is s passes = record { refusal = s; passes = passes; uncounted = λ within. counted text p is within s passes; is = refl }
 
 module _ (text : List ℕ) (items : List Item) where
   not_run_cause : (s r : Refusal) → IsNotRun text items s → IsRefused text r → s ≡ r
@@ -84,10 +89,10 @@ module _ (before after : Environment) (no_input_fault : ReadFailed before after 
   run_refused (running.not_run s none unused) r is = inl (ap Refused (not_run_cause text options.items s r none is))
   run_refused (running.ran b actions x good are is_one words) r is = absurd (not_both text b.program r good.program is)
 
-  module _ (p : Program) (is : IsProgram text p) where
+  module _ (counted : CountedPassNone) (p : Program) (is : IsProgram text p) where
     wrong_cause : (s : Refusal) (item : ℕ) → IsFirstWrong p options.items item → PassesLimit p s ⊎ ((n : ℕ) × IsFirstWrong p options.items n × (s ≡ no_action n)) →
         IsWithinLimits (Refused s) (Refused (no_action item)) p
-    wrong_cause s item wrong (inl passes) = inr (s, passes, refl)
+    wrong_cause s item wrong (inl passes) = inr (too_large counted text p is s passes)
     wrong_cause s item wrong (inr (n, first, same)) = inl (inl (ap Refused (same ∙ ap no_action (operator.one_wrong p options.items n item first wrong))))
 
     pub run_wrong_item : {lines : List ℕ} {status : Status} → Ran lines status → (item : ℕ) → IsFirstWrong p options.items item →
@@ -115,7 +120,7 @@ module _ (before after : Environment) (no_input_fault : ReadFailed before after 
       pub run_ended : {lines : List ℕ} {status : Status} → Ran lines status → (bytes : List ℕ) (bound : ℕ) (e : End) → before.input.left ≡ Some bytes →
           All (λ b. b < 2 ^ 8) bytes → Ends p actions bytes options.steps bound e → IsWithinLimits status (status_of_end e) p
       run_ended (running.unread unused) bytes bound e told are_bytes ends = inl (inr refl)
-      run_ended (running.not_run s none unused) bytes bound e told are_bytes ends = inr (s, limit_cause s (limit_or_item text options.items p is s none), refl)
+      run_ended (running.not_run s none unused) bytes bound e told are_bytes ends = inr (too_large counted text p is s (limit_cause s (limit_or_item text options.items p is s none)))
       run_ended (running.ran b taken x good are_taken is_one words) bytes bound e told are_bytes ends =
           let one : b.program ≡ p = one_program text b.program p good.program is in
           let same : taken ≡ actions = operator.one_list p options.items taken actions (subst (λ z. IsActions z options.items taken) one are_taken) are in
@@ -125,8 +130,8 @@ module _ (before after : Environment) (no_input_fault : ReadFailed before after 
           inl (decided bytes bound e x.stopped here told are_bytes ends)
 
       -- it stands, or there was no memory, or the program passes a limit
-      pub run_stands : {lines : List ℕ} {status : Status} → Ran lines status → Stands status ⊎ ((r : Refusal) × PassesLimit p r × (status ≡ Refused r))
+      pub run_stands : {lines : List ℕ} {status : Status} → Ran lines status → Stands status ⊎ IsTooLarge p status
       run_stands (running.unread unused) = inl (inr refl)
-      run_stands (running.not_run s none unused) = inr (s, limit_cause s (limit_or_item text options.items p is s none), refl)
+      run_stands (running.not_run s none unused) = inr (too_large counted text p is s (limit_cause s (limit_or_item text options.items p is s none)))
       run_stands (running.ran b taken x good are_taken is_one words) =
           inl (stands before after Heard no_input_fault no_output_fault b.image (polls_of taken) x.machine options.steps x.stopped is_one.runs)

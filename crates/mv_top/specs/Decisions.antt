@@ -1,5 +1,5 @@
 -- Which status comes where no count of faults rises.
-use Rattle.std.specs.Prelude.{ℕ, ◌≡◌, ◌^◌, ◌<◌, ◌⊎◌, Bool, true, false, List, [], take, All, Option, Some}
+use Rattle.std.specs.Prelude.{ℕ, ◌≡◌, ◌^◌, ◌<◌, ◌⊎◌, Bool, true, false, List, [], take, All, IsTrue, Option, Some}
 use Rattle.mv_ast.specs.declared.program.Program.{Program}
 use Rattle.mv_bindings.specs.declared.action.Action.{Action}
 use Rattle.mv_io.specs.Outside.{Rose}
@@ -7,6 +7,7 @@ use Rattle.mv_io.specs.Shelves.{Files, Lacks}
 use Rattle.mv_front.specs.Verdicts.{IsProgram, IsRefused}
 use Rattle.mv_front.specs.declared.refusal.Refusal.{Refusal}
 use Rattle.mv_build.specs.Verdicts.{PassesLimit}
+use Rattle.mv_count_limits.specs.Counted.{IsWithinCounts}
 use Rattle.mv_image.specs.Faults.{Spells}
 use Rattle.mv_image.specs.Spelling.{Fields}
 use Rattle.mv_exec.specs.Loading.{IsBadImage}
@@ -24,6 +25,7 @@ use Rattle.mv_operator.specs.Operator.{IsActions, IsFirstWrong, IsImageActions, 
 use Rattle.mv_notes.specs.declared.status.Status.{Status}
 use Rattle.mv_notes.specs.declared.status.Status.TheVariants.{Ended, Trapped, Usage, Refused, Memory, ShelfFault, Steps, BadImage, MachineFault, Done}
 use Rattle.mv_top.specs.Evaluating.{status_of_end}
+use Rattle.mv_top.specs.Generating.{is_summed_up}
 use Rattle.mv_top.specs.Outside.{Outside, ShelfFailed, Tells}
 use Rattle.mv_top.specs.Running.{no_action}
 
@@ -60,9 +62,16 @@ reads_source (Generates number source) = false
 abbrev pub Is : (result status : Status) → Type 0
 Is result status = (result ≡ status) ⊎ (result ≡ Memory)
 
--- or the refusal of a program that passes a limit of what is compiled
+-- A program is refused for a limit of what is compiled. It passes that, and so it isn't within the counts over the source.
+pub record IsTooLarge (p : Program) (result : Status) : Type 0 where
+  pub refusal : Refusal
+  pub passes : PassesLimit p refusal
+  pub uncounted : IsWithinCounts p → ⊥
+  pub is : result ≡ Refused refusal
+
+-- this status, or want of memory, or the refusal of a program that is too large
 abbrev pub IsWithinLimits : (result status : Status) → Program → Type 0
-IsWithinLimits result status p = Is result status ⊎ ((r : Refusal) × PassesLimit p r × (result ≡ Refused r))
+IsWithinLimits result status p = Is result status ⊎ IsTooLarge p result
 
 -- how a run of an image stands: it ended, trapped, faulted, or goes on
 abbrev pub IsStop : Status → Type 0
@@ -75,6 +84,10 @@ IsStop other = ⊥
 -- it stands so, or memory was wanting
 abbrev pub Stands : Status → Type 0
 Stands result = IsStop result ⊎ (result ≡ Memory)
+
+-- a generated program ended, trapped or used up its steps, or memory was wanting
+abbrev pub IsSummedUp : Status → Type 0
+IsSummedUp result = IsTrue (is_summed_up result) ⊎ (result ≡ Memory)
 
 -- a program has this end at a bound for which so many instructions are time enough
 pub record Ends (p : Program) (actions : List Action) (bytes : List ℕ) (steps bound : ℕ) (e : End) : Type 0 where
@@ -105,6 +118,8 @@ module _ (words : List (List ℕ)) (files : Option Files) (left : Option (List �
     pub ended : (file text bytes : List ℕ) (options : RunOptions) (bound : ℕ) (p : Program) (actions : List Action) (e : End) → Loads (Runs file options) text →
         IsProgram text p → IsActions p options.items actions → left ≡ Some bytes → All (λ b. b < 2 ^ 8) bytes → Ends p actions bytes options.steps bound e →
         IsWithinLimits result (status_of_end e) p
+    pub ran : (file text : List ℕ) (options : RunOptions) (p : Program) (actions : List Action) → Loads (Runs file options) text → IsProgram text p →
+        IsActions p options.items actions → Stands result ⊎ IsTooLarge p result
     pub built : (file image text : List ℕ) (p : Program) → Loads (Builds file image) text → IsProgram text p → IsWithinLimits result Done p
     -- a run of an image
     pub no_action_of_image : (file bytes : List ℕ) (options : RunOptions) (image : Fields) (item : ℕ) → Loads (Executes file options) bytes → Spells bytes image →
@@ -115,8 +130,7 @@ module _ (words : List (List ℕ)) (files : Option Files) (left : Option (List �
     pub evaluated : (file text bytes : List ℕ) (bound : ℕ) (p : Program) → Loads (Evaluates file bound) text → IsProgram text p → left ≡ Some bytes →
         Is result (status_of_end (meaning p bound (take most bytes)).«end»)
     pub shown : (number : ℕ) → IsCommand words (Generates number true) → Is result Done
-    -- where its text is a program, it has the program's end where there are steps enough, or ends, traps or uses them up, unless it passes a limit
+    -- a generated program, which is never refused: it has the program's end where there are steps enough
     pub generated_ended : (number bound : ℕ) (p : Program) (e : End) → IsCommand words (Generates number false) → IsProgram (generated number) p →
-        Ends p [] [] DEFAULT_STEPS bound e → IsWithinLimits result (status_of_end e) p
-    pub generated_runs : (number : ℕ) (p : Program) → IsCommand words (Generates number false) → IsProgram (generated number) p →
-        Stands result ⊎ ((r : Refusal) × PassesLimit p r × (result ≡ Refused r))
+        Ends p [] [] DEFAULT_STEPS bound e → Is result (status_of_end e)
+    pub generated_runs : (number : ℕ) → IsCommand words (Generates number false) → IsSummedUp result

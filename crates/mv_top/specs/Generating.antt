@@ -10,7 +10,7 @@ use Rattle.mv_command.specs.declared.command.RunOptions.{RunOptions}
 use Rattle.mv_command.specs.declared.options.TheConstants.{DEFAULT_STEPS}
 use Rattle.mv_notes.specs.Lines.{status_text}
 use Rattle.mv_notes.specs.declared.status.Status.{Status}
-use Rattle.mv_notes.specs.declared.status.Status.TheVariants.{Ended, Trapped, Refused, Memory, OutputFault, Steps, Done}
+use Rattle.mv_notes.specs.declared.status.Status.TheVariants.{Ended, Trapped, Memory, OutputFault, Steps, Done}
 use Rattle.mv_top.specs.Outside.{Writes}
 use Rattle.mv_top.specs.Running.{RunDoes, Unused}
 
@@ -34,9 +34,8 @@ is_summed_up (Trapped code) = true
 is_summed_up Steps = true
 is_summed_up other = false
 
--- and one that was not begun, or failed to write, is not
+-- and one for which there was no memory, or that failed to write, is not; its text is never refused
 abbrev pub is_cut_short : Status → Bool
-is_cut_short (Refused refusal) = true
 is_cut_short Memory = true
 is_cut_short OutputFault = true
 is_cut_short other = false

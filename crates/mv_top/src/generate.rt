@@ -13,6 +13,7 @@ use mv_command::RunOptions;
 use mv_command::options::DEFAULT_STEPS;
 use mv_eval::writing::write_all;
 use mv_gen::{functions_of, generate};
+use mv_gen_accepted::generated_texts_are_accepted;
 use mv_io::{Failed, Sink, Source};
 use mv_notes::Status;
 use mv_num::list::List;
@@ -119,6 +120,7 @@ fn run_generated<O: Sink>(
         (λ events. Fates (Becomes (λ probe. object_at probe.ptr probe.vtable) (λ probe. hearing (told probe) (patience probe)) events) probes.old.items probes.new.items)
         number result }
 {
+    generated_texts_are_accepted();
     let ran = run_plainly(alloc, text, out, oracle, probes);
     sum_up(alloc, number, text, ran, out)
 }

@@ -16,8 +16,8 @@
 //!   tables and the bodies and variants that it is linked of, and one run of it, on the input that is told and by the
 //!   oracle's way where that is told. `Ended`, `Trapped` and `Steps` are how this run stands after N instructions, `out`
 //!   grew by exactly its output, `input` lost exactly what it took, each probe was told exactly its log in order and left
-//!   exactly where that used up its patience, the others keep their order, and the oracle's place went on by its
-//!   instructions. The lines of `--bindings` and `--words` are those of its bindings and of its text against the image's.
+//!   exactly where that used up its patience, the others keep their order, and the oracle picked by its way for each
+//!   instruction. The lines of `--bindings` and `--words` are those of its bindings and of its text against the image's.
 //!   After `InputFault` and `OutputFault` it is the same of fewer instructions, before the getchar or the putchar that
 //!   failed.
 //! - This image does what the program means with the actions, on each input and whatever the fetches give, also while
@@ -34,7 +34,7 @@
 //!   and `out` grew by exactly the output of that meaning. After `InputFault`, `OutputFault` and `Memory` it is as
 //!   `mv_eval` says. No probe is told anything.
 //! - `gen NUMBER` (`specs/Generating.antt`): with `--source`, `Done`, `out` grew by exactly the text of the number. Without it that text is
-//!   run as above on no input, without an operator and to the default limit, and then `out` grew by exactly the summary. `input` is unchanged.
+//!   run as above on no input, without an operator and to the default limit, and then `out` grew by exactly the summary. It is never `Refused`. `input` is unchanged.
 //! - `InputFault`, `OutputFault`: the count of `input`, of `out` or of `notes` rose.
 //! - `notes` grew by exactly the lines that were asked for and the last line of the status (`mv_notes`); after `OutputFault` of `out` and after `Memory` they are
 //!   as before. Where there was no memory to make the lines, the notes are as before and the status is `Memory`; where a
@@ -42,13 +42,14 @@
 //! - Each status comes where its cause stands, unless a count rose (`specs/Decisions.antt`): no command, a missing file, each refusal 1 to 7, each code and
 //!   offset of bytes that are no image, 15
 //!   unless the program passes a limit, and each end of an evaluation on an input that is told; of a run the end of the
-//!   meaning at some bound, where N is at least 100 × (1 + the work there), unless the program passes a limit; `Done` of `list`, of `gen --source`,
-//!   and of `build` unless the program passes a limit; of `exec` how its run stands. Want of memory may come in place of each.
+//!   meaning at some bound, where N is at least 100 × (1 + the work there), unless the program passes a limit, and else how it stands; `Done` of `list`,
+//!   of `gen --source`, and of `build` unless the program passes a limit; of `exec` how its run stands; of `gen` an end, a trap, or that the steps are used up.
+//!   No program passes a limit that is within the counts over its source (`mv_count_limits`). Want of memory may come in place of each.
 //! - Asked is that each probe that tells its patience has some left.
 //!
 //! `run` really runs: a body that writes what the program means and executes nothing, or one instruction fewer, is
 //! refused by the clause on one run. Tested through the programs of `mv_test_top`. Where nothing is told of an object,
-//! nothing is said of what it holds. Not proved here: that a generated text is a program, within the limits; without that `gen` may be `Refused`.
+//! nothing is said of what it holds.
 #![tactic(auto)]
 
 mod build;

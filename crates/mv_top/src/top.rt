@@ -15,6 +15,7 @@ use crate::generate::generate_program;
 use crate::list::list_file;
 use crate::run::run_file;
 use mv_command::{Command, command_of};
+use mv_count_limits::counted_programs_pass_no_limit;
 use mv_io::{Shelf, Sink, Source};
 use mv_notes::{Performed, Status, report};
 use mv_probe::{FetchOracle, Probe};
@@ -83,6 +84,7 @@ pub fn multiverse<H: Shelf, I: Source, O: Sink, N: Sink>(
         (λ events. Fates (Becomes (λ probe. object_at probe.ptr probe.vtable) (λ probe. hearing (told probe) (patience probe)) events) probes.old.items probes.new.items)
         (map string_bytes words.now) (writing (N.written notes.old) (N.faults notes.old)) (writing (N.written notes.new) (N.faults notes.new)) result }
 {
+    counted_programs_pass_no_limit();
     match perform(alloc, words, shelf, input, out, oracle, probes) {
         Ok(performed) => report(alloc, performed, notes),
         Err(_) => Status::Memory,

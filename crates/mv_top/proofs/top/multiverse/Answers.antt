@@ -6,8 +6,9 @@ use Rattle.mv_top.proofs.top.multiverse.Goals as goal
 
 pub returns-in-Ok : goal.returns-in-Ok
 returns-in-Ok g c =
-    carried_out _ _ _ (map string_bytes c.args.words.now) _ _
+    carried_out _ _ _ (map string_bytes c.args.words.now) _ _ c.counted_programs_pass_no_limit.ensures.none
     (record { lines = c.in-Ok.performed.lines.items; status = c.in-Ok.performed.status; comes = c.in-Ok.ensures }) c.report.result c.report.ensures
 
 pub returns-in-Err : goal.returns-in-Err
-returns-in-Err g c = carried_out _ _ _ (map string_bytes c.args.words.now) _ _ c.in-Err.ensures _ (unmade refl refl)
+returns-in-Err g c =
+    carried_out _ _ _ (map string_bytes c.args.words.now) _ _ c.counted_programs_pass_no_limit.ensures.none c.in-Err.ensures _ (unmade refl refl)
