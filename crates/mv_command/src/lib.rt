@@ -8,7 +8,7 @@
 
 mod command;
 mod items;
-mod number;
+pub mod number;
 pub mod options;
 mod program;
 

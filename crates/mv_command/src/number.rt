@@ -1,3 +1,5 @@
+//! Decimal numerals among words.
+
 ghost use Rattle.std.specs.Prelude.{ℕ, ◌≡◌, ◌≢◌, ◌≤◌, ◌*◌, ◌+◌, ◌<◌, ◌^◌, MatchOption};
 ghost use Rattle.std.specs.Fmt.{decimal};
 

@@ -49,8 +49,8 @@ pub fn functions_of(number: u32) -> u32
     8 + number % 29
 }
 
-/// The word that follows a word.
-fn next(word: u32) -> u32
+/// The word that follows a word in what is drawn from a number, which comes first itself.
+pub fn next(word: u32) -> u32
     ensures { result ≡ next word }
 {
     word.wrapping_mul(1_664_525).wrapping_add(1_013_904_223)

@@ -1,0 +1,12 @@
+mod Places
+mod Seats
+mod Steps
+mod Reaching
+mod Leading
+mod Following
+mod Running
+mod Readiness
+mod Starting
+mod Holding
+mod Changing
+mod Turning

@@ -1,0 +1,134 @@
+-- One instruction of a seat is one of its hart.
+use Rattle.std.proofs.Common.{◌≡◌, ◌⊎◌, inl, inr, ℕ, ◌+◌, Bool, true, false, if◌then◌else◌, List, [], ◌∷◌, ◌++◌, Option, Some, None, refl, sym, ap, ◌∙◌, arith, subst}
+use Rattle.mv_bindings.specs.declared.binding.Binding.{Binding}
+use Rattle.mv_bindings.specs.Acts.{Act}
+use Rattle.mv_image.specs.Spelling.{Fields}
+use Rattle.mv_machine.specs.declared.machine.Stopped.{Stopped}
+use Rattle.mv_machine.specs.declared.machine.Stopped.TheVariants as answer
+use Rattle.mv_harts_runs.specs.Harts.{Hart, Move, AtPoll, Elsewhere, executes, fails, took}
+use Rattle.mv_harts_one.specs.declared.seat.Seat.{Seat}
+use Rattle.mv_harts_one.specs.declared.seat.Taken.{Taken}
+use Rattle.mv_harts_one.specs.declared.glance.Place.{Place}
+use Rattle.mv_harts_one.specs.declared.glance.Place.TheVariants as place
+use Rattle.mv_harts_one.specs.Seats.{Sits, has_failed, is_under, place_as}
+use Rattle.mv_harts_one.specs.Executions.{HasExecuted, HasFailed, IsFaultOf}
+use Rattle.mv_harts_turns.specs.Groups.{AreTaken, IsSeat, Beside, WasAsked, Stepped, StepRefused, asked_by, input_rose, output_rose}
+use Rattle.mv_harts_turns.specs.Polls.{IsNoted}
+use Rattle.mv_harts_turns.proofs.Reaching.{nothing, grew_nothing}
+use Rattle.mv_harts_turns.proofs.Seats.{not_failed, taken_append, noted, seat_noted}
+
+poll_only : (p : Place) → (p ≡ place.AtPoll → ⊥) → (a : Act) (acts : List Act) → took (place_as p) a acts ≡ acts
+poll_only place.AtOrder ne a acts = refl
+poll_only place.AtPoll ne a acts = absurd (ne refl)
+poll_only place.Elsewhere ne a acts = refl
+
+fault_or : (stop : Option Stopped) → has_failed stop ≡ false → (stop ≡ Some answer.InputFault → ⊥) × (stop ≡ Some answer.OutputFault → ⊥)
+fault_or stop e = (λ s. absurd (let d : true ≡ false = ap has_failed (sym s) ∙ e in cc), λ s. absurd (let d : true ≡ false = ap has_failed (sym s) ∙ e in cc))
+
+module _ (image : Fields) (commits : List (List Binding)) (n : ℕ) (o : Hart) (a : Act) (m : Move) (under : Option (List Binding)) (ub : Bool) (x : Beside) where
+  -- what an instruction came to, up to what its poll took
+  pub record Near (bytes : List ℕ) (was : Seat) (seat : Seat) (b : Bool) : Type 0 where
+    pub was_is : IsSeat image commits n bytes was o
+    pub on : was.stop ≡ None
+    pub same_image : seat.engine.image ≡ was.engine.image
+    pub same_taken : seat.taken ≡ was.taken
+    pub same_under : is_under under ≡ ub
+    pub asks : WasAsked x 1
+    pub did : HasExecuted n o a m seat b x.left x.old_written x.new_written ⊎ HasFailed n o m seat ub b bytes x.left x.old_written x.new_written (input_rose x) (output_rose x)
+
+  seat_by : (bytes rest : List ℕ) (was seat : Seat) (b : Bool) (o' : Hart) → Near bytes was seat b → Sits n seat rest o' → o'.taken ≡ o.taken → IsSeat image commits n rest seat o'
+  seat_by bytes rest was seat b o' h sits same = record {
+    same_image = h.same_image ∙ h.was_is.same_image;
+    sits = sits;
+    took = subst (λ acts. AreTaken commits seat.taken acts) (sym same) (subst (λ ts. AreTaken commits ts o.taken) (sym h.same_taken) h.was_is.took);
+  }
+
+  abbrev flag : Bool → ℕ
+  flag b = if b then 1 else 0
+
+  quiet_count : o.failed ≡ false → asked_by (fails o) ≡ asked_by o + 1
+  quiet_count e = let f : flag o.failed ≡ 0 = ap flag e in omega (arith, f)
+
+  broke_step : (bytes : List ℕ) (was seat : Seat) (b : Bool) → Near bytes was seat b → HasFailed n o m seat ub b bytes x.left x.old_written x.new_written (input_rose x) (output_rose x) → Stepped image commits n o a m under x seat b
+  broke_step bytes was seat b h e = record {
+    failing = true;
+    outside = λ t. (e.outside, e.place);
+    rest = bytes;
+    left_is = e.has_left;
+    is_seat = seat_by bytes bytes was seat b (fails o) h e.sits refl;
+    under_is = e.under ∙ sym h.same_under;
+    more = [];
+    output_is = sym (nothing o.state.output);
+    written = grew_nothing x.old_written x.new_written e.wrote;
+    counted = quiet_count (not_failed n was bytes o h.was_is.sits h.on);
+    way_is = h.asks;
+    input = λ s. subst (λ stop. IsFaultOf stop (input_rose x) (output_rose x)) s e.fault;
+    output = λ s. subst (λ stop. IsFaultOf stop (input_rose x) (output_rose x)) s e.fault;
+  }
+
+  -- with what the poll took
+  ran_step : (bytes : List ℕ) (was seat : Seat) (b : Bool) (ts : List Taken) → Near bytes was seat b → (e : HasExecuted n o a m seat b x.left x.old_written x.new_written) → AreTaken commits ts (took m.place a o.taken) →
+      Stepped image commits n o a m under x (record seat { taken = ts }) b
+  ran_step bytes was seat b ts h e now = record {
+    failing = false;
+    outside = λ t. absurd (cc);
+    rest = e.bytes;
+    left_is = e.has_left;
+    is_seat = seat_noted image commits n e.bytes seat (record (executes o a m) { taken = o.taken }) ts (took m.place a o.taken) (seat_by bytes e.bytes was seat b (record (executes o a m) { taken = o.taken }) h moved refl) now;
+    under_is = e.under;
+    more = e.more;
+    output_is = e.output;
+    written = e.wrote;
+    counted = omega arith;
+    way_is = h.asks;
+    input = λ s. absurd (none.0 s);
+    output = λ s. absurd (none.1 s);
+  }
+    where
+      moved : Sits n seat e.bytes (record (executes o a m) { taken = o.taken })
+      moved = let s = e.sits in record { engine = s.engine; state = s.state; mode = s.mode; waited = s.waited; failed = s.failed; count = s.count; halts = s.halts }
+
+      none : (seat.stop ≡ Some answer.InputFault → ⊥) × (seat.stop ≡ Some answer.OutputFault → ⊥)
+      none = fault_or seat.stop (sym e.sits.failed ∙ not_failed n was bytes o h.was_is.sits h.on)
+
+  -- at no poll
+  pub stepped_plain : (p : Place) → place_as p ≡ m.place → (p ≡ place.AtPoll → ⊥) → (bytes : List ℕ) (was seat : Seat) (b : Bool) → Near bytes was seat b → Stepped image commits n o a m under x seat b
+  stepped_plain p at ne bytes was seat b h = by_did h.did
+    where
+      untaken : took m.place a o.taken ≡ o.taken
+      untaken = ap (λ q. took q a o.taken) (sym at) ∙ poll_only p ne a o.taken
+
+      old : AreTaken commits seat.taken (took m.place a o.taken)
+      old = subst (λ acts. AreTaken commits seat.taken acts) (sym untaken) (subst (λ ts. AreTaken commits ts o.taken) (sym h.same_taken) h.was_is.took)
+
+      by_did : HasExecuted n o a m seat b x.left x.old_written x.new_written ⊎ HasFailed n o m seat ub b bytes x.left x.old_written x.new_written (input_rose x) (output_rose x) → Stepped image commits n o a m under x seat b
+      by_did (inl e) = ran_step bytes was seat b seat.taken h e old
+      by_did (inr e) = broke_step bytes was seat b h e
+
+  no_break : m.place ≡ AtPoll → (bytes : List ℕ) (seat : Seat) (b : Bool) → HasFailed n o m seat ub b bytes x.left x.old_written x.new_written (input_rose x) (output_rose x) → ⊥
+  no_break at bytes seat b e = let d : Elsewhere ≡ AtPoll = sym e.place ∙ at in absurd (cc)
+
+  -- at a poll, which is noted
+  pub stepped_poll : place_as place.AtPoll ≡ m.place → (t : Taken) → IsNoted t a → (bytes : List ℕ) (was seat : Seat) (b : Bool) (ts : List Taken) → ts ≡ seat.taken ++ t ∷ [] → Near bytes was seat b → Stepped image commits n o a m under x (record seat { taken = ts }) b
+  stepped_poll at t note bytes was seat b ts more h = subst (λ l. Stepped image commits n o a m under x (record seat { taken = l }) b) (sym more) (by_did h.did)
+    where
+      taken : took m.place a o.taken ≡ o.taken ++ a ∷ []
+      taken = ap (λ q. took q a o.taken) (sym at)
+
+      now : AreTaken commits (seat.taken ++ t ∷ []) (took m.place a o.taken)
+      now = subst (λ acts. AreTaken commits (seat.taken ++ t ∷ []) acts) (sym taken) (taken_append commits seat.taken o.taken t a (subst (λ ts. AreTaken commits ts o.taken) (sym h.same_taken) h.was_is.took) (noted commits t a note))
+
+      by_did : HasExecuted n o a m seat b x.left x.old_written x.new_written ⊎ HasFailed n o m seat ub b bytes x.left x.old_written x.new_written (input_rose x) (output_rose x) → Stepped image commits n o a m under x (record seat { taken = seat.taken ++ t ∷ [] }) b
+      by_did (inl e) = ran_step bytes was seat b (seat.taken ++ t ∷ []) h e now
+      by_did (inr e) = absurd (no_break (sym at) bytes seat b e)
+
+  -- the note finds no memory
+  pub refused_note : place_as place.AtPoll ≡ m.place → (bytes : List ℕ) (was seat : Seat) (b : Bool) → Near bytes was seat b → StepRefused o a m x
+  refused_note at bytes was seat b h = by_did h.did
+    where
+      by_did : HasExecuted n o a m seat b x.left x.old_written x.new_written ⊎ HasFailed n o m seat ub b bytes x.left x.old_written x.new_written (input_rose x) (output_rose x) → StepRefused o a m x
+      by_did (inl e) = record { more = e.more; written = e.wrote; either = inr e.output }
+      by_did (inr e) = absurd (no_break (sym at) bytes seat b e)
+
+  pub refused_step : x.new_written ≡ x.old_written → StepRefused o a m x
+  refused_step e = record { more = []; written = grew_nothing x.old_written x.new_written e; either = inl refl }

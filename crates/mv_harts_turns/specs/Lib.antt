@@ -1,0 +1,4 @@
+pub mod Pairs
+pub mod Groups
+pub mod Polls
+pub mod Runs
