@@ -1,0 +1,9 @@
+mod Coming
+mod Counts
+mod Pairing
+mod Ran
+mod Runs
+mod Stops
+mod Tabled
+mod TextsSame
+mod Unfailing

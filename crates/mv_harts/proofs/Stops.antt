@@ -1,0 +1,127 @@
+-- The stop that is told of a seat is that of its hart.
+use Rattle.std.proofs.Common.{◌≡◌, ℕ, Bool, true, false, not, ◌&&◌, List, Option, Some, None, refl, sym, ap, ap₂, ◌∙◌, subst}
+use Rattle.std.proofs.lemmas.Bool.{false≢true, true≢false}
+use Rattle.mv_bindings.specs.declared.binding.Binding.{Binding}
+use Rattle.mv_image.specs.Spelling.{Fields}
+use Rattle.mv_isa.specs.declared.instr.Cause.{Cause}
+use Rattle.mv_machine.specs.declared.machine.Stopped.{Stopped}
+use Rattle.mv_machine.specs.declared.machine.Stopped.TheVariants as answer
+use Rattle.mv_machine.specs.Runs.{State, Stop, Going, Exit, Trap, Fault}
+use Rattle.mv_harts_runs.specs.Harts.{Hart, is_on, is_going}
+use Rattle.mv_harts_one.specs.declared.seat.Seat.{Seat}
+use Rattle.mv_harts_one.specs.Seats.{IsHalt, has_failed}
+use Rattle.mv_harts_one.specs.Seats as seats
+use Rattle.mv_harts_turns.specs.Groups.{IsSeat}
+use Rattle.mv_harts.specs.declared.ends.HartStop.{HartStop}
+use Rattle.mv_harts.specs.declared.ends.HartStop.TheVariants as told
+use Rattle.mv_harts.specs.Ends.{IsEnd, Stops, end_of, is_fault, stop_of, stop_text}
+use Rattle.mv_harts.specs.Texts.{standing}
+
+on : (o : Hart) → o.state.stop ≡ Going → o.failed ≡ false → is_on o ≡ true
+on o s f = ap₂ (λ (stop : Stop) (failed : Bool). is_going stop && not failed) s f
+
+-- where no fault comes
+abbrev pub NeverFaults : Hart → Type 0
+NeverFaults o = (why : Cause) → o.state.stop ≡ Fault why → ⊥
+
+pub stops_right : (o : Hart) (waited : Bool) (stop : Option Stopped) → o.state.stop ≡ seats.stop_of stop → o.failed ≡ has_failed stop → o.waited ≡ waited → IsHalt stop → NeverFaults o →
+    Stops o (stop_of waited stop)
+stops_right o true None s f w halts never = (on o s f, w)
+stops_right o false None s f w halts never = (on o s f, w)
+stops_right o waited (Some (answer.Ended status)) s f w halts never = (f, s)
+stops_right o waited (Some (answer.Trapped code)) s f w halts never = (f, s)
+stops_right o waited (Some answer.Steps) s f w halts never = absurd halts
+stops_right o waited (Some answer.InputFault) s f w halts never = f
+stops_right o waited (Some answer.OutputFault) s f w halts never = f
+stops_right o waited (Some (answer.Fault pc why)) s f w halts never = absurd (never why s)
+stops_right o waited (Some answer.Memory) s f w halts never = absurd halts
+
+pub end_right : (image : Fields) (commits : List (List Binding)) (number : ℕ) (bytes : List ℕ) (seat : Seat) (o : Hart) → IsSeat image commits number bytes seat o → NeverFaults o →
+    IsEnd commits (end_of seat) o
+end_right image commits number bytes seat o is never = record {
+  instructions = sym is.sits.count;
+  stop = stops_right o seat.waited seat.stop (ap (λ (s : State). s.stop) is.sits.state) is.sits.failed is.sits.waited is.sits.halts never;
+  taken = is.took;
+}
+
+-- ---- faults
+
+is_input : HartStop → Bool
+is_input told.Going = false
+is_input told.Waiting = false
+is_input (told.Ended status) = false
+is_input (told.Trapped code) = false
+is_input told.InputFault = true
+is_input told.OutputFault = false
+
+is_output : HartStop → Bool
+is_output told.Going = false
+is_output told.Waiting = false
+is_output (told.Ended status) = false
+is_output (told.Trapped code) = false
+is_output told.InputFault = false
+is_output told.OutputFault = true
+
+input_by : (waited : Bool) (stop : Option Stopped) → is_input (stop_of waited stop) ≡ true → stop ≡ Some answer.InputFault
+unfolding is_input
+input_by true None e = absurd (false≢true e)
+input_by false None e = absurd (false≢true e)
+input_by waited (Some (answer.Ended status)) e = absurd (false≢true e)
+input_by waited (Some (answer.Trapped code)) e = absurd (false≢true e)
+input_by waited (Some answer.Steps) e = absurd (false≢true e)
+input_by waited (Some answer.InputFault) e = refl
+input_by waited (Some answer.OutputFault) e = absurd (false≢true e)
+input_by waited (Some (answer.Fault pc why)) e = absurd (false≢true e)
+input_by waited (Some answer.Memory) e = absurd (false≢true e)
+
+pub input_fault : (waited : Bool) (stop : Option Stopped) → stop_of waited stop ≡ told.InputFault → stop ≡ Some answer.InputFault
+unfolding is_input
+input_fault waited stop e = input_by waited stop (ap is_input e)
+
+output_by : (waited : Bool) (stop : Option Stopped) → is_output (stop_of waited stop) ≡ true → stop ≡ Some answer.OutputFault
+unfolding is_output
+output_by true None e = absurd (false≢true e)
+output_by false None e = absurd (false≢true e)
+output_by waited (Some (answer.Ended status)) e = absurd (false≢true e)
+output_by waited (Some (answer.Trapped code)) e = absurd (false≢true e)
+output_by waited (Some answer.Steps) e = absurd (false≢true e)
+output_by waited (Some answer.InputFault) e = absurd (false≢true e)
+output_by waited (Some answer.OutputFault) e = refl
+output_by waited (Some (answer.Fault pc why)) e = absurd (false≢true e)
+output_by waited (Some answer.Memory) e = absurd (false≢true e)
+
+pub output_fault : (waited : Bool) (stop : Option Stopped) → stop_of waited stop ≡ told.OutputFault → stop ≡ Some answer.OutputFault
+unfolding is_output
+output_fault waited stop e = output_by waited stop (ap is_output e)
+
+-- ---- texts
+
+going_of : (s : Stop) (failed : Bool) → (is_going s && not failed) ≡ true → s ≡ Going
+going_of Going failed e = refl
+going_of (Exit status) failed e = absurd (false≢true e)
+going_of (Trap code) failed e = absurd (false≢true e)
+going_of (Fault why) failed e = absurd (false≢true e)
+
+unfailed_of : (s : Stop) (failed : Bool) → (is_going s && not failed) ≡ true → failed ≡ false
+unfailed_of Going true e = absurd (false≢true e)
+unfailed_of Going false e = refl
+unfailed_of (Exit status) failed e = absurd (false≢true e)
+unfailed_of (Trap code) failed e = absurd (false≢true e)
+unfailed_of (Fault why) failed e = absurd (false≢true e)
+
+-- what is told is how the hart stands
+pub stands : (o : Hart) (stop : HartStop) → Stops o stop → is_fault stop ≡ false → stop_text stop ≡ standing o.state.stop o.waited
+stands o told.Going s f = sym (ap₂ standing (going_of o.state.stop o.failed s.0) s.1)
+stands o told.Waiting s f = sym (ap₂ standing (going_of o.state.stop o.failed s.0) s.1)
+stands o (told.Ended status) s f = sym (ap (λ (stop : Stop). standing stop o.waited) s.1)
+stands o (told.Trapped code) s f = sym (ap (λ (stop : Stop). standing stop o.waited) s.1)
+stands o told.InputFault s f = absurd (true≢false f)
+stands o told.OutputFault s f = absurd (true≢false f)
+
+pub unfailed : (o : Hart) (stop : HartStop) → Stops o stop → is_fault stop ≡ false → o.failed ≡ false
+unfailed o told.Going s f = unfailed_of o.state.stop o.failed s.0
+unfailed o told.Waiting s f = unfailed_of o.state.stop o.failed s.0
+unfailed o (told.Ended status) s f = s.0
+unfailed o (told.Trapped code) s f = s.0
+unfailed o told.InputFault s f = absurd (true≢false f)
+unfailed o told.OutputFault s f = absurd (true≢false f)

@@ -1,0 +1,43 @@
+-- The tables of what is built are as several harts ask for.
+use Rattle.std.proofs.Common.{◌≡◌, ℕ, ◌+◌, ◌*◌, List, false, take, refl}
+use Rattle.std.specs.Prelude.{sum}
+use Rattle.mv_ast.specs.declared.program.Program.{Program}
+use Rattle.mv_accepts_programs.specs.Checked.{ProgramsOfTextsAreWellFormed}
+use Rattle.mv_front.proofs.Few.{no_pointers}
+use Rattle.mv_source_forms.specs.Names.{global_words}
+use Rattle.mv_image.specs.Faults.{Rules}
+use Rattle.mv_linker.specs.Tables.{data_start}
+use Rattle.mv_link_data.specs.FirstData.{global_sizes}
+use Rattle.mv_select_calls.specs.Convention.{Layout}
+use Rattle.mv_refine_commits.specs.Tabled.{IsTabled}
+use Rattle.mv_parts_tables.specs.Laws.{ImagesHaveTables}
+use Rattle.mv_build.specs.Verdicts.{IsBuiltFrom}
+use Rattle.mv_build.specs.declared.built.Built.{Built}
+use Rattle.mv_harts_meant.specs.Runnable.{IsRunnable}
+use Rattle.mv_harts.specs.Runnable.{BuiltAreRunnable}
+
+-- a layout that has the program's globals where they are linked; what else it has is nothing to tables
+abbrev layout_of : Program → Layout
+layout_of p = record {
+  place = λ x. data_start + 4 * sum (take x (global_sizes p));
+  size = global_words p;
+  entry = λ f. 0;
+  trap = λ c. 0;
+  commit = 0;
+  may_ask = λ k. false;
+  bottom = 0;
+  top = 0;
+}
+
+pub runnable : ImagesHaveTables → ProgramsOfTextsAreWellFormed → BuiltAreRunnable
+runnable laws formed text built is rules = record {
+  behaves = is.image.behaves;
+  rules = rules;
+  tables = record { count = tabled.functions; switches = tabled.function; others = tabled.others; no_pointers = tabled.none };
+  fits = is.image.fits;
+}
+  where
+    tabled : IsTabled built.program (layout_of built.program) built.image
+    tabled =
+        (laws built.program (formed text built.program is.program) (no_pointers is.program.unit built.program is.program.good) built.generics built.variants is.image.parts is.image.are_parts built.image
+        is.image.linked).tabled (layout_of built.program) (λ x. refl) (λ x. refl)

@@ -1,0 +1,32 @@
+//! Several harts on the image of a program: `run_harts`, and all that the program `mvharts` does.
+//!
+//! - `run_harts(alloc, built, schedule, sources, sinks, oracle, actions)` runs the image of a `Built` in two to four harts. Its contract (`specs/HartsRan.antt`)
+//!   names one run of harts (`harts_after` of `mv_harts_runs`) that is what was done: each hart's instructions, its stop and what its polls took; the bindings that
+//!   each commit left; each sink grew by exactly what its hart wrote, and each source lost exactly what its hart took; a device failed only where its count
+//!   rose; the oracle was asked once for each instruction, and for each read or write that failed.
+//! - Of that run (`IsKept`): no hart fetches a stale word, in any turn; text is that of hart 0's bindings, or between two while a commit is under way; each
+//!   hart is its own run alone with what its polls took, and adopts the commits of hart 0 in order, none skipped; and what each hart does is what the
+//!   program means in it.
+//! - `built_programs_are_runnable`: what `build` gives is an image of which `run_harts` asks no more.
+//! - An error of `run_harts` is want of memory; then each sink grew by what its hart wrote by some turn.
+//! - `mvharts(alloc, words, shelf, out, notes, oracle)` does all that the program does (`specs/Outcomes.antt`). With `Done`, `out` grew by exactly the text
+//!   (`specs/Texts.antt`) of one such run, by the schedule that the words ask for (`mv_harts_words`), of one image that `mv_build` gives of the text
+//!   under FILE. After `OutputFault` it grew by less of that, and after `Memory`, `Usage`, `ShelfFault` and `Refused` it is unchanged; each of
+//!   these has its cause. The files of the shelf are unchanged. `notes` grew by the last line of the status (`mv_notes`).
+//! - Tested by one run of `mv_harts_cli` alone.
+#![tactic(auto)]
+
+mod devices;
+mod ends;
+mod harts;
+mod runnable;
+mod text;
+mod top;
+
+pub use ends::{HartEnd, HartStop, HartsEnd};
+pub use harts::run_harts;
+pub use mv_harts_one::Taken;
+pub use mv_harts_turns::Committed;
+pub use mv_notes::Status;
+pub use runnable::built_programs_are_runnable;
+pub use top::mvharts;
