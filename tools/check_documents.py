@@ -1,13 +1,14 @@
 #!/usr/bin/env python3
-"""Checks that what the documents say of commands is what crates/mv_test_top has of them, whose rows the gate runs.
+"""Checks that what the documents say of commands is what crates/mv_test_top and, of `mvharts`, the stored run of crates/mv_harts_cli have of them, which the gate runs.
 
   check_documents.py     prints what differs, and ends with 1 where something does
 
 Looked up are: in README.md and docs/*.md each row of a table of commands, with its output and its last line, and each command of a block
 `console`; the examples of docs/refusals.ini; and each `examples/NAME.out`, which is the output of what has the input NAME.in, or of NAME.c. A program
-in a block `c` is a file of `examples/`. The tables of docs/refusals.md are those of docs/refusals.ini. Of what `list` writes the rows have ADDRESS in
+in a block `c` is a file of `examples/`, and what the rows have beside them of `examples/` is the same there. The tables of docs/refusals.md are those of docs/refusals.ini. Of what `list` writes the rows have ADDRESS in
 place of each address.
 """
+import filecmp
 import glob
 import os
 import re
@@ -19,10 +20,12 @@ import refusals
 
 TOP = os.path.dirname(os.path.dirname(os.path.realpath(__file__)))
 ROWS = os.path.join(TOP, "crates", "mv_test_top")
+HARTS = os.path.join(TOP, "crates", "mv_harts_cli")
 TITLE = re.compile(r"^# .*\n", re.M)
 BLOCK = re.compile(r"^```(\w+)\n(.*?)^```$", re.M | re.S)
 COMMANDS = "| Command | Output | Last line |\n|---|---|---|\n"
 SYNOPSES = "| Command | What it does |\n|---|---|\n"
+SESSION = re.compile(r"^\$ \./(multiverse|mvharts) ", re.M)
 # The addresses of a listing.
 ADDRESS = re.compile(r"\b0x[0-9a-f]{8}\b")
 # The lines on bindings and words that stand before a last line.
@@ -49,6 +52,8 @@ def rows():
     for row, answer in zip(given, wanted):
         command, _, text = row.partition("\n")
         found[command, "\n".join(line[4:] for line in text.splitlines())] = answer
+    words = text_of(HARTS, "args").split()
+    found[" ".join(["mvharts", *words]), ""] = text_of(HARTS, "stdout") + "done\n"
     return found
 
 
@@ -68,18 +73,21 @@ def in_tables(text):
 
 
 def in_blocks(text):
-    """Returns the commands of a document's blocks, with what they write and what is said behind it."""
+    """Returns the commands of a document's blocks, as the rows have them, with what they write and what is said behind it."""
     for kind, block in BLOCK.findall(text):
-        for session in block.split("$ ./multiverse ")[1:] if kind == "console" else ():
-            command, _, answer = session.partition("\n")
-            said = "".join(re.findall(r"^multiverse: .*\n", answer, re.M))
-            yield command, answer.replace(said, ""), said
+        parts = SESSION.split(block)[1:] if kind == "console" else []
+        for name, session in zip(parts[::2], parts[1::2]):
+            words, _, answer = session.partition("\n")
+            said = "".join(re.findall(rf"^{name}: .*\n", answer, re.M))
+            yield words if name == "multiverse" else f"{name} {words}", answer.replace(said, ""), said
 
 
 def explanation(command, answer):
     """Returns what the launcher says at a terminal behind the notes of a command."""
     os.chdir(TOP)
-    return "".join(f"multiverse: {line}\n" for line in explanations.of_notes(answer, command.split(" < ")[0].split()))
+    words = command.split(" < ")[0].split()
+    name = words.pop(0) if words[0] == "mvharts" else "multiverse"
+    return "".join(f"{name}: {line}\n" for line in explanations.of_notes(name, answer, words))
 
 
 def wrong_in(document, known):
@@ -99,7 +107,7 @@ def wrong_in(document, known):
             yield f"a program is no file of examples/: {block.splitlines()[0]}"
     for table in text.split(SYNOPSES)[1:]:
         for command in re.findall(r"^\| `(.*?)`", re.match(r"(\|.*\n?)*", table)[0], re.M):
-            if f" {command}\n" not in explanations.SYNOPSIS:
+            if all(f" {command}\n" not in synopsis for synopsis in explanations.SYNOPSES.values()):
                 yield f"`{command}` is no line of the synopsis"
 
 
@@ -127,11 +135,19 @@ def wrong_outputs(known):
             yield f"examples/{name}.out is another output"
 
 
+def wrong_copies():
+    """Returns the files beside the rows that are otherwise in examples/."""
+    for file in sorted(it for crate in (ROWS, HARTS) for it in glob.glob(os.path.join(crate, "data", "**", "*.*"), recursive=True)):
+        example = os.path.join(TOP, "examples", file.partition("/data/")[2])
+        if os.path.exists(example) and not filecmp.cmp(example, file, shallow=False):
+            yield f"{os.path.relpath(file, TOP)} is another in examples/"
+
+
 def main():
     known = rows()
     documents = [os.path.join(TOP, "README.md"), *sorted(glob.glob(os.path.join(TOP, "docs", "*.md")))]
     wrong = [f"{os.path.relpath(it, TOP)}: {what}" for it in documents for what in wrong_in(it, known)]
-    wrong += [*wrong_refusals(known), *wrong_outputs(known)]
+    wrong += [*wrong_refusals(known), *wrong_outputs(known), *wrong_copies()]
     print(*wrong, sep="\n", end="\n" * bool(wrong))
     return 1 if wrong else 0
 

@@ -25,6 +25,7 @@ PARTS = [
     ("That the run does what the program means", [("mv_refine_runs/specs/Behaves.antt", "BehavesAlways"), ("mv_refine_images/specs/Own.antt", "LoadsNoOwnSwitch")]),
     ("Which text is which program", [("mv_front/specs/Verdicts.antt", "IsProgram")]),
     ("What the command does", [("mv_top/src/top.rt", "multiverse")]),
+    ("What several harts do", [("mv_harts/src/harts.rt", "run_harts"), ("mv_harts/src/top.rt", "mvharts")]),
 ]
 # Of these only what an earlier part has is to be believed: the rest says which bodies and tables an image was made of.
 CLOSED = {("mv_build/specs/Images.antt", "IsImageOf"), ("mv_build/specs/Verdicts.antt", "PassesLimit")}

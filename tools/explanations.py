@@ -1,9 +1,11 @@
-"""What `./multiverse` says at a terminal behind the program's notes."""
+"""What `./multiverse` and `./mvharts` say at a terminal behind the program's notes."""
 import os
 
 import refusals
 
-SYNOPSIS = """\
+# Of each program what its commands are.
+SYNOPSES = {
+    "multiverse": """\
 usage: ./multiverse [--explain off] run FILE [--steps N] [--at LIST] [--bindings] [--words]
        ./multiverse [--explain off] build FILE IMAGE
        ./multiverse [--explain off] exec IMAGE [--steps N] [--at LIST] [--bindings] [--words]
@@ -12,7 +14,12 @@ usage: ./multiverse [--explain off] run FILE [--steps N] [--at LIST] [--bindings
        ./multiverse [--explain off] gen NUMBER [--source]
        ./multiverse --build
 N is 1 to 1000000000000 (without it 1000000000), K and NUMBER are 0 to 4294967295, LIST is items POLL:SWITCH=VALUE with commas between;
-docs/commands.md has all"""
+docs/commands.md has all""",
+    "mvharts": """\
+usage: ./mvharts [--explain off] FILE COUNT NUMBER TURNS
+       ./mvharts --build
+COUNT is 2 to 4, NUMBER 0 to 4294967295, TURNS 1 to 10000000; docs/harts.md has all""",
+}
 
 # The options whose value may be a word of its own.
 VALUED = ("--steps", "--at", "--bound")
@@ -39,8 +46,8 @@ def shown(file, place):
 
 
 def operands(words):
-    """Returns the words of a command that are its files or its number: all but its name and its options."""
-    found, rest = [], list(words[1:])
+    """Returns those of some words that are files or numbers: all but options."""
+    found, rest = [], list(words)
     while rest:
         word = rest.pop(0)
         if word == "--":
@@ -52,12 +59,17 @@ def operands(words):
     return found
 
 
-def of_notes(notes, words):
-    """Returns the lines that explain the last line of the notes of a command."""
+def files_of(name, words):
+    """Returns the files that the words of a program name, or its number."""
+    return operands(words)[:1] if name == "mvharts" else operands(words[1:])
+
+
+def of_notes(name, notes, words):
+    """Returns the lines that explain the last line of the notes of a program with these words."""
     last_line = notes.rstrip("\n").rpartition("\n")[2]
     if last_line == "usage":
-        return SYNOPSIS.split("\n")
-    files = operands(words)
+        return SYNOPSES[name].split("\n")
+    files = files_of(name, words)
     if last_line == "shelf fault" and len(files) > 1:
         return [f"{files[0]} can't be read, or isn't there; or {files[1]} can't be written"]
     if last_line == "shelf fault":

@@ -1,10 +1,10 @@
 #!/usr/bin/env python3
 """The programs that are kept, and the sum by which they are known.
 
-  kept_program.py sum                 prints the sum of the sources and the toolchain as they stand
-  kept_program.py keep SUM PROGRAM    keeps a program as the proved one of SUM, if that is the sum still
+  kept_program.py sum         prints the sum of the sources and the toolchain as they stand
+  kept_program.py keep SUM    keeps the programs that the gate has built as the proved ones of SUM, if that is the sum still
 
-A kept program is a file of `out/` at the top, named by its kind and its sum. So it is found exactly for the sources and the
+A kept program is a file of `out/` at the top, named by its name, its kind and its sum. So it is found exactly for the sources and the
 toolchain that it was made of, whatever the times of the files say.
 """
 import contextlib
@@ -18,6 +18,8 @@ import sys
 TOP = os.path.dirname(os.path.dirname(os.path.realpath(__file__)))
 PLACE = os.path.join(TOP, "out")
 KINDS = ("proved", "unproved")
+# The crate of each program.
+CRATES = {"multiverse": "mv_cli", "mvharts": "mv_harts_cli"}
 
 
 class NoToolchain(Exception):
@@ -52,14 +54,14 @@ def sum_of_sources():
     return whole.hexdigest()
 
 
-def place_of(kind, known_sum):
-    """Returns where the program of a kind and a sum is kept."""
-    return os.path.join(PLACE, f"multiverse-{kind}-{known_sum}")
+def place_of(name, kind, known_sum):
+    """Returns where the program of a name, a kind and a sum is kept."""
+    return os.path.join(PLACE, f"{name}-{kind}-{known_sum}")
 
 
-def find(known_sum):
-    """Returns the kind of the best program that is kept for a sum, or None."""
-    return next((kind for kind in KINDS if os.access(place_of(kind, known_sum), os.X_OK)), None)
+def find(name, known_sum):
+    """Returns the kind of the best program of a name that is kept for a sum, or None."""
+    return next((kind for kind in KINDS if os.access(place_of(name, kind, known_sum), os.X_OK)), None)
 
 
 @contextlib.contextmanager
@@ -75,10 +77,10 @@ def alone(at_a_wait):
         yield
 
 
-def keep(program, kind, known_sum):
-    """Keeps a program in the place of all others of its kind."""
+def keep(program, name, kind, known_sum):
+    """Keeps a program in the place of all others of its name and kind."""
     os.makedirs(PLACE, exist_ok=True)
-    kept = place_of(kind, known_sum)
+    kept = place_of(name, kind, known_sum)
     copied = os.path.join(PLACE, f"copy-{os.getpid()}")
     try:
         shutil.copy(program, copied)
@@ -87,18 +89,19 @@ def keep(program, kind, known_sum):
     finally:
         if os.path.exists(copied):
             os.remove(copied)
-    for name in os.listdir(PLACE):
-        if name.startswith(f"multiverse-{kind}-") and name != os.path.basename(kept):
+    for other in os.listdir(PLACE):
+        if other.startswith(f"{name}-{kind}-") and other != os.path.basename(kept):
             with contextlib.suppress(FileNotFoundError):
-                os.remove(os.path.join(PLACE, name))
+                os.remove(os.path.join(PLACE, other))
 
 
 def main(words):
     if words == ["sum"]:
         print(sum_of_sources())
-    elif len(words) == 3 and words[0] == "keep":
+    elif len(words) == 2 and words[0] == "keep":
         if sum_of_sources() == words[1]:
-            keep(words[2], "proved", words[1])
+            for name, crate in CRATES.items():
+                keep(os.path.join(TOP, "crates", crate, "out", crate), name, "proved", words[1])
     else:
         sys.exit(__doc__)
 

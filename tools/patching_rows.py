@@ -351,12 +351,12 @@ def told(log):
     return f"{2 - bool(log)} left, {len(log)} events{':' * bool(log)}{','.join(f' {it}' for it in events)}"
 
 
-def replace_rows(name, lines):
-    """Puts the rows of the patching programs at the end of a file, in the place of those that it has."""
-    file = os.path.join(ROWS, name)
+def replace_rows(folder, title, name, lines):
+    """Puts rows with a title at the end of a file, in the place of those with it that the file has."""
+    file = os.path.join(folder, name)
     with open(file, encoding="utf-8") as it:
         sections = re.split(r"^(?=# )", it.read(), flags=re.M)
-    kept = "".join(it for it in sections if not it.startswith(TITLE))
+    kept = "".join(it for it in sections if not it.startswith(title))
     with open(file, "w", encoding="utf-8") as it:
         it.write(kept + "\n" * (not kept.endswith("\n")) + "\n".join(lines) + "\n")
 
@@ -367,8 +367,8 @@ def main():
         row, answer = Draw(place).rows(place)
         rows += row
         wanted += answer
-    replace_rows("stdin", rows)
-    replace_rows("stdout", wanted)
+    replace_rows(ROWS, TITLE, "stdin", rows)
+    replace_rows(ROWS, TITLE, "stdout", wanted)
 
 
 if __name__ == "__main__":

@@ -1,9 +1,9 @@
 #!/usr/bin/env python3
 """Refuses the allocations of some commands, one in each run, and compares what comes of it. It is no part of the gate.
 
-  refused_memory.py PROGRAM [ROWS]
+  refused_memory.py PROGRAM [ROWS [MVHARTS]]
 
-PROGRAM is a built `multiverse`, as crates/mv_cli/out/mv_cli. Each run has to answer what the command answers with ample memory, or want of memory: then
+PROGRAM is a built `multiverse`, as crates/mv_cli/out/mv_cli, and MVHARTS a built `mvharts`, as crates/mv_harts_cli/out/mv_harts_cli. Each run has to answer what the command answers with ample memory, or want of memory: then
 the status is 4, what it wrote is a part of what it owes, from its start, the notes have no last line, and each file is as it was or as the command owes it.
 The probes of a run are seen by no command: that run is a row of ROWS, a built crates/mv_test_top/out/mv_test_top. Where an allocation of that program itself
 is refused, it ends with the status 1, and nothing is said of the run.
@@ -152,6 +152,20 @@ def cases(image):
     ]
 
 
+def cases_of_harts():
+    """The words of `mvharts`."""
+    with open(os.path.join(os.path.dirname(os.path.realpath(__file__)), "..", "examples", "levels.c"), "rb") as it:
+        levels = {"levels.c": it.read()}
+    going = b"".join(b"hart %d going bytes 0\n\n" % hart for hart in range(4))
+    return [
+        Case(["levels.c", "5", "7", "20000"], levels, 2, b"", b"usage\n"),
+        Case(["none.c", "3", "7", "20000"], {}, 7, b"", b"shelf fault\n"),
+        Case(["none.c", "3", "7", "20000"], {"none.c": b"int main(void){ return y; }"}, 3, b"", b"refused 6 1:24 rule 1\n"),
+        Case(["levels.c", "4", "0", "1"], levels, 0, going, b"done\n"),
+        Case(["levels.c", "3", "7", "20000"], levels, 0, b"hart 0 ended 0 bytes 2\n12\nhart 1 ended 0 bytes 1\n0\nhart 2 ended 0 bytes 2\n12\n", b"done\n"),
+    ]
+
+
 class Runner:
     def __init__(self, program, room):
         self.program, self.room = os.path.realpath(program), room
@@ -261,6 +275,9 @@ def main(words):
         wrong = sum(try_case(runner, case) for case in cases(image))
         if len(words) > 1:
             wrong += try_row(Runner(words[1], room))
+        if len(words) > 2:
+            harts = Runner(words[2], room)
+            wrong += sum(try_case(harts, case) for case in cases_of_harts())
     return 1 if wrong else 0
 
 

@@ -1,7 +1,7 @@
 #!/usr/bin/env python3
-"""Tests ./multiverse, and what .ci/run keeps for it, with a stand-in toolchain and a stand-in program: test_launcher.py [LAUNCHER]
+"""Tests ./multiverse and ./mvharts, and what .ci/run keeps for them, with a stand-in toolchain and a stand-in program: test_launcher.py [LAUNCHER]
 
-LAUNCHER is tried in the place of ./multiverse.
+LAUNCHER is tried in the place of tools/launcher.py.
 """
 import os
 import pty
@@ -14,7 +14,9 @@ import time
 import unittest
 
 TOP = os.path.dirname(os.path.dirname(os.path.realpath(__file__)))
-LAUNCHER = os.path.abspath(sys.argv.pop()) if len(sys.argv) == 2 else os.path.join(TOP, "multiverse")
+LAUNCHER = os.path.abspath(sys.argv.pop()) if len(sys.argv) == 2 else os.path.join(TOP, "tools", "launcher.py")
+# The programs, each with its crate.
+CRATES = {"multiverse": "mv_cli", "mvharts": "mv_harts_cli"}
 NO_PROGRAM = 125
 
 # `rt try` makes the program and runs it, within its own limits on what is read and written; `rt ci` makes it as a gate does.
@@ -23,13 +25,16 @@ echo "$*" >> "$SCRATCH/calls"
 case $1 in
 version) cat "$SCRATCH/version" ;;
 ci)
-    mkdir -p crates/mv_cli/out
-    cp "$SCRATCH/program" crates/mv_cli/out/mv_cli
+    for crate in mv_cli mv_harts_cli; do
+        mkdir -p "crates/$crate/out"
+        cp "$SCRATCH/program" "crates/$crate/out/$crate"
+    done
     [ ! -e "$SCRATCH/edit" ] || echo edited >> crates/mv_cli/src/main.rt
     [ ! -e "$SCRATCH/fault" ] || { echo '3 passed, 1 failed'; exit 1; }
     echo '4 passed, 0 failed' ;;
 try)
     echo "$$" > "$SCRATCH/trying"
+    basename "$PWD" >> "$SCRATCH/made"
     [ ! -e "$SCRATCH/fault" ] || { cat "$SCRATCH/fault" >&2; echo 'run=none proved=no' >&2; exit 1; }
     folder=$(mktemp -d)
     trap 'kill "$child" 2> /dev/null; rm -rf "$folder"; exit 143' TERM INT HUP
@@ -49,7 +54,7 @@ esac
 
 # Writes its words and its input; its notes and its status are those of the test.
 PROGRAM = r"""#!/bin/sh
-[ ! -f guest.c ] || { printf .; exec sleep 60; }
+[ ! -f guest.c ] || exec sleep 60
 for word; do printf '[%s]\n' "$word"; done
 [ ! -e "$SCRATCH/long" ] || head -c 2000000 /dev/zero
 [ "$1" != build ] || echo image > "$3"
@@ -66,17 +71,20 @@ class Launcher(unittest.TestCase):
         self.addCleanup(shutil.rmtree, self.scratch)
         self.top = os.path.join(self.scratch, "top")
         self.room = os.path.join(self.scratch, "tmp")
-        for folder in ("bin", "bare", "tmp", "top/tools", "top/docs", "top/.ci", "top/crates/mv_cli/src"):
+        for folder in ("bin", "bare", "tmp", "top/tools", "top/docs", "top/.ci", "top/crates/mv_cli/src", "top/crates/mv_harts_cli/src"):
             os.makedirs(os.path.join(self.scratch, folder))
         for name in ("kept_program.py", "explanations.py", "refusals.py"):
             shutil.copy(os.path.join(TOP, "tools", name), os.path.join(self.top, "tools"))
         shutil.copy(os.path.join(TOP, "docs", "refusals.ini"), os.path.join(self.top, "docs"))
         shutil.copy(os.path.join(TOP, ".ci", "run"), os.path.join(self.top, ".ci"))
-        shutil.copy(LAUNCHER, os.path.join(self.top, "multiverse"))
+        shutil.copy(LAUNCHER, os.path.join(self.top, "tools", "launcher.py"))
+        for name in CRATES:
+            shutil.copy(os.path.join(TOP, name), self.top)
         for name in ("check_headers.py", "check_families.py", "check_documents.py", "definitions.py", "test_launcher.py"):
             self.write(f"top/tools/{name}", "")
         for name, text in (("crates.txt", "mv_cli:\n"), ("HANDLES", ""), ("crates/mv_cli/src/main.rt", "//\n"), ("crates/mv_cli/src/more.rt", "//\n")):
             self.write(f"top/{name}", text)
+        self.write("top/crates/mv_harts_cli/src/main.rt", "//\n")
         for name in ("bin", "bare"):
             os.symlink(sys.executable, os.path.join(self.scratch, name, "python3"))
         for name, text in (("bin/rt", TOOLCHAIN), ("program", PROGRAM)):
@@ -98,9 +106,9 @@ class Launcher(unittest.TestCase):
         path = [os.path.join(self.scratch, tools)] + ["/usr/bin", "/bin"] * (tools == "bin")
         return {"PATH": os.pathsep.join(path), "SCRATCH": self.scratch, "TMPDIR": self.room, "LANG": "C.UTF-8"}
 
-    def start(self, *words, launcher=None, tools="bin", **how):
+    def start(self, *words, name="multiverse", launcher=None, tools="bin", **how):
         how = {"stdin": subprocess.DEVNULL, "stdout": subprocess.PIPE, "stderr": subprocess.PIPE, "cwd": self.scratch, **how}
-        return subprocess.Popen([launcher or os.path.join(self.top, "multiverse"), *words], env=self.environment(tools), **how)
+        return subprocess.Popen([launcher or os.path.join(self.top, name), *words], env=self.environment(tools), **how)
 
     def run_it(self, *words, **how):
         """Returns the status of a run, what it wrote and its notes."""
@@ -114,10 +122,10 @@ class Launcher(unittest.TestCase):
         except OSError as error:
             return self.skipTest(f"there are no terminals here ({error})")
 
-    def run_at_terminal(self, *words):
+    def run_at_terminal(self, *words, **how):
         """Returns what a run whose notes go to a terminal has there."""
         ours, its = self.terminal()
-        with self.start(*words, stderr=its) as run:
+        with self.start(*words, stderr=its, **how) as run:
             run.stdout.read()
         os.close(its)
         notes = b""
@@ -135,9 +143,9 @@ class Launcher(unittest.TestCase):
     def tries(self):
         return sum(line.startswith("try") for line in self.read("calls").splitlines())
 
-    def said(self):
+    def said(self, **how):
         """Returns which program a run takes."""
-        return self.run_it("--build")[2].splitlines()[-1].split()[2]
+        return self.run_it("--build", **how)[2].splitlines()[-1].split()[2]
 
     def test_program_is_made_once(self):
         for _ in range(3):
@@ -150,6 +158,11 @@ class Launcher(unittest.TestCase):
         self.assertIn("the unproved program of these sources is kept", notes)
         self.run_it("run", "a.c")
         self.assertEqual(self.tries(), 1)
+
+    def test_each_program_is_made_of_its_crate(self):
+        for name in (*CRATES, *CRATES):
+            self.assertEqual(self.run_it("a.c", "2", name=name)[:2], (0, "[a.c]\n[2]\n"))
+        self.assertEqual(self.read("made").split(), list(CRATES.values()))
 
     def test_words_are_as_they_are(self):
         for name in ("eval", "1000", "a.c", "--bound"):
@@ -186,9 +199,12 @@ class Launcher(unittest.TestCase):
         self.assertIn("unproved", self.run_it("run", "a.c")[2])
 
     def test_symbolic_link(self):
-        for to, name in ((os.path.join(self.top, "multiverse"), "link"), ("link", "another")):
-            os.symlink(to, os.path.join(self.scratch, name))
-            self.assertEqual(self.run_it("run", launcher=os.path.join(self.scratch, name))[:2], (0, "[run]\n"))
+        for program, crate in CRATES.items():
+            self.write("made", "")
+            for to, name in ((os.path.join(self.top, program), f"link-{program}"), (f"link-{program}", f"another-{program}")):
+                os.symlink(to, os.path.join(self.scratch, name))
+                self.assertEqual(self.run_it("run", launcher=os.path.join(self.scratch, name))[:2], (0, "[run]\n"))
+            self.assertEqual(self.read("made").split(), [crate])
 
     def test_no_toolchain(self):
         status, out, notes = self.run_it("run", "a.c", tools="bare")
@@ -290,7 +306,9 @@ class Launcher(unittest.TestCase):
     def test_gate_keeps_the_proved_program(self):
         gate = self.gate()
         self.assertEqual((gate.returncode, gate.stdout.splitlines()[-1]), (0, b"4 passed, 0 failed"))
-        self.assertEqual(self.said(), "proved")
+        for name in CRATES:
+            self.assertEqual(self.said(name=name), "proved")
+            self.assertEqual(self.run_it("a.c", name=name), (0, "[a.c]\n", "ended 3\n"))
         self.assertEqual(self.tries(), 0)
 
     def test_failed_gate_keeps_nothing(self):
@@ -298,7 +316,8 @@ class Launcher(unittest.TestCase):
         gate = self.gate()
         self.assertEqual((gate.returncode, gate.stdout.splitlines()[-1]), (1, b"3 passed, 1 failed"))
         os.remove(os.path.join(self.scratch, "fault"))
-        self.assertEqual(self.said(), "unproved")
+        for name in CRATES:
+            self.assertEqual(self.said(name=name), "unproved")
 
     def test_edit_during_the_gate(self):
         self.write("edit", "")
@@ -329,13 +348,13 @@ class Launcher(unittest.TestCase):
         os.utime(os.path.join(self.top, "crates/mv_cli/src/main.rt"))
         self.assertEqual(self.said(), "proved")
 
-    def explained(self, notes, *words):
+    def explained(self, notes, *words, **how):
         self.write("notes", f"{notes}\n")
         self.gate()
-        whole = self.run_at_terminal(*words)
+        whole = self.run_at_terminal(*words, **how)
         self.assertTrue(whole.startswith(f"{notes}\n"))
-        self.assertEqual(self.run_at_terminal("--explain", "off", *words), f"{notes}\n")
-        self.assertEqual(self.run_it(*words)[2], f"{notes}\n")
+        self.assertEqual(self.run_at_terminal("--explain", "off", *words, **how), f"{notes}\n")
+        self.assertEqual(self.run_it(*words, **how)[2], f"{notes}\n")
         return whole
 
     def test_usage_is_explained(self):
@@ -361,6 +380,16 @@ class Launcher(unittest.TestCase):
         whole = self.explained("refused 6 2:11 rule 1", "run", "a.c")
         self.assertIn("multiverse:     \tint \u00e4 = y;\nmultiverse:     \t        ^\n", whole)
         self.assertIn("isn't declared before its use", whole)
+
+    def test_what_mvharts_says_is_explained(self):
+        self.write("a.c", "int main(void) { return y; }\n")
+        for notes, reason in (
+            ("usage", "mvharts: usage: ./mvharts [--explain off] FILE COUNT NUMBER TURNS"),
+            ("shelf fault", "mvharts: a.c can't be read"),
+            ("refused 6 1:25 rule 1", "mvharts: a.c:1:25: rule 1: a name"),
+        ):
+            self.assertIn(f"\n{reason}", self.explained(notes, "a.c", "2", "7", "100", name="mvharts"))
+        self.assertEqual(self.explained("done", "a.c", "2", "7", "100", name="mvharts"), "done\n")
 
     def test_limit_is_explained(self):
         self.assertIn("parameters of a function", self.explained("refused 7 limit 3 count 9", "run", "a.c"))

@@ -1,1 +1,0 @@
-__attribute__((multiverse)) int s; __attribute__((multiverse)) int f(void){ return s; } int main(void){ int h = getchar(); if (h == '0') { s = 1; multiverse_commit(); } else { while (!multiverse_poll()) ; } putchar(48+f()); }
