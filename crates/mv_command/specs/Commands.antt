@@ -1,6 +1,6 @@
 -- The words that are a command: `clap` assigns them to the operands and the options of the table, and the texts of numbers and lists
 -- are read here.
-use Rattle.std.specs.Prelude.{ℕ, ◌≡◌, ◌≤◌, Bool, true, false, Option, Some, None, List, [], fold, map, codes, MatchOption}
+use Rattle.std.specs.Prelude.{ℕ, ◌≡◌, ◌≤◌, Bool, true, false, Option, Some, None, List, [], fold, codes, MatchOption}
 use Rattle.std.specs.Option.{option_map_or}
 use Rattle.std.specs.Str.{bytes_eq}
 use Rattle.std.specs.Borrow.{Bor}
@@ -15,7 +15,7 @@ use Rattle.mv_command.specs.declared.command.Command.TheVariants as command
 use Rattle.mv_command.specs.declared.command.RunOptions.{RunOptions}
 use Rattle.mv_command.specs.declared.options.Kind.{Kind}
 use Rattle.mv_command.specs.declared.options.Kind.TheVariants.{Operand, Valued, Flag}
-use Rattle.mv_command.specs.declared.options.TheConstants.{PROGRAM, COMMANDS, RUN, BUILD, EXEC, LIST, EVAL, GEN, FILE, IMAGE, NUMBER, MOST_NUMBER, STEPS, DEFAULT_STEPS, MOST_STEPS, AT, BINDINGS, WORDS, BOUND, MOST_BOUND, SOURCE}
+use Rattle.mv_command.specs.Spelled as spelled
 use Rattle.mv_command.specs.Items.{IsList}
 
 -- ---- what clap is told of the table
@@ -41,11 +41,11 @@ argument_text argument = (argument.0, argument.1.now)
 
 -- each command's name with what may stand behind it
 abbrev pub table : List (Text × List (Kind × Text))
-table = map (λ row. (row.0.now, map (λ argument. (argument.0, argument.1.now)) row.1.now)) COMMANDS
+table = spelled.commands
 
 -- the program, whose words begin with the command's name, and which has no help
 abbrev pub no_forms : App
-no_forms = on_top (λ s. record s { no_binary_name = true; disable_help_flag = true; disable_help_subcommand = true }) (new_app PROGRAM.now)
+no_forms = on_top (λ s. record s { no_binary_name = true; disable_help_flag = true; disable_help_subcommand = true }) (new_app spelled.program)
 
 -- the program with each command of the table
 unfoldable pub app : App
@@ -63,8 +63,8 @@ is_set name rows = option_map_or (λ text. bytes_eq text (codes "true")) (given 
 
 -- the step limit that this value gives, or that none gives
 abbrev pub IsLimit : Option Text → ℕ → Type 0
-IsLimit None steps = steps ≡ DEFAULT_STEPS
-IsLimit (Some text) steps = (text ≡ decimal steps) × (1 ≤ steps) × (steps ≤ MOST_STEPS)
+IsLimit None steps = steps ≡ spelled.default_steps
+IsLimit (Some text) steps = (text ≡ decimal steps) × (1 ≤ steps) × (steps ≤ spelled.most_steps)
 
 -- the items that this list has, or that none gives
 abbrev pub AreItems : Option Text → List Item → Type 0
@@ -73,10 +73,10 @@ AreItems (Some text) items = IsList text items
 
 -- `[--steps N] [--at LIST] [--bindings] [--words]`
 pub record AreOptions (rows : List Row) (options : RunOptions) : Type 0 where
-  pub limit : IsLimit (given STEPS.now rows) options.steps
-  pub items : AreItems (given AT.now rows) options.items
-  pub bindings : options.bindings ≡ is_set BINDINGS.now rows
-  pub words : options.words ≡ is_set WORDS.now rows
+  pub limit : IsLimit (given spelled.steps rows) options.steps
+  pub items : AreItems (given spelled.at rows) options.items
+  pub bindings : options.bindings ≡ is_set spelled.bindings rows
+  pub words : options.words ≡ is_set spelled.words rows
 
 -- ---- commands
 
@@ -99,12 +99,12 @@ asked (command.Gen number source) = Generates number source
 
 -- The command with this name, with these values, asks for this; numbers are decimal numerals.
 abbrev pub Asks : (name : Text) → List Row → Asked → Type 0
-Asks name rows (Runs file options) = (name ≡ RUN.now) × (given FILE.now rows ≡ Some file) × AreOptions rows options
-Asks name rows (Builds file image) = (name ≡ BUILD.now) × (given FILE.now rows ≡ Some file) × (given IMAGE.now rows ≡ Some image)
-Asks name rows (Executes image options) = (name ≡ EXEC.now) × (given IMAGE.now rows ≡ Some image) × AreOptions rows options
-Asks name rows (Lists image) = (name ≡ LIST.now) × (given IMAGE.now rows ≡ Some image)
-Asks name rows (Evaluates file bound) = (name ≡ EVAL.now) × (given FILE.now rows ≡ Some file) × (given BOUND.now rows ≡ Some (decimal bound)) × (bound ≤ MOST_BOUND)
-Asks name rows (Generates number source) = (name ≡ GEN.now) × (given NUMBER.now rows ≡ Some (decimal number)) × (number ≤ MOST_NUMBER) × (source ≡ is_set SOURCE.now rows)
+Asks name rows (Runs file options) = (name ≡ spelled.run) × (given spelled.file rows ≡ Some file) × AreOptions rows options
+Asks name rows (Builds file image) = (name ≡ spelled.build) × (given spelled.file rows ≡ Some file) × (given spelled.image rows ≡ Some image)
+Asks name rows (Executes image options) = (name ≡ spelled.exec) × (given spelled.image rows ≡ Some image) × AreOptions rows options
+Asks name rows (Lists image) = (name ≡ spelled.list) × (given spelled.image rows ≡ Some image)
+Asks name rows (Evaluates file bound) = (name ≡ spelled.eval) × (given spelled.file rows ≡ Some file) × (given spelled.bound rows ≡ Some (decimal bound)) × (bound ≤ spelled.most_bound)
+Asks name rows (Generates number source) = (name ≡ spelled.gen) × (given spelled.number rows ≡ Some (decimal number)) × (number ≤ spelled.most_number) × (source ≡ is_set spelled.source rows)
 
 -- The words are a command that asks for this: clap has no fault to find with them, and what it gives the command that they name asks for it.
 pub record IsCommand (words : List Text) (a : Asked) : Type 0 where

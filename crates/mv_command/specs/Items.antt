@@ -4,7 +4,7 @@ use Rattle.std.specs.Char.{is_ascii_alphabetic, is_ascii_digit}
 use Rattle.std.specs.List.{list_all, join_with_byte}
 use Rattle.std.specs.Fmt.{decimal, signed_decimal}
 use Rattle.mv_command.specs.declared.items.Item.{Item}
-use Rattle.mv_command.specs.declared.options.TheConstants.{MOST_POLL, MOST_VALUE, LEAST_VALUE}
+use Rattle.mv_command.specs.Spelled.{most_poll, most_value, least_value}
 
 -- a letter or `_`
 abbrev pub is_letter : ℕ → Bool
@@ -20,11 +20,11 @@ is_name (b ∷ rest) = is_letter b && list_all is_name_byte rest
 
 -- a number that is a value of some integer type
 abbrev pub IsValue : ℤ → Type 0
-IsValue (pos n) = n ≤ MOST_VALUE
-IsValue (negsuc n) = n < LEAST_VALUE
+IsValue (pos n) = n ≤ most_value
+IsValue (negsuc n) = n < least_value
 
 pub record IsItem (item : Item) : Type 0 where
-  pub poll : item.poll ≤ MOST_POLL
+  pub poll : item.poll ≤ most_poll
   pub name : IsTrue (is_name item.name)
   pub value : IsValue item.value
 
