@@ -24,7 +24,7 @@ use Rattle.mv_refine_images.specs.Own.{LoadsNoOwnSwitch}
 use Rattle.mv_count_words.specs.Laws.{ShowsBindings}
 
 -- On no input, in no hart, where its polls take what fits the program and whose values are words, and by no picks does an instruction load a data word that is
--- closed to what stands at its place; and none that is code of a function's variants, in their words or at a site, loads a switch of the function.
+-- closed to what stands at its place; and none in the words of a function's variants loads a switch of the function, and none at a site any switch.
 abbrev pub LoadsOpenly : Program → Parts → (sizing : List ℕ) → Fields → Type 0
 LoadsOpenly p parts sizing image =
     (bytes : List ℕ) (polls : PollActs) (picks : List ℕ) → All (λ b. b < 2 ^ 8) bytes → All IsActOfWord polls.acts → All (λ a. IsTrue (act_fits p polls.hart a)) polls.acts →

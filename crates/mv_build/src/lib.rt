@@ -8,10 +8,10 @@
 //!   in the image, with its two inline words where its body has one of the five shapes. No two variants of a function are
 //!   equal, and the sites are exactly the slots. The image's run does what the program means (`BehavesAlways`), in each
 //!   hart, on each input of bytes, whatever its polls take that fits, as the operator's actions in hart 0, and whatever
-//!   the fetches pick, also while commits, reverts and polls rewrite its text. No instruction that is code of a variant,
-//!   in its words that are no site's or in an inline body of it at a site, loads a switch of its function
-//!   (`LoadsOpenly`). The text of its run's bindings differs from the image's in as many words as these bindings owe by
-//!   the source, and each has its line (`ShowsBindings`).
+//!   the fetches pick, also while commits, reverts and polls rewrite its text. No instruction in a variant's words, call
+//!   sites among them, loads a switch of its function, and none at a call site any switch (`LoadsOpenly`). The text of its
+//!   run's bindings differs from the image's in as many words as these bindings owe by the source, and each has its line
+//!   (`ShowsBindings`).
 //! - Each other answer has its cause, and each cause its answer unless memory is wanting: refusals 1 to 7 are those of
 //!   `mv_front`; 8 names the first function whose frame is above 2,032 bytes and its bytes, then 14 the sites above
 //!   16,384, then 13 the words of data above 262,144, then 9 the words of text above 131,072: each the count of the code

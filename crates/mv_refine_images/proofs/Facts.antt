@@ -1,6 +1,7 @@
 -- The laws of the crates below that the law on built programs stands on.
 use Rattle.mv_image.specs.Format.{RulesAreTables}
 use Rattle.mv_ir.specs.Reached.{EndsAreReached}
+use Rattle.mv_lower_shape.specs.Law.{LoweredReadNoMore}
 use Rattle.mv_select_bodies.specs.SelectedBodies.{BodiesAreFunctions}
 use Rattle.mv_refine_machine.specs.Laws.{PackedIsLaidOut}
 use Rattle.mv_refine_machine.specs.Shown.{FreeFunctionsShow, BoundFunctionsShow}
@@ -36,6 +37,7 @@ pub record Laws : Type 0 where
   pub own_code : FunctionsHaveOwnCode
   pub variant_code : VariantsHaveCode
   pub bodies_are_functions : BodiesAreFunctions
+  pub reads_no_more : LoweredReadNoMore
   -- data
   pub words_first : WordsAreFirst
   pub sizes_are_counts : SizesAreCounts

@@ -7,6 +7,7 @@ pub mod Data
 pub mod Patched
 pub mod Standing
 pub mod Host
+pub mod OwnReads
 pub mod Own
 pub mod Main
 pub mod Calls

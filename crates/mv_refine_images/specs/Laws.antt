@@ -13,7 +13,7 @@ use Rattle.mv_refine_images.specs.Own.{LoadsNoOwnSwitch}
 
 -- The run of an image that is built of a well-formed program without pointer switches does, in each hart, what the program means, on each input, with any acts whose
 -- values are words and that fit the program there, and by any picks of the fetches. No instruction loads a data word of a global that is closed to what stands at its
--- place: and so none that is code of a function's variants, in their words or at a site, loads a switch of the function.
+-- place: and so none in the words of a function's variants loads a switch of the function, and none at a site any switch.
 abbrev pub BuiltProgramsBehave : Type 0
 BuiltProgramsBehave =
     (p : Program) (image : Fields) → IsWellFormed p → HasWordsOfGlobals p → p.pointers ≡ [] → (built : IsBuilt p image) → (bytes : List ℕ) (polls : PollActs) (picks : List ℕ) → All (λ b. b < 2 ^ 8) bytes →

@@ -7,6 +7,7 @@ use mv_ir_worlds::{fit_frames_law, fit_worlds_law};
 use mv_link_data::data_law;
 use mv_link_text::linked_text_law;
 use mv_lower_calls::{bodies_are_right, calls_keep_bindings, main_ends_alike, main_is_right};
+use mv_lower_shape::lowered_forms_are_right;
 use mv_parts::parts_law;
 use mv_parts_bodies::bodies_are_in_program;
 use mv_parts_tables::{images_have_tables, rows_lead_on};
@@ -22,8 +23,8 @@ use mv_select_bodies::bodies_are_functions;
 /// how. `IsBuilt` says what a compiler has to give: a body for each function that means what the function is lowered to, and variants
 /// for each attributed one; the code that is selected for them; the first words of the globals; and the image that is linked of them,
 /// with its tables. And no instruction loads a data word of a global that is closed to what stands at its place (`closed`): a
-/// function's code loads from no global that the function doesn't read, and a variant, and its inline body at a site, from no switch
-/// of its function. The call does nothing: its contract is the law.
+/// function's code loads from no global that the function doesn't read. So no word that stands in a variant, at a site or not, loads a
+/// switch of the variant's function, and no word at a site any switch. The call does nothing: its contract is the law.
 pub fn built_programs_behave()
     ensures { BuiltProgramsBehave }
 {
@@ -33,6 +34,7 @@ pub fn built_programs_behave()
     images_have_tables();
     bodies_are_in_program();
     bodies_are_functions();
+    lowered_forms_are_right();
     data_law();
     parts_law();
     packed_is_laid_out();

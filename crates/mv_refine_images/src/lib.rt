@@ -10,8 +10,8 @@
 //!   `good_globals_are_formed` gives of checked programs, and that the program has no pointer switches. `build` of
 //!   `mv_build` gives such images.
 //! - And no instruction loads a data word of a global that is closed to what stands at its place (`specs/Closed.antt`): the
-//!   words of a function load from no global that the function doesn't read; those of a variant, and an inline body at a
-//!   site, besides from no switch of the variant's function.
+//!   words of a function load from no global that the function doesn't read; so no word in a variant, at a site or not,
+//!   loads a switch of the variant's function, and no word at a site any switch (`specs/Own.antt`).
 //! - `patched_functions_stand`: where an image has an attributed function in its tables, with a row of a variant for each
 //!   combination of its switches' values, its code stands on the machine as `programs_keep` asks.
 #![tactic(auto)]
