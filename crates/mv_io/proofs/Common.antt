@@ -1,6 +1,14 @@
 -- Lemmas on this crate's words that the crates above share.
-use Rattle.std.proofs.Common.{ℕ, ◌≤◌, arith}
-use Rattle.mv_io.specs.Outside.{Rose}
+use Rattle.std.proofs.Common.{ℕ, ◌≡◌, ◌≤◌, Bool, true, false, arith, subst}
+use Rattle.mv_io.specs.Outside.{CountAfter, Rose}
 
 pub rose_later : (a b c : ℕ) → a ≤ b → Rose b c → Rose a c
 rose_later a b c h r = omega arith
+
+-- a count that stands may stand behind each call
+pub count_kept : (failed : Bool) (before now : ℕ) → now ≡ before → CountAfter failed before now
+count_kept true before now same = omega (arith, same)
+count_kept false before now same = same
+
+pub count_since : (failed : Bool) (a b c : ℕ) → b ≡ a → CountAfter failed b c → CountAfter failed a c
+count_since failed a b c same h = subst (λ k. CountAfter failed k c) same h

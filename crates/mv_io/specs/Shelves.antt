@@ -1,7 +1,8 @@
 -- What a shelf of files holds, loads and saves.
-use Rattle.std.specs.Prelude.{ℕ, ◌≡◌, ◌≢◌, List, Option, Some, None, Result, Ok, Err, IfOk, Vec, ⊤}
+use Rattle.std.specs.Prelude.{ℕ, ◌≡◌, ◌≢◌, Bool, true, false, List, ◌∷◌, Option, Some, None, option_map, Result, Ok, Err, IfOk, Vec, ⊤}
 use Rattle.std.specs.declared.alloc.Global.{Global}
 use Rattle.mv_io.specs.declared.outside.ShelfError.{ShelfError}
+use Rattle.mv_io.specs.declared.outside.ShelfError.TheVariants.{Failed, Memory}
 
 -- the bytes of each name that has a file
 abbrev pub Files : Type 0
@@ -10,6 +11,20 @@ Files = List ℕ → Option (List ℕ)
 -- a shelf that doesn't tell its files
 abbrev pub untold : Option Files
 untold = None
+
+-- a shelf that doesn't tell which names it was asked for
+abbrev pub unasked : Option (List (List ℕ))
+unasked = None
+
+-- a load or a save ended by a fault of the outside or, a load, for want of the file
+abbrev pub is_fault : {T : Type 0} → Result T ShelfError → Bool
+is_fault (Ok given) = false
+is_fault (Err Failed) = true
+is_fault (Err (Memory e)) = false
+
+-- the names that loads were asked for, the last first, where they are told; this is one more
+abbrev pub AsksFor : (before now : Option (List (List ℕ))) → (name : List ℕ) → Type 0
+AsksFor before now name = now ≡ option_map (λ names. name ∷ names) before
 
 -- the files are told, and none has this name
 abbrev pub Lacks : Option Files → List ℕ → Type 0

@@ -1,6 +1,7 @@
 //! Counting faults, and the calls that are to fail.
-ghost use Rattle.std.specs.Prelude.{◌≡◌, ◌≤◌, ◌==◌, ◌||◌, is_err};
+ghost use Rattle.std.specs.Prelude.{◌≡◌, ◌+◌, ◌≤◌, ◌==◌, ◌||◌, is_err};
 ghost use Rattle.std.specs.List.{list_any};
+ghost use Rattle.mv_io.specs.Outside.{CountAfter};
 ghost use Rattle.mv_io.specs.Schedules.{unused, fails_next, called, counted};
 
 use crate::outside::Failed;
@@ -10,6 +11,7 @@ use std::marker::Model;
 pub fn count_fault(faults: &mut u64) -> Failed
     ensures counts { faults.new ≡ counted faults.old }
     ensures later { faults.old ≤ faults.new }
+    ensures once { faults.new ≤ faults.old + 1 }
 {
     *faults = faults.saturating_add(1);
     Failed
@@ -49,6 +51,7 @@ impl FaultSchedule {
         ensures fails { is_err result ≡ (broken || fails_next self.old) }
         ensures counts { self.new ≡ called self.old (is_err result) }
         ensures later { self.old.faults ≤ self.new.faults }
+        ensures count { CountAfter (is_err result) self.old.faults self.new.faults }
     {
         self.calls = self.calls.saturating_add(1);
         if broken || is_listed(&self.failing, self.calls) {

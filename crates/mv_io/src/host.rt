@@ -1,7 +1,7 @@
 //! The objects over the machine. They tell nothing of what they hold: clauses see each as its count of faults.
 ghost use Rattle.std.specs.Prelude.{◌≡◌, ◌≤◌, ◌⊎◌, ◌^◌, None, length, IfOk, IsErrOf};
-ghost use Rattle.mv_io.specs.Outside.{Rose};
-ghost use Rattle.mv_io.specs.Shelves.{untold, Lacks, Loads};
+ghost use Rattle.mv_io.specs.Outside.{Rose, CountAfter};
+ghost use Rattle.mv_io.specs.Shelves.{untold, unasked, AsksFor, is_fault, Lacks, Loads};
 
 use crate::faults::count_fault;
 use crate::outside::{Failed, Shelf, ShelfError, Sink, Source};
@@ -158,14 +158,18 @@ impl<R: Files + Drop> FileShelf<R> {
 impl<R: Files + Drop> Shelf for FileShelf<R> {
     ghost files = { λ _. untold };
 
+    ghost asked = { λ _. unasked };
+
     ghost faults = { λ s. s };
 
     fn load(&mut self, alloc: Global, name: &str) -> Result<Vec<u8>, ShelfError>
         ensures bytes { Loads untold name.now result }
         ensures absent { Lacks untold name.now → IsErrOf result ShelfError.Failed }
         ensures same { untold ≡ untold }
+        ensures asks { AsksFor unasked unasked name.now }
         ensures later { self.old ≤ self.new }
         ensures failed { IsErrOf result ShelfError.Failed → Rose self.old self.new ⊎ Lacks untold name.now }
+        ensures count { CountAfter (is_fault result) self.old self.new }
         ensures short { IfOk result (λ bytes. length bytes.items ≤ 2 ^ 28) }
     {
         match read_file(alloc, &self.files, name) {

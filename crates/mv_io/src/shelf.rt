@@ -1,7 +1,7 @@
 //! A shelf in memory.
 ghost use Rattle.std.specs.Prelude.{◌≡◌, ◌≤◌, ◌⊎◌, ◌↔◌, [], Some, option_copied, OnOk, OnErr, IsErrOf, IsTrue};
-ghost use Rattle.mv_io.specs.Outside.{Rose};
-ghost use Rattle.mv_io.specs.Shelves.{Lacks, Loads, Saves, KeepsOthers};
+ghost use Rattle.mv_io.specs.Outside.{Rose, CountAfter};
+ghost use Rattle.mv_io.specs.Shelves.{unasked, AsksFor, is_fault, Lacks, Loads, Saves, KeepsOthers};
 ghost use Rattle.mv_io.specs.Schedules.{unused, fails_next, called};
 ghost use Rattle.mv_io.specs.Memory.{file_of};
 
@@ -63,14 +63,18 @@ impl MemShelf {
 impl Shelf for MemShelf {
     ghost files = { λ s. Some (file_of s) };
 
+    ghost asked = { λ _. unasked };
+
     ghost faults = { λ s. s.schedule.faults };
 
     fn load(&mut self, alloc: Global, name: &str) -> Result<Vec<u8>, ShelfError>
         ensures bytes { Loads (Some (file_of self.old)) name.now result }
         ensures absent { Lacks (Some (file_of self.old)) name.now → IsErrOf result ShelfError.Failed }
         ensures same { Some (file_of self.new) ≡ Some (file_of self.old) }
+        ensures asks { AsksFor unasked unasked name.now }
         ensures later { self.old.schedule.faults ≤ self.new.schedule.faults }
         ensures failed { IsErrOf result ShelfError.Failed → Rose self.old.schedule.faults self.new.schedule.faults ⊎ Lacks (Some (file_of self.old)) name.now }
+        ensures count { CountAfter (is_fault result) self.old.schedule.faults self.new.schedule.faults }
         ensures exactly { IsErrOf result ShelfError.Failed ↔ (IsTrue (fails_next self.old.schedule) ⊎ Lacks (Some (file_of self.old)) name.now) }
         ensures counts { self.new.schedule ≡ called self.old.schedule (fails_next self.old.schedule) }
         ensures files { self.new.files ≡ self.old.files }
@@ -86,8 +90,10 @@ impl Shelf for MemShelf {
 
     fn save(&mut self, alloc: Global, name: &str, bytes: &[u8]) -> Result<(), ShelfError>
         ensures bytes { Saves (Some (file_of self.old)) (Some (file_of self.new)) name.now bytes.now result }
+        ensures asks { unasked ≡ unasked }
         ensures later { self.old.schedule.faults ≤ self.new.schedule.faults }
         ensures failed { IsErrOf result ShelfError.Failed → Rose self.old.schedule.faults self.new.schedule.faults }
+        ensures count { CountAfter (is_fault result) self.old.schedule.faults self.new.schedule.faults }
         ensures exactly { IsErrOf result ShelfError.Failed ↔ IsTrue (fails_next self.old.schedule) }
         ensures counts { self.new.schedule ≡ called self.old.schedule (fails_next self.old.schedule) }
         ensures err { OnErr result (self.new.files ≡ self.old.files) }

@@ -8,12 +8,13 @@ use Rattle.mv_isa.specs.declared.instr.Cause.{Cause}
 use Rattle.mv_isa.specs.declared.instr.Cause.TheVariants as cause
 use Rattle.mv_fetch.specs.Held.{Room, IsInText, choices}
 use Rattle.mv_rv32.specs.Stepping.{access, picked_step, picked_target, IsCarriedOut}
+use Rattle.mv_io.specs.Outside.{CountAfter}
 use Rattle.mv_probe.specs.Ways.{Way, Follows, way_after}
 use Rattle.mv_machine.specs.declared.machine.Stopped.{Stopped}
 use Rattle.mv_machine.specs.declared.machine.Stopped.TheVariants as answer
 use Rattle.mv_machine.specs.Runs.{Stop, Going, Exit, Trap, Fault, State, Request, Reads, Writes, request_of, bytes_to_come, stopped, counts_as, choices_at, fetched_step, turn, runs_from, executed}
-use Rattle.mv_machine.specs.Snapshots.{Snapshot, resumed, Tells, Under, Asks, Reached, Whole, Broken, Answered, WantsMemory, Ran, Unless, last_of}
-use Rattle.mv_machine.specs.Moves.{Seen, shown, Meets, Moves, Called, Wanting, Turns, Goes, Walked, FaultAt}
+use Rattle.mv_machine.specs.Snapshots.{Snapshot, resumed, Tells, Under, Asks, Reached, Whole, Broken, Answered, WantsMemory, Ran, Unless, last_of, is_input_fault, is_output_fault}
+use Rattle.mv_machine.specs.Moves.{Seen, shown, Meets, Moves, Called, Wanting, Turns, Goes, Walked, FaultAt, input_failed, output_failed}
 use Rattle.mv_machine.proofs.Turns.{turn_by, turn_faults, runs_more, executed_more, runs_over, executed_over, runs_append, IsOver}
 use Rattle.mv_machine.proofs.Moved.{SoFar, way_more, under_more, Joins, meets_more}
 
@@ -305,3 +306,12 @@ last_is Tell p q steps x y way way' A B (Some answer.InputFault) w = refl
 last_is Tell p q steps x y way way' A B (Some answer.OutputFault) w = refl
 last_is Tell p q steps x y way way' A B (Some (answer.Fault pc why)) w = refl
 last_is Tell p q steps x y way way' A B (Some answer.Memory) w = refl
+
+-- the device that the answer of a call of `run` names is the one that the last instruction names
+pub input_count : (r : Option Stopped) (result : Stopped) (before now : ℕ) → result ≡ unwrap_or r answer.Steps → CountAfter (input_failed r) before now → CountAfter (is_input_fault result) before now
+input_count None result before now e h = subst (λ (s : Stopped). CountAfter (is_input_fault s) before now) (sym e) h
+input_count (Some stopped) result before now e h = subst (λ (s : Stopped). CountAfter (is_input_fault s) before now) (sym e) h
+
+pub output_count : (r : Option Stopped) (result : Stopped) (before now : ℕ) → result ≡ unwrap_or r answer.Steps → CountAfter (output_failed r) before now → CountAfter (is_output_fault result) before now
+output_count None result before now e h = subst (λ (s : Stopped). CountAfter (is_output_fault s) before now) (sym e) h
+output_count (Some stopped) result before now e h = subst (λ (s : Stopped). CountAfter (is_output_fault s) before now) (sym e) h

@@ -1,5 +1,5 @@
 -- What the code holds of a state, and that what it does to it is what a definition does to the state.
-use Rattle.std.specs.Prelude.{ℕ, zero, suc, ◌+◌, ◌≡◌, ◌%◌, ◌^◌, ◌<◌, ◌⊎◌, ◌∷◌, List, [], ◌++◌, length, map, slice_get, Option, Some, None, option_map, IsSomeAnd, Ok}
+use Rattle.std.specs.Prelude.{ℕ, zero, suc, ◌+◌, ◌≡◌, ◌%◌, ◌^◌, ◌<◌, ◌⊎◌, ◌∷◌, Bool, false, List, [], ◌++◌, length, map, slice_get, Option, Some, None, option_map, IsSomeAnd, Ok}
 use Rattle.mv_num.specs.Words.{add}
 use Rattle.mv_bindings.specs.declared.binding.Binding.{Binding}
 use Rattle.mv_bindings.specs.declared.action.Action.{Action}
@@ -24,7 +24,7 @@ use Rattle.mv_machine.specs.declared.machine.Stopped.TheVariants as answer
 use Rattle.mv_patch.specs.Plans.{plan_between}
 use Rattle.mv_machine.specs.Commits.{is_some_pair}
 use Rattle.mv_machine.specs.Runs.{State, Stop, Going, Exit, Trap, Fault, Request, Reads, Writes, request_of, environment_call, word_read, turn, runs_from, executed}
-use Rattle.mv_machine.specs.Snapshots.{Tells, Under}
+use Rattle.mv_machine.specs.Snapshots.{Tells, Under, is_input_fault, is_output_fault}
 
 -- an engine, the actions that are left, and what the source and the sink tell
 pub record Seen : Type 0 where
@@ -197,3 +197,12 @@ FaultAt answer.InputFault pc = Unit {0}
 FaultAt answer.OutputFault pc = Unit {0}
 FaultAt (answer.Fault place why) pc = place ≡ pc
 FaultAt answer.Memory pc = Unit {0}
+
+-- an instruction didn't go on since the source failed, or the sink
+abbrev pub input_failed : Option Stopped → Bool
+input_failed None = false
+input_failed (Some stopped) = is_input_fault stopped
+
+abbrev pub output_failed : Option Stopped → Bool
+output_failed None = false
+output_failed (Some stopped) = is_output_fault stopped

@@ -1,5 +1,5 @@
 -- What contracts see of a machine between two calls of `run`, and what such a call has done.
-use Rattle.std.specs.Prelude.{ℕ, ◌≡◌, ◌+◌, ◌-◌, ◌<◌, List, [], ◌++◌, length, map, slice_index, Option, Some, None, option_map, IfSome, IsSomeAnd, ◌%◌}
+use Rattle.std.specs.Prelude.{ℕ, ◌≡◌, ◌+◌, ◌-◌, ◌<◌, Bool, true, false, List, [], ◌++◌, length, map, slice_index, Option, Some, None, option_map, IfSome, IsSomeAnd, ◌%◌}
 use Rattle.mv_bindings.specs.declared.binding.Binding.{Binding}
 use Rattle.mv_bindings.specs.declared.binding.Event.{Event}
 use Rattle.mv_bindings.specs.declared.action.Action.{Action}
@@ -116,3 +116,12 @@ last_of answer.InputFault = Some answer.InputFault
 last_of answer.OutputFault = Some answer.OutputFault
 last_of (answer.Fault pc why) = Some (answer.Fault pc why)
 last_of answer.Memory = Some answer.Memory
+
+-- the answer names the source, or the sink
+abbrev pub is_input_fault : Stopped → Bool
+is_input_fault answer.InputFault = true
+is_input_fault other = false
+
+abbrev pub is_output_fault : Stopped → Bool
+is_output_fault answer.OutputFault = true
+is_output_fault other = false

@@ -1,12 +1,12 @@
 //! Environment calls.
 
-ghost use Rattle.std.specs.Prelude.{◌≡◌, ◌≤◌, [], false, All, OnOk, OnErr, IfSome};
+ghost use Rattle.std.specs.Prelude.{◌≡◌, ◌≤◌, [], false, All, OnOk, OnErr, IfSome, is_err};
 ghost use Rattle.mv_isa.specs.Execution.{reg};
-ghost use Rattle.mv_io.specs.Outside.{Rose};
+ghost use Rattle.mv_io.specs.Outside.{Rose, CountAfter};
 ghost use Rattle.mv_probe.specs.Hearing.{hearing, IsPatient, object_at, Becomes};
 ghost use Rattle.mv_probe.specs.Fates.{Fates};
 ghost use Rattle.mv_machine.specs.Runs.{trap_of};
-ghost use Rattle.mv_machine.specs.Moves.{Gets, Puts, FromCall, TellsOpened, seen, FaultAt, IsStop};
+ghost use Rattle.mv_machine.specs.Moves.{Gets, Puts, FromCall, TellsOpened, seen, FaultAt, IsStop, input_failed, output_failed};
 
 use crate::engine::Engine;
 use crate::machine::Stopped;
@@ -25,6 +25,7 @@ fn getchar<I: Source>(hart: &mut Hart, source: &mut I) -> Result<(), Failed>
     ensures left { OnErr result (I.left source.new ≡ I.left source.old) }
     ensures rose { OnErr result (Rose (I.faults source.old) (I.faults source.new)) }
     ensures later { I.faults source.old ≤ I.faults source.new }
+    ensures count { CountAfter (is_err result) (I.faults source.old) (I.faults source.new) }
 {
     match source.read_byte()? {
         None => answer(hart, u32::MAX),
@@ -40,6 +41,7 @@ fn putchar<O: Sink>(hart: &mut Hart, sink: &mut O) -> Result<(), Failed>
     ensures kept { OnErr result (O.written sink.new ≡ O.written sink.old) }
     ensures rose { OnErr result (Rose (O.faults sink.old) (O.faults sink.new)) }
     ensures later { O.faults sink.old ≤ O.faults sink.new }
+    ensures count { CountAfter (is_err result) (O.faults sink.old) (O.faults sink.new) }
 {
     let byte = (argument(hart) % 0x100) as u8;
     sink.write(&[byte])?;
@@ -76,6 +78,8 @@ pub(crate) fn call<I: Source, O: Sink>(
     ensures opened { engine.old.opened ≡ false → TellsOpened engine.old engine.new }
     ensures input { I.faults source.old ≤ I.faults source.new }
     ensures output { O.faults sink.old ≤ O.faults sink.new }
+    ensures reading { CountAfter (input_failed result) (I.faults source.old) (I.faults source.new) }
+    ensures writing { CountAfter (output_failed result) (O.faults sink.old) (O.faults sink.new) }
     ensures moves { FromCall result (seen engine.old operator.old (I.left source.old) (O.written sink.old)) (seen engine.new operator.new (I.left source.new) (O.written sink.new))
         (Rose (I.faults source.old) (I.faults source.new)) (Rose (O.faults sink.old) (O.faults sink.new))
         (λ events. Fates (Becomes (λ probe. object_at probe.ptr probe.vtable) (λ probe. hearing (told probe) (patience probe)) events) probes.old.items probes.new.items) }

@@ -3,13 +3,13 @@
 ghost use Rattle.std.specs.Prelude.{◌≡◌, ◌≤◌, [], Some, None, IfOk, IsTrue, All};
 ghost use Rattle.std.specs.Result.{result_ok};
 ghost use Rattle.mv_fetch.specs.Held.{load};
-ghost use Rattle.mv_io.specs.Outside.{Rose};
+ghost use Rattle.mv_io.specs.Outside.{Rose, CountAfter};
 ghost use Rattle.mv_probe.specs.Hearing.{hearing, IsPatient, object_at, Becomes};
 ghost use Rattle.mv_probe.specs.Fates.{Fates};
 ghost use Rattle.mv_machine.specs.Actions.{fits};
 ghost use Rattle.mv_machine.specs.Acts.{polls_of};
 ghost use Rattle.mv_machine.specs.Runs.{first};
-ghost use Rattle.mv_machine.specs.Snapshots.{kept, Ran, Unless, last_of};
+ghost use Rattle.mv_machine.specs.Snapshots.{kept, Ran, Unless, last_of, is_input_fault, is_output_fault};
 
 use crate::engine::Engine;
 use crate::operator::Operator;
@@ -98,6 +98,8 @@ impl Machine {
         ensures again { (last : Stopped) → self.old.last ≡ Some last → (result ≡ last) × (self.new ≡ self.old) × (source.new ≡ source.old) × (sink.new ≡ sink.old) × (way oracle.new ≡ way oracle.old) × (probes.new ≡ probes.old) }
         ensures input { I.faults source.old ≤ I.faults source.new }
         ensures output { O.faults sink.old ≤ O.faults sink.new }
+        ensures reading { CountAfter (is_input_fault result) (I.faults source.old) (I.faults source.new) }
+        ensures writing { CountAfter (is_output_fault result) (O.faults sink.old) (O.faults sink.new) }
     {
         if let Some(last) = self.last {
             return last;

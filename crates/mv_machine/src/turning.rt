@@ -2,11 +2,11 @@
 
 ghost use Rattle.std.specs.Prelude.{◌≡◌, ◌≤◌, ◌<◌, [], false, All, IfSome};
 ghost use Rattle.mv_fetch.specs.Held.{choices};
-ghost use Rattle.mv_io.specs.Outside.{Rose};
+ghost use Rattle.mv_io.specs.Outside.{Rose, CountAfter};
 ghost use Rattle.mv_probe.specs.Ways.{Follows};
 ghost use Rattle.mv_probe.specs.Hearing.{hearing, IsPatient, object_at, Becomes};
 ghost use Rattle.mv_probe.specs.Fates.{Fates};
-ghost use Rattle.mv_machine.specs.Moves.{Fetched, Steps, Strides, Settles, Turns, TellsOpened, Walked, seen, FaultAt};
+ghost use Rattle.mv_machine.specs.Moves.{Fetched, Steps, Strides, Settles, Turns, TellsOpened, Walked, seen, FaultAt, input_failed, output_failed};
 
 use crate::call::call;
 use crate::engine::Engine;
@@ -110,6 +110,8 @@ fn settle<I: Source, O: Sink>(
     ensures opened { engine.old.opened ≡ false → TellsOpened engine.old engine.new }
     ensures input { I.faults source.old ≤ I.faults source.new }
     ensures output { O.faults sink.old ≤ O.faults sink.new }
+    ensures reading { CountAfter (input_failed result) (I.faults source.old) (I.faults source.new) }
+    ensures writing { CountAfter (output_failed result) (O.faults sink.old) (O.faults sink.new) }
 {
     match stepped {
         Stepped::Next => None,
@@ -139,6 +141,8 @@ pub fn turn<I: Source, O: Sink>(
     ensures number { engine.new.number ≡ engine.old.number }
     ensures input { I.faults source.old ≤ I.faults source.new }
     ensures output { O.faults sink.old ≤ O.faults sink.new }
+    ensures reading { CountAfter (input_failed result) (I.faults source.old) (I.faults source.new) }
+    ensures writing { CountAfter (output_failed result) (O.faults sink.old) (O.faults sink.new) }
 {
     engine.opened = false;
     let stepped = step(&mut engine.hart, &mut engine.memory, oracle);
@@ -165,6 +169,8 @@ pub(crate) fn walk<I: Source, O: Sink>(
     ensures number { engine.new.number ≡ engine.old.number }
     ensures input { I.faults source.old ≤ I.faults source.new }
     ensures output { O.faults sink.old ≤ O.faults sink.new }
+    ensures reading { CountAfter (input_failed result) (I.faults source.old) (I.faults source.new) }
+    ensures writing { CountAfter (output_failed result) (O.faults sink.old) (O.faults sink.new) }
 {
     let mut left = steps;
     while left > 0 {

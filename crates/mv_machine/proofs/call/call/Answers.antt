@@ -1,4 +1,5 @@
 use Rattle.std.proofs.Common.{refl, sym, ap, ◌∙◌, rules}
+use Rattle.mv_io.proofs.Common.{count_kept}
 use Rattle.mv_probe.proofs.Logs.{told_nothing}
 use Rattle.mv_machine.specs.Runs.{request_of, trap_of}
 use Rattle.mv_machine.proofs.Calls.{request_exits, request_reads, request_writes, request_traps, request_plans, request_polls, request_unknown, exits, traps, unknown, reads, writes, same, plans, polls, outcomes_stop}
@@ -56,3 +57,15 @@ returns-then-number-eq-TRAP-clause-opened g c = stays_closed c.args.engine.now.i
 
 pub returns-clause-opened : goal.returns-clause-opened
 returns-clause-opened g c = stays_closed c.args.engine.now.image c.args.engine.now.bindings c.args.engine.now.opened
+
+pub returns-then-number-eq-TRAP-clause-reading : goal.returns-then-number-eq-TRAP-clause-reading
+returns-then-number-eq-TRAP-clause-reading g c = count_kept _ _ _ refl
+
+pub returns-then-number-eq-TRAP-clause-writing : goal.returns-then-number-eq-TRAP-clause-writing
+returns-then-number-eq-TRAP-clause-writing g c = count_kept _ _ _ refl
+
+pub returns-then-number-eq-PLAN-clause-reading : goal.returns-then-number-eq-PLAN-clause-reading
+returns-then-number-eq-PLAN-clause-reading g c = count_kept _ _ _ refl
+
+pub returns-then-number-eq-PLAN-clause-writing : goal.returns-then-number-eq-PLAN-clause-writing
+returns-then-number-eq-PLAN-clause-writing g c = count_kept _ _ _ refl

@@ -5,10 +5,10 @@ use Rattle.mv_probe.proofs.Logs.{told_nothing, told_then, patient_after}
 use Rattle.mv_machine.specs.Moves.{seen}
 use Rattle.mv_machine.proofs.Walks.{goes_none, goes_more, goes_at, goes_on, turns_by, turns_since}
 use Rattle.mv_machine.proofs.turning.walk.Goals as goal
-use Rattle.mv_io.proofs.Common.{rose_later}
+use Rattle.mv_io.proofs.Common.{count_since, rose_later}
 
 pub loop-left-init : goal.loop-left-init
-loop-left-init g c = record { few = omega arith; goes = goes_at _ _ _ _ _ 0 (c.args.steps - c.args.steps) (omega arith) (goes_none _ _ _ (told_nothing _ _ c.args.probes.now.items c.requires)); image = refl; number = refl; quiet = λ none. refl; input = omega arith; output = omega arith }
+loop-left-init g c = record { few = omega arith; goes = goes_at _ _ _ _ _ 0 (c.args.steps - c.args.steps) (omega arith) (goes_none _ _ _ (told_nothing _ _ c.args.probes.now.items c.requires)); image = refl; number = refl; quiet = λ none. refl; input = omega arith; output = omega arith; reading = refl; writing = refl }
 
 pub settle-requires : goal.settle-requires
 settle-requires g c = let i = c.loop-left.invariant in patient_after _ _ i.goes.3.1 c.args.probes.now.items c.loop-left.probes.items i.goes.3.3
@@ -42,6 +42,8 @@ loop-left-preserved g c =
       quiet = λ none. c.in_default.ensures.quiet (ap (λ (f : Fields). f.functions) i.image ∙ none) ∙ i.quiet none;
       input = omega (arith, i.input, c.in_default.ensures.input);
       output = omega (arith, i.output, c.in_default.ensures.output);
+      reading = c.in_default.ensures.reading ∙ i.reading;
+      writing = c.in_default.ensures.writing ∙ i.writing;
     }
 
 pub returns-in-Some-clause-walked : goal.returns-in-Some-clause-walked
@@ -71,6 +73,12 @@ returns-in-Some-clause-walked g c =
       goes,
       turns_since _ y _ _ _ A B _ _ _ (rose_later _ _ _ i.input) (rose_later _ _ _ i.output) turn,
     )
+
+pub returns-in-Some-clause-reading : goal.returns-in-Some-clause-reading
+returns-in-Some-clause-reading g c = count_since _ _ _ _ c.loop-left.invariant.reading c.in-Some.ensures.reading
+
+pub returns-in-Some-clause-writing : goal.returns-in-Some-clause-writing
+returns-in-Some-clause-writing g c = count_since _ _ _ _ c.loop-left.invariant.writing c.in-Some.ensures.writing
 
 pub returns-clause-walked : goal.returns-clause-walked
 returns-clause-walked g c =

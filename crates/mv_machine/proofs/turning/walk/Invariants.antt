@@ -17,6 +17,8 @@ invariant-loop-left g l =
       quiet : l.initial.engine.image.functions ≡ [] → l.probes ≡ l.initial.probes;
       input : g.I.Source.faults l.initial.source ≤ g.I.Source.faults l.source;
       output : g.O.Sink.faults l.initial.sink ≤ g.O.Sink.faults l.sink;
+      reading : g.I.Source.faults l.source ≡ g.I.Source.faults l.initial.source;
+      writing : g.O.Sink.faults l.sink ≡ g.O.Sink.faults l.initial.sink;
     }
 
 abbrev pub decreases-loop-left : goal.decreases-loop-left
