@@ -1,5 +1,5 @@
 -- What it is to evaluate a program on what a source has still to come.
-use Rattle.std.specs.Prelude.{ℕ, ◌≡◌, ◌≤◌, List, [], take, length, Option, Some, None, Result, Ok, Err}
+use Rattle.std.specs.Prelude.{ℕ, ◌≡◌, ◌≤◌, Bool, true, false, List, [], take, length, Option, Some, None, Result, Ok, Err}
 use Rattle.mv_ast.specs.declared.program.Program.{Program}
 use Rattle.mv_meaning.specs.declared.meant.End.{End}
 use Rattle.mv_meaning.specs.declared.meant.Meant.{Meant}
@@ -19,6 +19,19 @@ IsInput (Some left) bytes = bytes ≡ take most left
 -- the program's meaning on an input at a bound; no operator acts
 abbrev pub meaning : Program → (bound : ℕ) → (input : List ℕ) → Meant
 meaning p bound input = mean p input [] bound
+
+-- an evaluation has no end since a read failed, or a write
+abbrev pub is_input_error : {T : Type 0} → Result T EvalError → Bool
+is_input_error (Ok given) = false
+is_input_error (Err Input) = true
+is_input_error (Err Output) = false
+is_input_error (Err (Memory e)) = false
+
+abbrev pub is_output_error : {T : Type 0} → Result T EvalError → Bool
+is_output_error (Ok given) = false
+is_output_error (Err Input) = false
+is_output_error (Err Output) = true
+is_output_error (Err (Memory e)) = false
 
 module _ (p : Program) (bound : ℕ) (left : Option (List ℕ)) (Took Wrote : List ℕ → Type 0) (input_rose output_rose : Type 0) where
   -- What was taken from the source and written, by the answer: all of the input and all of the output; or a part of them, from their start.

@@ -3,15 +3,15 @@
 //! - `eval`: it takes the first 16,777,216 bytes of what the source tells, or all of it; the answer is the end of the
 //!   program's meaning on them at the bound, without an operator; and exactly the output of that meaning was written.
 //!   Where a read failed, or memory was refused, a part of these bytes was taken and nothing written; where a write
-//!   failed, a part of the output was written. A read or a write failed only where the count of that object rose. The
-//!   condition is that the program has fewer than 2^32 functions and pointer switches.
+//!   failed, a part of the output was written. A read or a write failed only where the count of that object rose, by
+//!   one, and no other count did: after a fault nothing is read or written. The condition is that the program has fewer than 2^32 functions and pointer switches.
 //! - `writing::write_all`: all bytes were written, or less where a write failed.
 //! - Tested through the programs of `mv_test_top`.
 #![tactic(auto)]
 
-ghost use Rattle.mv_io.specs.Outside.{Rose};
+ghost use Rattle.mv_io.specs.Outside.{Rose, CountAfter};
 ghost use Rattle.std.specs.Prelude.{◌+◌, ◌≤◌, ◌<◌, ◌^◌, length};
-ghost use Rattle.mv_eval.specs.Evaluations.{Evaluates};
+ghost use Rattle.mv_eval.specs.Evaluations.{Evaluates, is_input_error, is_output_error};
 ghost use Rattle.mv_eval.specs.Grown.{Grew, Lost};
 
 pub mod error;
@@ -39,6 +39,8 @@ pub fn eval<I: Source, O: Sink>(
     requires { length program.now.functions + length program.now.pointers < 2 ^ 32 }
     ensures evaluates { Evaluates program.now bound (I.left input.old) (λ bytes. Lost (I.left input.old) (I.left input.new) bytes)
         (λ bytes. Grew (O.written out.old) (O.written out.new) bytes) (Rose (I.faults input.old) (I.faults input.new)) (Rose (O.faults out.old) (O.faults out.new)) result }
+    ensures reading { CountAfter (is_input_error result) (I.faults input.old) (I.faults input.new) }
+    ensures writing { CountAfter (is_output_error result) (O.faults out.old) (O.faults out.new) }
 {
     let bytes = read_input(alloc, input)?;
     let meant = match evaluate(alloc, program, bytes.as_slice(), &[], bound) {

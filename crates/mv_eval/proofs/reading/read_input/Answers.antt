@@ -1,7 +1,7 @@
-use Rattle.std.proofs.Common.{arith, length-append, [], ◌∷◌}
+use Rattle.std.proofs.Common.{arith, length-append, true, [], ◌∷◌}
 use Rattle.mv_eval.proofs.Inputs.{full, lost_more, lost_same, part, whole}
 use Rattle.mv_eval.proofs.reading.read_input.Goals as goal
-use Rattle.mv_io.proofs.Common.{rose_later}
+use Rattle.mv_io.proofs.Common.{count_since, rose_since}
 
 pub returns-in-Ok-None-clause-reads : goal.returns-in-Ok-None-clause-reads
 returns-in-Ok-None-clause-reads g c =
@@ -15,8 +15,11 @@ returns-in-Err-clause-reads g c =
     let left = g.S.Source.left c.read_byte.new.self in
     let lost = lost_same (g.S.Source.left c.args.source.now) (g.S.Source.left c.reading.source) left c.reading.bytes c.in-Err.field-0 i.lost c.in-Err.ensures.bytes in (
       part (g.S.Source.left c.args.source.now) left c.reading.bytes lost i.few,
-      rose_later (g.S.Source.faults c.args.source.now) (g.S.Source.faults c.reading.source) (g.S.Source.faults c.read_byte.new.self) i.later c.in-Err.ensures.cause.failed,
+      rose_since (g.S.Source.faults c.args.source.now) (g.S.Source.faults c.reading.source) (g.S.Source.faults c.read_byte.new.self) i.stands c.in-Err.ensures.cause.failed,
     )
+
+pub returns-in-Err-clause-count : goal.returns-in-Err-clause-count
+returns-in-Err-clause-count g c = count_since true _ _ _ c.reading.invariant.stands c.in-Err.ensures.cause.count
 
 pub returns-then-is_err-clause-reads : goal.returns-then-is_err-clause-reads
 returns-then-is_err-clause-reads g c =

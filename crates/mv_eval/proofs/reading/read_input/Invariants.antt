@@ -1,4 +1,4 @@
-use Rattle.std.proofs.Common.{◌≤◌, ◌-◌, length}
+use Rattle.std.proofs.Common.{◌≡◌, ◌≤◌, ◌-◌, length}
 use Rattle.mv_eval.specs.Evaluations.{most}
 use Rattle.mv_eval.specs.Grown.{Lost}
 use Rattle.mv_eval.proofs.reading.read_input.Given as goal
@@ -7,7 +7,7 @@ abbrev pub invariant-reading : goal.invariant-reading
 invariant-reading g l = record {
   few : length l.bytes ≤ most;
   lost : Lost (g.S.Source.left l.initial.source) (g.S.Source.left l.source) l.bytes;
-  later : g.S.Source.faults l.initial.source ≤ g.S.Source.faults l.source;
+  stands : g.S.Source.faults l.source ≡ g.S.Source.faults l.initial.source;
 }
 
 abbrev pub decreases-reading : goal.decreases-reading

@@ -1,4 +1,4 @@
-use Rattle.std.proofs.Common.{arith}
+use Rattle.std.proofs.Common.{◌∙◌}
 use Rattle.mv_eval.proofs.Pieces.{grew_more, still_within}
 use Rattle.mv_eval.proofs.writing.write_all.Goals as goal
 
@@ -8,5 +8,5 @@ loop-done-preserved g c =
     record {
       within = still_within c.args.bytes.now c.loop-done.done c.in_ok-done.field-0 i.within c.in_ok-done.ensures.count.0;
       grew = grew_more c.args.bytes.now c.loop-done.done c.in_ok-done.field-0 (g.S.Sink.written c.args.sink.now) (g.S.Sink.written c.loop-done.sink) (g.S.Sink.written c.write.new.self) i.grew c.in_ok-done.ensures.bytes;
-      later = omega (arith, i.later, c.in_ok-done.ensures.cause.later);
+      stands = c.in_ok-done.ensures.cause.count ∙ i.stands;
     }
