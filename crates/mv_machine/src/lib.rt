@@ -6,8 +6,8 @@
 //!   under the oracle's way or, where it tells none, one list of picks, one for each executed instruction but for one
 //!   that can't be fetched; a told list's place goes on by as many. `Ended`, `Trapped` and `Fault` are its stop; `Steps`
 //!   comes where that many were executed and none ended the run. After a failed read or write the state is the one before
-//!   that call, which is a read or a write, and the count of the source's or the sink's faults rose; neither count ever
-//!   falls. A machine that has ended gives its answer again and does nothing. Each probe that is left was told the log of
+//!   that call, which is a read or a write, and the count of the source's or the sink's faults rose, by one; with each other
+//!   answer both counts are as before, so a device that failed is asked nothing more. A machine that has ended gives its answer again and does nothing. Each probe that is left was told the log of
 //!   the state, in order, up to the event at which it left. `bindings` and `word` are the state's.
 //! - An order and a poll are part of that definition: with a live frame they change nothing, nor does an order in another
 //!   hart than 0; else the plan of `mv_patch` is in the plan area, the bindings are its own, and the log has an event for
