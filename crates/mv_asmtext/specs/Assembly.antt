@@ -16,7 +16,8 @@ use Rattle.mv_asmtext.specs.declared.statement.Statement.{Statement}
 use Rattle.mv_asmtext.specs.declared.statement.Value.{Value}
 use Rattle.mv_asmtext.specs.declared.statement.Value.TheVariants as values
 use Rattle.mv_asmtext.specs.Fields.{holds, is_below}
-use Rattle.mv_asmtext.specs.Labels.{named, labels_of}
+use Rattle.mv_asmtext.specs.Labels.{labels_of}
+use Rattle.mv_asmtext.specs.Sites.{named}
 use Rattle.mv_asmtext.specs.Sites.{Sites}
 use Rattle.mv_asmtext.specs.Mnemonics.{field_of, instruction}
 use Rattle.mv_asmtext.specs.Numbers.{number, signed, distance}

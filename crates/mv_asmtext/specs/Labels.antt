@@ -1,14 +1,8 @@
 -- Where a label stands.
-use Rattle.std.specs.Prelude.{ℕ, List, [], ◌∷◌, ◌++◌, Option, Some, None, is_some, nat_eq, if◌then◌else◌}
-use Rattle.std.specs.Cmp.Lexicographic.{pointwise}
+use Rattle.std.specs.Prelude.{ℕ, List, [], ◌∷◌, ◌++◌, Option, Some, None, is_some, if◌then◌else◌}
 use Rattle.mv_asmtext.specs.declared.labels.Site.{Site}
 use Rattle.mv_asmtext.specs.declared.source.Line.{Line}
-use Rattle.mv_asmtext.specs.Sites.{Sites}
-
--- the site of a name among some
-abbrev pub named : List ℕ → Sites → Option Site
-named name [] = None
-named name (s ∷ sites) = if pointwise nat_eq name s.0 then Some s.1 else named name sites
+use Rattle.mv_asmtext.specs.Sites.{Sites, named}
 
 abbrev pub with_site : Sites → List ℕ → Site → Sites
 with_site sites name site = if is_some (named name sites) then sites else sites ++ (name, site) ∷ []
