@@ -8,8 +8,8 @@
 //!   one of its words of text (`read_back`): so `scan` gives the code again, whatever its words.
 //! - Only tested: the words of every instruction and every name of a register against GNU as 2.40, what `print` writes of
 //!   them, and the refusals.
-//! - Measured: the time grows with the text; 16 MiB take 0.1 to 0.8 s of processor time, and 1.3 s where they are labels
-//!   alone.
+//! - Measured: the time grows with the text, whatever its names; 16 MiB take 0.1 to 0.8 s of processor time, and some 4 s
+//!   where they are labels alone. `bench/labels` holds labels that collide against plain ones.
 #![tactic(auto)]
 
 ghost use Rattle.std.specs.Prelude.{◌≡◌, MatchResult, Ok, IfOk};
