@@ -5,6 +5,7 @@ the same sources, which is made once and kept. At a terminal some words on what 
 """
 import contextlib
 import os
+import resource
 import signal
 import subprocess
 import sys
@@ -20,7 +21,17 @@ NO_PROGRAM = 125
 ENDING = (signal.SIGINT, signal.SIGTERM, signal.SIGHUP)
 # What a program runs while it is copied, which goes on, and the words with which it does.
 GUEST = "int main(void) { putchar('.'); while (1) ; }\n"
+# The stack of an unproved program: its checks take some ten times what a proved one does.
+UNPROVED_STACK = 256 << 20
 WORDS = {"multiverse": ("run", "guest.c", "--steps", "1000000000000"), "mvharts": ("guest.c", "2", "0", "10000000")}
+
+
+def widen_stack():
+    """Gives what is started from here the stack of an unproved program, as far as the system allows."""
+    soft, hard = resource.getrlimit(resource.RLIMIT_STACK)
+    wanted = UNPROVED_STACK if hard == resource.RLIM_INFINITY else min(UNPROVED_STACK, hard)
+    if soft != resource.RLIM_INFINITY and soft < wanted:
+        resource.setrlimit(resource.RLIMIT_STACK, (wanted, hard))
 
 
 @contextlib.contextmanager
@@ -117,6 +128,7 @@ class Launcher:
             return self.say(f"the {kind} program of these sources is kept")
         if kind == "unproved":
             self.say("this program is unproved: .ci/run makes the proved one")
+            widen_stack()
         if is_explained:
             self.run_explained(program, words)
         # (what Python ignores, the program doesn't)

@@ -22,6 +22,11 @@ use mv_meaning::state::{Flow, Frame, Lvalue};
 use mv_num::boxed::Boxed;
 use mv_num::list::List;
 use mv_num::word::{add, sub};
+use std::alloc::AllocError;
+
+/// How many expressions and blocks may be evaluated within one another, over all calls. Each takes some of the stack, which no clause can speak of:
+/// less than 500 bytes as LLVM compiles the program, so that these take less than 5 of the usual 8 MiB. A deeper one is given up for want of memory.
+const LEVEL_LIMIT: u32 = 10_000;
 
 // The value in an lvalue.
 fn read_lvalue(program: &Program, here: Here, lvalue: Lvalue, frame: &Frame, state: &State) -> u32
@@ -92,6 +97,7 @@ pub fn returned_value(flow: Flow) -> u32
 fn value_of(
     program: &Program,
     here: Here,
+    level: u32,
     e: &Expr,
     frame: &mut Frame,
     state: &mut State,
@@ -99,47 +105,62 @@ fn value_of(
     requires { IsReady program.now here.depth here.live here.plan_work }
     ensures { IsOutcome state.old.work (expr_outcome program.now here e.now frame.old state.old) here result frame.new state.new }
 {
+    if level >= LEVEL_LIMIT {
+        return Err(Halt::Memory(AllocError));
+    }
+    let level = level + 1;
     count(state, 1);
     match &e.what {
         Form::Number(n) => Ok(*n),
         Form::Read(target) => {
-            let lvalue = lvalue_of(program, here, target, frame, state)?;
+            let lvalue = lvalue_of(program, here, level, target, frame, state)?;
             Ok(read_lvalue(program, here, lvalue, frame, state))
         }
         Form::Function(f) => Ok(number_of(program, *f)),
         Form::Unary(op, a) => {
-            let v = value_of(program, here, a.get(), frame, state)?;
+            let v = value_of(program, here, level, a.get(), frame, state)?;
             Ok(unary_value(*op, v))
         }
         Form::Binary(op, a, b) => {
-            value_of_binary(program, here, *op, a.get(), b.get(), frame, state)
+            value_of_binary(program, here, level, *op, a.get(), b.get(), frame, state)
         }
-        Form::Both(a, b) => value_of_both(program, here, a.get(), b.get(), frame, state),
-        Form::Either(a, b) => value_of_either(program, here, a.get(), b.get(), frame, state),
+        Form::Both(a, b) => value_of_both(program, here, level, a.get(), b.get(), frame, state),
+        Form::Either(a, b) => value_of_either(program, here, level, a.get(), b.get(), frame, state),
         Form::Choose(c, a, b) => {
-            value_of_choice(program, here, c.get(), a.get(), b.get(), frame, state)
+            value_of_choice(
+                program,
+                here,
+                level,
+                c.get(),
+                a.get(),
+                b.get(),
+                frame,
+                state,
+            )
         }
         Form::Convert(a) => {
-            let v = value_of(program, here, a.get(), frame, state)?;
+            let v = value_of(program, here, level, a.get(), frame, state)?;
             Ok(converted(e.ctype, v))
         }
-        Form::Set(target, a) => value_of_set(program, here, target, a.get(), frame, state),
+        Form::Set(target, a) => value_of_set(program, here, level, target, a.get(), frame, state),
         Form::Change(op, kind, target, a) => {
             let change = Change {
                 op: *op,
                 kind: *kind,
                 ctype: e.ctype,
             };
-            value_of_change(program, here, change, target, a.get(), frame, state)
+            value_of_change(program, here, level, change, target, a.get(), frame, state)
         }
         Form::After(up, target) => {
-            value_of_after(program, here, *up, e.ctype, target, frame, state)
+            value_of_after(program, here, level, *up, e.ctype, target, frame, state)
         }
-        Form::Direct(f, args) => value_of_call(program, here, *f, args, frame, state),
+        Form::Direct(f, args) => value_of_call(program, here, level, *f, args, frame, state),
         Form::Through(args, callee) => {
-            value_of_call_through(program, here, args, callee, frame, state)
+            value_of_call_through(program, here, level, args, callee, frame, state)
         }
-        Form::Known(known, args) => value_of_known(program, here, *known, args, frame, state),
+        Form::Known(known, args) => value_of_known(
+            program, here, level, *known, args, frame, state,
+        ),
     }
 }
 
@@ -148,6 +169,7 @@ fn value_of(
 fn callee_of(
     program: &Program,
     here: Here,
+    level: u32,
     e: &Boxed<Expr>,
     frame: &mut Frame,
     state: &mut State,
@@ -157,10 +179,10 @@ fn callee_of(
 {
     if let Form::Read(target) = &e.get().what {
         count(state, 1);
-        let lvalue = lvalue_of(program, here, target, frame, state)?;
+        let lvalue = lvalue_of(program, here, level, target, frame, state)?;
         return Ok(read_callee(program, here, lvalue, frame, state));
     }
-    value_of(program, here, e.get(), frame, state)
+    value_of(program, here, level, e.get(), frame, state)
 }
 
 // The value of an operation on two values (C11 6.5.5).
@@ -168,6 +190,7 @@ fn callee_of(
 fn value_of_binary(
     program: &Program,
     here: Here,
+    level: u32,
     op: u8,
     a: &Expr,
     b: &Expr,
@@ -177,8 +200,8 @@ fn value_of_binary(
     requires { IsReady program.now here.depth here.live here.plan_work }
     ensures { IsOutcome state.old.work (binary_outcome program.now here op a.now b.now frame.old state.old) here result frame.new state.new }
 {
-    let x = value_of(program, here, a, frame, state)?;
-    let y = value_of(program, here, b, frame, state)?;
+    let x = value_of(program, here, level, a, frame, state)?;
+    let y = value_of(program, here, level, b, frame, state)?;
     match binary_value(op, a.ctype, x, y) {
         Some(v) => Ok(v),
         None => Err(Halt::Stopped(Stop::Trapped(traps::DIVISION_BY_ZERO))),
@@ -190,6 +213,7 @@ fn value_of_binary(
 fn value_of_both(
     program: &Program,
     here: Here,
+    level: u32,
     a: &Expr,
     b: &Expr,
     frame: &mut Frame,
@@ -198,11 +222,11 @@ fn value_of_both(
     requires { IsReady program.now here.depth here.live here.plan_work }
     ensures { IsOutcome state.old.work (both_outcome program.now here a.now b.now frame.old state.old) here result frame.new state.new }
 {
-    let x = value_of(program, here, a, frame, state)?;
+    let x = value_of(program, here, level, a, frame, state)?;
     if x == 0 {
         return Ok(0);
     }
-    let y = value_of(program, here, b, frame, state)?;
+    let y = value_of(program, here, level, b, frame, state)?;
     Ok(if y == 0 { 0 } else { 1 })
 }
 
@@ -211,6 +235,7 @@ fn value_of_both(
 fn value_of_either(
     program: &Program,
     here: Here,
+    level: u32,
     a: &Expr,
     b: &Expr,
     frame: &mut Frame,
@@ -219,11 +244,11 @@ fn value_of_either(
     requires { IsReady program.now here.depth here.live here.plan_work }
     ensures { IsOutcome state.old.work (either_outcome program.now here a.now b.now frame.old state.old) here result frame.new state.new }
 {
-    let x = value_of(program, here, a, frame, state)?;
+    let x = value_of(program, here, level, a, frame, state)?;
     if x != 0 {
         return Ok(1);
     }
-    let y = value_of(program, here, b, frame, state)?;
+    let y = value_of(program, here, level, b, frame, state)?;
     Ok(if y == 0 { 0 } else { 1 })
 }
 
@@ -232,6 +257,7 @@ fn value_of_either(
 fn value_of_choice(
     program: &Program,
     here: Here,
+    level: u32,
     c: &Expr,
     a: &Expr,
     b: &Expr,
@@ -241,11 +267,11 @@ fn value_of_choice(
     requires { IsReady program.now here.depth here.live here.plan_work }
     ensures { IsOutcome state.old.work (choice_outcome program.now here c.now a.now b.now frame.old state.old) here result frame.new state.new }
 {
-    let x = value_of(program, here, c, frame, state)?;
+    let x = value_of(program, here, level, c, frame, state)?;
     if x == 0 {
-        value_of(program, here, b, frame, state)
+        value_of(program, here, level, b, frame, state)
     } else {
-        value_of(program, here, a, frame, state)
+        value_of(program, here, level, a, frame, state)
     }
 }
 
@@ -254,6 +280,7 @@ fn value_of_choice(
 fn value_of_set(
     program: &Program,
     here: Here,
+    level: u32,
     target: &Target,
     a: &Expr,
     frame: &mut Frame,
@@ -262,8 +289,8 @@ fn value_of_set(
     requires { IsReady program.now here.depth here.live here.plan_work }
     ensures { IsOutcome state.old.work (set_outcome program.now here target.now a.now frame.old state.old) here result frame.new state.new }
 {
-    let lvalue = lvalue_of(program, here, target, frame, state)?;
-    let v = value_of(program, here, a, frame, state)?;
+    let lvalue = lvalue_of(program, here, level, target, frame, state)?;
+    let v = value_of(program, here, level, a, frame, state)?;
     store_lvalue(lvalue, v, frame, state);
     Ok(v)
 }
@@ -281,6 +308,7 @@ struct Change {
 fn value_of_change(
     program: &Program,
     here: Here,
+    level: u32,
     change: Change,
     target: &Target,
     a: &Expr,
@@ -290,8 +318,8 @@ fn value_of_change(
     requires { IsReady program.now here.depth here.live here.plan_work }
     ensures { IsOutcome state.old.work (change_outcome program.now here change target.now a.now frame.old state.old) here result frame.new state.new }
 {
-    let lvalue = lvalue_of(program, here, target, frame, state)?;
-    let v = value_of(program, here, a, frame, state)?;
+    let lvalue = lvalue_of(program, here, level, target, frame, state)?;
+    let v = value_of(program, here, level, a, frame, state)?;
     let old = read_lvalue(program, here, lvalue, frame, state);
     match binary_value(change.op, change.kind, old, v) {
         Some(new) => {
@@ -308,6 +336,7 @@ fn value_of_change(
 fn value_of_after(
     program: &Program,
     here: Here,
+    level: u32,
     up: bool,
     ctype: CType,
     target: &Target,
@@ -317,7 +346,7 @@ fn value_of_after(
     requires { IsReady program.now here.depth here.live here.plan_work }
     ensures { IsOutcome state.old.work (after_outcome program.now here up ctype target.now frame.old state.old) here result frame.new state.new }
 {
-    let lvalue = lvalue_of(program, here, target, frame, state)?;
+    let lvalue = lvalue_of(program, here, level, target, frame, state)?;
     let old = read_lvalue(program, here, lvalue, frame, state);
     let stored = converted(ctype, stepped(up, old));
     store_lvalue(lvalue, stored, frame, state);
@@ -329,6 +358,7 @@ fn value_of_after(
 fn value_of_call(
     program: &Program,
     here: Here,
+    level: u32,
     f: u32,
     args: &List<Expr>,
     frame: &mut Frame,
@@ -337,8 +367,8 @@ fn value_of_call(
     requires { IsReady program.now here.depth here.live here.plan_work }
     ensures { IsOutcome state.old.work (direct_outcome program.now here f args.now frame.old state.old) here result frame.new state.new }
 {
-    let values = values_of(program, here, args, frame, state)?;
-    call(program, here, f, &values, frame, state)
+    let values = values_of(program, here, level, args, frame, state)?;
+    call(program, here, level, f, &values, frame, state)
 }
 
 // The value of a call through a pointer, which under the program's own numbering may reach every function.
@@ -346,6 +376,7 @@ fn value_of_call(
 fn value_of_call_through(
     program: &Program,
     here: Here,
+    level: u32,
     args: &List<Expr>,
     callee: &Boxed<Expr>,
     frame: &mut Frame,
@@ -354,13 +385,13 @@ fn value_of_call_through(
     requires { IsReady program.now here.depth here.live here.plan_work }
     ensures { (t : CType) → IsOutcome state.old.work (through_outcome program.now here t args.now callee.now frame.old state.old) here result frame.new state.new }
 {
-    let values = values_of(program, here, args, frame, state)?;
-    let v = callee_of(program, here, callee, frame, state)?;
+    let values = values_of(program, here, level, args, frame, state)?;
+    let v = callee_of(program, here, level, callee, frame, state)?;
     if v == 0 {
         return Err(Halt::Stopped(Stop::Trapped(traps::NULL_CALL)));
     }
     match function_of_number(program, v) {
-        Some(f) => call(program, here, f, &values, frame, state),
+        Some(f) => call(program, here, level, f, &values, frame, state),
         None => Ok(0),
     }
 }
@@ -370,6 +401,7 @@ fn value_of_call_through(
 fn value_of_known(
     program: &Program,
     here: Here,
+    level: u32,
     known: Known,
     args: &List<Expr>,
     frame: &mut Frame,
@@ -378,7 +410,7 @@ fn value_of_known(
     requires { IsReady program.now here.depth here.live here.plan_work }
     ensures { IsOutcome state.old.work (known_outcome program.now here known args.now frame.old state.old) here result frame.new state.new }
 {
-    let values = values_of(program, here, args, frame, state)?;
+    let values = values_of(program, here, level, args, frame, state)?;
     known_value(program, here, known, &values, frame, state)
 }
 
@@ -387,6 +419,7 @@ fn value_of_known(
 fn lvalue_of(
     program: &Program,
     here: Here,
+    level: u32,
     target: &Target,
     frame: &mut Frame,
     state: &mut State,
@@ -399,7 +432,7 @@ fn lvalue_of(
         Target::Global(g) => Ok(Lvalue::Global(*g, 0)),
         Target::Local(l) => Ok(Lvalue::Local(*l, 0)),
         Target::GlobalAt(g, e) => {
-            let i = value_of(program, here, e.get(), frame, state)?;
+            let i = value_of(program, here, level, e.get(), frame, state)?;
             if (i as usize) < size_at(&state.globals, *g) {
                 Ok(Lvalue::Global(*g, i))
             } else {
@@ -407,7 +440,7 @@ fn lvalue_of(
             }
         }
         Target::LocalAt(l, e) => {
-            let i = value_of(program, here, e.get(), frame, state)?;
+            let i = value_of(program, here, level, e.get(), frame, state)?;
             if (i as usize) < size_at(&frame.locals, *l) {
                 Ok(Lvalue::Local(*l, i))
             } else {
@@ -422,6 +455,7 @@ fn lvalue_of(
 fn values_of(
     program: &Program,
     here: Here,
+    level: u32,
     es: &List<Expr>,
     frame: &mut Frame,
     state: &mut State,
@@ -432,7 +466,7 @@ fn values_of(
     let _work = state.work;
     let mut values = List::new(state.alloc);
     for e in es.as_slice() {
-        let v = value_of(program, here, e, frame, state)?;
+        let v = value_of(program, here, level, e, frame, state)?;
         values.push(v)?;
     }
     Ok(values)
@@ -443,6 +477,7 @@ fn values_of(
 fn optional_value(
     program: &Program,
     here: Here,
+    level: u32,
     e: &Option<Expr>,
     otherwise: u32,
     frame: &mut Frame,
@@ -454,7 +489,7 @@ fn optional_value(
     let _work = state.work;
     match e {
         None => Ok(otherwise),
-        Some(e) => value_of(program, here, e, frame, state),
+        Some(e) => value_of(program, here, level, e, frame, state),
     }
 }
 
@@ -463,6 +498,7 @@ fn optional_value(
 fn call(
     program: &Program,
     here: Here,
+    level: u32,
     f: u32,
     arguments: &List<u32>,
     caller: &Frame,
@@ -488,7 +524,7 @@ fn call(
                 live: here.live + u32::from(g.attributed),
                 plan_work: here.plan_work,
             };
-            let flow = flow_of_all(program, inner, &g.body, &mut frame, state)?;
+            let flow = flow_of_all(program, inner, level, &g.body, &mut frame, state)?;
             Ok(returned_value(flow))
         }
     }
@@ -499,6 +535,7 @@ fn call(
 fn flow_of(
     program: &Program,
     here: Here,
+    level: u32,
     s: &Stmt,
     frame: &mut Frame,
     state: &mut State,
@@ -508,42 +545,42 @@ fn flow_of(
 {
     count(state, 1);
     match s {
-        Stmt::Block(body) => flow_of_all(program, here, body, frame, state),
+        Stmt::Block(body) => flow_of_all(program, here, level, body, frame, state),
         Stmt::Clear(l, values) => {
             clear_local(*l, values, frame, state);
-            store_values(program, here, *l, values, frame, state)
+            store_values(program, here, level, *l, values, frame, state)
         }
         Stmt::Express(e) => {
-            value_of(program, here, e, frame, state)?;
+            value_of(program, here, level, e, frame, state)?;
             Ok(Flow::Goes)
         }
         Stmt::If(e, yes_part, no_part) => {
-            let v = value_of(program, here, e, frame, state)?;
+            let v = value_of(program, here, level, e, frame, state)?;
             if v == 0 {
-                flow_of_all(program, here, no_part, frame, state)
+                flow_of_all(program, here, level, no_part, frame, state)
             } else {
-                flow_of_all(program, here, yes_part, frame, state)
+                flow_of_all(program, here, level, yes_part, frame, state)
             }
         }
-        Stmt::While(e, body) => while_loop(program, here, body, e, frame, state),
-        Stmt::Do(body, e) => do_loop(program, here, body, e, frame, state),
+        Stmt::While(e, body) => while_loop(program, here, level, body, e, frame, state),
+        Stmt::Do(body, e) => do_loop(program, here, level, body, e, frame, state),
         Stmt::For(first, test, step, body) => {
-            let begun = flow_of_all(program, here, first, frame, state)?;
+            let begun = flow_of_all(program, here, level, first, frame, state)?;
             if begun == Flow::Goes {
-                for_loop(program, here, body, test, step, frame, state)
+                for_loop(program, here, level, body, test, step, frame, state)
             } else {
                 Ok(begun)
             }
         }
         Stmt::Switch(e, arms) => {
-            let v = value_of(program, here, e, frame, state)?;
+            let v = value_of(program, here, level, e, frame, state)?;
             let first = first_arm(arms, v, state);
-            arms_flow(program, here, arms_from(arms, first), frame, state)
+            arms_flow(program, here, level, arms_from(arms, first), frame, state)
         }
         Stmt::Break => Ok(Flow::Breaks),
         Stmt::Continue => Ok(Flow::Continues),
         Stmt::Return(e) => {
-            let v = optional_value(program, here, e, 0, frame, state)?;
+            let v = optional_value(program, here, level, e, 0, frame, state)?;
             Ok(Flow::Returns(v))
         }
     }
@@ -554,6 +591,7 @@ fn flow_of(
 pub fn flow_of_all(
     program: &Program,
     here: Here,
+    level: u32,
     body: &List<Stmt>,
     frame: &mut Frame,
     state: &mut State,
@@ -562,8 +600,12 @@ pub fn flow_of_all(
     ensures { IsOutcome state.old.work (stmts_outcome program.now here body.now frame.old state.old) here result frame.new state.new }
 {
     let _work = state.work;
+    if level >= LEVEL_LIMIT {
+        return Err(Halt::Memory(AllocError));
+    }
+    let level = level + 1;
     for s in body.as_slice() {
-        let flow = flow_of(program, here, s, frame, state)?;
+        let flow = flow_of(program, here, level, s, frame, state)?;
         if flow != Flow::Goes {
             return Ok(flow);
         }
@@ -576,6 +618,7 @@ pub fn flow_of_all(
 fn while_loop(
     program: &Program,
     here: Here,
+    level: u32,
     body: &List<Stmt>,
     e: &Expr,
     frame: &mut Frame,
@@ -592,11 +635,11 @@ fn while_loop(
             live: here.live,
             plan_work: here.plan_work,
         };
-        let v = value_of(program, now, e, frame, state)?;
+        let v = value_of(program, now, level, e, frame, state)?;
         if v == 0 {
             return Ok(Flow::Goes);
         }
-        let flow = flow_of_all(program, now, body, frame, state)?;
+        let flow = flow_of_all(program, now, level, body, frame, state)?;
         if !goes_back(flow) {
             return Ok(behind_loop(flow));
         }
@@ -613,6 +656,7 @@ fn while_loop(
 fn do_loop(
     program: &Program,
     here: Here,
+    level: u32,
     body: &List<Stmt>,
     e: &Expr,
     frame: &mut Frame,
@@ -629,11 +673,11 @@ fn do_loop(
             live: here.live,
             plan_work: here.plan_work,
         };
-        let flow = flow_of_all(program, now, body, frame, state)?;
+        let flow = flow_of_all(program, now, level, body, frame, state)?;
         if !goes_back(flow) {
             return Ok(behind_loop(flow));
         }
-        let v = value_of(program, now, e, frame, state)?;
+        let v = value_of(program, now, level, e, frame, state)?;
         if v == 0 {
             return Ok(Flow::Goes);
         }
@@ -650,6 +694,7 @@ fn do_loop(
 fn for_loop(
     program: &Program,
     here: Here,
+    level: u32,
     body: &List<Stmt>,
     test: &Option<Expr>,
     step: &Option<Expr>,
@@ -667,15 +712,15 @@ fn for_loop(
             live: here.live,
             plan_work: here.plan_work,
         };
-        let v = optional_value(program, now, test, 1, frame, state)?;
+        let v = optional_value(program, now, level, test, 1, frame, state)?;
         if v == 0 {
             return Ok(Flow::Goes);
         }
-        let flow = flow_of_all(program, now, body, frame, state)?;
+        let flow = flow_of_all(program, now, level, body, frame, state)?;
         if !goes_back(flow) {
             return Ok(behind_loop(flow));
         }
-        optional_value(program, now, step, 0, frame, state)?;
+        optional_value(program, now, level, step, 0, frame, state)?;
         if bound == 0 {
             return Err(Halt::Stopped(Stop::Unfinished));
         }
@@ -701,6 +746,7 @@ fn behind_switch(flow: Flow) -> Flow
 fn arms_flow(
     program: &Program,
     here: Here,
+    level: u32,
     arms: &[Arm],
     frame: &mut Frame,
     state: &mut State,
@@ -710,7 +756,7 @@ fn arms_flow(
 {
     let _work = state.work;
     for arm in arms {
-        let flow = flow_of_all(program, here, &arm.body, frame, state)?;
+        let flow = flow_of_all(program, here, level, &arm.body, frame, state)?;
         if flow != Flow::Goes {
             return Ok(behind_switch(flow));
         }
@@ -723,6 +769,7 @@ fn arms_flow(
 fn store_values(
     program: &Program,
     here: Here,
+    level: u32,
     l: u32,
     values: &List<Expr>,
     frame: &mut Frame,
@@ -733,7 +780,7 @@ fn store_values(
 {
     let _work = state.work;
     for (i, e) in values.as_slice().iter().enumerate() {
-        let v = value_of(program, here, e, frame, state)?;
+        let v = value_of(program, here, level, e, frame, state)?;
         put_word(state.alloc, &mut frame.locals, l, i, v);
     }
     Ok(Flow::Goes)

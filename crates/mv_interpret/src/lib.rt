@@ -4,6 +4,8 @@
 //!   log, and the work, which stops at the greatest number of 64 bits; and at every greater bound the meaning begins
 //!   with the answer, and is the answer where that has ended. The one condition is that the program has fewer than 2^32
 //!   functions and pointer switches.
+//! - It gives up for want of memory where more than 10,000 expressions and blocks are within one another, over all calls, so that
+//!   the stack of the host is enough (measured, no clause says it).
 //! - `specs/Runs.antt` says how its own values show the world of the meaning.
 //! - `mv_test_top` runs worked programs on it.
 #![tactic(auto)]

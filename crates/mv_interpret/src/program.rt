@@ -56,7 +56,7 @@ fn run_main(program: &Program, here: Here, state: &mut State) -> Result<Flow, Ha
         None => Ok(Flow::Goes),
         Some(main) => {
             let mut frame = frame_of(state.alloc, main, program.main, &List::new(state.alloc))?;
-            flow_of_all(program, here, &main.body, &mut frame, state)
+            flow_of_all(program, here, 0, &main.body, &mut frame, state)
         }
     }
 }

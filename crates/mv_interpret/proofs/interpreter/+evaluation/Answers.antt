@@ -995,3 +995,11 @@ store_values-returns t c =
     let a = c.args in
     let l = c.loop-i in
     all_done (λ es. put_values a.l l.i (map (value_of a.program.now (own_context a.program.now a.here.bound)) es)) a.here _ c.as_slice-e-items.result.now l.i l.frame l.state l.invariant.rest refl _ _ refl c.loop-i-test.false l.invariant.capped
+
+-- ---- where there is no level left, memory is wanting, of which nothing is said
+
+pub value_of-returns-then-level-ge-LEVEL_LIMIT : goal.value_of-returns-then-level-ge-LEVEL_LIMIT
+value_of-returns-then-level-ge-LEVEL_LIMIT t c = record { shown = tt }
+
+pub flow_of_all-returns-then-level-ge-LEVEL_LIMIT : goal.flow_of_all-returns-then-level-ge-LEVEL_LIMIT
+flow_of_all-returns-then-level-ge-LEVEL_LIMIT t c = record { shown = tt }
