@@ -28,6 +28,14 @@ use Rattle.mv_harts_one.specs.Executions.{is_fence_i, counted, wants_memory, IsF
 use Rattle.mv_harts_one.proofs.Words.{fetched_word}
 use Rattle.mv_harts_one.proofs.Sitting.{sat, sat_as, fetches, shown_by}
 
+-- ---- the oracle
+
+-- one choice is asked for once
+pub asked_once : (way way' : Option Way) (pick : ℕ) → Follows way way' 1 pick → way' ≡ option_map (λ w. way_after w 1) way
+unfolding way_after
+asked_once None way' pick f = f
+asked_once (Some w) way' pick f = f.1
+
 -- ---- whether a commit is under way behind an instruction
 
 and_true : (b : Bool) → b ≡ (b && true)
@@ -231,11 +239,6 @@ module _ (number : ℕ) (was : Seat) (o : Hart) (act : Action) (bytes : List ℕ
     answered (Some answer.OutputFault) left A B n t = inr (failed (Some answer.OutputFault) refl refl tt refl A B t.3 left 0 Writes refl t.0 t.2 refl refl)
     answered (Some (answer.Fault pc why)) left A B n t = inl (executed (Some (answer.Fault pc why)) (Fault why) refl refl tt refl left t)
     answered (Some answer.Memory) left A B n t = absurd (n refl)
-
-    asked_once : (way way' : Option Way) (pick : ℕ) → Follows way way' 1 pick → way' ≡ option_map (λ w. way_after w 1) way
-    unfolding way_after
-    asked_once None way' pick f = f
-    asked_once (Some w) way' pick f = f.1
 
     pub did : (r : Option Stopped) (left : Option (List ℕ)) (way way' : Option Way) (A B : Type 0) → (r ≡ Some answer.Memory → ⊥) → Turns r (x written) (y left) way way' A B Told
         → (way' ≡ option_map (λ w. way_after w 1) way) × Comes r left A B

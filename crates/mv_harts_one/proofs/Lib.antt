@@ -1,3 +1,4 @@
 pub mod Words
 pub mod Sitting
 pub mod Executing
+pub mod Advancing

@@ -113,18 +113,18 @@ adopts_sits was e bs on same h number bytes o taken sits =
 -- ---- another hart's store
 
 -- a hart whose memory stays
-shared_same : (o : Hart) (st : Option Store) → shared_room st o.state.room ≡ o.state.room → shared st o ≡ o
+pub shared_same : (o : Hart) (st : Option Store) → shared_room st o.state.room ≡ o.state.room → shared st o ≡ o
 shared_same o st e = by_on (is_on o)
   where
     by_on : (b : Bool) → (if b then record o { state = record o.state { room = shared_room st o.state.room } } else o) ≡ o
     by_on true = ap (λ (r : Room). record o { state = record o.state { room = r } }) e
     by_on false = refl
 
-shared_none : (room : Room) → shared_room None room ≡ room
+pub shared_none : (room : Room) → shared_room None room ≡ room
 unfolding shared_room
 shared_none room = refl
 
-shared_outside : (st : Store) (room : Room) → is_in_text st.address ≡ false → shared_room (Some st) room ≡ room
+pub shared_outside : (st : Store) (room : Room) → is_in_text st.address ≡ false → shared_room (Some st) room ≡ room
 unfolding shared_room
 shared_outside st room e = ap (λ b. if b then with_store room st else room) e
 

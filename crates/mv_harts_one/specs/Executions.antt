@@ -1,12 +1,12 @@
 -- What one instruction of a hart came to, as code did it.
-use Rattle.std.specs.Prelude.{ℕ, ◌≡◌, ◌⊎◌, Bool, true, false, List, ◌++◌, Option, Some, option_map, Result, Ok, Err}
+use Rattle.std.specs.Prelude.{ℕ, ◌≡◌, ◌⊎◌, Bool, true, false, List, ◌++◌, Option, Some, None, option_map, Result, Ok, Err}
 use Rattle.mv_bindings.specs.Acts.{Act}
 use Rattle.mv_isa.specs.declared.instr.Instr.{Instr}
 use Rattle.mv_isa.specs.declared.instr.Instr.TheVariants.{FenceI}
 use Rattle.mv_probe.specs.Ways.{Way, way_after}
 use Rattle.mv_machine.specs.declared.machine.Stopped.{Stopped}
 use Rattle.mv_machine.specs.declared.machine.Stopped.TheVariants as answer
-use Rattle.mv_harts_runs.specs.Harts.{Elsewhere, Hart, Move, executes, fails}
+use Rattle.mv_harts_runs.specs.Harts.{Elsewhere, Store, is_in_text, Hart, Move, executes, fails}
 use Rattle.mv_harts_one.specs.declared.seat.Seat.{Seat}
 use Rattle.mv_harts_one.specs.Seats.{Sits, is_under}
 
@@ -50,6 +50,20 @@ pub record HasFailed (number : ℕ) (o : Hart) (m : Move) (seat : Seat) (was now
   pub under : now ≡ was
   pub wrote : written' ≡ written
   pub fault : IsFaultOf seat.stop input_rose output_rose
+
+-- a store is into text
+abbrev pub is_into_text : Option Store → Bool
+is_into_text None = false
+is_into_text (Some st) = is_in_text st.address
+
+-- It was executed, and neither another hart nor a device has to do with it: no store is shared, nothing is read or written, and no commit is
+-- under way behind it that wasn't before.
+pub record HasAdvanced (number : ℕ) (o : Hart) (act : Act) (m : Move) (seat : Seat) (bytes : List ℕ) : Type 0 where
+  pub place : m.place ≡ Elsewhere
+  pub store : is_into_text m.store ≡ false
+  pub sits : Sits number seat bytes (executes o act m)
+  pub under : m.under ≡ None
+  pub output : m.state.output ≡ o.state.output
 
 -- One instruction, which was handed an act. The answer is whether the commit of hart 0 is under way behind it, as it was before or not; the oracle was asked once.
 abbrev pub Did : {E : Type 0} → Result Bool E → (number : ℕ) (o : Hart) (act : Act) (m : Move) (seat : Seat) (was : Bool) (bytes : List ℕ) (left written written' : Option (List ℕ)) (way way' : Option Way) (input_rose output_rose : Type 0) → Type 0

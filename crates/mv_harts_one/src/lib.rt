@@ -6,10 +6,13 @@
 //!   is. `adopt`: it takes on the bindings of a commit of hart 0. `take_store`: it makes another hart's store into text.
 //! - `Seat::execute` is one instruction, as `move` and `executes` of that run define it, or a read or write that failed (`Did`, in
 //!   `specs/Executions.antt`): what was written, what is left, the state, and whether the commit of hart 0 is under way behind it.
+//! - `Seat::advance` is one instruction that concerns no other hart and no device, where that is what stands at pc (`HasAdvanced`): the same state, no
+//!   store into text, no call, and no commit that begins. Else it leaves the hart as it was, and the answer is no.
 //! - All of this is under two premises: the source tells its bytes, and a fetch has one choice, as in each run of harts on an image that is right.
 //! - Want of memory: where a store into text finds none, the instruction isn't executed and nothing is written.
 #![tactic(auto)]
 
+mod advance;
 mod execute;
 mod fields;
 mod glance;

@@ -10,3 +10,4 @@ mod Starting
 mod Holding
 mod Changing
 mod Turning
+mod Advancing

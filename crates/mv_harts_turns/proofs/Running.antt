@@ -20,7 +20,7 @@ use Rattle.mv_harts_one.specs.declared.seat.Seat.{Seat}
 use Rattle.mv_harts_one.specs.Seats.{has_failed}
 use Rattle.mv_harts_turns.specs.Pairs.{Both}
 use Rattle.mv_harts_turns.specs.declared.group.Group.{Group}
-use Rattle.mv_harts_turns.specs.Groups.{IsSeat, Shows, Beside, Reaches, Refused, Wrote, FailsBy, MayFail, asked, asked_by, hart_at, seat_at, output, output_of, input_rose, output_rose, beside}
+use Rattle.mv_harts_turns.specs.Groups.{IsSeat, Shows, Stands, Beside, Reaches, Refused, Wrote, FailsBy, MayFail, asked, asked_by, hart_at, seat_at, output, output_of, input_rose, output_rose, beside}
 use Rattle.mv_harts_turns.specs.Runs.{turns_by, Outside, outside, bytes_of, inputs_of, harts_of, Failed, GotAll, Ran, Broken, IsReadyFor}
 use Rattle.mv_harts_turns.proofs.Places.{both_left, both_weaker, set_other}
 use Rattle.mv_harts_turns.proofs.Reaching.{grew_nothing, way_none}
@@ -115,6 +115,28 @@ next_of left written inputs outputs sources sinks w w' h s s' k k' es ek in' out
   new_way = refl;
   later_inputs = in';
   later_outputs = out;
+}
+
+-- where nothing was read or written
+pub next_still : {S K : Type 0} (left : S → Option (List ℕ)) (written : K → Option (List ℕ)) (inputs : S → ℕ) (outputs : K → ℕ) (sources : List S) (sinks : List K) (w w' : Option Way) (h : ℕ) (s : S) (k : K) →
+    slice_get sources h ≡ Some s → slice_get sinks h ≡ Some k →
+    Next h (beside (left s) (written k) (written k) w w' (inputs s) (inputs s) (outputs k) (outputs k)) (outside left written inputs outputs sources sinks w) (outside left written inputs outputs sources sinks w')
+next_still left written inputs outputs sources sinks w w' h s k es ek = record {
+  left = ap (option_and_then left) es;
+  left_rest = λ j ne. refl;
+  old_written = ap (option_and_then written) ek;
+  new_written = ap (option_and_then written) ek;
+  written_rest = λ j ne. refl;
+  old_inputs = ap (λ o. unwrap_or (option_map inputs o) 0) es;
+  new_inputs = ap (λ o. unwrap_or (option_map inputs o) 0) es;
+  inputs_rest = λ j ne. refl;
+  old_outputs = ap (λ o. unwrap_or (option_map outputs o) 0) ek;
+  new_outputs = ap (λ o. unwrap_or (option_map outputs o) 0) ek;
+  outputs_rest = λ j ne. refl;
+  old_way = refl;
+  new_way = refl;
+  later_inputs = omega arith;
+  later_outputs = omega arith;
 }
 
 told_some : (o : Option (List ℕ)) (v : List ℕ) → o ≡ Some v → o ≡ Some (unwrap_or o [])
@@ -252,6 +274,30 @@ module _ (image : Fields) (actions : List Action) (count : ℕ) (was is is' : Ou
 
 pub ran_whole : (image : Fields) (actions : List Action) (count : ℕ) (was is : Outside) (schedule : List ℕ) (i : ℕ) (group : Group) → length schedule ≤ i → Ran image actions count (take i schedule) was is group → Ran image actions count schedule was is group
 ran_whole image actions count was is schedule i group le r = subst (λ l. Ran image actions count l was is group) (take_all i schedule le) r
+
+-- ---- a group that is as it was
+
+stands_seats : (group group' : Group) → Stands group group' → length group.others.items ≡ length group'.others.items
+stands_seats group group' s = same_length (λ n (x y : Seat). Unit {0}) group.others.items group'.others.items
+    (λ n. both_weaker (λ (x y : Seat). y.stop ≡ x.stop) (λ x y. Unit {0}) (λ x y e. tt) (slice_get group.others.items n) (slice_get group'.others.items n) (s.stops (suc n)))
+
+pub ran_stands : (image : Fields) (actions : List Action) (count : ℕ) (was is is' : Outside) (schedule : List ℕ) (group group' : Group) → Stands group group' → is' ≡ is → Ran image actions count schedule was is group → Ran image actions count schedule was is' group'
+ran_stands image actions count was is is' schedule group group' s e r = subst (λ y. Ran image actions count schedule was y group') (sym e) (record {
+  failing = r.failing;
+  paired = r.paired;
+  seats = omega (arith, stands_seats group group' s, r.seats);
+  told = r.told;
+  shows = s.shows image actions (bytes_of is) (harts_of image actions count was schedule r.failing) r.shows;
+  written = r.written;
+  way_is = r.way_is;
+  few = r.few;
+  failed = λ j seat at.
+      let old = both_left (λ (x y : Seat). y.stop ≡ x.stop) (seat_at j group) (seat_at j group') seat at (s.stops j) in
+      let f = r.failed j old.0 old.1 in
+      record { input = λ t. f.input (sym old.2 ∙ t); output = λ t. f.output (sym old.2 ∙ t) };
+  later_inputs = r.later_inputs;
+  later_outputs = r.later_outputs;
+})
 
 -- ---- what the premises say
 

@@ -10,7 +10,7 @@ use Rattle.mv_probe.specs.Ways.{Way, way_after}
 use Rattle.mv_machine.specs.declared.machine.Stopped.TheVariants as answer
 use Rattle.mv_machine.specs.Runs.{choices_at, bytes_to_come}
 use Rattle.mv_harts_runs.specs.Harts as harts
-use Rattle.mv_harts_runs.specs.Harts.{Hart, Harts, Move, Elsewhere, is_on, told, executes, fails, leader_goes, other_goes, other_fails, others_from, shared, freed}
+use Rattle.mv_harts_runs.specs.Harts.{Hart, Harts, Move, Elsewhere, is_on, told, executes, fails, leader_goes, other_goes, other_fails, others_from, shared, freed, turn_of}
 use Rattle.mv_harts_one.specs.declared.seat.Seat.{Seat}
 use Rattle.mv_harts_one.specs.declared.seat.Mode.{Mode}
 use Rattle.mv_harts_one.specs.declared.seat.Mode.TheVariants as mode
@@ -275,6 +275,16 @@ pub record Refused (hart : ℕ) (x : Beside) (hs hs' : Harts) : Type 0 where
 abbrev pub Turned : {T E : Type 0} → (image : Fields) (actions : List Action) (hart : ℕ) (bytes : ℕ → List ℕ) (x : Beside) (was is : Group) (hs : Harts) (Fits : Bool → Type 0) (turned : Bool → Harts) → Result T E → Type 0
 Turned image actions hart bytes x was is hs Fits turned (Ok done) = (failing : Bool) × Fits failing × Reaches image actions hart bytes x was is hs (turned failing)
 Turned image actions hart bytes x was is hs Fits turned (Err error) = (failing : Bool) × Fits failing × Refused hart x hs (turned failing)
+
+-- A turn that just went on: the oracle was asked once, and nothing was read or written, whatever the source and the sink tell.
+abbrev pub Advanced : (image : Fields) (actions : List Action) (hart : ℕ) (bytes : ℕ → List ℕ) (way way' : Option Way) (was is : Group) (hs : Harts) → Type 0
+Advanced image actions hart bytes way way' was is hs =
+    (x : Beside) → x.left ≡ Some (bytes hart) → x.new_written ≡ x.old_written → x.old_way ≡ way → x.new_way ≡ way' → Reaches image actions hart bytes x was is hs (turn_of hs hart 0 false)
+
+-- a group that is as it was
+pub record Stands (was is : Group) : Type 0 where
+  pub shows : (image : Fields) (actions : List Action) (bytes : ℕ → List ℕ) (hs : Harts) → Shows image actions bytes was hs → Shows image actions bytes is hs
+  pub stops : SameStops was is
 
 -- a turn may fail or not
 abbrev pub MayFail : (failing : Bool) → Type 0

@@ -83,6 +83,9 @@ pub fn run<I: Source, O: Sink>(
     let turns = turns_of(schedule);
     for time in 0..turns {
         let hart = usize::from(schedule[time]);
+        if group.advance(hart, oracle) {
+            continue;
+        }
         group.turn(
             alloc,
             hart,
