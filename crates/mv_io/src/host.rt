@@ -9,6 +9,7 @@ use std::alloc::{AllocError, Global};
 use std::fs::{File, OpenFile};
 use std::io::{ErrorKind, Read, Write};
 use std::marker::Model;
+use std::os::unix::fs::MetadataExt;
 use std::rt::Files;
 use std::{fs, io};
 
@@ -132,10 +133,12 @@ fn write_flushed<W: Write>(writer: &mut W, bytes: &[u8]) -> io::Result<usize>
 /// only memory that a `load` is refused is answered as such. To load a file of more than 268,435,456 bytes is an error.
 /// A `save` writes a file beside, `NAME.part0` or the first of ten such names that is free, and gives it the name when it is whole, so that
 /// the name has its old bytes or the new ones, whatever happens. A symbolic link, a device or a pipe is written in place.
+/// To save over the file that was loaded last is an error, whatever name of it is given, and nothing is written.
 #[derive(Drop)]
 pub struct FileShelf<R: Files + Drop> {
     files: R,
     faults: u64,
+    loaded: Option<Identity>,
 }
 
 impl<R: Files + Drop> Model for FileShelf<R> {
@@ -151,7 +154,11 @@ impl<R: Files + Drop> FileShelf<R> {
     pub fn new(files: R) -> FileShelf<R>
         ensures { result ≡ 0 }
     {
-        FileShelf { files, faults: 0 }
+        FileShelf {
+            files,
+            faults: 0,
+            loaded: None,
+        }
     }
 }
 
@@ -172,6 +179,7 @@ impl<R: Files + Drop> Shelf for FileShelf<R> {
         ensures count { CountAfter (is_fault result) self.old self.new }
         ensures short { IfOk result (λ bytes. length bytes.items ≤ 2 ^ 28) }
     {
+        self.loaded = identity_of(&self.files, name);
         match read_file(alloc, &self.files, name) {
             Ok(bytes) => Ok(bytes),
             Err(error) if error.kind() == ErrorKind::OutOfMemory => {
@@ -185,6 +193,10 @@ impl<R: Files + Drop> Shelf for FileShelf<R> {
     }
 
     fn save(&mut self, alloc: Global, name: &str, bytes: &[u8]) -> Result<(), ShelfError> {
+        if self.loaded.is_some() && identity_of(&self.files, name) == self.loaded {
+            count_fault(&mut self.faults);
+            return Err(ShelfError::Failed);
+        }
         match write_file(alloc, &self.files, name, bytes) {
             Ok(()) => Ok(()),
             Err(error) if error.kind() == ErrorKind::OutOfMemory => {
@@ -196,6 +208,22 @@ impl<R: Files + Drop> Shelf for FileShelf<R> {
             }
         }
     }
+}
+
+/// A file of the machine, whichever of its names is given: its device, and its number there.
+#[derive(Clone, Copy, PartialEq, Eq)]
+struct Identity {
+    device: u64,
+    number: u64,
+}
+
+// The file that a name leads to, also by a symbolic link. One that can't be asked for is none.
+fn identity_of<R: Files>(files: &R, name: &str) -> Option<Identity> {
+    let metadata = files.metadata(name).ok()?;
+    Some(Identity {
+        device: metadata.dev(),
+        number: metadata.ino(),
+    })
 }
 
 /// How many names for a file beside another are tried: killed runs may have left some.
