@@ -8,12 +8,13 @@
 //!   hart is its own run alone with what its polls took, and adopts the commits of hart 0 in order, none skipped; and what each hart does is what the
 //!   program means in it.
 //! - `built_programs_are_runnable`: what `build` gives is an image of which `run_harts` asks no more.
+//! - `let_go`: lets what was built go, for a crate that would else prove the drop of each of its parts.
 //! - An error of `run_harts` is want of memory; then each sink grew by what its hart wrote by some turn.
 //! - `mvharts(alloc, words, shelf, out, notes, oracle)` does all that the program does (`specs/Outcomes.antt`). With `Done`, `out` grew by exactly the text
 //!   (`specs/Texts.antt`) of one such run, by the schedule that the words ask for (`mv_harts_words`), of one image that `mv_build` gives of the text
 //!   under FILE. After `OutputFault` it grew by less of that, and after `Memory`, `Usage`, `ShelfFault` and `Refused` it is unchanged; each of
 //!   these has its cause. The files of the shelf are unchanged. `notes` grew by the last line of the status (`mv_notes`).
-//! - Tested by one run of `mv_harts_cli` alone.
+//! - Tested by the rows of `mv_test_harts` and one run of `mv_harts_cli`.
 #![tactic(auto)]
 
 mod devices;
@@ -28,5 +29,5 @@ pub use harts::run_harts;
 pub use mv_harts_one::Taken;
 pub use mv_harts_turns::Committed;
 pub use mv_notes::Status;
-pub use runnable::built_programs_are_runnable;
+pub use runnable::{built_programs_are_runnable, let_go};
 pub use top::mvharts;
