@@ -152,3 +152,27 @@ fn a_file_is_saved_beside_what_others_left(rt: HostRuntime) -> Result<(), Fail> 
     fs::remove_dir_all(&rt, "mv_io_beside")?;
     Ok(())
 }
+
+#[test]
+fn no_file_is_saved_over_the_one_that_was_loaded(rt: HostRuntime) -> Result<(), Fail> {
+    let alloc = rt.alloc();
+    let _ = fs::remove_dir_all(&rt, "mv_io_itself");
+    fs::create_dir(&rt, "mv_io_itself")?;
+    fs::write(&rt, "mv_io_itself/a", b"source")?;
+    rt.symlink("a", "mv_io_itself/link")?;
+    let mut shelf = FileShelf::new(&rt);
+    let source = shelf.load(alloc, "mv_io_itself/a").ok();
+    assert!(rt; source.as_ref().map(|bytes| bytes.as_slice()) == Some(b"source".as_slice()));
+    for name in ["mv_io_itself/a", "mv_io_itself/./a", "mv_io_itself/link"] {
+        let refused = shelf.save(alloc, name, b"image");
+        assert!(rt; matches!(refused, Err(ShelfError::Failed)));
+    }
+    shelf.save(alloc, "mv_io_itself/b", b"image")?;
+    let kept = shelf.load(alloc, "mv_io_itself/a").ok();
+    assert!(rt; kept.as_ref().map(|bytes| bytes.as_slice()) == Some(b"source".as_slice()));
+    // It is a file like others once another one was loaded.
+    let _image = shelf.load(alloc, "mv_io_itself/b").ok();
+    shelf.save(alloc, "mv_io_itself/a", b"image")?;
+    fs::remove_dir_all(&rt, "mv_io_itself")?;
+    Ok(())
+}
