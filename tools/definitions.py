@@ -22,7 +22,7 @@ BEGIN, END = "<!-- definitions -->", "<!-- end of definitions -->"
 PARTS = [
     ("What a program means", [("mv_meaning/specs/Meaning.antt", "mean")]),
     ("What a run of an image does", [("mv_machine/specs/Runs.antt", "runs")]),
-    ("That the run does what the program means", [("mv_refine_runs/specs/Behaves.antt", "BehavesAlways"), ("mv_refine_images/specs/Own.antt", "LoadsNoOwnSwitch")]),
+    ("That the run does what the program means", [("mv_refine_machine/specs/Runs/Behaves.antt", "BehavesAlways"), ("mv_refine_images/specs/Own.antt", "LoadsNoOwnSwitch")]),
     ("Which text is which program", [("mv_front/specs/Verdicts.antt", "IsProgram")]),
     ("What the command does", [("mv_top/src/top.rt", "multiverse")]),
     ("What several harts do", [("mv_harts/src/harts.rt", "run_harts"), ("mv_harts/src/top.rt", "mvharts")]),
@@ -132,7 +132,19 @@ class Walk:
             return None
         return os.path.join(self.root, 'crates', parts[0], *parts[1:]) + '.antt'
 
+    def home(self, module):
+        """The module itself where a crate passes one of another crate on, in its list of modules."""
+        crate, *rest = module.split('.')
+        lists = os.path.join(self.root, 'crates', crate, 'specs', 'Lib.antt')
+        if crate.startswith('mv_') and rest[:1] == ['specs'] and len(rest) > 1 and os.path.exists(lists):
+            text = open(lists, encoding='utf-8').read()
+            passed = re.search(rf"^pub use Rattle\.(mv_\S+)(?<=\.{re.escape(rest[1])})$|^pub use Rattle\.(mv_\S+) as {re.escape(rest[1])}$", text, re.M)
+            if passed:
+                return self.home('.'.join([passed[1] or passed[2], *rest[2:]]))
+        return module
+
     def follow(self, module, name):
+        module = self.home(module)
         parts = module.split('.')
         if 'declared' in parts:
             self.follow_declared(parts[0], parts[parts.index('declared') + 1:], name)

@@ -26,19 +26,19 @@ use Rattle.mv_check_outline.specs.Names.{same_name, place_of}
 use Rattle.mv_source_forms.specs.Typing.{global_types, IsFunctionOf}
 use Rattle.mv_source_forms.specs.Names.{is_own_switch}
 use Rattle.mv_source_forms.specs.WellFormed.{IsWellFormedSwitch}
-use Rattle.mv_accepts_expressions.specs.Soundness.{IsStored, IsMeant, Fits}
-use Rattle.mv_accepts_bodies.specs.Declared.{IsIn, IsCovered, Covers}
-use Rattle.mv_accepts_bodies.specs.Formed.{IsScalar, IsArray, IsKindOfOrder, IsShaped, AreShaped}
+use Rattle.mv_accepts.specs.Expressions.Soundness.{IsStored, IsMeant, Fits}
+use Rattle.mv_accepts.specs.Bodies.Declared.{IsIn, IsCovered, Covers}
+use Rattle.mv_accepts.specs.Bodies.Formed.{IsScalar, IsArray, IsKindOfOrder, IsShaped, AreShaped}
 use Rattle.mv_types.specs.declared.contents.Contents.{Contents}
 use Rattle.mv_types.specs.declared.contents.Foreknown.{Foreknown}
 use Rattle.mv_types.specs.declared.contents.Object.{Object}
 use Rattle.mv_types.specs.Foreknown.{attributed_number}
 use Rattle.mv_types.specs.Units.{with_switches}
-use Rattle.mv_accepts_names.specs.Declared.{IsStill, Extends, IsGlobal, IsDeclared, IsDefinition, IsSound}
-use Rattle.mv_accepts_names.proofs.Named.{same_place}
+use Rattle.mv_accepts.specs.Names.Declared.{IsStill, Extends, IsGlobal, IsDeclared, IsDefinition, IsSound}
+use Rattle.mv_accepts.proofs.OfNames.Named.{same_place}
 use Rattle.mv_accepts_programs.proofs.Lists.{one_there, all_at}
 use Rattle.mv_accepts_programs.proofs.Units.{IsMade}
-use Rattle.mv_accepts_statements.proofs.Lists.{mapped_there}
+use Rattle.mv_accepts.proofs.OfStatements.Lists.{mapped_there}
 
 -- ---- a name at file scope
 

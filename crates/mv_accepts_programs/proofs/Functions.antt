@@ -20,14 +20,14 @@ use Rattle.mv_check_declarations.specs.Parameters.{parameters_judgement}
 use Rattle.mv_check_statements.specs.Statements.{body_judgement}
 use Rattle.mv_source_forms.specs.Typing.{IsIntegerSwitch, IsTypedFunction}
 use Rattle.mv_source_forms.specs.WellFormed.{IsWellFormedSwitch, IsWellFormedFunction}
-use Rattle.mv_accepts_expressions.specs.Soundness.{Fits}
-use Rattle.mv_accepts_expressions.proofs.Kept.{went_on, same_good}
-use Rattle.mv_accepts_statements.specs.Bodies.{Keeps}
-use Rattle.mv_accepts_statements.proofs.Names.{entered_means}
-use Rattle.mv_accepts_statements.proofs.Lists.{mapped_back, mapped_there, all_more}
-use Rattle.mv_accepts_bodies.specs.Declared.{Covers}
-use Rattle.mv_accepts_bodies.specs.Formed.{AreShaped, HasParameters}
-use Rattle.mv_accepts_bodies.specs.Definitions.{IsDefinition, HasScalarParameters, DefinitionHasParameters, IsFormed, DefinitionIsFormed}
+use Rattle.mv_accepts.specs.Expressions.Soundness.{Fits}
+use Rattle.mv_accepts.proofs.OfExpressions.Kept.{went_on, same_good}
+use Rattle.mv_accepts.specs.Statements.Bodies.{Keeps}
+use Rattle.mv_accepts.proofs.OfStatements.Names.{entered_means}
+use Rattle.mv_accepts.proofs.OfStatements.Lists.{mapped_back, mapped_there, all_more}
+use Rattle.mv_accepts.specs.Bodies.Declared.{Covers}
+use Rattle.mv_accepts.specs.Bodies.Formed.{AreShaped, HasParameters}
+use Rattle.mv_accepts.specs.Bodies.Definitions.{IsDefinition, HasScalarParameters, DefinitionHasParameters, IsFormed, DefinitionIsFormed}
 use Rattle.mv_check_uses.specs.Uses.{switches_named}
 use Rattle.mv_accepts_programs.specs.OwnSwitches.{OwnSwitchesAreNamed}
 use Rattle.mv_types.specs.declared.contents.Contents.{Contents}
@@ -35,9 +35,9 @@ use Rattle.mv_types.specs.declared.contents.Foreknown.{Foreknown}
 use Rattle.mv_types.specs.Foreknown.{attributed_number, is_attributed}
 use Rattle.mv_types.specs.Functions.{body_entered, left_with}
 use Rattle.mv_types.specs.Units.{is_main_type, main_of, with_switches}
-use Rattle.mv_accepts_names.specs.Declared.{IsSound}
-use Rattle.mv_accepts_names.specs.Defined.{WasDefined, WereDefined}
-use Rattle.mv_accepts_names.proofs.Named.{same_place}
+use Rattle.mv_accepts.specs.Names.Declared.{IsSound}
+use Rattle.mv_accepts.specs.Names.Defined.{WasDefined, WereDefined}
+use Rattle.mv_accepts.proofs.OfNames.Named.{same_place}
 use Rattle.mv_accepts_programs.proofs.Lists.{all_by, named_below}
 use Rattle.mv_accepts_programs.proofs.Units.{IsMade}
 use Rattle.mv_accepts_programs.proofs.Fitting.{defined_at, function_at, file_fits, file_covers, file_shaped}

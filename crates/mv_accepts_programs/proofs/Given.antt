@@ -9,20 +9,20 @@ use Rattle.mv_syntax.specs.declared.unit.Item.{Item}
 use Rattle.mv_syntax.specs.declared.unit.Line.{Line}
 use Rattle.mv_check_declarations.specs.declared.specifiers.Specified.{Specified}
 use Rattle.mv_check_declarations.specs.Turns.{through}
-use Rattle.mv_accepts_expressions.specs.Soundness.{Fits}
-use Rattle.mv_accepts_expressions.proofs.Plain.{IsPlain}
-use Rattle.mv_accepts_statements.specs.Bodies.{BodyGrows, ParametersFit}
-use Rattle.mv_accepts_statements.proofs.Judging.{IfGood, of_good, by_good}
-use Rattle.mv_accepts_globals.specs.FirstValues.{HaveFirstValues, FirstValuesAreKept}
+use Rattle.mv_accepts.specs.Expressions.Soundness.{Fits}
+use Rattle.mv_accepts.proofs.OfExpressions.Plain.{IsPlain}
+use Rattle.mv_accepts.specs.Statements.Bodies.{BodyGrows, ParametersFit}
+use Rattle.mv_accepts.proofs.OfStatements.Judging.{IfGood, of_good, by_good}
+use Rattle.mv_accepts.specs.Globals.FirstValues.{HaveFirstValues, FirstValuesAreKept}
 use Rattle.mv_types.specs.declared.contents.Contents.{Contents}
 use Rattle.mv_types.specs.declared.contents.Foreknown.{Foreknown}
 use Rattle.mv_types.specs.Units.{declarator_judgement, item_judgement}
-use Rattle.mv_accepts_names.specs.Declared.{Extends, IsSound}
-use Rattle.mv_accepts_names.specs.Laws.{IsSoundBehind}
-use Rattle.mv_accepts_names.proofs.Extending.{To, extends_joined, to_same, to_joined}
-use Rattle.mv_accepts_names.proofs.Widening.{widens_sound}
-use Rattle.mv_accepts_names.proofs.Units.{Known, declarator_sound, items_keep}
-use Rattle.mv_accepts_numbers.specs.Numbers.{IsForeknown}
+use Rattle.mv_accepts.specs.Names.Declared.{Extends, IsSound}
+use Rattle.mv_accepts.specs.Names.Laws.{IsSoundBehind}
+use Rattle.mv_accepts.proofs.OfNames.Extending.{To, extends_joined, to_same, to_joined}
+use Rattle.mv_accepts.proofs.OfNames.Widening.{widens_sound}
+use Rattle.mv_accepts.proofs.OfNames.Units.{Known, declarator_sound, items_keep}
+use Rattle.mv_accepts.specs.Numbers.Numbers.{IsForeknown}
 
 -- a function, to speak of the file scope
 pub nobody : Function

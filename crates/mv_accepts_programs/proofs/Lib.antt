@@ -7,3 +7,5 @@ mod Whole
 pub mod SwitchExpressions
 pub mod SwitchLists
 pub mod SwitchStatements
+pub mod OfIdentifiers
+pub mod OfFacts

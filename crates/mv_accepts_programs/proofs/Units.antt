@@ -12,9 +12,9 @@ use Rattle.mv_types.specs.declared.contents.Contents.{Contents}
 use Rattle.mv_types.specs.Contents.{nothing_declared, present, switches_from}
 use Rattle.mv_types.specs.Foreknown.{foreknown}
 use Rattle.mv_types.specs.Units.{item_judgement, main_of, with_switches, program_of, program_or_broken, program_judgement, unit_judgement}
-use Rattle.mv_accepts_numbers.specs.Numbers.{AreJudged}
+use Rattle.mv_accepts.specs.Numbers.Numbers.{AreJudged}
 use Rattle.mv_accepts_programs.proofs.Lists.{present_is}
-use Rattle.mv_accepts_expressions.proofs.Kept.{went_on}
+use Rattle.mv_accepts.proofs.OfExpressions.Kept.{went_on}
 
 -- the contents behind the declarations, and the function that `main` is
 abbrev pub ComesFrom : unit.Unit → Program → Type 0

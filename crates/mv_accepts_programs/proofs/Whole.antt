@@ -10,13 +10,13 @@ use Rattle.std.specs.List.{AllByRecursion}
 use Rattle.std.proofs.lemmas.List.Elements.{All-nil, recursion_from_All}
 use Rattle.mv_check_expressions.specs.Judged.{Good}
 use Rattle.mv_check_declarations.specs.Turns.{through}
-use Rattle.mv_accepts_expressions.specs.Soundness.{Fits}
-use Rattle.mv_accepts_statements.specs.Bodies.{BodyGrows, ParametersFit}
-use Rattle.mv_accepts_statements.proofs.Judging.{of_good}
+use Rattle.mv_accepts.specs.Expressions.Soundness.{Fits}
+use Rattle.mv_accepts.specs.Statements.Bodies.{BodyGrows, ParametersFit}
+use Rattle.mv_accepts.proofs.OfStatements.Judging.{of_good}
 use Rattle.mv_check_limits.specs.Limits.{first_exceeded}
 use Rattle.mv_source_forms.specs.Typing.{IsFirstValue, IsPointerSwitch, HasTypedMain}
 use Rattle.mv_source_forms.specs.WellFormed.{IsWellFormedPointer, IsWellFormed, program_nodes}
-use Rattle.mv_accepts_bodies.specs.Definitions.{DefinitionHasParameters, DefinitionIsFormed}
+use Rattle.mv_accepts.specs.Bodies.Definitions.{DefinitionHasParameters, DefinitionIsFormed}
 use Rattle.mv_accepts_programs.specs.OwnSwitches.{OwnSwitchesAreNamed}
 use Rattle.mv_types.specs.declared.contents.Contents.{Contents}
 use Rattle.mv_types.specs.declared.contents.Foreknown.{Foreknown}
@@ -24,16 +24,16 @@ use Rattle.mv_types.specs.declared.contents.Object.{Object}
 use Rattle.mv_types.specs.Foreknown.{foreknown, is_attributed}
 use Rattle.mv_types.specs.Contents.{nothing_declared, present}
 use Rattle.mv_types.specs.Units.{item_judgement, unit_judgement}
-use Rattle.mv_accepts_names.specs.Declared.{Extends, IsSound}
-use Rattle.mv_accepts_names.specs.Defined.{WereDefined}
-use Rattle.mv_accepts_names.specs.Laws.{FileScopeIsSound}
-use Rattle.mv_accepts_globals.specs.Globals.{HasFormedGlobals, GlobalsAreFormed}
-use Rattle.mv_accepts_globals.specs.FirstValues.{HaveFirstValues, FirstValuesAreKept, GlobalsHaveFirstValues}
-use Rattle.mv_accepts_numbers.specs.Numbers.{AreDefined, FunctionsAreDefined, ItemsAreForeknown, AreAttributed, AttributedAreCounted, AreSwitches, SwitchesAreCounted, IsForeknown}
-use Rattle.mv_accepts_limits.specs.Limits.{WithinLimits}
-use Rattle.mv_accepts_limits.specs.Main.{MainIsTyped, MainIsUnmarked}
-use Rattle.mv_accepts_names.proofs.Extending.{extends_same}
-use Rattle.mv_accepts_names.proofs.Units.{sound_start}
+use Rattle.mv_accepts.specs.Names.Declared.{Extends, IsSound}
+use Rattle.mv_accepts.specs.Names.Defined.{WereDefined}
+use Rattle.mv_accepts.specs.Names.Laws.{FileScopeIsSound}
+use Rattle.mv_accepts.specs.Globals.Globals.{HasFormedGlobals, GlobalsAreFormed}
+use Rattle.mv_accepts.specs.Globals.FirstValues.{HaveFirstValues, FirstValuesAreKept, GlobalsHaveFirstValues}
+use Rattle.mv_accepts.specs.Numbers.Numbers.{AreDefined, FunctionsAreDefined, ItemsAreForeknown, AreAttributed, AttributedAreCounted, AreSwitches, SwitchesAreCounted, IsForeknown}
+use Rattle.mv_accepts.specs.Limits.Limits.{WithinLimits}
+use Rattle.mv_accepts.specs.Limits.Main.{MainIsTyped, MainIsUnmarked}
+use Rattle.mv_accepts.proofs.OfNames.Extending.{extends_same}
+use Rattle.mv_accepts.proofs.OfNames.Units.{sound_start}
 use Rattle.mv_accepts_programs.proofs.Lists.{all_at, all_by}
 use Rattle.mv_accepts_programs.proofs.Units.{ComesFrom, comes_from, IsMade, is_made}
 use Rattle.mv_accepts_programs.proofs.Fitting.{file_fits}

@@ -8,7 +8,7 @@ use Rattle.mv_check_expressions.specs.Judged.{Good}
 use Rattle.mv_check_limits.specs.Limits.{first_exceeded}
 use Rattle.mv_source_forms.specs.WellFormed.{IsWellFormed, program_nodes}
 use Rattle.mv_types.specs.Units.{unit_judgement}
-use Rattle.mv_accepts_limits.specs.Nodes.{unit_nodes}
+use Rattle.mv_accepts.specs.Limits.Nodes.{unit_nodes}
 
 -- the program of a unit that keeps the rules, where no limit is reported and it has at most so many nodes
 abbrev pub CheckedAreWellFormed : Type 0

@@ -1,2 +1,4 @@
 pub mod Checked
 pub mod OwnSwitches
+pub mod Identifiers
+pub mod Facts

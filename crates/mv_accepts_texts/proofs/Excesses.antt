@@ -20,13 +20,13 @@ use Rattle.mv_check_limits.proofs.Told.{both_none}
 use Rattle.mv_check_rules.specs.Nodes.{Global}
 use Rattle.mv_check_rules.specs.Declarations.{in_order}
 use Rattle.mv_check_rules.specs.Units.{Declarations, none_declared, item, global_of, those_there, with_switches, switches_from, program, judged_by_rules}
-use Rattle.mv_accepts_numbers.specs.Numbers.{ItemsAreForeknown}
-use Rattle.mv_accepts_statements.proofs.Judging.{of_good}
-use Rattle.mv_accepts_statements.proofs.Lists.{all_at, all_mapped, mapped_back, mapped_there}
+use Rattle.mv_accepts.specs.Numbers.Numbers.{ItemsAreForeknown}
+use Rattle.mv_accepts.proofs.OfStatements.Judging.{of_good}
+use Rattle.mv_accepts.proofs.OfStatements.Lists.{all_at, all_mapped, mapped_back, mapped_there}
 use Rattle.mv_accepts_texts.specs.Texts.{in_turn, item_objects}
 use Rattle.mv_accepts_texts.specs.Told.{told_parameters, first_told}
 use Rattle.mv_accepts_texts.proofs.Files.{Sound}
-use Rattle.mv_accepts_numbers.proofs.NameLists.{name_itself}
+use Rattle.mv_accepts.proofs.OfNumbers.NameLists.{name_itself}
 use Rattle.mv_accepts_texts.proofs.Programs.{TellsName, items_known, ended, those_have}
 use Rattle.mv_accepts_texts.proofs.Scopes.{few, few_more}
 use Rattle.mv_accepts_texts.proofs.Units.{unit_sound}

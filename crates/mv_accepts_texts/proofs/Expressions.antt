@@ -31,12 +31,12 @@ use Rattle.mv_check_expressions.specs.Judged.{Good}
 use Rattle.mv_check_expressions.specs.Judgements.{operand_use, cast_use, judgement, value_judgement, effect_judgement}
 use Rattle.mv_check_expressions.specs.Rules.{is_bare, is_misnamed, is_misapplied, is_wrong_operand}
 use Rattle.mv_check_expressions.specs.Seen.{value_of, type_of, array_of, object_of, is_array, is_assignable, is_attributed, is_function, is_named_switch, switch_of, seen_name}
-use Rattle.mv_accepts_expressions.proofs.Induction.{Steps, every_node}
-use Rattle.mv_accepts_expressions.proofs.Kept.{went_on}
+use Rattle.mv_accepts.proofs.OfExpressions.Induction.{Steps, every_node}
+use Rattle.mv_accepts.proofs.OfExpressions.Kept.{went_on}
 use Rattle.mv_accepts_texts.specs.Expressions.{NameList, Standing, what_names, no_enum, no_mark, no_member, node_names, no_specs, standing, names_in}
 use Rattle.mv_accepts_texts.specs.Meanings.{is_stored, is_global, names_global}
 use Rattle.mv_accepts_texts.proofs.Globals.{either_same, Names, NamesAny, among_both, number_names, read_names, function_names, known_names, after_names, object_names, element_names, converted_names, promoted_names, one_names, two_names, three_names, assigned_names, before_names, called_names}
-use Rattle.mv_accepts_expressions.proofs.CallForms.{none_passed}
+use Rattle.mv_accepts.proofs.OfExpressions.CallForms.{none_passed}
 
 -- ---- the names of a node, form by form
 

@@ -16,8 +16,8 @@ use Rattle.mv_check_rules.specs.Rules.{breaches, first_broken, least_broken, unl
 use Rattle.mv_check_rules.specs.Declarations.{parameters}
 use Rattle.mv_check_rules.specs.Statements.{body}
 use Rattle.mv_check_rules.specs.Units.{function_entered, definition, is_attributed}
-use Rattle.mv_accepts_statements.proofs.Judging.{IfGood, if_then}
-use Rattle.mv_accepts_statements.proofs.Names.{entered_means, left_is}
+use Rattle.mv_accepts.proofs.OfStatements.Judging.{IfGood, if_then}
+use Rattle.mv_accepts.proofs.OfStatements.Names.{entered_means, left_is}
 use Rattle.mv_accepts_texts.specs.Expressions.{NameList}
 use Rattle.mv_accepts_texts.specs.Meanings.{is_global, names_global}
 use Rattle.mv_accepts_texts.specs.Texts.{in_turn, parameter, part_of, names_in_function}

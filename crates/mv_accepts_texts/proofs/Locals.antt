@@ -27,8 +27,8 @@ use Rattle.mv_check_rules.specs.Nodes as node
 use Rattle.mv_check_rules.specs.Rules.{stands_here, unless_broken, concluded}
 use Rattle.mv_check_rules.specs.Declarations.{in_order, found_next, attributes, specifiers, declared_as, type_or_void, is_constant, local_of, scalar_here, defined_parameter, parameters, given, expressions_of, named_unless, local_named, local_found, local_node, local, local_declaration}
 use Rattle.mv_check_rules.specs.Declarations as rules
-use Rattle.mv_accepts_statements.proofs.Judging.{IfGood, by_good, if_any, if_more, if_then}
-use Rattle.mv_accepts_numbers.proofs.NameLists.{or_nothing}
+use Rattle.mv_accepts.proofs.OfStatements.Judging.{IfGood, by_good, if_any, if_more, if_then}
+use Rattle.mv_accepts.proofs.OfNumbers.NameLists.{or_nothing}
 use Rattle.mv_accepts_texts.specs.Expressions.{NameList, names_in}
 use Rattle.mv_accepts_texts.specs.Meanings.{is_global, names_global}
 use Rattle.mv_accepts_texts.specs.Texts.{Part, enumerators_of, names_in_initial, naming, declaring, next, in_turn, declarator, parameter}

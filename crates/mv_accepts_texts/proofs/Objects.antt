@@ -17,15 +17,15 @@ use Rattle.mv_check_rules.specs.Nodes as node
 use Rattle.mv_check_rules.specs.Rules.{meaning_here, stands_here, allows_object, concluded}
 use Rattle.mv_check_rules.specs.Declarations.{given, named_unless}
 use Rattle.mv_check_rules.specs.Units.{Declarations, constant_expression, global_number, global_at, earlier, object_meaning, object_named, declared_again, new_global, with_global, object_found, object}
-use Rattle.mv_accepts_statements.proofs.Judging.{IfGood, if_any, if_more, if_then}
-use Rattle.mv_accepts_statements.proofs.Lists.{all_more}
-use Rattle.mv_accepts_statements.proofs.Places.{keeps_more}
+use Rattle.mv_accepts.proofs.OfStatements.Judging.{IfGood, if_any, if_more, if_then}
+use Rattle.mv_accepts.proofs.OfStatements.Lists.{all_more}
+use Rattle.mv_accepts.proofs.OfStatements.Places.{keeps_more}
 use Rattle.mv_accepts_texts.specs.Expressions.{NameList}
 use Rattle.mv_accepts_texts.specs.Meanings.{is_global}
 use Rattle.mv_accepts_texts.specs.Texts.{Part, next}
 use Rattle.mv_accepts_texts.proofs.Functions.{rules_kept}
-use Rattle.mv_accepts_numbers.proofs.Lists.{set_same}
-use Rattle.mv_accepts_numbers.proofs.NameLists.{name_itself, name_is, among_last, among_more}
+use Rattle.mv_accepts.proofs.OfNumbers.Lists.{set_same}
+use Rattle.mv_accepts.proofs.OfNumbers.NameLists.{name_itself, name_is, among_last, among_more}
 use Rattle.mv_accepts_texts.proofs.Lists.{there_last}
 use Rattle.mv_accepts_texts.proofs.Files.{texts_same, global_names, Sound}
 use Rattle.mv_num.proofs.Lists.{last_there}

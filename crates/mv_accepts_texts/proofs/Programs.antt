@@ -24,10 +24,10 @@ use Rattle.mv_check_rules.specs.Rules.{meaning_here}
 use Rattle.mv_check_rules.specs.Declarations.{in_order}
 use Rattle.mv_check_rules.specs.Units.{Declarations, none_declared, item, global_of, those_there, with_switches, switches_from, program, main_number, unit_end, judged_by_rules}
 use Rattle.mv_types.specs.Foreknown.{foreknown}
-use Rattle.mv_accepts_expressions.proofs.Kept.{went_on}
-use Rattle.mv_accepts_numbers.specs.Numbers.{IsForeknown, ItemsAreForeknown}
-use Rattle.mv_accepts_statements.proofs.Judging.{of_good}
-use Rattle.mv_accepts_statements.proofs.Lists.{all_mapped}
+use Rattle.mv_accepts.proofs.OfExpressions.Kept.{went_on}
+use Rattle.mv_accepts.specs.Numbers.Numbers.{IsForeknown, ItemsAreForeknown}
+use Rattle.mv_accepts.proofs.OfStatements.Judging.{of_good}
+use Rattle.mv_accepts.proofs.OfStatements.Lists.{all_mapped}
 use Rattle.mv_accepts_texts.specs.Expressions.{NameList}
 use Rattle.mv_accepts_texts.specs.Meanings.{is_global, names_global}
 use Rattle.mv_accepts_texts.specs.Switches.{has_name_among, switches_in_text}
@@ -35,7 +35,7 @@ use Rattle.mv_accepts_texts.specs.Texts.{in_turn, item_objects, objects_named}
 use Rattle.mv_accepts_texts.proofs.Forms.{StmtsName}
 use Rattle.mv_accepts_texts.proofs.Scopes.{few, few_both}
 use Rattle.mv_accepts_texts.proofs.Functions.{rules_kept}
-use Rattle.mv_accepts_numbers.proofs.NameLists.{name_itself, name_is}
+use Rattle.mv_accepts.proofs.OfNumbers.NameLists.{name_itself, name_is}
 use Rattle.mv_accepts_texts.proofs.Files.{file_global, global_names, Sound}
 use Rattle.mv_accepts_texts.proofs.Units.{Told, HasNumber, Known, KnownItem, unit_sound}
 use Rattle.mv_num.proofs.Booleans.{same_bools}

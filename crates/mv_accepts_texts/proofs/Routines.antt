@@ -24,16 +24,16 @@ use Rattle.mv_check_rules.specs.Nodes as node
 use Rattle.mv_check_rules.specs.Rules.{stands_here, is_given, breaches, concluded}
 use Rattle.mv_check_rules.specs.Declarations.{given}
 use Rattle.mv_check_rules.specs.Units.{Declarations, behind, function_number, is_defined_at, routine_named, params_of, definition, defined_if, routine}
-use Rattle.mv_accepts_statements.proofs.Judging.{IfGood, if_any, if_then}
-use Rattle.mv_accepts_statements.proofs.Lists.{all_append}
+use Rattle.mv_accepts.proofs.OfStatements.Judging.{IfGood, if_any, if_then}
+use Rattle.mv_accepts.proofs.OfStatements.Lists.{all_append}
 use Rattle.mv_accepts_texts.specs.Expressions.{NameList}
 use Rattle.mv_accepts_texts.specs.Meanings.{is_global, names_global}
 use Rattle.mv_accepts_texts.specs.Texts.{Part, next, names_in_function}
 use Rattle.mv_accepts_texts.proofs.Forms.{StmtsName}
 use Rattle.mv_accepts_texts.proofs.Scopes.{few, FewIn}
 use Rattle.mv_accepts_texts.proofs.Locals.{params_counts}
-use Rattle.mv_accepts_numbers.proofs.Lists.{set_there}
-use Rattle.mv_accepts_numbers.proofs.NameLists.{name_itself, name_is}
+use Rattle.mv_accepts.proofs.OfNumbers.Lists.{set_there}
+use Rattle.mv_accepts.proofs.OfNumbers.NameLists.{name_itself, name_is}
 use Rattle.mv_accepts_texts.proofs.Lists.{place_within}
 use Rattle.mv_accepts_texts.proofs.Functions.{rules_kept, names_same, Defined, definition_tells}
 use Rattle.mv_accepts_texts.proofs.Files.{file_global, Steady, steady_names, steady_declared, Sound, sound_behind, sound_text}

@@ -13,7 +13,7 @@ use Rattle.mv_check_scope.proofs.BoundNames.{named_last}
 use Rattle.mv_check_limits.specs.Limits.{first_above}
 use Rattle.mv_check_limits.proofs.Told.{both_none}
 use Rattle.mv_check_outline.specs.Names.{is_among, same_name}
-use Rattle.mv_accepts_statements.proofs.Names.{entered_means, left_is}
+use Rattle.mv_accepts.proofs.OfStatements.Names.{entered_means, left_is}
 use Rattle.mv_accepts_texts.specs.Expressions.{NameList}
 use Rattle.mv_accepts_texts.specs.Meanings.{is_global, names_global}
 use Rattle.mv_accepts_texts.specs.Texts.{Part, undeclared, naming, declaring, next, block}

@@ -17,9 +17,9 @@ use Rattle.mv_check_rules.specs.Nodes as node
 use Rattle.mv_check_rules.specs.Rules.{concluded}
 use Rattle.mv_check_rules.specs.Declarations.{in_order, Base, found_next, attributes, specifiers, function_type, Shapes, Declarators, Params, parameter_types, written_size, shape_step, parameter_declared, type_or_void, declarator_step, param_step, declared_as}
 use Rattle.mv_check_rules.proofs.Shapes.{declarator_found, param_found}
-use Rattle.mv_accepts_statements.proofs.ShapeInduction.{ParamsWith, ShapeOver, DeclaratorOver, ParamOver, whole_shape, whole_declarator, whole_param, each_shape}
-use Rattle.mv_accepts_statements.proofs.Judging.{IfGood, if_any, if_more, if_then}
-use Rattle.mv_accepts_statements.proofs.Names.{left_is}
+use Rattle.mv_accepts.proofs.OfStatements.ShapeInduction.{ParamsWith, ShapeOver, DeclaratorOver, ParamOver, whole_shape, whole_declarator, whole_param, each_shape}
+use Rattle.mv_accepts.proofs.OfStatements.Judging.{IfGood, if_any, if_more, if_then}
+use Rattle.mv_accepts.proofs.OfStatements.Names.{left_is}
 use Rattle.mv_accepts_texts.proofs.Scopes.{few, FewIn, few_both, few_more, Moves, moves_same, moves_joined}
 use Rattle.mv_accepts_texts.proofs.Specifiers.{if_found, specifiers_adds}
 use Rattle.mv_accepts_texts.specs.Texts.{enumerators_of}

@@ -19,7 +19,7 @@ use Rattle.mv_check_rules.specs.Nodes.{Bearer}
 use Rattle.mv_check_rules.specs.Nodes as node
 use Rattle.mv_check_rules.specs.Rules.{least_broken, unless_broken, concluded}
 use Rattle.mv_check_rules.specs.Declarations.{in_order, Enumerators, enumerator_value, enumerator, new_enumeration, enumeration_of, enumeration, attribute, Specifier, Enum, Attribute, stands_before, specifiers_in_order, Specified, specifier, kind_named, type_of_words, Base, base_of, specifiers}
-use Rattle.mv_accepts_statements.proofs.Judging.{IfGood, if_any, if_more, if_then}
+use Rattle.mv_accepts.proofs.OfStatements.Judging.{IfGood, if_any, if_more, if_then}
 use Rattle.mv_accepts_texts.specs.Expressions.{NameList}
 use Rattle.mv_accepts_texts.specs.Meanings.{is_global}
 use Rattle.mv_accepts_texts.specs.Texts.{members_of, enumerators_of}

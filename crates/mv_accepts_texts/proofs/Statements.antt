@@ -22,8 +22,8 @@ use Rattle.mv_check_rules.specs.Rules.{least_broken, concluded}
 use Rattle.mv_check_rules.specs.Declarations.{constant, local_declaration}
 use Rattle.mv_check_rules.specs.Statements.{Surroundings, Piece, Labelled, Otherwise, Statement, labels, has_default, arms, Judges, Layer, loop_around, switch_around, lines, pieces, optional, alone, express, convert_result, is_block, arms_if_any, for_behind, statement_found, statement_of, line_of, piece_of, switch_body_of, function_body_of, act_step, line_step, judges, body, function_around}
 use Rattle.mv_check_rules.proofs.Statements.{act_found, no_pieces}
-use Rattle.mv_accepts_statements.proofs.LineInduction.{LinesWith, ActOver, whole_act, folded_line}
-use Rattle.mv_accepts_statements.proofs.Judging.{IfGood, by_good, if_any, if_more, if_then}
+use Rattle.mv_accepts.proofs.OfStatements.LineInduction.{LinesWith, ActOver, whole_act, folded_line}
+use Rattle.mv_accepts.proofs.OfStatements.Judging.{IfGood, by_good, if_any, if_more, if_then}
 use Rattle.mv_accepts_texts.specs.Expressions.{NameList, names_in, names_in_any}
 use Rattle.mv_accepts_texts.specs.Meanings.{names_global}
 use Rattle.mv_accepts_texts.specs.Texts.{Part, enumerators_of, naming, declaring, next, in_turn, block, declarator, act_part, line_part, part_of}

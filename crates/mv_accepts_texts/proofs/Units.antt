@@ -24,8 +24,8 @@ use Rattle.mv_check_rules.specs.Rules.{breaches, concluded}
 use Rattle.mv_check_rules.specs.Declarations.{in_order, Base, Attribution, attributes, specifiers, Shapes, Declarators, Params, written_size, parameter_types, function_type, shape_step, declarator_step, param_step, declared_as, parameters, given}
 use Rattle.mv_check_rules.specs.Units.{Declarations, none_declared, behind, bearer, bearers, is_constant_object, function_number, constant_expression, domain, earlier, object_named, new_global, object_meaning, object_found, object, routine, function_entered, params_of_form, params_of, by_form, value_of_form, by_name, defined_parameters, declarator, declares_nothing, item}
 use Rattle.mv_check_rules.proofs.Shapes.{declarator_found, param_found}
-use Rattle.mv_accepts_statements.proofs.Judging.{IfGood, if_any, if_both, if_more, if_then}
-use Rattle.mv_accepts_statements.proofs.Names.{left_is}
+use Rattle.mv_accepts.proofs.OfStatements.Judging.{IfGood, if_any, if_both, if_more, if_then}
+use Rattle.mv_accepts.proofs.OfStatements.Names.{left_is}
 use Rattle.mv_accepts_texts.specs.Expressions.{NameList}
 use Rattle.mv_accepts_texts.specs.Meanings.{is_global}
 use Rattle.mv_accepts_texts.specs.Texts.{Part, naming, next, in_turn, parameter, names_in_function, names_in_definition, declarator_objects, item_objects, enumerators_of}
@@ -37,7 +37,7 @@ use Rattle.mv_accepts_texts.proofs.Functions.{rules_kept}
 use Rattle.mv_accepts_texts.proofs.Files.{steady_names, steady_adds, Sound, sound_behind, sound_text}
 use Rattle.mv_accepts_texts.proofs.Objects.{With, object_sound}
 use Rattle.mv_accepts_texts.proofs.Routines.{WithOptional, Counts, Numbered, routine_sound}
-use Rattle.mv_accepts_numbers.proofs.Common.{named_is}
+use Rattle.mv_accepts.proofs.OfNumbers.Common.{named_is}
 use Rattle.mv_check_declarations.specs.Specifiers.{scalar_kind}
 
 -- ---- the parameters of a declarator

@@ -11,7 +11,7 @@
 ghost use Rattle.mv_accepts_texts.specs.Switches.{SwitchesAreThoseOfTheText};
 ghost use Rattle.mv_accepts_texts.specs.Told.{ExcessesAreTold};
 
-use mv_accepts_numbers::functions_have_their_numbers;
+use mv_accepts::numbers::functions_have_their_numbers;
 
 /// The switches of an attributed function are those whose names stand in its body, other than behind `&`, and mean nothing that is declared
 /// in the function; another function has none. The call does nothing: its contract is the law.

@@ -2,7 +2,7 @@
 use Rattle.std.proofs.Common.{List, ℕ, sym, subst}
 use Rattle.std.specs.Prelude.{Result, Ok, Err, IfOk, IfErr}
 use Rattle.mv_ast.specs.declared.program.Program.{Program}
-use Rattle.mv_accepts_facts.specs.Laws.{ProgramsHaveTableFacts}
+use Rattle.mv_accepts_programs.specs.Facts.Laws.{ProgramsHaveTableFacts}
 use Rattle.mv_accepts_programs.specs.Checked.{ProgramsOfTextsAreWellFormed}
 use Rattle.mv_front.proofs.Few.{no_pointers}
 use Rattle.mv_front.specs.Verdicts.{IsProgram}

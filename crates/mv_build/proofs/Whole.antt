@@ -7,7 +7,7 @@ use Rattle.mv_refine_images.specs.Laws.{BuiltProgramsBehave}
 use Rattle.mv_linker.specs.declared.parts.Parts.{Parts}
 use Rattle.mv_parts.specs.Laws.{PartsCanBeLinked}
 use Rattle.mv_parts.specs.Parts.{ArePartsOf}
-use Rattle.mv_parts_tables.specs.Laws.{ImagesHaveTables, RowsLeadToVariants}
+use Rattle.mv_refine_images.specs.Tables.Laws.{ImagesHaveTables, RowsLeadToVariants}
 use Rattle.mv_count_words.specs.Laws.{ImagesShowBindings}
 use Rattle.mv_build.specs.declared.code.Coded.{Coded}
 use Rattle.mv_build.specs.Compiled.{IsCode, IsLinkedTo, IsSound, parts_of}

@@ -15,7 +15,7 @@ use Rattle.mv_parts.specs.Codes.{FramesFit}
 use Rattle.mv_parts.specs.Counts.{HaveFewLabels}
 use Rattle.mv_parts.specs.Parts.{AreCodesOf, ArePartFunctions, AreTables}
 use Rattle.mv_parts.specs.Switches.{part_switches}
-use Rattle.mv_select_bodies.specs.SelectedBodies.{HasWords}
+use Rattle.mv_select.specs.Bodies.SelectedBodies.{HasWords}
 use Rattle.mv_image.specs.Faults.{Rules}
 use Rattle.mv_image.specs.Spelling.{Fields}
 use Rattle.mv_build.specs.declared.built.Built.{Built}

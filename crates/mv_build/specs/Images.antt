@@ -17,8 +17,8 @@ use Rattle.mv_bindings.specs.Acts.{IsActOfWord}
 use Rattle.mv_ast.specs.Actions.{act_fits}
 use Rattle.mv_machine.specs.Actions as machine
 use Rattle.mv_machine.specs.Acts.{PollActs}
-use Rattle.mv_refine_runs.specs.Behaves.{BehavesAlways, LoadsWhatIsOpen}
-use Rattle.mv_parts_tables.specs.Leads.{LeadsToVariants}
+use Rattle.mv_refine_machine.specs.Runs.Behaves.{BehavesAlways, LoadsWhatIsOpen}
+use Rattle.mv_refine_images.specs.Tables.Leads.{LeadsToVariants}
 use Rattle.mv_refine_images.specs.Closed.{closed}
 use Rattle.mv_refine_images.specs.Own.{LoadsNoOwnSwitch}
 use Rattle.mv_count_words.specs.Laws.{ShowsBindings}

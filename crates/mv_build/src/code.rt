@@ -2,7 +2,7 @@
 
 ghost use Rattle.std.specs.Prelude.{◌≡◌, map, length, All, IfErr, IfOk};
 ghost use Rattle.mv_lower_spec.specs.Functions.{lower_function};
-ghost use Rattle.mv_select_bodies.specs.SelectedBodies.{HasWords};
+ghost use Rattle.mv_select.specs.Bodies.SelectedBodies.{HasWords};
 ghost use Rattle.mv_parts.specs.Codes.{FramesFit};
 ghost use Rattle.mv_build.specs.Compiled.{AreVaried, IsCode, IsSound, OnRefusal};
 ghost use Rattle.mv_build.specs.Verdicts.{PassesLimit};
@@ -15,7 +15,7 @@ use mv_linker::PartFunction;
 use mv_lower::lower_each;
 use mv_num::list::List;
 use mv_parts::{attributed_numbers, codes_of, generics_of, part_functions, tables_of};
-use mv_select_bodies::code_has_words;
+use mv_select::bodies::code_has_words;
 use mv_variants::Variant;
 use std::alloc::{AllocError, Global};
 

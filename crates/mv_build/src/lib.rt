@@ -37,14 +37,14 @@ use crate::code::{Coded, code_of};
 use crate::image::image_of;
 pub use built::Built;
 pub use error::BuildError;
-use mv_accepts_facts::programs_of_texts_have_table_facts;
+use mv_accepts_programs::facts::programs_of_texts_have_table_facts;
 use mv_accepts_programs::programs_of_texts_are_well_formed;
 use mv_ast::program::Program;
 use mv_count_words::images_show_bindings;
 use mv_front::{front, one_verdict};
 use mv_parts::parts_law;
-use mv_parts_tables::{images_have_tables, rows_lead_on};
 use mv_refine_images::built_programs_behave;
+use mv_refine_images::tables::{images_have_tables, rows_lead_on};
 use std::alloc::Global;
 
 /// The program of a source and its image, or its one refusal.

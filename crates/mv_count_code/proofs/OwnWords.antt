@@ -6,10 +6,10 @@ use Rattle.mv_ir.specs.declared.stm.Stm.TheOpen as stm
 use Rattle.mv_ir.specs.declared.stm.Stm.TheFolds.{fold-Stm}
 use Rattle.mv_ir.specs.Measures.{total}
 use Rattle.mv_ir.proofs.Rolls.{same_functions}
-use Rattle.mv_select_control.specs.Encoded.{words_layer, stm_words, own_words}
-use Rattle.mv_select_control.proofs.FlowEncoded.{words_roll}
-use Rattle.mv_lower_shape.specs.Allowances.{layer_allowance, stm_allowance, allowance}
-use Rattle.mv_parts_bound.proofs.Measures.{Measure}
+use Rattle.mv_select_code.specs.Control.Encoded.{words_layer, stm_words, own_words}
+use Rattle.mv_select_code.proofs.OfControl.FlowEncoded.{words_roll}
+use Rattle.mv_lower_spec.specs.Shape.Allowances.{layer_allowance, stm_allowance, allowance}
+use Rattle.mv_variants.proofs.OfBound.Measures.{Measure}
 
 -- ---- the words that a statement takes are those that it is allowed
 

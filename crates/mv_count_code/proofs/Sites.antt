@@ -9,11 +9,11 @@ use Rattle.mv_ast.specs.Counts.{calls, assignments}
 use Rattle.mv_ast.specs.Switches.{attributed_functions}
 use Rattle.mv_isa.specs.declared.labelled.Labelled.{Labelled}
 use Rattle.mv_ir.specs.declared.body.Body.{Body}
-use Rattle.mv_select_functions.specs.Functions.{shape_of}
-use Rattle.mv_select_control.specs.Layouts.{size_in}
-use Rattle.mv_select_trees.specs.Rooms.{place_in}
-use Rattle.mv_lower_shape.specs.Law.{IsFunctionOf, LoweredCallAsOften}
-use Rattle.mv_parts_bound.specs.Slots.{slots, AtMost, SlotsAreFew, OwnSlotsAreFew, RenamedSlotsAreFew, SlotsArePatchable}
+use Rattle.mv_select.specs.Functions.Functions.{shape_of}
+use Rattle.mv_select_code.specs.Control.Layouts.{size_in}
+use Rattle.mv_select_code.specs.Trees.Rooms.{place_in}
+use Rattle.mv_lower_spec.specs.Shape.Law.{IsFunctionOf, LoweredCallAsOften}
+use Rattle.mv_variants.specs.Bound.Slots.{slots, AtMost, SlotsAreFew, OwnSlotsAreFew, RenamedSlotsAreFew, SlotsArePatchable}
 use Rattle.mv_select.specs.Selected.{selected_lines}
 use Rattle.mv_count_code.specs.Sizes.{IsBodyOf, renamed, folded, bound}
 use Rattle.mv_count_code.specs.Texts.{SlotsAreFewInCode, AreVariantCodes, slots_in, SlotsAreCounted, SitesAreFew}

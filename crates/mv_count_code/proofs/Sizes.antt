@@ -9,17 +9,17 @@ use Rattle.mv_ast.specs.declared.program.Function.{Function}
 use Rattle.mv_ir.specs.declared.body.Body.{Body}
 use Rattle.mv_ir.specs.Measures.{total}
 use Rattle.mv_ir.specs.Live.{most_intervals}
-use Rattle.mv_select_control.specs.Encoded.{own_words, most_words}
-use Rattle.mv_select_functions.specs.FunctionCode.{arrays_start}
+use Rattle.mv_select_code.specs.Control.Encoded.{own_words, most_words}
+use Rattle.mv_select.specs.Functions.FunctionCode.{arrays_start}
 use Rattle.mv_lower_spec.specs.Functions.{lower_function}
-use Rattle.mv_lower_shape.specs.Law.{IsFunctionOf, LoweredAreSmall}
+use Rattle.mv_lower_spec.specs.Shape.Law.{IsFunctionOf, LoweredAreSmall}
 use Rattle.mv_fold.specs.Folded.{IsFolded}
 use Rattle.mv_regalloc.specs.Intervals.{IsRenamed}
-use Rattle.mv_parts_bound.specs.Meant.{MadeAreVariants}
-use Rattle.mv_parts_bound.specs.Led.{BodiesAreMade}
-use Rattle.mv_parts_bound.specs.Tables.{GroupsFit}
-use Rattle.mv_parts_bound.proofs.FewSlots.{one_and_more}
-use Rattle.mv_parts_bound.proofs.Measures.{bound_no_more, folded_no_more, renamed_no_more}
+use Rattle.mv_variants.specs.Bound.Meant.{MadeAreVariants}
+use Rattle.mv_variants.specs.Bound.Led.{BodiesAreMade}
+use Rattle.mv_variants.specs.Bound.Tables.{GroupsFit}
+use Rattle.mv_variants.proofs.OfBound.FewSlots.{one_and_more}
+use Rattle.mv_variants.proofs.OfBound.Measures.{bound_no_more, folded_no_more, renamed_no_more}
 use Rattle.mv_select.specs.Laws.{greatest_length, SelectedIsEncoded}
 use Rattle.mv_count_code.specs.Sizes.{IsBodyOf, renamed, folded, bound, words_of, frame_count, CodeIsShort, LinesAreShort, VariantsAreShort, FramesFit, FramesPass, LoweredFramesPass}
 use Rattle.mv_count_code.proofs.OwnWords.{words_allowed, words_measured}

@@ -7,18 +7,18 @@ use Rattle.mv_ast.specs.Counts.{nodes, depth, declared_words}
 use Rattle.mv_isa.specs.Code.{greatest_words}
 use Rattle.mv_ir.specs.declared.body.Body.{Body}
 use Rattle.mv_ir.specs.Live.{most_intervals}
-use Rattle.mv_select_calls.specs.Convention.{frame_limit}
-use Rattle.mv_select_functions.specs.FunctionCode.{frame_bytes}
+use Rattle.mv_select.specs.Calls.Convention.{frame_limit}
+use Rattle.mv_select.specs.Functions.FunctionCode.{frame_bytes}
 use Rattle.mv_lower_spec.specs.Functions.{lower_function}
-use Rattle.mv_lower_shape.specs.Law.{IsFunctionOf}
+use Rattle.mv_lower_spec.specs.Shape.Law.{IsFunctionOf}
 use Rattle.mv_fold.specs.Folded.{IsFolded}
 use Rattle.mv_regalloc.specs.Intervals.{IsRenamed}
 use Rattle.mv_merge.specs.declared.rows.Domain.{Domain}
 use Rattle.mv_merge.specs.declared.rows.Bound.{Bound}
 use Rattle.mv_merge.specs.declared.rows.Variants.{Variants}
 use Rattle.mv_merge.specs.Guards.{IsMerged}
-use Rattle.mv_parts_bound.specs.Meant.{IsMadeUnder}
-use Rattle.mv_parts_bound.specs.Led.{AreMade}
+use Rattle.mv_variants.specs.Bound.Meant.{IsMadeUnder}
+use Rattle.mv_variants.specs.Bound.Led.{AreMade}
 use Rattle.mv_select.specs.Selected.{IsSuitable, FitsFrame, PassesFrame, selected_lines}
 use Rattle.mv_select.specs.Laws.{greatest_length}
 

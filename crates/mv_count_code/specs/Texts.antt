@@ -10,8 +10,8 @@ use Rattle.mv_isa.specs.Code.{text_start}
 use Rattle.mv_asm.specs.Outcome.{PassesText}
 use Rattle.mv_ir.specs.declared.body.Body.{Body}
 use Rattle.mv_source_forms.specs.WellFormed.{IsWellFormed}
-use Rattle.mv_lower_shape.specs.Law.{IsFunctionOf}
-use Rattle.mv_parts_bound.specs.Slots.{slots, AtMost}
+use Rattle.mv_lower_spec.specs.Shape.Law.{IsFunctionOf}
+use Rattle.mv_variants.specs.Bound.Slots.{slots, AtMost}
 use Rattle.mv_select.specs.Selected.{IsSuitable, FitsFrame, selected_lines}
 use Rattle.mv_linker.specs.declared.parts.Parts.{Parts}
 use Rattle.mv_linker.specs.declared.parts.PartFunction.{PartFunction}

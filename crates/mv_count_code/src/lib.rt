@@ -12,9 +12,9 @@
 ghost use Rattle.mv_count_code.specs.Sizes.{CodeIsShort, FramesFit, FramesPass, LinesAreShort, LoweredFramesPass, VariantsAreShort};
 ghost use Rattle.mv_count_code.specs.Texts.{SitesAreFew, SlotsAreCounted, TextsPass};
 
-use mv_lower_shape::lowered_forms_are_right;
-use mv_parts_bound::{made_bodies_are_variants, rows_lead_to_variants, slots_are_counted};
+use mv_lower_spec::shape::lowered_forms_are_right;
 use mv_select::selection_law;
+use mv_variants::bound::{made_bodies_are_variants, rows_lead_to_variants, slots_are_counted};
 
 /// The code of the functions of a well-formed program is bounded by counts over the source, so a refusal of a frame, of text or of sites never comes
 /// below these counts. The call does nothing: its contract is the law.

@@ -7,7 +7,7 @@ use Rattle.mv_ast.specs.declared.program.Program.{Program}
 use Rattle.mv_ast.specs.declared.program.Function.{Function}
 use Rattle.mv_front.specs.Verdicts.{IsProgram}
 use Rattle.mv_front.specs.declared.refusal.Refusal.{Refusal}
-use Rattle.mv_select_calls.specs.Convention.{frame_limit}
+use Rattle.mv_select.specs.Calls.Convention.{frame_limit}
 use Rattle.mv_asm.specs.Outcome.{PassesText}
 use Rattle.mv_linker.specs.declared.parts.Parts.{Parts}
 use Rattle.mv_linker.specs.Linked.{linked_lines}

@@ -1,1 +1,2 @@
 pub mod Counted
+pub use Rattle.mv_build.specs.Verdicts

@@ -7,16 +7,16 @@ use Rattle.mv_ast.specs.declared.program.Program.{Program}
 use Rattle.mv_ast.specs.declared.program.Function.{Function}
 use Rattle.mv_ast.specs.Counts.{is_attributed}
 use Rattle.mv_ir.specs.declared.body.Body.{Body}
-use Rattle.mv_select_trees.specs.Rooms.{place_in}
-use Rattle.mv_select_control.specs.Layouts.{size_in}
-use Rattle.mv_select_calls.specs.CallCode.{is_marked}
-use Rattle.mv_select_functions.specs.Functions.{shape_of}
+use Rattle.mv_select_code.specs.Trees.Rooms.{place_in}
+use Rattle.mv_select_code.specs.Control.Layouts.{size_in}
+use Rattle.mv_select.specs.Calls.CallCode.{is_marked}
+use Rattle.mv_select.specs.Functions.Functions.{shape_of}
 use Rattle.mv_lower_spec.specs.Functions.{functions_called, lower_function}
-use Rattle.mv_lower_shape.specs.Calls.{code_weight, function_weight}
-use Rattle.mv_lower_shape.specs.Law.{LoweredCallAsOften}
+use Rattle.mv_lower_spec.specs.Shape.Calls.{code_weight, function_weight}
+use Rattle.mv_lower_spec.specs.Shape.Law.{LoweredCallAsOften}
 use Rattle.mv_regalloc.specs.Intervals.{IsRenamed}
-use Rattle.mv_parts_bound.specs.Slots.{slot_weight, weight_where, SlotsWeighAsCalls}
-use Rattle.mv_parts_bound.proofs.FewSlots.{marked_attributed}
+use Rattle.mv_variants.specs.Bound.Slots.{slot_weight, weight_where, SlotsWeighAsCalls}
+use Rattle.mv_variants.proofs.OfBound.FewSlots.{marked_attributed}
 use Rattle.mv_select.specs.Selected.{selected_lines}
 use Rattle.mv_count_slots.specs.Calls.{once_for, CalleesHaveSlots}
 use Rattle.mv_count_slots.proofs.Calls.{each_among, other, no_other, same_renamed}

@@ -11,20 +11,20 @@ use Rattle.mv_isa.specs.declared.labelled.Line.{Line}
 use Rattle.mv_isa.specs.declared.labelled.Line.TheVariants.{Word, Label, Jump, Branch, Entry, Slot}
 use Rattle.mv_ir.specs.declared.body.Body.{Body}
 use Rattle.mv_ir.proofs.Induction.{Each}
-use Rattle.mv_select_trees.specs.Rooms.{place_in}
-use Rattle.mv_select_control.specs.Layouts.{size_in}
-use Rattle.mv_select_calls.specs.CallCode.{is_marked}
-use Rattle.mv_select_functions.specs.Functions.{shape_of}
+use Rattle.mv_select_code.specs.Trees.Rooms.{place_in}
+use Rattle.mv_select_code.specs.Control.Layouts.{size_in}
+use Rattle.mv_select.specs.Calls.CallCode.{is_marked}
+use Rattle.mv_select.specs.Functions.Functions.{shape_of}
 use Rattle.mv_lower_spec.specs.Functions.{functions_called, marked_from, lower_function}
-use Rattle.mv_lower_shape.specs.Calls.{code_weight, attributed_once}
-use Rattle.mv_lower_shape.specs.Law.{LoweredCallAsOften}
+use Rattle.mv_lower_spec.specs.Shape.Calls.{code_weight, attributed_once}
+use Rattle.mv_lower_spec.specs.Shape.Law.{LoweredCallAsOften}
 use Rattle.mv_regalloc.specs.Intervals.{IsRenamed}
-use Rattle.mv_parts_bound.specs.Slots.{slots, one_each, SlotsAreCalls}
-use Rattle.mv_parts_bound.proofs.FewSlots.{Among, marked_attributed}
-use Rattle.mv_parts_bound.proofs.Meant.{made}
-use Rattle.mv_parts_bound.proofs.Measures.{renamed_same}
-use Rattle.mv_parts_bound.proofs.Weights.{weights}
-use Rattle.mv_parts_bound.proofs.Variants.{made_calls, worked_calls}
+use Rattle.mv_variants.specs.Bound.Slots.{slots, one_each, SlotsAreCalls}
+use Rattle.mv_variants.proofs.OfBound.FewSlots.{Among, marked_attributed}
+use Rattle.mv_variants.proofs.OfBound.Meant.{made}
+use Rattle.mv_variants.proofs.OfBound.Measures.{renamed_same}
+use Rattle.mv_variants.proofs.OfBound.Weights.{weights}
+use Rattle.mv_variants.proofs.OfBound.Variants.{made_calls, worked_calls}
 use Rattle.mv_select.specs.Selected.{selected_lines}
 use Rattle.mv_linker.specs.Tables.{is_slot, slot_count}
 use Rattle.mv_count_code.specs.Sizes.{renamed, folded, bound}

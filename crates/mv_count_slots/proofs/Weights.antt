@@ -10,8 +10,8 @@ use Rattle.mv_ir.specs.declared.stm.Stm.TheFolds.{map-Stm}
 use Rattle.mv_ir.proofs.Induction.{Each, StmChildren, stm_ind, stms_ind}
 use Rattle.mv_ir.proofs.Common.{each_first, each_right}
 use Rattle.mv_lower_spec.specs.Functions.{callee_called, layer_called, stm_called, functions_called}
-use Rattle.mv_lower_shape.specs.Calls.{callee_weight, layer_weight, stm_weight, code_weight}
-use Rattle.mv_parts_bound.proofs.Weights.{w_roll}
+use Rattle.mv_lower_spec.specs.Shape.Calls.{callee_weight, layer_weight, stm_weight, code_weight}
+use Rattle.mv_variants.proofs.OfBound.Weights.{w_roll}
 use Rattle.mv_lower_spec.proofs.Common.{called_roll}
 
 module _ (a b c : ℕ → ℕ) where

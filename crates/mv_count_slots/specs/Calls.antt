@@ -5,12 +5,12 @@ use Rattle.mv_ast.specs.declared.program.Function.{Function}
 use Rattle.mv_ast.specs.Counts.{calls, is_attributed}
 use Rattle.mv_ir.specs.declared.stm.Stm.{Stm}
 use Rattle.mv_ir.specs.declared.body.Body.{Body}
-use Rattle.mv_select_calls.specs.CallCode.{is_marked}
+use Rattle.mv_select.specs.Calls.CallCode.{is_marked}
 use Rattle.mv_lower_spec.specs.Functions.{lower_function}
-use Rattle.mv_lower_shape.specs.Calls.{code_weight, function_weight, attributed_once}
-use Rattle.mv_lower_shape.specs.Law.{IsFunctionOf}
+use Rattle.mv_lower_spec.specs.Shape.Calls.{code_weight, function_weight, attributed_once}
+use Rattle.mv_lower_spec.specs.Shape.Law.{IsFunctionOf}
 use Rattle.mv_regalloc.specs.Intervals.{IsRenamed}
-use Rattle.mv_parts_bound.specs.Slots.{one_each, slot_weight}
+use Rattle.mv_variants.specs.Bound.Slots.{one_each, slot_weight}
 use Rattle.mv_select.specs.Selected.{selected_lines}
 use Rattle.mv_linker.specs.Tables.{slot_count}
 use Rattle.mv_count_code.specs.Sizes.{IsBodyOf}

@@ -9,8 +9,8 @@
 
 ghost use Rattle.mv_count_slots.specs.Calls.{AttributedCallsHaveSlots, CalleesHaveSlots, MarkedCallsHaveSlots, SourceCallsHaveSlots};
 
-use mv_lower_shape::lowered_forms_are_right;
-use mv_parts_bound::slots_are_counted;
+use mv_lower_spec::shape::lowered_forms_are_right;
+use mv_variants::bound::slots_are_counted;
 
 /// The code of a body has one slot for each direct call of an attributed function in it, so no such call misses a commit, and no other has a slot. The call
 /// does nothing: its contract is the law.

@@ -14,9 +14,9 @@ use Rattle.mv_ir.specs.declared.stm.Stm.TheOpen as stm
 use Rattle.mv_ir.specs.declared.tree.Tree.{Tree, out-Tree}
 use Rattle.mv_ir.specs.declared.tree.Tree.TheOpen.{Tree-F}
 use Rattle.mv_ir.specs.declared.tree.Tree.TheOpen as tree
-use Rattle.mv_select_trees.specs.TreeCode.{upper_bits, lower_bits}
-use Rattle.mv_select_statements.specs.StatementCode.{first}
-use Rattle.mv_select_inline.specs.InlineOf.{number_pair, parameter_pair, store_pair, return_layer, return_pair, set_layer, set_pair, statement_layer, statement_pair, code_pair, inline_of, encoded, inline_words}
+use Rattle.mv_select_code.specs.Trees.TreeCode.{upper_bits, lower_bits}
+use Rattle.mv_select_code.specs.Statements.StatementCode.{first}
+use Rattle.mv_select.specs.Inline.InlineOf.{number_pair, parameter_pair, store_pair, return_layer, return_pair, set_layer, set_pair, statement_layer, statement_pair, code_pair, inline_of, encoded, inline_words}
 
 -- ---- opcodes
 

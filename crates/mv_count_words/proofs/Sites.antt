@@ -11,7 +11,7 @@ use Rattle.mv_isa.specs.declared.labelled.Line.{Line}
 use Rattle.mv_isa.specs.declared.labelled.Line.TheVariants.{Word, Label, Jump, Branch, Entry, Slot}
 use Rattle.mv_ir.specs.declared.body.Body.{Body}
 use Rattle.mv_source_forms.specs.WellFormed.{IsWellFormed}
-use Rattle.mv_parts_bound.specs.Slots.{slot_weight}
+use Rattle.mv_variants.specs.Bound.Slots.{slot_weight}
 use Rattle.mv_count_slots.specs.Calls.{once_for, CalleesHaveSlots}
 use Rattle.mv_link_changes.specs.Linked.{slots_of, slots_in}
 use Rattle.mv_parts.specs.Codes.{AreGenerics, HaveCode}

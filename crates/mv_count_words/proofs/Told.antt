@@ -19,11 +19,11 @@ use Rattle.mv_image.specs.Jumps.{jump}
 use Rattle.mv_image.specs.Patched.{fitting_variant, variant_under}
 use Rattle.mv_image.specs.Spelling.{Fields}
 use Rattle.mv_ir.specs.declared.body.Body.{Body}
-use Rattle.mv_select_trees.specs.Rooms.{place_in}
-use Rattle.mv_select_control.specs.Layouts.{size_in}
-use Rattle.mv_select_calls.specs.CallCode.{is_marked}
-use Rattle.mv_select_functions.specs.FunctionCode.{bytes_of, later_lines}
-use Rattle.mv_select_functions.specs.Functions.{shape_of}
+use Rattle.mv_select_code.specs.Trees.Rooms.{place_in}
+use Rattle.mv_select_code.specs.Control.Layouts.{size_in}
+use Rattle.mv_select.specs.Calls.CallCode.{is_marked}
+use Rattle.mv_select.specs.Functions.FunctionCode.{bytes_of, later_lines}
+use Rattle.mv_select.specs.Functions.Functions.{shape_of}
 use Rattle.mv_patch.specs.Tables.{word_of}
 use Rattle.mv_linker.specs.declared.parts.Parts.{Parts}
 use Rattle.mv_linker.specs.declared.parts.PartFunction.{PartFunction}

@@ -3,7 +3,7 @@ use Rattle.std.specs.Prelude.{ℕ, ◌≡◌, ◌↔◌, ◌+◌, ◌≤◌, if�
 use Rattle.mv_ast.specs.declared.program.Program.{Program}
 use Rattle.mv_ast.specs.declared.program.Function.{Function}
 use Rattle.mv_bindings.specs.declared.binding.Binding.{Binding}
-use Rattle.mv_lower_shape.specs.Calls.{function_weight}
+use Rattle.mv_lower_spec.specs.Shape.Calls.{function_weight}
 use Rattle.mv_parts.specs.Numbers.{attributed_numbers}
 use Rattle.mv_count_slots.specs.Calls.{once_for}
 

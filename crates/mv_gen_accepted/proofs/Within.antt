@@ -3,7 +3,7 @@ use Rattle.std.proofs.Common.{◌≡◌, ℕ, List, subst, arith}
 use Rattle.mv_ast.specs.declared.program.Program.{Program}
 use Rattle.mv_front.specs.Verdicts.{IsProgram, IsRefused}
 use Rattle.mv_front.specs.declared.refusal.Refusal.{Refusal}
-use Rattle.mv_build.specs.Verdicts.{HasNoImage, refused, over_limit}
+use Rattle.mv_count_limits.specs.Verdicts.{HasNoImage, refused, over_limit}
 use Rattle.mv_count_limits.specs.Counted.{IsWithinCounts, CountedPassNone}
 use Rattle.mv_gen.specs.Generated.{generated}
 use Rattle.mv_gen_programs.proofs.Called.{frames_fit, sites_fit, text_fits}

@@ -3,7 +3,7 @@ use Rattle.std.specs.Prelude.{ℕ}
 use Rattle.mv_ast.specs.declared.program.Program.{Program}
 use Rattle.mv_front.specs.Verdicts.{IsProgram}
 use Rattle.mv_front.specs.declared.refusal.Refusal.{Refusal}
-use Rattle.mv_build.specs.Verdicts.{HasNoImage}
+use Rattle.mv_count_limits.specs.Verdicts.{HasNoImage}
 use Rattle.mv_count_limits.specs.Counted.{IsWithinCounts}
 use Rattle.mv_gen.specs.Generated.{generated}
 

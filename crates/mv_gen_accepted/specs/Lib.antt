@@ -1,1 +1,2 @@
 pub mod Accepted
+pub use Rattle.mv_count_limits.specs.Counted

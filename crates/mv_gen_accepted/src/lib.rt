@@ -8,7 +8,7 @@
 
 ghost use Rattle.mv_gen_accepted.specs.Accepted.{TextsAreWithinCounts, TextsHaveImages};
 
-use mv_count_limits::counted_programs_pass_no_limit;
+pub use mv_count_limits::counted_programs_pass_no_limit;
 use mv_front::one_verdict;
 
 /// The text that is generated for a number is built: it is a program that is small enough by the counts over its source (`within`), and there is no

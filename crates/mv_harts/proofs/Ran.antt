@@ -12,7 +12,7 @@ use Rattle.mv_isa.specs.declared.instr.Cause.{Cause}
 use Rattle.mv_machine.specs.Actions.{fits}
 use Rattle.mv_machine.specs.Runs.{State, Stop, Fault, bytes_to_come}
 use Rattle.mv_meaning.specs.Meaning.{hart_mean}
-use Rattle.mv_refine_runs.specs.Behaves.{EndsRight}
+use Rattle.mv_refine_machine.specs.Runs.Behaves.{EndsRight}
 use Rattle.mv_harts_runs.specs.Harts.{Hart, Harts}
 use Rattle.mv_harts_runs.specs.Alone.{IsWell, Passes}
 use Rattle.mv_harts_meant.specs.Laws.{ActionsPass, AreBytes, FittingLaw, Means, MeansLaw}

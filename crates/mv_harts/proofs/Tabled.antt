@@ -8,9 +8,9 @@ use Rattle.mv_source_forms.specs.Names.{global_words}
 use Rattle.mv_image.specs.Faults.{Rules}
 use Rattle.mv_linker.specs.Tables.{data_start}
 use Rattle.mv_link_data.specs.FirstData.{global_sizes}
-use Rattle.mv_select_calls.specs.Convention.{Layout}
-use Rattle.mv_refine_commits.specs.Tabled.{IsTabled}
-use Rattle.mv_parts_tables.specs.Laws.{ImagesHaveTables}
+use Rattle.mv_select.specs.Calls.Convention.{Layout}
+use Rattle.mv_refine_machine.specs.Commits.Tabled.{IsTabled}
+use Rattle.mv_refine_images.specs.Tables.Laws.{ImagesHaveTables}
 use Rattle.mv_build.specs.Verdicts.{IsBuiltFrom}
 use Rattle.mv_build.specs.declared.built.Built.{Built}
 use Rattle.mv_harts_meant.specs.Runnable.{IsRunnable}

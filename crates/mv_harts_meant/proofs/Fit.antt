@@ -19,7 +19,7 @@ use Rattle.mv_ir_worlds.specs.Laws.{BindingsAreTold}
 use Rattle.std.proofs.lemmas.Option.{get_or_from_slice_get, slice_get_within}
 use Rattle.mv_patch.specs.Orders.{values_of}
 use Rattle.mv_machine.specs.Actions.{fits}
-use Rattle.mv_refine_stores.specs.Laws.{RoomsAreWhole, TextsOfImages}
+use Rattle.mv_refine_machine.specs.Stores.Laws.{RoomsAreWhole, TextsOfImages}
 use Rattle.mv_harts_runs.specs.Alone.{Fitting, Passes, alone}
 use Rattle.mv_harts_meant.specs.Runnable.{IsRunnable, is_act_of_word, fits_in}
 use Rattle.mv_harts_meant.specs.Laws.{AreBytes, inputs_of}

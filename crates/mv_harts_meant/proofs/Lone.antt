@@ -9,9 +9,9 @@ use Rattle.mv_image.specs.Spelling.{Fields}
 use Rattle.mv_machine.specs.Runs.{State, bytes_to_come}
 use Rattle.mv_machine.specs.Commits.{fetched_instr}
 use Rattle.mv_meaning.specs.Meaning.{hart_mean}
-use Rattle.mv_refine_runs.specs.Behaves.{Behaves, EndsRight, IsTextSettled}
-use Rattle.mv_refine_stores.specs.Between.{IsBetween}
-use Rattle.mv_refine_stores.specs.Laws.{RoomsAreWhole}
+use Rattle.mv_refine_machine.specs.Runs.Behaves.{Behaves, EndsRight, IsTextSettled}
+use Rattle.mv_refine_machine.specs.Stores.Between.{IsBetween}
+use Rattle.mv_refine_machine.specs.Stores.Laws.{RoomsAreWhole}
 use Rattle.mv_harts_runs.specs.Harts.{Elsewhere, place}
 use Rattle.mv_harts_runs.specs.Alone.{texts_of, alone, BehavesAlone}
 use Rattle.mv_harts_runs.proofs.Acts.{IsNoCall, ecall_or, place_elsewhere}

@@ -9,7 +9,7 @@ use Rattle.mv_meaning.specs.declared.meant.End.TheVariants as source
 use Rattle.mv_meaning.specs.declared.meant.Meant.{Meant}
 use Rattle.mv_meaning.specs.Growth.{Begins}
 use Rattle.mv_meaning.specs.Meaning.{hart_mean}
-use Rattle.mv_refine_runs.specs.Behaves.{Behaves, IsWithin, IsWhole, EndsRight, HasDone, taken_of}
+use Rattle.mv_refine_machine.specs.Runs.Behaves.{Behaves, IsWithin, IsWhole, EndsRight, HasDone, taken_of}
 use Rattle.mv_harts_runs.specs.Harts.{Hart, first_harts, harts_after}
 use Rattle.mv_harts_runs.specs.Alone.{HartsAreRight, IsOutside, Passes, alone}
 use Rattle.mv_harts_meant.specs.Runnable.{IsRunnable, fits_in}

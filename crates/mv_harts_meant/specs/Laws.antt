@@ -8,7 +8,7 @@ use Rattle.mv_image.specs.Spelling.{Fields}
 use Rattle.mv_machine.specs.Actions.{fits}
 use Rattle.mv_machine.specs.Runs.{bytes_to_come}
 use Rattle.mv_meaning.specs.Meaning.{hart_mean}
-use Rattle.mv_refine_runs.specs.Behaves.{IsWithin, EndsRight, HasDone}
+use Rattle.mv_refine_machine.specs.Runs.Behaves.{IsWithin, EndsRight, HasDone}
 use Rattle.mv_harts_runs.specs.Harts.{Hart, Turn, first_harts, harts_after}
 use Rattle.mv_harts_runs.specs.Alone.{Fitting, Passes, IsWell}
 use Rattle.mv_harts_meant.specs.Runnable.{IsRunnable, fits_in}

@@ -13,7 +13,7 @@ use Rattle.mv_image.specs.Patched.{fitting_variant}
 use Rattle.mv_image.specs.Spelling.{Fields}
 use Rattle.mv_ir.specs.Combinations.{IsCombination}
 use Rattle.mv_machine.specs.Actions as machine
-use Rattle.mv_refine_runs.specs.Behaves.{BehavesAlways}
+use Rattle.mv_refine_machine.specs.Runs.Behaves.{BehavesAlways}
 
 -- The tables of an image have the attributed functions of a program in order, with their switches, and no variant of one fits words that its domains have not.
 -- The program has no pointer switches.

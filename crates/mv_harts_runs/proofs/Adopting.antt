@@ -10,8 +10,8 @@ use Rattle.mv_bindings.specs.declared.binding.Binding.{Binding}
 use Rattle.mv_fetch.specs.Held.{Held, Room, region_of, index_of, choices, choices_in, choices_of, older_at}
 use Rattle.mv_patch.specs.Pairs.{pairs_between}
 use Rattle.mv_patch.specs.Stores.{stored_all}
-use Rattle.mv_refine_stores.specs.Stores.{AreTexts}
-use Rattle.mv_refine_stores.specs.Between.{IsWhole, IsSettled, IsWordBetween, IsBetween, count_older}
+use Rattle.mv_refine_machine.specs.Stores.Stores.{AreTexts}
+use Rattle.mv_refine_machine.specs.Stores.Between.{IsWhole, IsSettled, IsWordBetween, IsBetween, count_older}
 use Rattle.mv_patch.specs.Orders.{is_known_order}
 use Rattle.mv_patch.specs.Plans.{plan_between}
 use Rattle.mv_bindings.specs.Acts.{Adopt}

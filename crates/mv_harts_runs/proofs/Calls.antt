@@ -16,8 +16,8 @@ use Rattle.mv_image.specs.Spelling.{Fields}
 use Rattle.mv_image.specs.Patched.{text_of}
 use Rattle.mv_rv32.specs.Stepping.{access, with_held}
 use Rattle.mv_patch.specs.Pairs.{differing, pair_of}
-use Rattle.mv_refine_stores.specs.Between.{IsWhole}
-use Rattle.mv_refine_stores.specs.Laws.{RoomsAreWhole}
+use Rattle.mv_refine_machine.specs.Stores.Between.{IsWhole}
+use Rattle.mv_refine_machine.specs.Stores.Laws.{RoomsAreWhole}
 use Rattle.mv_patch.specs.Orders.{is_known_order, values_of}
 use Rattle.mv_patch.specs.Plans.{plan_between, plan_of}
 use Rattle.mv_bindings.specs.Acts.{Act, Skip, Flip, Adopt}

@@ -11,8 +11,8 @@ use Rattle.mv_bindings.specs.declared.binding.Binding.{Binding}
 use Rattle.mv_isa.specs.declared.instr.Cause.{Cause}
 use Rattle.mv_fetch.specs.Held.{Held, Room, older_at, choices_of}
 use Rattle.mv_image.specs.Spelling.{Fields}
-use Rattle.mv_refine_stores.specs.Between.{IsWhole, IsSettled, IsWordBetween, IsBetween}
-use Rattle.mv_refine_stores.specs.Laws.{RoomsAreWhole}
+use Rattle.mv_refine_machine.specs.Stores.Between.{IsWhole, IsSettled, IsWordBetween, IsBetween}
+use Rattle.mv_refine_machine.specs.Stores.Laws.{RoomsAreWhole}
 use Rattle.mv_bindings.specs.Acts.{Act}
 use Rattle.mv_machine.specs.Runs.{State, Going, Fault, choices_at, first}
 use Rattle.mv_harts_runs.specs.Harts.{first_of, Place, AtPoll, AtOrder, Elsewhere, place, took}

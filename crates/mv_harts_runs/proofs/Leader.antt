@@ -10,7 +10,7 @@ use Rattle.mv_image.specs.Spelling.{Fields}
 use Rattle.mv_patch.specs.Pairs.{pairs_between}
 use Rattle.mv_patch.specs.Stores.{stored_all}
 use Rattle.mv_patch.specs.Orders.{values_of}
-use Rattle.mv_refine_stores.specs.Between.{IsBetween}
+use Rattle.mv_refine_machine.specs.Stores.Between.{IsBetween}
 use Rattle.mv_bindings.specs.Acts.{Act, Skip, Flip, Adopt}
 use Rattle.mv_machine.specs.Runs.{State, Stop, Going, Exit, Trap, Fault, turn}
 use Rattle.mv_machine.specs.Commits.{fetched_instr, after_instr, where_it_goes, commit_after}

@@ -12,8 +12,8 @@ use Rattle.mv_isa.specs.Registers.{a7}
 use Rattle.mv_fetch.specs.Held.{Room, fence}
 use Rattle.mv_image.specs.Spelling.{Fields}
 use Rattle.mv_rv32.specs.Stepping.{access}
-use Rattle.mv_refine_stores.specs.Between.{IsWhole}
-use Rattle.mv_refine_stores.specs.Laws.{RoomsAreWhole}
+use Rattle.mv_refine_machine.specs.Stores.Between.{IsWhole}
+use Rattle.mv_refine_machine.specs.Stores.Laws.{RoomsAreWhole}
 use Rattle.mv_patch.specs.Plans.{plan_between}
 use Rattle.mv_bindings.specs.Acts.{Act, Skip}
 use Rattle.mv_machine.specs.Runs.{State, Going, Fault, request_of, environment_call, fetched_step, after, turn, runs_from}

@@ -9,7 +9,7 @@ use Rattle.mv_bindings.specs.declared.binding.Binding.{Binding}
 use Rattle.mv_fetch.specs.Held.{choices}
 use Rattle.mv_image.specs.Spelling.{Fields}
 use Rattle.mv_patch.specs.Stores.{stored_all}
-use Rattle.mv_refine_stores.specs.Between.{IsBetween}
+use Rattle.mv_refine_machine.specs.Stores.Between.{IsBetween}
 use Rattle.mv_patch.specs.Plans.{plan_between}
 use Rattle.mv_bindings.specs.Acts.{Act, Skip, Adopt}
 use Rattle.mv_machine.specs.Runs.{State, Going, adopts, answered, choices_at, turn, spelled_pairs}

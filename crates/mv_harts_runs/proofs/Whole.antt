@@ -5,7 +5,7 @@ use Rattle.std.proofs.lemmas.List.Elements.{All-nil}
 use Rattle.mv_bindings.specs.declared.binding.Binding.{Binding}
 use Rattle.mv_fetch.specs.Held.{first as first_memory}
 use Rattle.mv_image.specs.Spelling.{Fields}
-use Rattle.mv_refine_stores.specs.Between.{IsWhole}
+use Rattle.mv_refine_machine.specs.Stores.Between.{IsWhole}
 use Rattle.mv_bindings.specs.Acts.{Act}
 use Rattle.mv_machine.specs.Runs.{State, choices_at, first, runs_from}
 use Rattle.mv_machine.specs.Commits.{commit_from}

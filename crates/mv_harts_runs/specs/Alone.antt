@@ -10,9 +10,9 @@ use Rattle.mv_image.specs.Faults.{Rules}
 use Rattle.mv_image.specs.Spelling.{Fields}
 use Rattle.mv_image.specs.Patched.{text_of}
 use Rattle.mv_patch.specs.Orders.{values_of}
-use Rattle.mv_refine_stores.specs.Between.{IsWhole, IsSettled, IsBetween}
-use Rattle.mv_refine_stores.specs.Laws.{TextIsBetween, BetweenIsTested, RoomsAreWhole, StoresFindRoom}
-use Rattle.mv_refine_stores.specs.Stores.{AreTexts}
+use Rattle.mv_refine_machine.specs.Stores.Between.{IsWhole, IsSettled, IsBetween}
+use Rattle.mv_refine_machine.specs.Stores.Laws.{TextIsBetween, BetweenIsTested, RoomsAreWhole, StoresFindRoom}
+use Rattle.mv_refine_machine.specs.Stores.Stores.{AreTexts}
 use Rattle.mv_bindings.specs.Acts.{Act, Skip, Flip, Adopt}
 use Rattle.mv_machine.specs.Runs.{State, Going, Fault, choices_at, runs_from}
 use Rattle.mv_machine.specs.Commits.{commit_from}
@@ -52,7 +52,7 @@ pub record Fitting (image : Fields) (input : ℕ → List (Option ℕ)) (Fits : 
   pub rules : Rules image
   pub in_data : (k : ℕ) (row : SwitchRow) → slice_get image.switches k ≡ Some row → data_start ≤ row.address
 
--- the laws of `mv_refine_stores`
+-- the laws of `mv_refine_machine::stores`
 pub record Known : Type 0 where
   pub between : TextIsBetween
   pub tested : BetweenIsTested

@@ -2,7 +2,7 @@
 use Rattle.std.proofs.Common.{ℕ, List, [], ◌∷◌, map}
 use Rattle.mv_isa.specs.declared.labelled.Line.{Line}
 use Rattle.mv_isa.specs.declared.labelled.Line.TheVariants.{Word, Label, Jump, Branch, Entry, Slot}
-use Rattle.mv_select_control.specs.Placed.{Text, IsPlaced, Placed}
+use Rattle.mv_select_code.specs.Control.Placed.{Text, IsPlaced, Placed}
 use Rattle.mv_linker.specs.Linked.{own, relabelled}
 
 module _ (text : Text) (place entry : ℕ → ℕ) (first count : ℕ) where

@@ -10,8 +10,8 @@ use Rattle.mv_isa.specs.declared.labelled.Line.{Line}
 use Rattle.mv_isa.specs.declared.labelled.Line.TheVariants.{Word, Label, Jump, Branch, Entry, Slot}
 use Rattle.mv_isa.specs.Code.{CodeFits, StandsOnce, line_at, text_start}
 use Rattle.mv_image.specs.Spelling.{Fields}
-use Rattle.mv_select_control.specs.Labels.{OwnLabels}
-use Rattle.mv_select_control.specs.Placed.{Text, Placed}
+use Rattle.mv_select_code.specs.Control.Labels.{OwnLabels}
+use Rattle.mv_select_code.specs.Control.Placed.{Text, Placed}
 use Rattle.mv_refine_machine.specs.Assembled.{HasWords, IsOnlyLabel}
 use Rattle.mv_refine_machine.specs.MachineRuns.{machine_text}
 use Rattle.mv_linker.specs.declared.parts.Parts.{Parts}

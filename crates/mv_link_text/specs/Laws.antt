@@ -11,7 +11,7 @@ use Rattle.mv_linker.specs.declared.parts.PartVariant.{PartVariant}
 use Rattle.mv_linker.specs.Linked.{AreParts, codes, function_variants}
 use Rattle.mv_linker.specs.Tables.{FitTables, BeginsWithWords, attributed_numbers}
 use Rattle.mv_linker.specs.Outcome.{IsLinked}
-use Rattle.mv_select_control.specs.Labels.{OwnLabels}
+use Rattle.mv_select_code.specs.Control.Labels.{OwnLabels}
 use Rattle.mv_refine_machine.specs.Assembled.{HasWords}
 use Rattle.mv_refine_machine.specs.MachineRuns.{called_at}
 use Rattle.mv_link_text.specs.Text.{IsAttributed, label_place, StubsArePlaced, IsPlacedCode, HasEntry, HasSlot}

@@ -10,7 +10,7 @@ use Rattle.mv_image.specs.Patched.{ShowsAt, entry_at}
 use Rattle.mv_linker.specs.declared.parts.Parts.{Parts}
 use Rattle.mv_linker.specs.Linked.{codes, linked_lines, trap_label, commit_label, start_lines, trap_lines, commit_lines}
 use Rattle.mv_linker.specs.Tables.{attributed_numbers}
-use Rattle.mv_select_control.specs.Placed.{Text, Placed}
+use Rattle.mv_select_code.specs.Control.Placed.{Text, Placed}
 use Rattle.mv_refine_machine.specs.MachineRuns.{machine_text, image_word}
 use Rattle.mv_refine_machine.specs.Shown.{IsSiteOf}
 

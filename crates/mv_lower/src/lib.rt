@@ -3,7 +3,7 @@
 //! - `lower`: of a well-formed program (`IsWellFormed`) an `ir` with `IsLowering program ir`. So `ir.program` is the
 //!   program, `ir.bodies` has a body for each of its functions, under each numbering and at each bound the code means
 //!   what the program means, at a cost of at most 20 + 100 × work, and each body has the form that the passes ask for
-//!   (`mv_lower_shape`). It is exactly the `lower_program` of `mv_lower_spec` (clause `exact`).
+//!   (`mv_lower_spec::shape`). It is exactly the `lower_program` of `mv_lower_spec` (clause `exact`).
 //! - `lower_each`: of a program whose numbers of temporaries and blocks fit 32 bits (`IsSmall`) exactly the
 //!   `lower_program` of `mv_lower_spec`. That the numbers of a well-formed program fit follows from the limits on programs.
 //! - By its form its time is the size of the code times the depth of an expression, which the parser bounds by 255. Only
@@ -12,7 +12,7 @@
 
 ghost use Rattle.std.specs.Prelude.{◌≡◌, IfOk};
 ghost use Rattle.mv_lower_spec.specs.Functions.{lower_program};
-ghost use Rattle.mv_lower_shape.specs.Lowering.{IsLowering};
+ghost use Rattle.mv_lower_spec.specs.Shape.Lowering.{IsLowering};
 ghost use Rattle.mv_source_forms.specs.WellFormed.{IsWellFormed};
 ghost use Rattle.mv_lower.specs.Programs.{IsSmall};
 
@@ -27,7 +27,7 @@ use crate::function::lower_functions;
 use mv_ast::program::Program;
 use mv_ir::body::IrProgram;
 use mv_lower_copy::program::copy_program;
-use mv_lower_shape::lowering_is_right;
+use mv_lower_spec::shape::lowering_is_right;
 use std::alloc::{AllocError, Global};
 
 /// The intermediate code of a checked program: a copy of the program, and a body for each of its functions, in their order.

@@ -17,7 +17,7 @@ use Rattle.mv_lower_spec.specs.Lower.{Place, InLocal, InGlobal, Element, quotien
 use Rattle.mv_source_forms.specs.Names.{is_void}
 use Rattle.mv_source_forms.proofs.ExpressionFolds.{along_exprs}
 use Rattle.mv_source_forms.proofs.ExpressionInduction.{FormChildren, TargetChildren}
-use Rattle.mv_lower_shape.proofs.Folds.{lowered_exprs, lowers}
+use Rattle.mv_lower_spec.proofs.OfShape.Folds.{lowered_exprs, lowers}
 use Rattle.mv_lower_names.proofs.Naming.{then, number_names, temp_names, global_names, function_names, unary_names, binary_names, narrowed_names, set_names, set_global_names, divide_names, check_names, read_names, write_names, choose_names, known_names, direct_names, through_names, switched_names, naming}
 use Rattle.mv_lower_names.proofs.Premises.{OwnNames, KnownOf}
 

@@ -16,7 +16,7 @@ use Rattle.mv_ir.proofs.Induction.{Each}
 use Rattle.mv_source_forms.specs.Typing.{HasType, HasTypedParts, IsTypedAt, IsTypedOption, IsTypedStmt, ReturnsTyped}
 use Rattle.mv_source_forms.proofs.TypedParts.{TypedForm, TypedTarget, TypedExpr, AllTyped, FormParts, TargetParts, form_parts, target_parts, expr_form, expr_node, TypedStmt, TypedArm, AllStmts, AllArms, StmtParts, stmt_parts, stmt_node, arm_parts}
 use Rattle.mv_source_forms.proofs.ExpressionInduction.{FormChildren, TargetChildren}
-use Rattle.mv_select_control.proofs.TreeNames.{AnyNumber, each_any}
+use Rattle.mv_select_code.proofs.OfControl.TreeNames.{AnyNumber, each_any}
 use Rattle.mv_lower_names.proofs.Premises.{OwnNames, KnownOf, Optional, StmtKnown, StmtsKnown}
 
 module _ (p : Program) (g : Function) (sizes : ℕ → Option ℕ) where

@@ -17,21 +17,21 @@ use Rattle.mv_ast.specs.declared.program.Stmt.TheOpen as stmt
 use Rattle.mv_ast.specs.declared.program.Arm.{Arm, Arm-F}
 use Rattle.mv_ast.specs.Counts.{words_of_size}
 use Rattle.mv_ir.proofs.Induction.{Each}
-use Rattle.mv_select_calls.specs.Environment.{IsDirect}
-use Rattle.mv_select_control.specs.Labels.{functions}
+use Rattle.mv_select.specs.Calls.Environment.{IsDirect}
+use Rattle.mv_select_code.specs.Control.Labels.{functions}
 use Rattle.mv_source_forms.specs.Typing.{IsTypedFunction}
 use Rattle.mv_source_forms.specs.Lists.{all_of}
 use Rattle.mv_source_forms.specs.Names.{is_void, size_in}
 use Rattle.mv_lower_spec.specs.Functions.{outermost, lower_body, ending, lower_function_code, lower_function, marked_from}
 use Rattle.mv_source_forms.specs.Uses.{known_is_there, known_parameters, form_calls_known, calls_known, all_layer, all_arm_layer}
-use Rattle.mv_lower_shape.specs.Law.{IsFunctionOf}
-use Rattle.mv_lower_shape.proofs.WithinExpressions.{at_index}
-use Rattle.mv_select_bodies.specs.SelectedBodies.{HasWords, IsOrder, constants, knowns}
-use Rattle.mv_select_bodies.proofs.NamedTrees.{IsWord}
-use Rattle.mv_lower_calls.specs.Bindings.{NeverRebinds, keeps_bindings, form_never_rebinds, never_rebinds}
+use Rattle.mv_lower_spec.specs.Shape.Law.{IsFunctionOf}
+use Rattle.mv_lower_spec.proofs.OfShape.WithinExpressions.{at_index}
+use Rattle.mv_select.specs.Bodies.SelectedBodies.{HasWords, IsOrder, constants, knowns}
+use Rattle.mv_select.proofs.OfBodies.NamedTrees.{IsWord}
+use Rattle.mv_lower_spec.specs.Calls.Bindings.{NeverRebinds, keeps_bindings, form_never_rebinds, never_rebinds}
 use Rattle.mv_lower_names.specs.Sources.{NumbersAreWords, is_word, fits_order, form_has_words, has_words, layer_has_words, arm_has_words}
-use Rattle.mv_select_bodies.proofs.Naming.{CodeNames, code_functions, code_knowns, code_constants}
-use Rattle.mv_select_control.proofs.TreeNames.{AnyNumber, each_any}
+use Rattle.mv_select.proofs.OfBodies.Naming.{CodeNames, code_functions, code_knowns, code_constants}
+use Rattle.mv_select_code.proofs.OfControl.TreeNames.{AnyNumber, each_any}
 use Rattle.mv_lower_names.proofs.Naming.{both, number_names, return_names}
 use Rattle.mv_lower_names.proofs.Premises.{KnownOf, StmtsKnown}
 use Rattle.mv_lower_names.proofs.Statements.{body_names}

@@ -13,7 +13,7 @@ use Rattle.mv_ir.proofs.Induction.{Each, each_append}
 use Rattle.mv_lower_spec.specs.Lowered.{number, temp, global, function, unary, binary, set, set_global, divide, choose, call, check, read, write, known}
 use Rattle.mv_lower_spec.specs.Lower.{narrowed}
 use Rattle.mv_lower_spec.specs.Statements.{return_with, break, repeat, enclosed}
-use Rattle.mv_select_bodies.proofs.Naming.{TreeNames, StmNames, CodeNames, tree_in, stm_in}
+use Rattle.mv_select.proofs.OfBodies.Naming.{TreeNames, StmNames, CodeNames, tree_in, stm_in}
 
 module _ (F : ℕ → Type 0) (K : Known → Type 0) (C : ℕ → Type 0) where
   pub both : (xs ys : List Stm) → CodeNames F K C xs → CodeNames F K C ys → CodeNames F K C (xs ++ ys)

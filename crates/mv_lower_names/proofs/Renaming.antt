@@ -17,13 +17,13 @@ use Rattle.mv_ir.proofs.Induction.{Each, TreeChildren, tree_ind, StmChildren, st
 use Rattle.mv_ir.proofs.Rolls.{trees_roll}
 use Rattle.mv_regalloc.specs.Rename.{renamed_tree, renamed_callee, renamed_layer, renamed_stm, renamed_code, renamed}
 use Rattle.mv_regalloc.proofs.RenamedTrees.{renamed_tree_roll, renamed_stm_roll}
-use Rattle.mv_select_control.specs.Labels.{tree_functions, functions_of_all, callee_functions, named_layer, stm_functions, functions}
-use Rattle.mv_select_bodies.specs.SelectedBodies.{tree_constants, constants_of_all, constants, knowns_layer, stm_knowns}
+use Rattle.mv_select_code.specs.Control.Labels.{tree_functions, functions_of_all, callee_functions, named_layer, stm_functions, functions}
+use Rattle.mv_select.specs.Bodies.SelectedBodies.{tree_constants, constants_of_all, constants, knowns_layer, stm_knowns}
 use Rattle.mv_lower_names.specs.Laws.{NamesTheSame}
-use Rattle.mv_select_control.proofs.TreeNames.{functions_roll, named_roll}
-use Rattle.mv_select_bodies.proofs.NamedTrees.{constants_roll}
-use Rattle.mv_select_bodies.proofs.FineCode.{knowns_roll}
-use Rattle.mv_select_bodies.proofs.Common.{constants_append}
+use Rattle.mv_select_code.proofs.OfControl.TreeNames.{functions_roll, named_roll}
+use Rattle.mv_select.proofs.OfBodies.NamedTrees.{constants_roll}
+use Rattle.mv_select.proofs.OfBodies.FineCode.{knowns_roll}
+use Rattle.mv_select.proofs.OfBodies.Common.{constants_append}
 
 module _ (c : ℕ → ℕ) where
   -- ---- trees

@@ -21,9 +21,9 @@ use Rattle.mv_lower_spec.specs.Statements.{Jumps, Placed, LoweredArm, break, enc
 use Rattle.mv_lower_spec.specs.LowerStatements.{lower_optional, lower_stmt, lower_arm}
 use Rattle.mv_source_forms.proofs.StatementFolds.{along_stmts}
 use Rattle.mv_source_forms.proofs.StatementInduction.{StmtChildren}
-use Rattle.mv_lower_shape.proofs.Folds.{lowered_stmts, sequences}
+use Rattle.mv_lower_spec.proofs.OfShape.Folds.{lowered_stmts, sequences}
 use Rattle.mv_lower_names.proofs.Naming.{then, number_names, temp_names, binary_names, set_names, write_names, zero_names, choose_names, return_names, break_names, repeat_names, enclosed_names, naming}
-use Rattle.mv_select_bodies.proofs.Naming.{StmNames}
+use Rattle.mv_select.proofs.OfBodies.Naming.{StmNames}
 use Rattle.mv_lower_names.proofs.Premises.{KnownOf, Optional, StmtKnown, StmtsKnown}
 use Rattle.mv_lower_names.proofs.Expressions.{FineLowering, expr_fine}
 

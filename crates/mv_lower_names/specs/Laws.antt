@@ -3,15 +3,15 @@ use Rattle.std.specs.Prelude.{◌≡◌, ℕ, ◌<◌, false, true, All, [], len
 use Rattle.mv_ast.specs.declared.program.Program.{Program}
 use Rattle.mv_ast.specs.declared.program.Function.{Function}
 use Rattle.mv_ir.specs.declared.body.Body.{Body}
-use Rattle.mv_select_calls.specs.Environment.{IsDirect}
-use Rattle.mv_select_control.specs.Labels.{functions}
-use Rattle.mv_lower_shape.specs.Law.{IsFunctionOf}
+use Rattle.mv_select.specs.Calls.Environment.{IsDirect}
+use Rattle.mv_select_code.specs.Control.Labels.{functions}
+use Rattle.mv_lower_spec.specs.Shape.Law.{IsFunctionOf}
 use Rattle.mv_lower_names.specs.Sources.{NumbersAreWords}
 use Rattle.mv_source_forms.specs.Uses.{known_is_there}
 use Rattle.mv_lower_spec.specs.Functions.{lower_function}
 use Rattle.mv_regalloc.specs.Rename.{renamed}
-use Rattle.mv_select_bodies.specs.SelectedBodies.{HasWords, constants, knowns}
-use Rattle.mv_lower_calls.specs.Bindings.{NeverRebinds}
+use Rattle.mv_select.specs.Bodies.SelectedBodies.{HasWords, constants, knowns}
+use Rattle.mv_lower_spec.specs.Calls.Bindings.{NeverRebinds}
 
 -- The functions that lowered code calls by name, and those whose addresses it takes, are functions of the program.
 abbrev pub FunctionsAreThere : Type 0

@@ -15,3 +15,6 @@ pub mod Switches
 pub mod Clears
 pub mod AllStatements
 pub mod Common
+pub mod OfPrograms
+pub mod OfShape
+pub mod OfCalls

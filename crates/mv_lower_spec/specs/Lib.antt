@@ -5,3 +5,6 @@ pub mod Law
 pub mod Statements
 pub mod LowerStatements
 pub mod Functions
+pub mod Programs
+pub mod Shape
+pub mod Calls

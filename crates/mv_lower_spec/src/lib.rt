@@ -16,9 +16,21 @@
 //!   bound: blocks, declarations with their values, choices, loops, `switch` with fall through, and every way for control
 //!   to leave, again at a cost of at most 100 × work.
 //! - A crate of laws, without a test.
+//!
+//! And above this, in modules with their own specifications and headers, laws alone:
+//!
+//! - `programs`: the lowered functions and programs of a well-formed program mean what the source means (`functions_are_right`,
+//!   `programs_are_right`).
+//! - `shape`: its functions are lowered to code of the form that the passes ask for (`lowered_forms_are_right`); what lowering promises
+//!   of a program, as one record (`lowering_is_right`).
+//! - `calls`: lowered bodies are right where their callees do what the source's functions do (`bodies_are_right`, `main_is_right`).
 #![tactic(auto)]
 
 ghost use Rattle.mv_lower_spec.specs.Law.{ExpressionsAreRight, ExpressionsAreShallow, StatementsAreRight};
+
+pub mod calls;
+pub mod programs;
+pub mod shape;
 
 /// Lowered expressions do what they mean: with the same value, effects and traps, at a cost, together with that of
 /// keeping the value, of at most 100 for one of work (C11 6.5). And no tree of theirs is deeper than 4.

@@ -8,11 +8,11 @@ use Rattle.mv_ir.specs.Live.{most_intervals}
 use Rattle.mv_ir.specs.Measures.{deepest}
 use Rattle.mv_ir.specs.WellFormed as ir
 use Rattle.mv_lower_spec.specs.Functions.{lower_function}
-use Rattle.mv_lower_shape.specs.Law.{LoweredAreShallow, LoweredAreWellFormed}
+use Rattle.mv_lower_spec.specs.Shape.Law.{LoweredAreShallow, LoweredAreWellFormed}
 use Rattle.mv_source_forms.specs.WellFormed.{IsWellFormed}
-use Rattle.mv_select_calls.specs.Convention.{frame_limit}
-use Rattle.mv_select_functions.specs.FunctionCode.{frame_bytes}
-use Rattle.mv_select_bodies.specs.SelectedBodies.{HasWords}
+use Rattle.mv_select.specs.Calls.Convention.{frame_limit}
+use Rattle.mv_select.specs.Functions.FunctionCode.{frame_bytes}
+use Rattle.mv_select.specs.Bodies.SelectedBodies.{HasWords}
 use Rattle.mv_select.specs.declared.error.SelectError.{SelectError}
 use Rattle.mv_select.specs.declared.error.SelectError.TheVariants.{Frame, Memory}
 use Rattle.mv_select.specs.Selected as selecting

@@ -7,13 +7,13 @@ use Rattle.mv_ast.specs.declared.program.Function.{Function}
 use Rattle.mv_ir.specs.Live.{most_intervals}
 use Rattle.mv_ir.specs.Measures.{total}
 use Rattle.mv_lower_spec.specs.Functions.{lower_function}
-use Rattle.mv_lower_shape.specs.Law.{LoweredAreShallow, LoweredAreWellFormed}
+use Rattle.mv_lower_spec.specs.Shape.Law.{LoweredAreShallow, LoweredAreWellFormed}
 use Rattle.mv_source_forms.specs.WellFormed.{IsWellFormed}
-use Rattle.mv_select_functions.specs.FunctionCode.{frame_bytes}
-use Rattle.mv_parts_bound.specs.Led.{BodiesAreMade}
-use Rattle.mv_parts_bound.specs.Meant.{IsVariantOf, MadeAreVariants}
-use Rattle.mv_parts_bound.specs.Switches.{domains_in}
-use Rattle.mv_parts_bound.proofs.Variants.{frame_less}
+use Rattle.mv_select.specs.Functions.FunctionCode.{frame_bytes}
+use Rattle.mv_variants.specs.Bound.Led.{BodiesAreMade}
+use Rattle.mv_variants.specs.Bound.Meant.{IsVariantOf, MadeAreVariants}
+use Rattle.mv_variants.specs.Bound.Switches.{domains_in}
+use Rattle.mv_variants.proofs.OfBound.Variants.{frame_less}
 use Rattle.mv_variants.specs.declared.variant.Variant.{Variant}
 use Rattle.mv_variants.specs.Domains.{switch_kind}
 use Rattle.mv_variants.specs.Variants.{AreVariants}

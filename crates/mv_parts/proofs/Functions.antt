@@ -7,9 +7,9 @@ use Rattle.mv_ast.specs.declared.program.Function.{Function}
 use Rattle.mv_isa.specs.declared.labelled.Labelled.{Labelled}
 use Rattle.mv_ir.specs.declared.body.Body.{Body}
 use Rattle.mv_ir.specs.Live.{IsWhole, HasTemps}
-use Rattle.mv_select_calls.specs.Convention.{frame_limit}
+use Rattle.mv_select.specs.Calls.Convention.{frame_limit}
 use Rattle.mv_lower_spec.specs.Functions.{lower_function}
-use Rattle.mv_lower_shape.specs.Law.{LoweredAreWhole, LoweredAreWellFormed}
+use Rattle.mv_lower_spec.specs.Shape.Law.{LoweredAreWhole, LoweredAreWellFormed}
 use Rattle.mv_source_forms.specs.WellFormed.{IsWellFormed}
 use Rattle.mv_regalloc.specs.Intervals.{IsRenamed}
 use Rattle.mv_select.specs.declared.error.SelectError.{SelectError}

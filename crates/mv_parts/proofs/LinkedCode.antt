@@ -12,19 +12,19 @@ use Rattle.mv_isa.specs.declared.labelled.Line.TheVariants.{Word, Label, Jump, B
 use Rattle.mv_isa.specs.Code.{StandsOnce, LineFits, line_at, least_words}
 use Rattle.mv_ir.specs.declared.body.Body.{Body}
 use Rattle.mv_lower_spec.specs.Functions.{lower_function}
-use Rattle.mv_lower_shape.specs.Law.{IsFunctionOf}
+use Rattle.mv_lower_spec.specs.Shape.Law.{IsFunctionOf}
 use Rattle.mv_lower_names.specs.Laws.{FunctionsAreThere, NamesTheSame, RenamingKeepsNames}
 use Rattle.mv_regalloc.specs.Intervals.{IsRenamed}
-use Rattle.mv_select_trees.specs.Rooms.{place_in}
-use Rattle.mv_select_control.specs.Layouts.{size_in}
-use Rattle.mv_select_control.specs.Labels.{functions}
-use Rattle.mv_select_calls.specs.CallCode.{is_marked}
-use Rattle.mv_select_functions.specs.Functions.{shape_of}
-use Rattle.mv_select_bodies.specs.Lines.{NamesThese, IsGoal, LinesAreNamed}
-use Rattle.mv_parts_bound.specs.Meant.{IsMadeUnder, MadeAreVariants}
-use Rattle.mv_parts_bound.specs.Names.{ReadAsWords}
-use Rattle.mv_parts_bound.specs.Variants.{MadeNameNoMore}
-use Rattle.mv_parts_bound.proofs.FewSlots.{marked_attributed}
+use Rattle.mv_select_code.specs.Trees.Rooms.{place_in}
+use Rattle.mv_select_code.specs.Control.Layouts.{size_in}
+use Rattle.mv_select_code.specs.Control.Labels.{functions}
+use Rattle.mv_select.specs.Calls.CallCode.{is_marked}
+use Rattle.mv_select.specs.Functions.Functions.{shape_of}
+use Rattle.mv_select.specs.Bodies.Lines.{NamesThese, IsGoal, LinesAreNamed}
+use Rattle.mv_variants.specs.Bound.Meant.{IsMadeUnder, MadeAreVariants}
+use Rattle.mv_variants.specs.Bound.Names.{ReadAsWords}
+use Rattle.mv_variants.specs.Bound.Variants.{MadeNameNoMore}
+use Rattle.mv_variants.proofs.OfBound.FewSlots.{marked_attributed}
 use Rattle.mv_select.specs.Laws.{SelectedIsEncoded, SelectedLabelsAreOwn, SelectedBegins}
 use Rattle.mv_select.specs.Selected.{selected_lines, selected_labels}
 use Rattle.mv_linker.specs.Linked.{IsFunction, IsTarget, NamesAreThere}

@@ -11,9 +11,9 @@ use Rattle.mv_isa.specs.declared.labelled.Labelled.{Labelled}
 use Rattle.mv_isa.specs.declared.labelled.Line.{Line}
 use Rattle.mv_isa.specs.declared.labelled.Line.TheVariants.{Word, Label, Jump, Branch, Entry, Slot}
 use Rattle.mv_ir.specs.declared.body.Body.{Body}
-use Rattle.mv_parts_bound.specs.Led.{BodiesAreMade}
-use Rattle.mv_parts_bound.specs.Slots.{slots}
-use Rattle.mv_parts_bound.specs.Tables.{GroupsFit}
+use Rattle.mv_variants.specs.Bound.Led.{BodiesAreMade}
+use Rattle.mv_variants.specs.Bound.Slots.{slots}
+use Rattle.mv_variants.specs.Bound.Tables.{GroupsFit}
 use Rattle.mv_count_code.specs.Sizes.{renamed, bound}
 use Rattle.mv_count_code.specs.Texts as source
 use Rattle.mv_linker.specs.declared.parts.PartFunction.{PartFunction}

@@ -17,9 +17,9 @@ use Rattle.mv_ir.specs.Measures.{joined}
 use Rattle.mv_source_forms.specs.Typing.{IsFirstValue}
 use Rattle.mv_source_forms.specs.WellFormed.{IsWellFormed}
 use Rattle.mv_source_facts.specs.Facts.{IsTableFunction, HasTableFacts}
-use Rattle.mv_parts_bound.specs.Led.{BodiesAreMade}
-use Rattle.mv_parts_bound.specs.Rows.{GroupedIsLed}
-use Rattle.mv_parts_bound.specs.Tables.{GroupsFit}
+use Rattle.mv_variants.specs.Bound.Led.{BodiesAreMade}
+use Rattle.mv_variants.specs.Bound.Rows.{GroupedIsLed}
+use Rattle.mv_variants.specs.Bound.Tables.{GroupsFit}
 use Rattle.mv_merge.specs.declared.rows.Domain.{Domain}
 use Rattle.mv_merge.specs.Guards.{kinds}
 use Rattle.mv_linker.specs.declared.parts.Parts.{Parts}

@@ -17,12 +17,12 @@ use Rattle.mv_lower_spec.specs.Functions.{lower_function}
 use Rattle.mv_merge.specs.declared.rows.Domain.{Domain}
 use Rattle.mv_merge.specs.declared.rows.Bound.{Bound}
 use Rattle.mv_merge.specs.Guards.{domain_values, all_values, AreValues}
-use Rattle.mv_parts_bound.specs.Led.{BodiesAreMade}
-use Rattle.mv_parts_bound.specs.Meant.{IsMadeUnder}
-use Rattle.mv_parts_bound.specs.Names.{ReadAsWords}
-use Rattle.mv_parts_bound.specs.Rows.{groups, GroupedIsLed}
-use Rattle.mv_parts_bound.specs.Switches.{domains_in, DomainsAreWords}
-use Rattle.mv_parts_bound.specs.Tables.{IsGroup, GroupsFit}
+use Rattle.mv_variants.specs.Bound.Led.{BodiesAreMade}
+use Rattle.mv_variants.specs.Bound.Meant.{IsMadeUnder}
+use Rattle.mv_variants.specs.Bound.Names.{ReadAsWords}
+use Rattle.mv_variants.specs.Bound.Rows.{groups, GroupedIsLed}
+use Rattle.mv_variants.specs.Bound.Switches.{domains_in, DomainsAreWords}
+use Rattle.mv_variants.specs.Bound.Tables.{IsGroup, GroupsFit}
 use Rattle.mv_variants.specs.declared.variant.Variant.{Variant}
 use Rattle.mv_variants.specs.Domains.{switch_kind, domain}
 use Rattle.mv_variants.specs.Variants.{guards_of, AreVariants}

@@ -7,8 +7,8 @@ use Rattle.mv_ir.specs.declared.body.Body.{Body}
 use Rattle.mv_ir.specs.Live.{most_intervals}
 use Rattle.mv_lower_spec.specs.Functions.{lower_function}
 use Rattle.mv_regalloc.specs.Intervals.{IsRenamed}
-use Rattle.mv_select_calls.specs.Convention.{frame_limit}
-use Rattle.mv_select_functions.specs.FunctionCode.{frame_bytes}
+use Rattle.mv_select.specs.Calls.Convention.{frame_limit}
+use Rattle.mv_select.specs.Functions.FunctionCode.{frame_bytes}
 use Rattle.mv_select.specs.Selected.{IsSuitable, IsSelected}
 
 -- ---- bodies

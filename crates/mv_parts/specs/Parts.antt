@@ -6,8 +6,8 @@ use Rattle.mv_isa.specs.declared.labelled.Labelled.{Labelled}
 use Rattle.mv_ir.specs.declared.body.Body.{Body}
 use Rattle.mv_ir.specs.Measures.{deepest}
 use Rattle.mv_ir.specs.WellFormed.{IsWellFormed}
-use Rattle.mv_select_trees.specs.Rooms.{place_in}
-use Rattle.mv_select_inline.specs.InlineOf.{inline_words}
+use Rattle.mv_select_code.specs.Trees.Rooms.{place_in}
+use Rattle.mv_select.specs.Inline.InlineOf.{inline_words}
 use Rattle.mv_select.specs.Selected.{FitsFrame}
 use Rattle.mv_linker.specs.declared.parts.Parts.{Parts}
 use Rattle.mv_linker.specs.declared.parts.PartFunction.{PartFunction}

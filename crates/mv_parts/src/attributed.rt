@@ -14,14 +14,14 @@ use mv_ast::program::{Function, Program};
 use mv_ir::body::Body;
 use mv_isa::labelled::Labelled;
 use mv_linker::{PartFunction, PartVariant};
-use mv_lower_shape::lowered_forms_are_right;
+use mv_lower_spec::shape::lowered_forms_are_right;
 use mv_num::list::List;
 use mv_num::text::Text;
-use mv_parts_bound::{made_bodies_are_variants, rows_lead_to_variants};
+use mv_select::bodies::code_has_words;
 use mv_select::error::SelectError;
+use mv_select::inline::inline_of;
 use mv_select::select;
-use mv_select_bodies::code_has_words;
-use mv_select_inline::inline_of;
+use mv_variants::bound::{made_bodies_are_variants, rows_lead_to_variants};
 use mv_variants::{Variant, variants_of};
 use std::alloc::{AllocError, Global};
 

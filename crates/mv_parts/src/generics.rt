@@ -10,12 +10,12 @@ ghost use Rattle.mv_parts.specs.Codes.{AreGenerics, IsGeneric, HasCode, HaveCode
 use mv_ast::program::Program;
 use mv_ir::body::Body;
 use mv_isa::labelled::Labelled;
-use mv_lower_shape::lowered_forms_are_right;
+use mv_lower_spec::shape::lowered_forms_are_right;
 use mv_num::list::List;
 use mv_regalloc::rename::rename;
+use mv_select::bodies::code_has_words;
 use mv_select::error::SelectError;
 use mv_select::select;
-use mv_select_bodies::code_has_words;
 use std::alloc::{AllocError, Global};
 
 /// The body from which each function's code is made, in their order: what it is lowered to, where temporaries that are never in use together share a

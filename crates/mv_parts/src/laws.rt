@@ -3,9 +3,11 @@ ghost use Rattle.mv_parts.specs.Laws.{SwitchesAreThere, DataIsCounted, PartsCanB
 use mv_count_code::code_is_short;
 use mv_link_data::data_law;
 use mv_lower_names::{lowered_names_are_there, renaming_keeps_names};
-use mv_parts_bound::{made_bodies_are_variants, rows_lead_to_variants, variants_can_be_selected};
+use mv_select::bodies::lines_are_named;
 use mv_select::selection_law;
-use mv_select_bodies::lines_are_named;
+use mv_variants::bound::{
+    made_bodies_are_variants, rows_lead_to_variants, variants_can_be_selected,
+};
 
 /// The code of a well-formed program can be linked, and counts over the source bound it. The call does nothing: its contract is the law.
 ///

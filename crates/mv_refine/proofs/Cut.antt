@@ -12,7 +12,7 @@ use Rattle.mv_refine.proofs.Leaves.{runs_leave}
 use Rattle.mv_refine.proofs.Follows.{read_takes_more, write_writes_more}
 use Rattle.mv_image.specs.Spelling.{Fields}
 use Rattle.mv_refine_machine.proofs.Inputs.{first_input}
-use Rattle.mv_refine_runs.specs.Behaves.{BehavesAlways, taken_of}
+use Rattle.mv_refine_machine.specs.Runs.Behaves.{BehavesAlways, taken_of}
 use Rattle.mv_machine.specs.Acts.{PollActs, polls_of}
 use Rattle.mv_machine.specs.Runs.{State, Going, Reads, Writes, bytes_to_come, first, runs_from, runs}
 use Rattle.mv_machine.specs.Snapshots.{Asks}

@@ -14,7 +14,7 @@ use Rattle.mv_fetch.specs.Held.{Room}
 use Rattle.mv_image.specs.Patched.{text_of}
 use Rattle.mv_image.specs.Spelling.{Fields}
 use Rattle.mv_patch.specs.Orders.{values_of}
-use Rattle.mv_refine_runs.specs.Behaves.{IsWhole, EndsRight, Behaves, BehavesAlways, taken_of}
+use Rattle.mv_refine_machine.specs.Runs.Behaves.{IsWhole, EndsRight, Behaves, BehavesAlways, taken_of}
 use Rattle.mv_machine.specs.declared.machine.Stopped.{Stopped}
 use Rattle.mv_machine.specs.declared.machine.Stopped.TheVariants as answer
 use Rattle.mv_machine.specs.Actions as image_actions

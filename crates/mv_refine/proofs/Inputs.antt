@@ -4,7 +4,7 @@ use Rattle.std.proofs.lemmas.List.{length-append, length-map}
 use Rattle.std.proofs.Math.Seq.{take-append_seam}
 use Rattle.mv_refine.proofs.Leaves.{Leaves}
 use Rattle.mv_eval.specs.Grown.{Lost}
-use Rattle.mv_refine_runs.specs.Behaves.{taken_of}
+use Rattle.mv_refine_machine.specs.Runs.Behaves.{taken_of}
 use Rattle.mv_machine.specs.Runs.{State, bytes_to_come}
 use Rattle.mv_machine.specs.Snapshots.{Tells}
 

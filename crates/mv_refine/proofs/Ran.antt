@@ -6,7 +6,7 @@ use Rattle.mv_bindings.specs.declared.binding.Event.{Event}
 use Rattle.mv_eval.specs.Grown.{Lost}
 use Rattle.mv_image.specs.Spelling.{Fields}
 use Rattle.mv_isa.specs.declared.instr.Cause.{Cause}
-use Rattle.mv_refine_runs.specs.Behaves.{taken_of}
+use Rattle.mv_refine_machine.specs.Runs.Behaves.{taken_of}
 use Rattle.mv_machine.specs.Acts.{PollActs, polls_of}
 use Rattle.mv_machine.specs.declared.machine.Stopped.{Stopped}
 use Rattle.mv_machine.specs.declared.machine.Stopped.TheVariants as answer

@@ -7,7 +7,7 @@ use Rattle.mv_ast.specs.declared.program.Program.{Program}
 use Rattle.mv_ast.specs.Actions as source
 use Rattle.mv_build.specs.declared.built.Built.{Built}
 use Rattle.mv_image.specs.Spelling.{Fields}
-use Rattle.mv_refine_runs.specs.Behaves.{BehavesAlways}
+use Rattle.mv_refine_machine.specs.Runs.Behaves.{BehavesAlways}
 use Rattle.mv_machine.specs.Actions as machine
 use Rattle.mv_machine.specs.Acts.{polls_of}
 use Rattle.mv_refine.specs.declared.execution.Execution.{Execution}

@@ -3,3 +3,7 @@ pub mod Run
 pub mod Meant
 pub mod Execution
 pub mod CutRuns
+pub use Rattle.mv_build.specs.declared.built.Built
+pub use Rattle.mv_build.specs.declared.error.BuildError
+pub use Rattle.mv_build.specs.Answers
+pub use Rattle.mv_build.specs.Verdicts

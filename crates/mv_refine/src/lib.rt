@@ -40,7 +40,7 @@ mod faults;
 pub use execution::Execution;
 pub use faults::cut_runs_law;
 use mv_bindings::action::Action;
-use mv_build::Built;
+pub use mv_build::{BuildError, Built, build};
 use mv_image::Image;
 use mv_io::{Sink, Source};
 use mv_machine::Machine;

@@ -24,8 +24,8 @@ use Rattle.mv_ir.specs.declared.stm.Stm.TheOpen as stm
 use Rattle.mv_ir.specs.declared.tree.Tree.{Tree, out-Tree}
 use Rattle.mv_ir.specs.declared.tree.Tree.TheOpen.{Tree-F}
 use Rattle.mv_ir.specs.declared.tree.Tree.TheOpen as tree
-use Rattle.mv_select_inline.specs.InlineOf.{number_pair, parameter_pair, load_pair, store_pair, return_layer, return_pair, set_layer, set_pair, statement_layer, statement_pair, code_pair, inline_of, encoded}
-use Rattle.mv_select_inline.proofs.Fit.{inline_fits}
+use Rattle.mv_select.specs.Inline.InlineOf.{number_pair, parameter_pair, load_pair, store_pair, return_layer, return_pair, set_layer, set_pair, statement_layer, statement_pair, code_pair, inline_of, encoded}
+use Rattle.mv_select.proofs.OfInline.Fit.{inline_fits}
 use Rattle.mv_linker.specs.declared.parts.PartFunction.{PartFunction}
 use Rattle.mv_linker.specs.declared.parts.PartVariant.{PartVariant}
 use Rattle.mv_linker.specs.Linked.{function_variants, linked_lines}
@@ -34,7 +34,7 @@ use Rattle.mv_parts.proofs.Lists.{map_at}
 use Rattle.mv_parts.proofs.Numbers as numbered
 use Rattle.mv_link_text.proofs.Codes.{IsAssembled}
 use Rattle.mv_link_text.proofs.Rows.{entry_told, site_told, before_told}
-use Rattle.mv_refine_runs.specs.Behaves.{CallsArePlain}
+use Rattle.mv_refine_machine.specs.Runs.Behaves.{CallsArePlain}
 use Rattle.mv_refine_images.proofs.LinkedProgram.{Basis, linked_program}
 use Rattle.mv_refine_images.proofs.Listed.{in_either}
 use Rattle.mv_refine_images.proofs.Standing.{entry}

@@ -11,16 +11,16 @@ use Rattle.mv_image.specs.Spelling.{Fields}
 use Rattle.mv_image.specs.Patched.{entry_at, site_at, site_before}
 use Rattle.mv_ir.specs.declared.body.Body.{Body}
 use Rattle.mv_lower_spec.specs.Functions.{lower_function}
-use Rattle.mv_select_bodies.specs.SelectedBodies.{globals_read, is_in_globals, reach_of}
-use Rattle.mv_select_calls.specs.Convention.{Layout}
-use Rattle.mv_refine_commits.specs.Served.{IsPlanOpen}
-use Rattle.mv_select_functions.specs.Functions.{IsOpen}
+use Rattle.mv_select.specs.Bodies.SelectedBodies.{globals_read, is_in_globals, reach_of}
+use Rattle.mv_select.specs.Calls.Convention.{Layout}
+use Rattle.mv_refine_machine.specs.Commits.Served.{IsPlanOpen}
+use Rattle.mv_select.specs.Functions.Functions.{IsOpen}
 use Rattle.mv_refine_machine.specs.Layout.{IsSetOut}
 use Rattle.mv_refine_machine.specs.MachineRuns.{image_word, unpatched_word, machine_text}
 use Rattle.mv_refine_machine.proofs.Bound.{site_behind}
 use Rattle.mv_linker.specs.declared.parts.Parts.{Parts}
 use Rattle.mv_linker.specs.Linked.{codes}
-use Rattle.mv_refine_programs.specs.Hosts.{IsOpenIn}
+use Rattle.mv_refine_images.specs.Programs.Hosts.{IsOpenIn}
 use Rattle.mv_refine_images.specs.Closed.{is_closed_to_function, is_closed_to_variant, is_closed_to_variants_of, closed_to_codes, is_data_of, is_data_among, is_data_where, is_word_of, is_closed_from, is_closed_beside, closed}
 use Rattle.mv_refine_images.specs.Layouts.{address_of, layout_of}
 use Rattle.mv_num.proofs.Booleans.{and_false}

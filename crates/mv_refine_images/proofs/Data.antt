@@ -16,7 +16,7 @@ use Rattle.mv_isa.specs.Code.{IsPlace, least_words, line_at}
 use Rattle.mv_image.specs.Spelling.{Fields}
 use Rattle.mv_source_forms.specs.Names.{words_of_global}
 use Rattle.mv_source_forms.specs.WellFormed.{IsWellFormedGlobal}
-use Rattle.mv_select_statements.specs.Frames.{Site}
+use Rattle.mv_select_code.specs.Statements.Frames.{Site}
 use Rattle.mv_refine_machine.specs.Layout.{IsPacked, IsSetOut}
 use Rattle.mv_linker.specs.Linked.{codes, function_variants, variant_codes}
 use Rattle.mv_linker.specs.Tables.{BeginsWithWords, FitsPartFunction, FitsPartVariant, is_slot, kinds_of}
@@ -26,7 +26,7 @@ use Rattle.mv_link_data.specs.FirstData.{data_words, global_sizes}
 use Rattle.mv_link_data.specs.Laws.{AreAddresses}
 use Rattle.mv_parts.proofs.LinkedLists.{all_variants}
 use Rattle.mv_parts.proofs.Lists.{one_of_all}
-use Rattle.mv_parts_bodies.specs.ProgramBodies.{AreLaidOut, IsOwnCode}
+use Rattle.mv_refine_images.specs.Bodies.ProgramBodies.{AreLaidOut, IsOwnCode}
 use Rattle.mv_refine_images.proofs.LinkedProgram.{Basis, linked_program}
 use Rattle.mv_refine_images.proofs.Listed.{in_either}
 use Rattle.mv_num.proofs.Lists.{there_at}

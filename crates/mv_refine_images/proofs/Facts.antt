@@ -1,22 +1,22 @@
 -- The laws of the crates below that the law on built programs stands on.
 use Rattle.mv_image.specs.Format.{RulesAreTables}
 use Rattle.mv_ir.specs.Reached.{EndsAreReached}
-use Rattle.mv_lower_shape.specs.Law.{LoweredReadNoMore}
-use Rattle.mv_select_bodies.specs.SelectedBodies.{BodiesAreFunctions}
+use Rattle.mv_lower_spec.specs.Shape.Law.{LoweredReadNoMore}
+use Rattle.mv_select.specs.Bodies.SelectedBodies.{BodiesAreFunctions}
 use Rattle.mv_refine_machine.specs.Laws.{PackedIsLaidOut}
 use Rattle.mv_refine_machine.specs.Shown.{FreeFunctionsShow, BoundFunctionsShow}
-use Rattle.mv_refine_commits.specs.Ends.{WatchedStartIsRight}
-use Rattle.mv_refine_commits.specs.Hosted.{WatchedCallsAreServed, WatchedMemory}
-use Rattle.mv_refine_commits.specs.Tabled.{TabledOrdersAreServed}
-use Rattle.mv_refine_commits.specs.Watched.{Watched}
-use Rattle.mv_refine_commits.specs.WatchedRuns.{WatchedRunsAreRunsAlone, WatchedRunsAreRunsUnder}
-use Rattle.mv_refine_runs.specs.Laws.{ImagesBehave}
-use Rattle.mv_refine_programs.specs.Laws.{MainFollowsOpenly}
+use Rattle.mv_refine_machine.specs.Commits.Ends.{WatchedStartIsRight}
+use Rattle.mv_refine_machine.specs.Commits.Hosted.{WatchedCallsAreServed, WatchedMemory}
+use Rattle.mv_refine_machine.specs.Commits.Tabled.{TabledOrdersAreServed}
+use Rattle.mv_refine_machine.specs.Commits.Watched.{Watched}
+use Rattle.mv_refine_machine.specs.Commits.WatchedRuns.{WatchedRunsAreRunsAlone, WatchedRunsAreRunsUnder}
+use Rattle.mv_refine_machine.specs.Runs.Laws.{ImagesBehave}
+use Rattle.mv_refine_images.specs.Programs.Laws.{MainFollowsOpenly}
 use Rattle.mv_link_data.specs.Laws.{SizesAreCounts, WordsAreFirst}
 use Rattle.mv_parts.specs.Laws.{DataIsCounted}
 use Rattle.mv_link_text.specs.Laws.{WordsAreThere, StubsStandInText, CodesAscend, PlainCodeStands, PatchedCodeStands, SlotsAreSites}
-use Rattle.mv_parts_tables.specs.Laws.{AttributedAreTabled, RowsLeadToVariants, VariantsHaveRows, ImagesHaveTables}
-use Rattle.mv_parts_bodies.specs.Laws.{FunctionsHaveOwnCode, VariantsHaveCode}
+use Rattle.mv_refine_images.specs.Tables.Laws.{AttributedAreTabled, RowsLeadToVariants, VariantsHaveRows, ImagesHaveTables}
+use Rattle.mv_refine_images.specs.Bodies.Laws.{FunctionsHaveOwnCode, VariantsHaveCode}
 
 pub record Laws : Type 0 where
   -- text

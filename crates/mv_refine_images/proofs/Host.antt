@@ -13,10 +13,10 @@ use Rattle.mv_refine_machine.specs.Laws.{IsByteOrEnd}
 use Rattle.mv_refine_machine.specs.MachineRuns.{called_at}
 use Rattle.mv_refine_machine.specs.Under.{words_under}
 use Rattle.mv_refine_machine.proofs.Whole.{laid, own}
-use Rattle.mv_refine_commits.specs.Watched.{access}
-use Rattle.mv_refine_programs.specs.Hosts.{IsOpenHost, IsOpenlyLoaded}
+use Rattle.mv_refine_machine.specs.Commits.Watched.{access}
+use Rattle.mv_refine_images.specs.Programs.Hosts.{IsOpenHost, IsOpenlyLoaded}
 use Rattle.mv_link_text.specs.Text.{StubsArePlaced}
-use Rattle.mv_parts_tables.specs.Laws.{HaveTables}
+use Rattle.mv_refine_images.specs.Tables.Laws.{HaveTables}
 use Rattle.mv_refine_images.proofs.LinkedProgram.{Basis, linked_program}
 use Rattle.mv_refine_images.specs.Layouts.{address_of}
 use Rattle.mv_refine_images.proofs.Closed.{plan_open}

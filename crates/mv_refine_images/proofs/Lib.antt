@@ -12,3 +12,6 @@ pub mod Own
 pub mod Main
 pub mod Calls
 pub mod Whole
+pub mod OfBodies
+pub mod OfTables
+pub mod OfPrograms

@@ -5,13 +5,13 @@ use Rattle.mv_image.specs.Spelling.{Fields}
 use Rattle.mv_source_forms.specs.WellFormed.{IsWellFormed}
 use Rattle.mv_machine.specs.Acts.{PollActs}
 use Rattle.mv_machine.specs.Runs.{bytes_to_come}
-use Rattle.mv_select_control.specs.Placed.{Text}
-use Rattle.mv_select_control.specs.Runs.{Machine}
-use Rattle.mv_select_calls.specs.Convention.{Layout}
+use Rattle.mv_select_code.specs.Control.Placed.{Text}
+use Rattle.mv_select_code.specs.Control.Runs.{Machine}
+use Rattle.mv_select.specs.Calls.Convention.{Layout}
 use Rattle.mv_linker.specs.declared.parts.Parts.{Parts}
 use Rattle.mv_linker.specs.Tables.{attributed_numbers}
 use Rattle.mv_refine_machine.specs.MachineRuns.{machine_text}
-use Rattle.mv_refine_commits.specs.Watched.{Watched, watched_machine}
+use Rattle.mv_refine_machine.specs.Commits.Watched.{Watched, watched_machine}
 use Rattle.mv_refine_images.specs.Built.{HasWordsOfGlobals, IsBuilt}
 use Rattle.mv_refine_images.specs.Layouts.{address_of, numbers_of, layout_of}
 use Rattle.mv_refine_images.specs.Closed.{closed}

@@ -1,15 +1,15 @@
 -- What main does on the machine, of the laws on functions and on the source.
-use Rattle.mv_select_functions.proofs.Alone.{functions_keep, later_keeps, main_keeps}
-use Rattle.mv_lower_calls.specs.Laws.{BodiesAreRight, CallsKeepBindings, MainIsRight, MainEndsAlike}
-use Rattle.mv_refine_commits.specs.Watched.{Watched}
-use Rattle.mv_refine_programs.specs.Laws.{MainFollows, MainFollowsOpenly}
+use Rattle.mv_select.proofs.OfFunctions.Alone.{functions_keep, later_keeps, main_keeps}
+use Rattle.mv_lower_spec.specs.Calls.Laws.{BodiesAreRight, CallsKeepBindings, MainIsRight, MainEndsAlike}
+use Rattle.mv_refine_machine.specs.Commits.Watched.{Watched}
+use Rattle.mv_refine_images.specs.Programs.Laws.{MainFollows, MainFollowsOpenly}
 use Rattle.mv_ir_worlds.specs.Laws.{FitIsTold, KnownsKeepFit, FirstIsFit, FunctionsAreFreeOrBound, FramesOfFree, FramesOfBound}
-use Rattle.mv_select_slots.proofs.Bindings.{bindings_are_told}
-use Rattle.mv_select_slots.proofs.Forms as narrow
-use Rattle.mv_select_inline.proofs.Bodies.{inline_answers}
-use Rattle.mv_refine_programs.proofs.AllFunctions.{Known}
-use Rattle.mv_refine_programs.proofs.MainFunction.{main_follows}
-use Rattle.mv_refine_programs.proofs.OpenHosts.{hosts_narrowed, main_openly}
+use Rattle.mv_select.proofs.OfSlots.Bindings.{bindings_are_told}
+use Rattle.mv_select.proofs.OfSlots.Forms as narrow
+use Rattle.mv_select.proofs.OfInline.Bodies.{inline_answers}
+use Rattle.mv_refine_images.proofs.OfPrograms.AllFunctions.{Known}
+use Rattle.mv_refine_images.proofs.OfPrograms.MainFunction.{main_follows}
+use Rattle.mv_refine_images.proofs.OfPrograms.OpenHosts.{hosts_narrowed, main_openly}
 
 -- the laws of the crates below that calls stand on
 pub record Below : Type 0 where

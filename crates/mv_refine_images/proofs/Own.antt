@@ -23,12 +23,12 @@ use Rattle.mv_image.specs.WellFormed.{FitsSite}
 use Rattle.mv_lower_spec.specs.Functions.{lower_function}
 use Rattle.mv_source_forms.specs.Names.{words_of_global}
 use Rattle.mv_source_forms.specs.Uses.{is_own, is_switch}
-use Rattle.mv_select_bodies.specs.SelectedBodies.{globals_read}
+use Rattle.mv_select.specs.Bodies.SelectedBodies.{globals_read}
 use Rattle.mv_machine.specs.Acts.{PollActs}
 use Rattle.mv_machine.specs.Runs.{State, bytes_to_come, runs}
-use Rattle.mv_select_calls.specs.Convention.{Layout}
-use Rattle.mv_refine_commits.specs.Tabled.{IsTabled}
-use Rattle.mv_refine_runs.specs.Behaves.{LoadsWhatIsOpen}
+use Rattle.mv_select.specs.Calls.Convention.{Layout}
+use Rattle.mv_refine_machine.specs.Commits.Tabled.{IsTabled}
+use Rattle.mv_refine_machine.specs.Runs.Behaves.{LoadsWhatIsOpen}
 use Rattle.mv_linker.specs.declared.parts.PartFunction.{PartFunction}
 use Rattle.mv_linker.specs.declared.parts.PartVariant.{PartVariant}
 use Rattle.mv_linker.specs.Linked.{codes, function_variants, variant_codes}

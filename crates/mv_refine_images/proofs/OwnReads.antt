@@ -26,9 +26,9 @@ use Rattle.mv_source_forms.proofs.StatementInduction.{StmtChildren}
 use Rattle.mv_source_forms.proofs.Tests.{one_holds, two_hold, three_hold, all_apart, last_apart}
 use Rattle.mv_ir.specs.Measures.{scalars_read, arrays_read}
 use Rattle.mv_lower_spec.specs.Functions.{lower_function}
-use Rattle.mv_lower_shape.specs.Law.{IsFunctionOf, LoweredReadNoMore}
-use Rattle.mv_lower_shape.specs.Reads.{LvalueReads, lvalue_reads, reads_layer, inner_reads, stmt_reads_layer, arm_reads_layer, stmt_reads, none, reads_scalar, reads_array}
-use Rattle.mv_select_bodies.specs.SelectedBodies.{globals_read}
+use Rattle.mv_lower_spec.specs.Shape.Law.{IsFunctionOf, LoweredReadNoMore}
+use Rattle.mv_lower_spec.specs.Shape.Reads.{LvalueReads, lvalue_reads, reads_layer, inner_reads, stmt_reads_layer, arm_reads_layer, stmt_reads, none, reads_scalar, reads_array}
+use Rattle.mv_select.specs.Bodies.SelectedBodies.{globals_read}
 
 -- ---- one of two, one of some
 

@@ -18,16 +18,16 @@ use Rattle.mv_ir.specs.Combinations.{IsCombination}
 use Rattle.mv_ir_worlds.proofs.Functions.{attributed_at, combination_length}
 use Rattle.mv_ir_worlds.specs.Functions.{IsFreeIn, IsBoundIn}
 use Rattle.mv_source_forms.specs.WellFormed.{IsWellFormed}
-use Rattle.mv_select_calls.specs.Convention.{Layout}
-use Rattle.mv_select_functions.specs.FunctionCode.{bytes_of}
-use Rattle.mv_select_functions.specs.Functions.{shape_of}
-use Rattle.mv_select_inline.specs.InlineOf.{inline_of}
+use Rattle.mv_select.specs.Calls.Convention.{Layout}
+use Rattle.mv_select.specs.Functions.FunctionCode.{bytes_of}
+use Rattle.mv_select.specs.Functions.Functions.{shape_of}
+use Rattle.mv_select.specs.Inline.InlineOf.{inline_of}
 use Rattle.mv_refine_machine.specs.Assembled.{HasWords}
 use Rattle.mv_refine_machine.specs.MachineRuns.{machine_text, called_at}
 use Rattle.mv_refine_machine.specs.Shown.{FreeFunctionsShow, BoundFunctionsShow}
 use Rattle.mv_refine_machine.specs.Under.{words_under}
-use Rattle.mv_refine_programs.specs.Hosts.{IsVariant, IsPatched, SlotShows}
-use Rattle.mv_parts_tables.specs.Rows.{RowShows}
+use Rattle.mv_refine_images.specs.Programs.Hosts.{IsVariant, IsPatched, SlotShows}
+use Rattle.mv_refine_images.specs.Tables.Rows.{RowShows}
 use Rattle.mv_refine_images.specs.Patched.{HasEntry, HasRow, IsInTables, own_number, PatchedFunctionsStand}
 
 few_values : (p : Program) (f : ℕ) (g : Function) (vs : List ℕ) → IsWellFormed p → slice_get p.functions f ≡ Some g → g.attributed ≡ true → IsCombination (map (switch_domain p) g.switches) vs → length vs ≤ 6

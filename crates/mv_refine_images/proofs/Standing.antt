@@ -16,28 +16,28 @@ use Rattle.mv_image.specs.Patched.{variants_before}
 use Rattle.mv_ir.specs.Combinations.{IsCombination}
 use Rattle.mv_ir.specs.Programs.{setting_of}
 use Rattle.mv_lower_spec.specs.Functions.{lower_function}
-use Rattle.mv_select_calls.specs.CallCode.{is_marked}
-use Rattle.mv_select_calls.specs.Laws as calls
-use Rattle.mv_select_control.specs.Placed.{Placed}
-use Rattle.mv_select_functions.specs.FunctionCode.{bytes_of, later_lines}
-use Rattle.mv_select_functions.specs.Functions.{IsOpen, shape_of}
+use Rattle.mv_select.specs.Calls.CallCode.{is_marked}
+use Rattle.mv_select.specs.Calls.Laws as calls
+use Rattle.mv_select_code.specs.Control.Placed.{Placed}
+use Rattle.mv_select.specs.Functions.FunctionCode.{bytes_of, later_lines}
+use Rattle.mv_select.specs.Functions.Functions.{IsOpen, shape_of}
 use Rattle.mv_refine_machine.specs.MachineRuns.{called_at}
 use Rattle.mv_refine_machine.specs.Under.{words_under}
-use Rattle.mv_select_bodies.specs.SelectedBodies.{IsInProgram, globals_read, reach_of}
+use Rattle.mv_select.specs.Bodies.SelectedBodies.{IsInProgram, globals_read, reach_of}
 use Rattle.mv_linker.specs.declared.parts.PartFunction.{PartFunction}
 use Rattle.mv_linker.specs.declared.parts.PartVariant.{PartVariant}
 use Rattle.mv_linker.specs.Linked.{codes, linked_lines}
-use Rattle.mv_parts_bound.specs.Meant.{IsVariantOf}
+use Rattle.mv_variants.specs.Bound.Meant.{IsVariantOf}
 use Rattle.mv_variants.specs.declared.variant.Variant.{Variant}
 use Rattle.mv_parts.specs.Numbers as source
 use Rattle.mv_parts.proofs.Lists.{map_at}
 use Rattle.mv_parts.proofs.Numbers as numbered
 use Rattle.mv_link_text.specs.Text.{IsAttributed, IsPlacedCode}
 use Rattle.mv_link_text.specs.Text as text
-use Rattle.mv_parts_tables.specs.Leads.{IsLedTo}
-use Rattle.mv_parts_tables.specs.Rows.{IsNth}
-use Rattle.mv_parts_bodies.specs.ProgramBodies.{IsOwnCode, IsVariantAt, IsVariantCode, IsLinkedVariant, IsWritten, variant_number}
-use Rattle.mv_refine_programs.specs.Hosts.{IsPlain, IsVariant, IsPatched, IsSelected}
+use Rattle.mv_refine_images.specs.Tables.Leads.{IsLedTo}
+use Rattle.mv_refine_images.specs.Tables.Rows.{IsNth}
+use Rattle.mv_refine_images.specs.Bodies.ProgramBodies.{IsOwnCode, IsVariantAt, IsVariantCode, IsLinkedVariant, IsWritten, variant_number}
+use Rattle.mv_refine_images.specs.Programs.Hosts.{IsPlain, IsVariant, IsPatched, IsSelected}
 use Rattle.mv_refine_images.proofs.LinkedProgram.{Basis, linked_program}
 use Rattle.mv_refine_images.specs.Closed.{is_closed_to_function, is_closed_to_variant, closed_to_codes}
 use Rattle.mv_refine_images.specs.Patched.{HasEntry, HasSlot, HasRow, IsInTables}

@@ -9,19 +9,19 @@ use Rattle.mv_image.specs.Faults.{Rules}
 use Rattle.mv_ir.specs.World.{World}
 use Rattle.mv_machine.specs.Acts.{PollActs}
 use Rattle.mv_machine.specs.Runs.{first}
-use Rattle.mv_select_statements.specs.Frames.{Site}
-use Rattle.mv_select_statements.specs.Leads.{limited}
-use Rattle.mv_select_control.specs.Runs.{Spot, Machine, LeadsOn, IsRun}
-use Rattle.mv_select_functions.specs.Functions.{IsOpen, alone}
-use Rattle.mv_select_functions.specs.Loads.{loads_from}
+use Rattle.mv_select_code.specs.Statements.Frames.{Site}
+use Rattle.mv_select_code.specs.Statements.Leads.{limited}
+use Rattle.mv_select_code.specs.Control.Runs.{Spot, Machine, LeadsOn, IsRun}
+use Rattle.mv_select.specs.Functions.Functions.{IsOpen, alone}
+use Rattle.mv_select.specs.Functions.Loads.{loads_from}
 use Rattle.mv_refine_machine.specs.Calm.{Rest}
 use Rattle.mv_refine_machine.specs.Layout.{OwnOutsideText}
 use Rattle.mv_refine_machine.specs.MachineRuns.{has_one_choice, opens, are_open, unpatched_word, machine_text}
 use Rattle.mv_refine_machine.proofs.OnRuns.{in_part}
-use Rattle.mv_refine_commits.specs.Watch.{texts_of, keeps_text, is_sound}
-use Rattle.mv_refine_commits.specs.Watched.{Watched, access, plain_spot, spot_at, watched_machine}
-use Rattle.mv_refine_commits.specs.WatchedRuns.{WatchedRunsAreRunsAlone}
-use Rattle.mv_refine_programs.specs.Hosts.{IsOpenIn}
+use Rattle.mv_refine_machine.specs.Commits.Watch.{texts_of, keeps_text, is_sound}
+use Rattle.mv_refine_machine.specs.Commits.Watched.{Watched, access, plain_spot, spot_at, watched_machine}
+use Rattle.mv_refine_machine.specs.Commits.WatchedRuns.{WatchedRunsAreRunsAlone}
+use Rattle.mv_refine_images.specs.Programs.Hosts.{IsOpenIn}
 
 -- what is closed to words that are never patched
 abbrev unpatched : Fields → (closed : (pc address : ℕ) → Bool) → (pc address : ℕ) → Bool

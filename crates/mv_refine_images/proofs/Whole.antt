@@ -15,17 +15,17 @@ use Rattle.mv_ir.specs.Programs.{setting_of, code_of, call_of_main}
 use Rattle.mv_ir.specs.Reached.{IsReached, EndsAreReached}
 use Rattle.mv_machine.specs.Acts.{PollActs}
 use Rattle.mv_lower_spec.specs.Functions.{lower_program}
-use Rattle.mv_select_calls.specs.Convention.{Stands}
-use Rattle.mv_select_functions.specs.Functions.{Begins}
+use Rattle.mv_select.specs.Calls.Convention.{Stands}
+use Rattle.mv_select.specs.Functions.Functions.{Begins}
 use Rattle.mv_refine_machine.specs.Laws.{IsFirst}
 use Rattle.mv_refine_machine.specs.Under.{words_under}
-use Rattle.mv_refine_stubs.specs.Laws.{HoldsData}
-use Rattle.mv_refine_stubs.specs.Stubs.{return_address}
-use Rattle.mv_refine_commits.specs.Ends.{EntersQuietly}
-use Rattle.mv_refine_commits.specs.Watched.{access}
-use Rattle.mv_refine_runs.specs.Behaves.{Behaves, LoadsWhatIsOpen}
-use Rattle.mv_refine_runs.specs.Main.{HasStubs, CallsMain}
-use Rattle.mv_refine_programs.specs.Laws.{first_seen}
+use Rattle.mv_refine_machine.specs.Stubs.Laws.{HoldsData}
+use Rattle.mv_refine_machine.specs.Stubs.Stubs.{return_address}
+use Rattle.mv_refine_machine.specs.Commits.Ends.{EntersQuietly}
+use Rattle.mv_refine_machine.specs.Commits.Watched.{access}
+use Rattle.mv_refine_machine.specs.Runs.Behaves.{Behaves, LoadsWhatIsOpen}
+use Rattle.mv_refine_machine.specs.Runs.Main.{HasStubs, CallsMain}
+use Rattle.mv_refine_images.specs.Programs.Laws.{first_seen}
 use Rattle.mv_linker.specs.Outcome as linker
 use Rattle.mv_refine_images.proofs.LinkedProgram.{Basis, linked_program}
 use Rattle.mv_refine_images.specs.Layouts.{address_of}

@@ -6,7 +6,7 @@ use Rattle.mv_ast.specs.Counts.{words_of_size}
 use Rattle.mv_image.specs.Faults.{Rules}
 use Rattle.mv_image.specs.Spelling.{Fields}
 use Rattle.mv_ir.specs.declared.body.Body.{Body}
-use Rattle.mv_select_bodies.specs.SelectedBodies.{HasWords}
+use Rattle.mv_select.specs.Bodies.SelectedBodies.{HasWords}
 use Rattle.mv_linker.specs.declared.parts.Parts.{Parts}
 use Rattle.mv_linker.specs.Outcome.{IsLinked}
 use Rattle.mv_variants.specs.declared.variant.Variant.{Variant}

@@ -9,8 +9,8 @@ use Rattle.mv_descriptors.specs.declared.rows.SiteRow.{SiteRow}
 use Rattle.mv_image.specs.Spelling.{Fields}
 use Rattle.mv_image.specs.Patched.{site_at, site_before}
 use Rattle.mv_lower_spec.specs.Functions.{lower_function}
-use Rattle.mv_select_bodies.specs.SelectedBodies.{globals_read}
-use Rattle.mv_select_calls.specs.Convention.{Layout}
+use Rattle.mv_select.specs.Bodies.SelectedBodies.{globals_read}
+use Rattle.mv_select.specs.Calls.Convention.{Layout}
 use Rattle.mv_linker.specs.declared.parts.Parts.{Parts}
 use Rattle.mv_linker.specs.declared.parts.PartFunction.{PartFunction}
 use Rattle.mv_linker.specs.Linked.{codes}

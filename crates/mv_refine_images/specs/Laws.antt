@@ -6,7 +6,7 @@ use Rattle.mv_bindings.specs.Acts.{IsActOfWord}
 use Rattle.mv_image.specs.Spelling.{Fields}
 use Rattle.mv_machine.specs.Acts.{PollActs}
 use Rattle.mv_source_forms.specs.WellFormed.{IsWellFormed}
-use Rattle.mv_refine_runs.specs.Behaves.{Behaves, LoadsWhatIsOpen}
+use Rattle.mv_refine_machine.specs.Runs.Behaves.{Behaves, LoadsWhatIsOpen}
 use Rattle.mv_refine_images.specs.Built.{HasWordsOfGlobals, IsBuilt}
 use Rattle.mv_refine_images.specs.Closed.{closed}
 use Rattle.mv_refine_images.specs.Own.{LoadsNoOwnSwitch}

@@ -6,9 +6,9 @@ use Rattle.mv_ast.specs.declared.program.Program.{Program}
 use Rattle.mv_isa.specs.Code.{text_start, label_address}
 use Rattle.mv_source_forms.specs.Names.{global_words}
 use Rattle.mv_source_forms.specs.Uses.{known_is_there}
-use Rattle.mv_select_statements.specs.StatementCode.{trap_label}
-use Rattle.mv_select_calls.specs.CallCode.{commit_label}
-use Rattle.mv_select_calls.specs.Convention.{Layout}
+use Rattle.mv_select_code.specs.Statements.StatementCode.{trap_label}
+use Rattle.mv_select.specs.Calls.CallCode.{commit_label}
+use Rattle.mv_select.specs.Calls.Convention.{Layout}
 use Rattle.mv_linker.specs.declared.parts.Parts.{Parts}
 use Rattle.mv_linker.specs.Linked.{linked_lines}
 use Rattle.mv_link_data.specs.FirstData.{global_sizes}

@@ -4,3 +4,6 @@ pub mod Closed
 pub mod Own
 pub mod Laws
 pub mod Patched
+pub mod Bodies
+pub mod Tables
+pub mod Programs

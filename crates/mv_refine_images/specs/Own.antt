@@ -9,7 +9,7 @@ use Rattle.mv_image.specs.Patched.{site_at, site_before, variants_before}
 use Rattle.mv_image.specs.Spelling.{Fields}
 use Rattle.mv_machine.specs.Acts.{PollActs}
 use Rattle.mv_machine.specs.Runs.{Going, bytes_to_come, runs}
-use Rattle.mv_refine_runs.specs.Behaves.{word_loads}
+use Rattle.mv_refine_machine.specs.Runs.Behaves.{word_loads}
 
 module _ (image : Fields) where
   -- an address is in the data word of a switch

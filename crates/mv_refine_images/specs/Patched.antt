@@ -19,19 +19,19 @@ use Rattle.mv_ir.specs.Keeps.{KeepsBody}
 use Rattle.mv_ir.specs.Programs.{setting_of}
 use Rattle.mv_lower_spec.specs.Functions.{lower_function}
 use Rattle.mv_source_forms.specs.WellFormed.{IsWellFormed}
-use Rattle.mv_select_control.specs.Placed.{Placed}
-use Rattle.mv_select_calls.specs.Convention.{Layout}
-use Rattle.mv_select_calls.specs.Laws.{IsLinked}
-use Rattle.mv_select_functions.specs.FunctionCode.{bytes_of, later_lines}
-use Rattle.mv_select_functions.specs.Functions.{IsAmple, IsFunction, IsOpen, shape_of}
-use Rattle.mv_select_inline.specs.InlineOf.{inline_of}
-use Rattle.mv_parts_tables.specs.Rows.{RowShows}
+use Rattle.mv_select_code.specs.Control.Placed.{Placed}
+use Rattle.mv_select.specs.Calls.Convention.{Layout}
+use Rattle.mv_select.specs.Calls.Laws.{IsLinked}
+use Rattle.mv_select.specs.Functions.FunctionCode.{bytes_of, later_lines}
+use Rattle.mv_select.specs.Functions.Functions.{IsAmple, IsFunction, IsOpen, shape_of}
+use Rattle.mv_select.specs.Inline.InlineOf.{inline_of}
+use Rattle.mv_refine_images.specs.Tables.Rows.{RowShows}
 use Rattle.mv_refine_machine.specs.Assembled.{HasWords}
 use Rattle.mv_refine_machine.specs.MachineRuns.{machine_text, image_word, called_at}
 use Rattle.mv_refine_machine.specs.Shown.{IsSiteOf}
 use Rattle.mv_refine_machine.specs.Under.{words_under}
-use Rattle.mv_refine_programs.specs.Hosts.{IsOpenIn, IsVariant, IsPatched}
-use Rattle.mv_select_statements.specs.Frames.{Reach}
+use Rattle.mv_refine_images.specs.Programs.Hosts.{IsOpenIn, IsVariant, IsPatched}
+use Rattle.mv_select_code.specs.Statements.Frames.{Reach}
 
 -- Code is assembled from a base, under a sizing.
 module _ (attributed : List ℕ) (image : Fields) (closed : (pc address : ℕ) → Bool) (base : ℕ) (lines : List Line) (sizing : List ℕ) (y : Layout) (p : Program) (numbers : List ℕ) (f : ℕ) (g : Function) where

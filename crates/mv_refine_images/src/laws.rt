@@ -1,25 +1,25 @@
 ghost use Rattle.mv_refine_images.specs.Laws.{BuiltProgramsBehave};
 ghost use Rattle.mv_refine_images.specs.Patched.{PatchedFunctionsStand};
 
+use crate::bodies::bodies_are_in_program;
+use crate::tables::{images_have_tables, rows_lead_on};
 use mv_image::facts::format_law;
 use mv_ir::laws::ends_are_reached;
 use mv_ir_worlds::{fit_frames_law, fit_worlds_law};
 use mv_link_data::data_law;
 use mv_link_text::linked_text_law;
-use mv_lower_calls::{bodies_are_right, calls_keep_bindings, main_ends_alike, main_is_right};
-use mv_lower_shape::lowered_forms_are_right;
+use mv_lower_spec::calls::{bodies_are_right, calls_keep_bindings, main_ends_alike, main_is_right};
+use mv_lower_spec::shape::lowered_forms_are_right;
 use mv_parts::parts_law;
-use mv_parts_bodies::bodies_are_in_program;
-use mv_parts_tables::{images_have_tables, rows_lead_on};
-use mv_refine_commits::{
+use mv_refine_machine::commits::{
     tabled_orders_are_served, watched_ends_law, watched_machine_law, watched_runs_law,
 };
+use mv_refine_machine::runs::images_behave;
 use mv_refine_machine::{functions_show, packed_is_laid_out};
-use mv_refine_runs::images_behave;
-use mv_select_bodies::bodies_are_functions;
+use mv_select::bodies::bodies_are_functions;
 
 /// The run of an image that is built of a well-formed program without pointer switches does, in each hart, what the program means, on
-/// each input of bytes, with any acts of its polls that fit there, and by any picks of the fetches: `Behaves` of `mv_refine_runs` says
+/// each input of bytes, with any acts of its polls that fit there, and by any picks of the fetches: `Behaves` of `mv_refine_machine::runs` says
 /// how. `IsBuilt` says what a compiler has to give: a body for each function that means what the function is lowered to, and variants
 /// for each attributed one; the code that is selected for them; the first words of the globals; and the image that is linked of them,
 /// with its tables. And no instruction loads a data word of a global that is closed to what stands at its place (`closed`): a

@@ -14,8 +14,17 @@
 //!   loads a switch of the variant's function, and no word at a site any switch (`specs/Own.antt`).
 //! - `patched_functions_stand`: where an image has an attributed function in its tables, with a row of a variant for each
 //!   combination of its switches' values, its code stands on the machine as `programs_keep` asks.
+//!
+//! Below this, in modules with their own specifications and headers, laws alone:
+//!
+//! - `bodies`: the bodies that are linked of a program, and their code, are the program's (`bodies_are_in_program`).
+//! - `tables`: what the tables of a linked image have of its program, and where their rows lead (`images_have_tables`, `rows_lead_on`).
+//! - `programs`: all functions of a program keep the calling convention and do what they mean (`programs_keep`, `programs_keep_openly`).
 #![tactic(auto)]
 
+pub mod bodies;
 mod laws;
+pub mod programs;
+pub mod tables;
 
 pub use laws::{built_programs_behave, patched_functions_stand};

@@ -18,3 +18,7 @@ pub mod Inputs
 pub mod Returning
 pub mod Serving
 pub mod Whole
+pub mod OfStubs
+pub mod OfStores
+pub mod OfCommits
+pub mod OfRuns

@@ -9,11 +9,11 @@ use Rattle.mv_isa.specs.Execution.{Goes, Outcome, step}
 use Rattle.mv_rv32.specs.Stepping.{access as room_access}
 use Rattle.mv_machine.specs.Runs.{State, fetched_step, first, runs}
 use Rattle.mv_machine.proofs.Turns.{runs_more, turn_by}
-use Rattle.mv_select_statements.specs.Frames.{Site, address}
-use Rattle.mv_select_statements.specs.Leads.{limited, Writes}
-use Rattle.mv_select_control.specs.Placed.{Text}
-use Rattle.mv_select_control.specs.Runs.{Spot, Machine, outside, LeadsOn, IsRun}
-use Rattle.mv_select_functions.specs.Functions.{part}
+use Rattle.mv_select_code.specs.Statements.Frames.{Site, address}
+use Rattle.mv_select_code.specs.Statements.Leads.{limited, Writes}
+use Rattle.mv_select_code.specs.Control.Placed.{Text}
+use Rattle.mv_select_code.specs.Control.Runs.{Spot, Machine, outside, LeadsOn, IsRun}
+use Rattle.mv_select.specs.Functions.Functions.{part}
 use Rattle.mv_refine_machine.specs.Calm.{Rest, IsCalm}
 use Rattle.mv_refine_machine.specs.MachineRuns.{access, rest_of, spot_of, unpatched_word, bound_word, has_one_choice, is_sound, machine_of, machine_text}
 use Rattle.mv_refine_machine.specs.Steps.{LeadsUnder, StepsAreTaken}
@@ -25,7 +25,7 @@ use Rattle.mv_refine_machine.proofs.Memory.{store_keeps}
 use Rattle.mv_refine_machine.proofs.Calming.{calm_told, calm_tested, calm_kept}
 use Rattle.mv_refine_machine.proofs.Fetches.{unpatched_stands, calm_choice, fetches_one}
 use Rattle.mv_refine_machine.proofs.Open.{steps_sound}
-use Rattle.mv_select_control.proofs.Reading.{step_over}
+use Rattle.mv_select_code.proofs.OfControl.Reading.{step_over}
 
 -- a step that goes on has a word
 pub has_word : (word : Option ℕ) (regs : List ℕ) (pc : ℕ) (m : Rest) (next : Spot Rest) → step access word regs pc m ≡ Goes next.regs next.pc next.memory → (w : ℕ) × (word ≡ Some w)

@@ -9,9 +9,9 @@ use Rattle.mv_isa.specs.declared.instr.Instr.TheVariants.{Lb, Lh, Lw, Lbu, Lhu}
 use Rattle.mv_isa.specs.Encoding.{decode}
 use Rattle.mv_isa.specs.Execution.{Access, Outcome, Goes, Calls, reg, sets, loaded, loads, execute, decoded, step}
 use Rattle.mv_fetch.specs.Held.{choices}
-use Rattle.mv_select_statements.specs.Leads.{reading}
-use Rattle.mv_select_control.specs.Runs.{Spot}
-use Rattle.mv_select_functions.specs.Loads.{loads_from}
+use Rattle.mv_select_code.specs.Statements.Leads.{reading}
+use Rattle.mv_select_code.specs.Control.Runs.{Spot}
+use Rattle.mv_select.specs.Functions.Loads.{loads_from}
 use Rattle.mv_refine_machine.specs.Calm.{Rest}
 use Rattle.mv_refine_machine.specs.MachineRuns.{has_one_choice, opens, are_open, is_sound}
 

@@ -3,7 +3,7 @@ use Rattle.std.proofs.Common.{◌≡◌, ⊎_elim, ℕ, ◌+◌, ◌*◌, ◌<�
 use Rattle.std.proofs.lemmas.Bool.{cases_lt}
 use Rattle.std.proofs.lemmas.List.{take-take, get_or-take, get_or_past, length-take-le}
 use Rattle.std.proofs.lemmas.List.Sums.{sum_by_more_le}
-use Rattle.mv_select_statements.specs.Frames.{Site}
+use Rattle.mv_select_code.specs.Statements.Frames.{Site}
 use Rattle.mv_refine_machine.specs.Layout.{IsPacked, IsLaidOut}
 
 -- a size that isn't 0 is one of the list

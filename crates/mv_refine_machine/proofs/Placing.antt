@@ -11,7 +11,7 @@ use Rattle.mv_isa.specs.LineSteps.{named}
 use Rattle.mv_asm.specs.Outcome.{AreWordsUnder}
 use Rattle.mv_image.specs.Spelling.{Fields}
 use Rattle.mv_ir.specs.World.{World}
-use Rattle.mv_select_control.specs.Placed.{StandsIn, IsAtPlace, IsPlaced, Placed}
+use Rattle.mv_select_code.specs.Control.Placed.{StandsIn, IsAtPlace, IsPlaced, Placed}
 use Rattle.mv_refine_machine.specs.MachineRuns.{may_be_patched, image_word, unpatched_word, bound_word, machine_text}
 use Rattle.mv_refine_machine.specs.Assembled.{HasWords, IsFreeAt, IsKept, IsOnlyLabel, IsPart}
 use Rattle.mv_refine_machine.proofs.Fetches.{finds_word, keeps_word, free_stands}

@@ -7,12 +7,12 @@ use Rattle.mv_isa.specs.Execution.{Access, reg, put}
 use Rattle.mv_ir.specs.World.{World, Answer}
 use Rattle.mv_ir.specs.KnownFunctions.{next_byte}
 use Rattle.mv_machine.specs.Runs.{bytes_to_come}
-use Rattle.mv_select_trees.specs.View.{AreRegisters}
-use Rattle.mv_select_trees.proofs.Registers.{put_same, put_other, put_registers}
-use Rattle.mv_select_statements.proofs.TreesFirst.{add_small}
-use Rattle.mv_select_control.specs.Runs.{Machine, outside}
-use Rattle.mv_select_control.proofs.Walk.{before_next}
-use Rattle.mv_select_calls.specs.Convention.{Layout, IsSaved, HoldsGlobals, Stands, SetsBack, Returns}
+use Rattle.mv_select_code.specs.Trees.View.{AreRegisters}
+use Rattle.mv_select_code.proofs.OfTrees.Registers.{put_same, put_other, put_registers}
+use Rattle.mv_select_code.proofs.OfStatements.TreesFirst.{add_small}
+use Rattle.mv_select_code.specs.Control.Runs.{Machine, outside}
+use Rattle.mv_select_code.proofs.OfControl.Walk.{before_next}
+use Rattle.mv_select.specs.Calls.Convention.{Layout, IsSaved, HoldsGlobals, Stands, SetsBack, Returns}
 use Rattle.mv_refine_machine.specs.Laws.{IsByteOrEnd}
 
 pub byte_fits : (bytes : List ℕ) (w : World) → All IsByteOrEnd (bytes_to_come bytes) → (next_byte bytes w).value < 2 ^ 32

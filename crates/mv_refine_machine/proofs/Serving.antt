@@ -15,9 +15,9 @@ use Rattle.mv_ir.specs.KnownFunctions.{next_byte, written}
 use Rattle.mv_ir.specs.Programs.{setting_of}
 use Rattle.mv_rv32.specs.Stepping.{access as room_access}
 use Rattle.mv_machine.specs.Runs.{bytes_to_come}
-use Rattle.mv_select_control.specs.Runs.{Machine, outside}
-use Rattle.mv_select_calls.specs.Convention.{Layout, Stands, Returns}
-use Rattle.mv_select_calls.specs.Environment.{Serves, ServesCalls}
+use Rattle.mv_select_code.specs.Control.Runs.{Machine, outside}
+use Rattle.mv_select.specs.Calls.Convention.{Layout, Stands, Returns}
+use Rattle.mv_select.specs.Calls.Environment.{Serves, ServesCalls}
 use Rattle.mv_refine_machine.specs.Calm.{Rest, IsCalm}
 use Rattle.mv_refine_machine.specs.Calls.{IsAnswered, AtCall, CallsAreAnswered}
 use Rattle.mv_refine_machine.specs.MachineRuns.{access, unpatched_word, machine_of, is_sound}

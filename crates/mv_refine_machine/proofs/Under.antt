@@ -6,13 +6,13 @@ use Rattle.mv_bindings.specs.declared.binding.Binding.{Binding}
 use Rattle.mv_image.specs.Spelling.{Fields}
 use Rattle.mv_isa.specs.Execution.{Goes, step}
 use Rattle.mv_ir.specs.World.{World}
-use Rattle.mv_select_statements.specs.Frames.{Site}
-use Rattle.mv_select_statements.specs.Leads.{limited}
-use Rattle.mv_select_control.specs.Runs.{Spot, Machine, outside, LeadsOn, IsRun}
-use Rattle.mv_select_functions.specs.Functions.{IsOpen, alone}
-use Rattle.mv_select_slots.specs.Narrowed as narrow
-use Rattle.mv_select_slots.specs.Narrowed.{has_bindings}
-use Rattle.mv_select_slots.proofs.Bindings.{bindings_are_told}
+use Rattle.mv_select_code.specs.Statements.Frames.{Site}
+use Rattle.mv_select_code.specs.Statements.Leads.{limited}
+use Rattle.mv_select_code.specs.Control.Runs.{Spot, Machine, outside, LeadsOn, IsRun}
+use Rattle.mv_select.specs.Functions.Functions.{IsOpen, alone}
+use Rattle.mv_select.specs.Slots.Narrowed as narrow
+use Rattle.mv_select.specs.Slots.Narrowed.{has_bindings}
+use Rattle.mv_select.proofs.OfSlots.Bindings.{bindings_are_told}
 use Rattle.mv_refine_machine.specs.Calm.{Rest, is_calm}
 use Rattle.mv_refine_machine.specs.Layout.{OwnOutsideText}
 use Rattle.mv_refine_machine.specs.Laws.{RunsAreRunsUnder}
@@ -24,7 +24,7 @@ use Rattle.mv_refine_machine.proofs.Fetches.{calm_choice}
 use Rattle.mv_refine_machine.proofs.OnRuns.{has_word, in_part, steps_are_taken}
 use Rattle.mv_refine_machine.proofs.Open.{steps_sound}
 use Rattle.mv_refine_machine.proofs.Registers.{run_registers}
-use Rattle.mv_select_control.proofs.Reading.{step_over}
+use Rattle.mv_select_code.proofs.OfControl.Reading.{step_over}
 
 -- nothing of a world but its bindings shows in text
 pub same_words : (image : Fields) (w : World) (a : ℕ) → bound_word image w a ≡ words_under image w.bindings a

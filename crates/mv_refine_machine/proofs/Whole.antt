@@ -4,9 +4,9 @@ use Rattle.std.proofs.lemmas.Bool.{cases_lt, cases_order}
 use Rattle.mv_machine.specs.Acts.{PollActs}
 use Rattle.mv_image.specs.Spelling.{Fields}
 use Rattle.mv_ir.specs.World.{World}
-use Rattle.mv_select_statements.specs.Frames.{Site, address}
-use Rattle.mv_select_calls.specs.Convention.{Layout}
-use Rattle.mv_select_functions.specs.Functions.{IsStack, IsWord, IsLaid, Kept, IsMemory, StandsInWords}
+use Rattle.mv_select_code.specs.Statements.Frames.{Site, address}
+use Rattle.mv_select.specs.Calls.Convention.{Layout}
+use Rattle.mv_select.specs.Functions.Functions.{IsStack, IsWord, IsLaid, Kept, IsMemory, StandsInWords}
 use Rattle.mv_refine_machine.specs.Calm.{Rest, is_calm}
 use Rattle.mv_refine_machine.specs.MachineRuns.{access, machine_of}
 use Rattle.mv_refine_machine.specs.Layout.{IsOutsideText, OwnOutsideText, IsSetOut}

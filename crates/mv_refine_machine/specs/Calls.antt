@@ -9,7 +9,7 @@ use Rattle.mv_image.specs.Spelling.{Fields}
 use Rattle.mv_ir.specs.World.{World, Answer}
 use Rattle.mv_ir.specs.KnownFunctions.{next_byte, written}
 use Rattle.mv_machine.specs.Runs.{Stop, Exit, Trap}
-use Rattle.mv_select_control.specs.Runs.{Spot}
+use Rattle.mv_select_code.specs.Control.Runs.{Spot}
 use Rattle.mv_refine_machine.specs.Calm.{Rest, IsCalm}
 use Rattle.mv_refine_machine.specs.MachineRuns.{access, is_sound, run_of, unpatched_word}
 

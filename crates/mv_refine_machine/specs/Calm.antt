@@ -9,7 +9,7 @@ use Rattle.mv_image.specs.Spelling.{Fields}
 use Rattle.mv_image.specs.Patched.{text_of}
 use Rattle.mv_patch.specs.Orders.{values_of}
 use Rattle.mv_ir.specs.World.{World}
-use Rattle.mv_select_slots.specs.Narrowed.{same_bindings}
+use Rattle.mv_select.specs.Slots.Narrowed.{same_bindings}
 use Rattle.mv_machine.specs.Runs.{Stop, Going, Exit, Trap, Fault, bytes_to_come}
 
 -- all of a machine's state but registers and pc

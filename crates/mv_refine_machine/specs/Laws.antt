@@ -18,13 +18,13 @@ use Rattle.mv_image.specs.Spelling.{Fields}
 use Rattle.mv_ir.specs.World.{World}
 use Rattle.mv_ir.specs.Programs.{setting_of}
 use Rattle.mv_machine.specs.Runs.{bytes_to_come}
-use Rattle.mv_select_statements.specs.Frames.{Site}
-use Rattle.mv_select_control.specs.Placed.{Placed}
-use Rattle.mv_select_control.specs.Runs.{IsRun, Calm}
-use Rattle.mv_select_calls.specs.Convention.{Layout}
-use Rattle.mv_select_calls.specs.Environment.{ServesCalls}
-use Rattle.mv_select_functions.specs.Functions.{IsOpen, alone}
-use Rattle.mv_select_slots.specs.Narrowed.{under}
+use Rattle.mv_select_code.specs.Statements.Frames.{Site}
+use Rattle.mv_select_code.specs.Control.Placed.{Placed}
+use Rattle.mv_select_code.specs.Control.Runs.{IsRun, Calm}
+use Rattle.mv_select.specs.Calls.Convention.{Layout}
+use Rattle.mv_select.specs.Calls.Environment.{ServesCalls}
+use Rattle.mv_select.specs.Functions.Functions.{IsOpen, alone}
+use Rattle.mv_select.specs.Slots.Narrowed.{under}
 use Rattle.mv_refine_machine.specs.Under.{words_under}
 use Rattle.mv_refine_machine.specs.Calm.{Rest, IsCalm, is_calm}
 use Rattle.mv_refine_machine.specs.Calls.{CallsAreAnswered}

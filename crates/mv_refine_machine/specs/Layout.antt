@@ -2,8 +2,8 @@
 use Rattle.std.specs.Prelude.{ℕ, ◌≡◌, ◌+◌, ◌*◌, ◌%◌, ◌<◌, ◌≤◌, ◌⊎◌, max, true, List, length, take, slice_index, sum}
 use Rattle.mv_num.specs.Regions.{data_start, stack_start, plan_area, data_limit}
 use Rattle.mv_isa.specs.Registers.{sp}
-use Rattle.mv_select_statements.specs.Frames.{Site, Cell, IsOwn, IsThere, address}
-use Rattle.mv_select_calls.specs.Convention as convention
+use Rattle.mv_select_code.specs.Statements.Frames.{Site, Cell, IsOwn, IsThere, address}
+use Rattle.mv_select.specs.Calls.Convention as convention
 
 -- an address of the data or of the stack
 abbrev pub IsOutsideText : ℕ → Type 0

@@ -8,3 +8,7 @@ pub mod Bound
 pub mod Under
 pub mod Shown
 pub mod Laws
+pub mod Stubs
+pub mod Stores
+pub mod Commits
+pub mod Runs

@@ -11,9 +11,9 @@ use Rattle.mv_image.specs.Spelling.{Fields}
 use Rattle.mv_image.specs.Patched.{entry_at, site_at, site_before, word_under}
 use Rattle.mv_ir.specs.World.{World}
 use Rattle.mv_machine.specs.Runs.{State, runs}
-use Rattle.mv_select_control.specs.Placed.{Text}
-use Rattle.mv_select_control.specs.Runs.{Spot, Machine}
-use Rattle.mv_select_functions.specs.Loads.{loads_from}
+use Rattle.mv_select_code.specs.Control.Placed.{Text}
+use Rattle.mv_select_code.specs.Control.Runs.{Spot, Machine}
+use Rattle.mv_select.specs.Functions.Loads.{loads_from}
 use Rattle.mv_refine_machine.specs.Calm.{Rest, is_calm}
 use Rattle.mv_patch.specs.Orders.{values_of}
 

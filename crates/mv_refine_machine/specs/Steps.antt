@@ -4,9 +4,9 @@ use Rattle.mv_machine.specs.Acts.{PollActs}
 use Rattle.mv_isa.specs.Execution.{Goes, step}
 use Rattle.mv_image.specs.Spelling.{Fields}
 use Rattle.mv_ir.specs.World.{World}
-use Rattle.mv_select_statements.specs.Frames.{Site}
-use Rattle.mv_select_statements.specs.Leads.{Writes}
-use Rattle.mv_select_control.specs.Runs.{Spot}
+use Rattle.mv_select_code.specs.Statements.Frames.{Site}
+use Rattle.mv_select_code.specs.Statements.Leads.{Writes}
+use Rattle.mv_select_code.specs.Control.Runs.{Spot}
 use Rattle.mv_refine_machine.specs.Calm.{Rest, IsCalm}
 use Rattle.mv_refine_machine.specs.MachineRuns.{access, bound_word, has_one_choice, run_of}
 

@@ -18,18 +18,29 @@
 //!   body, if neither word of the site is an entry and the second starts no other site.
 //! - `environment_calls`: from a calm time, exits and traps (codes 1 to 4) end the run for good, a read gives the next
 //!   byte or -1, a write adds the low byte to the output. `known_calls_are_served`: so the machine serves `getchar` and
-//!   `putchar` as `mv_select_calls` asks, if its input is bytes.
+//!   `putchar` as `mv_select::calls` asks, if its input is bytes.
 //! - `packed_is_laid_out`: globals in the data and arrays in a frame that stand one behind the other are laid out in
 //!   order.
 //! - `runs_are_runs_under`: so is the machine narrowed to worlds with some bindings, over a part of the words that stand
 //!   under these.
 //! - `functions_show`: while a function is free the lines of the code stand at its entry and sites; while it is bound to
 //!   values for which it has a variant, its entry jumps there, and its sites call it or have its inline words.
-//! - Not here: the environment calls of orders and polls (`mv_refine_commits`). That a linked image has its code where
+//! - Not here: the environment calls of orders and polls (`mv_refine_machine::commits`). That a linked image has its code where
 //!   `code_is_placed` asks is shown in `mv_link_text`. A crate of laws, without a test.
+//!
+//! And above this, in modules with their own specifications and headers:
+//!
+//! - `stubs`: how a run starts, exits and traps.
+//! - `stores`: what memory holds while the pairs of a plan are stored into text one by one.
+//! - `commits`: the stub of commits carries out orders and polls, and each place of a run is sound while text changes.
+//! - `runs`: a run does what a program means, if it does what a call of `main` does (`images_behave`).
 #![tactic(auto)]
 
+pub mod commits;
 mod laws;
+pub mod runs;
+pub mod stores;
+pub mod stubs;
 
 pub use laws::{
     bindings_are_shown, bound_steps_are_taken, bound_words_are_instructions, calm_is_tested,

@@ -7,13 +7,13 @@ use Rattle.mv_ir.specs.declared.body.Body.{Body}
 use Rattle.mv_ir.specs.Measures.{total}
 use Rattle.mv_ir.specs.WellFormed.{is_there, named, IsWellFormed}
 use Rattle.mv_ir.proofs.Rolls.{same_functions}
-use Rattle.mv_select_control.specs.declared.layout.Space.{Space}
-use Rattle.mv_select_control.specs.FlowCode.{CallLines, Plan, code_of}
-use Rattle.mv_select_control.specs.Layouts.{array_at_in, array_size_in, IsInFrame, plan_in}
-use Rattle.mv_select_calls.specs.CallCode.{calls_of, is_marked}
-use Rattle.mv_select_trees.specs.Rooms.{place_in}
-use Rattle.mv_select_functions.specs.FunctionCode.{arrays_start, words_before, array_offset}
-use Rattle.mv_select_bodies.proofs.Lists.{each_true}
+use Rattle.mv_select_code.specs.declared.control.layout.Space.{Space}
+use Rattle.mv_select_code.specs.Control.FlowCode.{CallLines, Plan, code_of}
+use Rattle.mv_select_code.specs.Control.Layouts.{array_at_in, array_size_in, IsInFrame, plan_in}
+use Rattle.mv_select.specs.Calls.CallCode.{calls_of, is_marked}
+use Rattle.mv_select_code.specs.Trees.Rooms.{place_in}
+use Rattle.mv_select.specs.Functions.FunctionCode.{arrays_start, words_before, array_offset}
+use Rattle.mv_select.proofs.OfBodies.Lists.{each_true}
 use Rattle.mv_select.specs.Selected.{spaces_behind, layout_in, plan_of, FitsFrame}
 use Rattle.mv_select.proofs.SameCode.{code_same}
 

@@ -4,3 +4,8 @@ pub mod Selecting
 pub mod SelectedLines
 pub mod Totals
 pub mod Within
+pub mod OfCalls
+pub mod OfFunctions
+pub mod OfSlots
+pub mod OfBodies
+pub mod OfInline

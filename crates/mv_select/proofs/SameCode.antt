@@ -10,10 +10,10 @@ use Rattle.mv_ir.specs.Measures.{joined}
 use Rattle.mv_ir.specs.WellFormed.{layer_named, stm_named}
 use Rattle.mv_ir.proofs.Induction.{Each, StmChildren, stm_ind, stms_ind}
 use Rattle.mv_ir.proofs.Rolls.{named_roll}
-use Rattle.mv_select_statements.specs.declared.elements.Home.TheVariants as place_at
-use Rattle.mv_select_statements.specs.StatementCode.{read_lines, write_lines}
-use Rattle.mv_select_control.specs.FlowCode.{Plan, Emitted, in_turn, plain, zero_code, if_code, loop_code, block_code, home, size, code_layer, statement_code, code_of}
-use Rattle.mv_select_control.proofs.StatementsDo.{code_roll}
+use Rattle.mv_select_code.specs.declared.statements.elements.Home.TheVariants as place_at
+use Rattle.mv_select_code.specs.Statements.StatementCode.{read_lines, write_lines}
+use Rattle.mv_select_code.specs.Control.FlowCode.{Plan, Emitted, in_turn, plain, zero_code, if_code, loop_code, block_code, home, size, code_layer, statement_code, code_of}
+use Rattle.mv_select_code.proofs.OfControl.StatementsDo.{code_roll}
 use Rattle.mv_ir.proofs.Common.{each_first, each_right}
 
 -- other places, which agree at the arrays that are there

@@ -6,25 +6,25 @@ use Rattle.mv_isa.specs.declared.labelled.Line.{Line}
 use Rattle.mv_isa.specs.declared.labelled.Line.TheVariants.{Label}
 use Rattle.mv_isa.specs.Code.{LineFits, StandsOnce, TargetStands, is_label}
 use Rattle.mv_ir.specs.declared.body.Body.{Body}
-use Rattle.mv_select_trees.specs.Rooms.{place_in}
-use Rattle.mv_select_statements.specs.Encoded.{IsCode}
-use Rattle.mv_select_statements.proofs.EncodedCode.{both, wider}
-use Rattle.mv_select_control.specs.declared.enclosing.Enclosing.{Enclosing}
-use Rattle.mv_select_control.specs.FlowCode.{Emitted, code_of}
-use Rattle.mv_select_control.specs.Encoded.{most_words}
-use Rattle.mv_select_control.specs.Labels.{Names, CallsName, OwnLabels}
-use Rattle.mv_select_control.proofs.FlowEncoded.{flow_encoded}
-use Rattle.mv_select_control.proofs.LabelsOwn.{none, silent_own, both_own, labels_own}
-use Rattle.mv_select_control.proofs.StatementsAreMade.{names_made}
-use Rattle.mv_select_control.proofs.TargetsStand.{stand_made, targets_stand}
-use Rattle.mv_select_control.proofs.TreeNames.{AnyNumber}
-use Rattle.mv_select_calls.specs.CallCode.{is_marked}
-use Rattle.mv_select_calls.specs.Lines.{StubsStand}
-use Rattle.mv_select_calls.proofs.CallsEncoded.{calls_encoded}
-use Rattle.mv_select_calls.proofs.CallsName.{calls_have_no_labels, call_targets_stand}
-use Rattle.mv_select_functions.specs.FunctionCode.{frame_bytes, prologue_lines, epilogue_lines}
-use Rattle.mv_select_functions.proofs.EncodedFrames.{frames_encoded}
-use Rattle.mv_select_functions.proofs.FramesAreMade.{prologue_made, epilogue_made}
+use Rattle.mv_select_code.specs.Trees.Rooms.{place_in}
+use Rattle.mv_select_code.specs.Statements.Encoded.{IsCode}
+use Rattle.mv_select_code.proofs.OfStatements.EncodedCode.{both, wider}
+use Rattle.mv_select_code.specs.declared.control.enclosing.Enclosing.{Enclosing}
+use Rattle.mv_select_code.specs.Control.FlowCode.{Emitted, code_of}
+use Rattle.mv_select_code.specs.Control.Encoded.{most_words}
+use Rattle.mv_select_code.specs.Control.Labels.{Names, CallsName, OwnLabels}
+use Rattle.mv_select_code.proofs.OfControl.FlowEncoded.{flow_encoded}
+use Rattle.mv_select_code.proofs.OfControl.LabelsOwn.{none, silent_own, both_own, labels_own}
+use Rattle.mv_select_code.proofs.OfControl.StatementsAreMade.{names_made}
+use Rattle.mv_select_code.proofs.OfControl.TargetsStand.{stand_made, targets_stand}
+use Rattle.mv_select_code.proofs.OfControl.TreeNames.{AnyNumber}
+use Rattle.mv_select.specs.Calls.CallCode.{is_marked}
+use Rattle.mv_select.specs.Calls.Lines.{StubsStand}
+use Rattle.mv_select.proofs.OfCalls.CallsEncoded.{calls_encoded}
+use Rattle.mv_select.proofs.OfCalls.CallsName.{calls_have_no_labels, call_targets_stand}
+use Rattle.mv_select.specs.Functions.FunctionCode.{frame_bytes, prologue_lines, epilogue_lines}
+use Rattle.mv_select.proofs.OfFunctions.EncodedFrames.{frames_encoded}
+use Rattle.mv_select.proofs.OfFunctions.FramesAreMade.{prologue_made, epilogue_made}
 use Rattle.mv_select.specs.Selected.{layout_in, plan_of, selected_lines}
 use Rattle.mv_select.specs.Laws.{greatest_length, SelectedIsEncoded, SelectedLabelsAreOwn, SelectedTargetsStand, SelectedBegins}
 use Rattle.mv_select.proofs.Layouts.{calls_in, arrays_within, layout_code}

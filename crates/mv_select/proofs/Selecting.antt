@@ -5,15 +5,15 @@ use Rattle.mv_isa.specs.declared.labelled.Line.TheVariants.{Label}
 use Rattle.mv_isa.specs.declared.labelled.Labelled.{Labelled}
 use Rattle.mv_ir.specs.declared.body.Body.{Body}
 use Rattle.mv_ir.specs.declared.body.Room.{Room}
-use Rattle.mv_select_trees.specs.Rooms.{place_in}
-use Rattle.mv_select_control.specs.declared.enclosing.Enclosing.{Enclosing}
-use Rattle.mv_select_control.specs.declared.layout.Layout.{Layout}
-use Rattle.mv_select_control.specs.FlowCode.{Emitted, code_of}
-use Rattle.mv_select_control.specs.Labels.{OwnLabels}
-use Rattle.mv_select_control.specs.Layouts.{plan_in}
-use Rattle.mv_select_control.proofs.LabelsOwn.{labels_few}
-use Rattle.mv_select_calls.specs.CallCode.{calls_of, is_marked}
-use Rattle.mv_select_functions.specs.FunctionCode.{frame_bytes, prologue_lines, epilogue_lines}
+use Rattle.mv_select_code.specs.Trees.Rooms.{place_in}
+use Rattle.mv_select_code.specs.declared.control.enclosing.Enclosing.{Enclosing}
+use Rattle.mv_select_code.specs.declared.control.layout.Layout.{Layout}
+use Rattle.mv_select_code.specs.Control.FlowCode.{Emitted, code_of}
+use Rattle.mv_select_code.specs.Control.Labels.{OwnLabels}
+use Rattle.mv_select_code.specs.Control.Layouts.{plan_in}
+use Rattle.mv_select_code.proofs.OfControl.LabelsOwn.{labels_few}
+use Rattle.mv_select.specs.Calls.CallCode.{calls_of, is_marked}
+use Rattle.mv_select.specs.Functions.FunctionCode.{frame_bytes, prologue_lines, epilogue_lines}
 use Rattle.mv_select.specs.Selected.{layout_in, plan_of, selected_lines, selected_labels, IsSuitable, FitsFrame, IsSelected}
 use Rattle.mv_select.proofs.Layouts.{calls_in, layout_code}
 use Rattle.mv_select.proofs.SelectedLines.{entry, return, inner, selected_labels_own}

@@ -1,9 +1,9 @@
 -- A body that `select` takes, with a frame that is small enough, is within the limits of selection.
 use Rattle.std.proofs.Common.{◌≡◌, ◌≤◌, Bool, true}
 use Rattle.mv_ir.specs.declared.body.Body.{Body}
-use Rattle.mv_select_control.specs.Layouts.{are_small}
-use Rattle.mv_select_bodies.specs.SelectedBodies.{IsWithin}
-use Rattle.mv_select_bodies.proofs.Small.{bodies_are_small}
+use Rattle.mv_select_code.specs.Control.Layouts.{are_small}
+use Rattle.mv_select.specs.Bodies.SelectedBodies.{IsWithin}
+use Rattle.mv_select.proofs.OfBodies.Small.{bodies_are_small}
 use Rattle.mv_select.specs.Selected.{IsSuitable, FitsFrame}
 
 pub is_within : (attributed : Bool) (body : Body) → IsSuitable body → FitsFrame body → IsWithin attributed body

@@ -6,12 +6,12 @@ use Rattle.mv_isa.specs.declared.labelled.Line.TheVariants.{Word}
 use Rattle.mv_isa.specs.Code.{StandsOnce, TargetStands}
 use Rattle.mv_isa.specs.Registers.{sp}
 use Rattle.mv_ir.specs.declared.body.Body.{Body}
-use Rattle.mv_select_statements.specs.StatementCode.{trap_label}
-use Rattle.mv_select_statements.specs.Encoded.{IsCode}
-use Rattle.mv_select_control.specs.Encoded.{most_words}
-use Rattle.mv_select_control.specs.Labels.{OwnLabels, functions}
-use Rattle.mv_select_calls.specs.CallCode.{commit_label}
-use Rattle.mv_select_functions.specs.FunctionCode.{frame_bytes}
+use Rattle.mv_select_code.specs.Statements.StatementCode.{trap_label}
+use Rattle.mv_select_code.specs.Statements.Encoded.{IsCode}
+use Rattle.mv_select_code.specs.Control.Encoded.{most_words}
+use Rattle.mv_select_code.specs.Control.Labels.{OwnLabels, functions}
+use Rattle.mv_select.specs.Calls.CallCode.{commit_label}
+use Rattle.mv_select.specs.Functions.FunctionCode.{frame_bytes}
 use Rattle.mv_select.specs.Selected.{selected_lines, selected_labels, IsSuitable, FitsFrame}
 
 -- how many words the code of a body has at most: those of its statements, and 33 for entry and return

@@ -6,17 +6,17 @@ use Rattle.mv_isa.specs.declared.labelled.Labelled.{Labelled}
 use Rattle.mv_ir.specs.declared.body.Body.{Body}
 use Rattle.mv_ir.specs.Measures.{total, statements, deepest}
 use Rattle.mv_ir.specs.WellFormed.{IsWellFormed}
-use Rattle.mv_select_trees.specs.Rooms.{place_in}
-use Rattle.mv_select_control.specs.declared.layout.Space.{Space}
-use Rattle.mv_select_control.specs.declared.layout.Layout.{Layout}
-use Rattle.mv_select_control.specs.FlowCode.{Plan as PlanOfCode, code_of}
-use Rattle.mv_select_control.specs.Labels.{OwnLabels}
-use Rattle.mv_select_control.specs.Layouts.{size_in}
-use Rattle.mv_select_calls.specs.CallCode.{is_marked}
-use Rattle.mv_select_calls.specs.Convention.{frame_limit}
-use Rattle.mv_select_functions.specs.FunctionCode.{arrays_start, frame_bytes, end_label, plan, function_lines}
-use Rattle.mv_select_functions.specs.Functions.{shape_of}
-use Rattle.mv_select_bodies.specs.SelectedBodies.{IsOrder, knowns}
+use Rattle.mv_select_code.specs.Trees.Rooms.{place_in}
+use Rattle.mv_select_code.specs.declared.control.layout.Space.{Space}
+use Rattle.mv_select_code.specs.declared.control.layout.Layout.{Layout}
+use Rattle.mv_select_code.specs.Control.FlowCode.{Plan as PlanOfCode, code_of}
+use Rattle.mv_select_code.specs.Control.Labels.{OwnLabels}
+use Rattle.mv_select_code.specs.Control.Layouts.{size_in}
+use Rattle.mv_select.specs.Calls.CallCode.{is_marked}
+use Rattle.mv_select.specs.Calls.Convention.{frame_limit}
+use Rattle.mv_select.specs.Functions.FunctionCode.{arrays_start, frame_bytes, end_label, plan, function_lines}
+use Rattle.mv_select.specs.Functions.Functions.{shape_of}
+use Rattle.mv_select.specs.Bodies.SelectedBodies.{IsOrder, knowns}
 use Rattle.mv_select.specs.declared.error.SelectError.{SelectError}
 use Rattle.mv_select.specs.declared.error.SelectError.TheVariants.{Frame, Memory}
 
@@ -47,7 +47,7 @@ selected_labels attributed body = suc (code_of (plan_of attributed body) body.co
 -- ---- bodies
 
 -- A well-formed body with registers for its trees, whose orders are a byte and a word. With a frame that is small enough it is within the limits of
--- selection, as `IsWithin` of `mv_select_bodies` says.
+-- selection, as `IsWithin` of `mv_select::bodies` says.
 pub record IsSuitable (body : Body) : Type 0 where
   pub formed : IsWellFormed body
   pub shallow : deepest body.code ≤ 4

@@ -2,11 +2,11 @@
 
 ghost use Rattle.std.specs.Prelude.{◌≡◌, ◌^◌, ◌≤◌, IfOk};
 ghost use Rattle.mv_ir.specs.Measures.{total};
-ghost use Rattle.mv_select_functions.specs.FunctionCode.{arrays_start, frame_bytes};
+ghost use Rattle.mv_select.specs.Functions.FunctionCode.{arrays_start, frame_bytes};
 ghost use Rattle.mv_select.specs.Selected.{spaces_behind};
 
 use mv_num::list::List;
-use mv_select_control::layout::Space;
+use mv_select_code::control::layout::Space;
 use std::alloc::{AllocError, Global};
 
 // How many words all arrays have.

@@ -6,17 +6,31 @@
 //!   2,032 bytes, with the function and the bytes (at most the greatest number of 64 bits); then temporaries and elements
 //!   together are more than 480.
 //! - `selection_law`: the instructions have encodings, and there are at most 33 words besides two for each tree node and
-//!   those that `mv_select_control` says for each form of statement (`encoded`); each label that the code takes stands in it
+//!   those that `mv_select_code::control` says for each form of statement (`encoded`); each label that the code takes stands in it
 //!   once, and no other does (`labels`); each label that it names stands once, wherever its own labels do, the stubs of
 //!   the traps and that of orders and polls, and the functions that it names (`targets`); it begins with the instruction
 //!   that moves sp (`begins`).
+//!
+//! Below this, in modules with their own specifications and headers:
+//!
+//! - `calls`: the calling convention, the code of calls, and what it does (`call_code_law`).
+//! - `functions`: entry and return of functions, and that functions keep the calling convention (`function_code_law`).
+//! - `slots`: what words do that stand while some bindings hold (`narrow_runs_law`).
+//! - `bodies`: which bodies code can be selected for, and what their lines name (`bodies_are_small`, `bodies_are_functions`,
+//!   `code_is_the_same`, `rooms_stand`, `lines_are_named`).
+//! - `inline`: bodies of two instructions, in place of a call (`inline_of`, `inline_law`).
 #![tactic(auto)]
 
+pub mod bodies;
+pub mod calls;
 pub mod error;
 mod frame;
+pub mod functions;
+pub mod inline;
 mod laws;
 mod selection;
+pub mod slots;
 
+pub use crate::inline::inline_of;
 pub use laws::selection_law;
-pub use mv_select_inline::inline_of;
 pub use selection::select;

@@ -3,18 +3,18 @@
 ghost use Rattle.std.specs.Prelude.{◌≡◌, ◌≤◌, IfOk, MatchResult};
 ghost use Rattle.mv_ir.specs.Measures.{deepest};
 ghost use Rattle.mv_ir.specs.WellFormed.{IsWellFormed};
-ghost use Rattle.mv_select_functions.specs.FunctionCode.{frame_bytes};
+ghost use Rattle.mv_select.specs.Functions.FunctionCode.{frame_bytes};
 ghost use Rattle.mv_select.specs.Selected.{layout_in, IsSuitable, IsSelected, PassesFrame, OnFrame};
 
+use crate::calls::Calls;
 use crate::error::SelectError;
 use crate::frame::{frame_bytes, spaces};
+use crate::functions::{push_epilogue, push_prologue};
 use mv_ir::body::Body;
 use mv_isa::labelled::{Labelled, Line};
-use mv_select_calls::Calls;
-use mv_select_control::emitter::Emitter;
-use mv_select_control::layout::Layout;
-use mv_select_control::push_statements;
-use mv_select_functions::{push_epilogue, push_prologue};
+use mv_select_code::control::emitter::Emitter;
+use mv_select_code::control::layout::Layout;
+use mv_select_code::control::push_statements;
 use std::alloc::{AllocError, Global};
 
 /// The greatest frame, in bytes.
@@ -83,7 +83,7 @@ fn written(alloc: Global, body: &Body, attributed: bool, bytes: u32) -> Result<L
 }
 
 /// The code of a function, given by its body and whether it is attributed. It makes the frame, carries the body out and takes the
-/// frame down. What this code does is said by `function_code_law` of `mv_select_functions`, and what stands in it by `selection_law`.
+/// frame down. What this code does is said by `function_code_law` of `mv_select::functions`, and what stands in it by `selection_law`.
 ///
 /// The body is well formed, and no tree has more than four nodes one below the other. `Frame` comes where the frame needs more
 /// than 2,032 bytes, and only there. `function` is the number that this error names.

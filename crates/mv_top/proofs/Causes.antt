@@ -8,11 +8,11 @@ use Rattle.mv_front.specs.declared.refusal.Refusal.{Refusal}
 use Rattle.mv_command.specs.declared.items.Item.{Item}
 use Rattle.mv_machine.specs.Actions as machine
 use Rattle.mv_operator.specs.Operator.{IsFirstWrong}
-use Rattle.mv_build.specs.declared.built.Built.{Built}
-use Rattle.mv_build.specs.declared.error.BuildError.{BuildError}
-use Rattle.mv_build.specs.declared.error.BuildError.TheVariants as build_error
-use Rattle.mv_build.specs.Answers as build
-use Rattle.mv_build.specs.Verdicts.{IsBuiltFrom}
+use Rattle.mv_refine.specs.Built.{Built}
+use Rattle.mv_refine.specs.BuildError.{BuildError}
+use Rattle.mv_refine.specs.BuildError.TheVariants as build_error
+use Rattle.mv_refine.specs.Answers as build
+use Rattle.mv_refine.specs.Verdicts.{IsBuiltFrom}
 use Rattle.mv_top.specs.Running as spec
 use Rattle.mv_top.specs.Running.{IsCause, IsNotRun, no_action}
 

@@ -3,7 +3,7 @@ use Rattle.std.proofs.Common.{ℕ, ◌≡◌, ◌⊎◌, inl, inr, true, false, 
 use Rattle.mv_ast.specs.declared.program.Program.{Program}
 use Rattle.mv_bindings.specs.declared.binding.Event.{Event}
 use Rattle.mv_io.specs.Shelves.{Files, Lacks}
-use Rattle.mv_count_limits.specs.Counted.{CountedPassNone}
+use Rattle.mv_gen_accepted.specs.Counted.{CountedPassNone}
 use Rattle.mv_front.specs.Verdicts.{IsRefused}
 use Rattle.mv_front.specs.declared.refusal.Refusal.{Refusal}
 use Rattle.mv_exec.specs.Loading.{IsBadImage}

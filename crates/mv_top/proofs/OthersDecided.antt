@@ -30,7 +30,7 @@ use Rattle.mv_notes.specs.declared.status.Status.{Status}
 use Rattle.mv_notes.specs.declared.status.Status.TheVariants.{Refused, Memory, BadImage, Done}
 use Rattle.mv_top.specs.Building as building
 use Rattle.mv_top.specs.Building.{BuildDoes}
-use Rattle.mv_count_limits.specs.Counted.{CountedPassNone}
+use Rattle.mv_gen_accepted.specs.Counted.{CountedPassNone}
 use Rattle.mv_machine.specs.declared.machine.Stopped.{Stopped}
 use Rattle.mv_machine.specs.declared.machine.Stopped.TheVariants as stop
 use Rattle.mv_machine.specs.Snapshots.{Snapshot}

@@ -7,8 +7,8 @@ use Rattle.mv_bindings.specs.declared.binding.Event.{Event}
 use Rattle.mv_front.specs.Verdicts.{IsProgram, IsRefused}
 use Rattle.mv_front.specs.declared.refusal.Refusal.{Refusal}
 use Rattle.mv_front.proofs.OneVerdict.{one_program, one_refusal, not_both}
-use Rattle.mv_build.specs.Verdicts as build
-use Rattle.mv_build.specs.Verdicts.{HasNoImage, PassesLimit}
+use Rattle.mv_refine.specs.Verdicts as build
+use Rattle.mv_refine.specs.Verdicts.{HasNoImage, PassesLimit}
 use Rattle.mv_machine.specs.Acts.{PollActs, polls_of}
 use Rattle.mv_machine.specs.declared.machine.Stopped.{Stopped}
 use Rattle.mv_machine.specs.declared.machine.Stopped.TheVariants as stop
@@ -27,7 +27,7 @@ use Rattle.mv_operator.specs.Operator.{IsActions, IsFirstWrong}
 use Rattle.mv_operator.proofs.Acting as operator
 use Rattle.mv_notes.specs.declared.status.Status.{Status}
 use Rattle.mv_notes.specs.declared.status.Status.TheVariants.{Refused}
-use Rattle.mv_count_limits.specs.Counted.{CountedPassNone}
+use Rattle.mv_gen_accepted.specs.Counted.{CountedPassNone}
 use Rattle.mv_top.specs.Decisions.{Ends, Is, IsTooLarge, IsWithinLimits, Stands}
 use Rattle.mv_top.specs.Evaluating.{status_of_end}
 use Rattle.mv_top.specs.Running as running

@@ -12,11 +12,11 @@ use Rattle.mv_front.specs.Verdicts.{IsProgram}
 use Rattle.mv_front.specs.Verdicts as front
 use Rattle.mv_front.specs.declared.refusal.FrontError.{FrontError}
 use Rattle.mv_front.specs.declared.refusal.FrontError.TheVariants as front_error
-use Rattle.mv_build.specs.Answers as build
-use Rattle.mv_build.specs.Verdicts.{IsBuiltFrom}
-use Rattle.mv_build.specs.declared.built.Built.{Built}
-use Rattle.mv_build.specs.declared.error.BuildError.{BuildError}
-use Rattle.mv_build.specs.declared.error.BuildError.TheVariants as build_error
+use Rattle.mv_refine.specs.Answers as build
+use Rattle.mv_refine.specs.Verdicts.{IsBuiltFrom}
+use Rattle.mv_refine.specs.Built.{Built}
+use Rattle.mv_refine.specs.BuildError.{BuildError}
+use Rattle.mv_refine.specs.BuildError.TheVariants as build_error
 use Rattle.mv_refine.specs.declared.execution.Execution.{Execution}
 use Rattle.mv_refine.specs.Environment.{Environment, Took, Wrote, ReadFailed, WriteFailed}
 use Rattle.mv_refine.specs.Execution.{IsExecution}

@@ -4,8 +4,8 @@ use Rattle.mv_ast.specs.declared.program.Program.{Program}
 use Rattle.mv_bindings.specs.declared.action.Action.{Action}
 use Rattle.mv_bindings.specs.declared.binding.Binding.{Binding}
 use Rattle.mv_bindings.specs.declared.binding.Event.{Event}
-use Rattle.mv_build.specs.declared.built.Built.{Built}
-use Rattle.mv_build.specs.Verdicts.{IsBuiltFrom}
+use Rattle.mv_refine.specs.Built.{Built}
+use Rattle.mv_refine.specs.Verdicts.{IsBuiltFrom}
 use Rattle.mv_image.specs.Patched.{text_of}
 use Rattle.mv_image.specs.Spelling.{Fields}
 use Rattle.mv_list.specs.Changes.{patched_text}

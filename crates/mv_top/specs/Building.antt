@@ -5,8 +5,8 @@ use Rattle.mv_io.specs.declared.outside.ShelfError.{ShelfError}
 use Rattle.mv_io.specs.declared.outside.ShelfError.TheVariants as shelf
 use Rattle.mv_image.specs.Faults.{Spells}
 use Rattle.mv_front.specs.declared.refusal.Refusal.{Refusal}
-use Rattle.mv_build.specs.Verdicts.{HasNoImage, IsBuiltFrom}
-use Rattle.mv_build.specs.declared.built.Built.{Built}
+use Rattle.mv_refine.specs.Verdicts.{HasNoImage, IsBuiltFrom}
+use Rattle.mv_refine.specs.Built.{Built}
 use Rattle.mv_notes.specs.declared.status.Status.{Status}
 use Rattle.mv_notes.specs.declared.status.Status.TheVariants.{Refused, Memory, ShelfFault, Done}
 use Rattle.mv_top.specs.Outside.{Outside, KeepsFiles, OfFile, ShelfFailed, Untouched}

@@ -6,8 +6,8 @@ use Rattle.mv_io.specs.Outside.{Rose}
 use Rattle.mv_io.specs.Shelves.{Files, Lacks}
 use Rattle.mv_front.specs.Verdicts.{IsProgram, IsRefused}
 use Rattle.mv_front.specs.declared.refusal.Refusal.{Refusal}
-use Rattle.mv_build.specs.Verdicts.{PassesLimit}
-use Rattle.mv_count_limits.specs.Counted.{IsWithinCounts}
+use Rattle.mv_refine.specs.Verdicts.{PassesLimit}
+use Rattle.mv_gen_accepted.specs.Counted.{IsWithinCounts}
 use Rattle.mv_image.specs.Faults.{Spells}
 use Rattle.mv_image.specs.Spelling.{Fields}
 use Rattle.mv_exec.specs.Loading.{IsBadImage}

@@ -5,10 +5,10 @@ use Rattle.mv_bindings.specs.declared.binding.Event.{Event}
 use Rattle.mv_front.specs.Codes as refusals
 use Rattle.mv_front.specs.Refusals.{counted}
 use Rattle.mv_front.specs.declared.refusal.Refusal.{Refusal}
-use Rattle.mv_build.specs.Verdicts.{HasNoImage, IsBuiltFrom}
-use Rattle.mv_build.specs.declared.built.Built.{Built}
-use Rattle.mv_build.specs.declared.error.BuildError.{BuildError}
-use Rattle.mv_build.specs.declared.error.BuildError.TheVariants as build
+use Rattle.mv_refine.specs.Verdicts.{HasNoImage, IsBuiltFrom}
+use Rattle.mv_refine.specs.Built.{Built}
+use Rattle.mv_refine.specs.BuildError.{BuildError}
+use Rattle.mv_refine.specs.BuildError.TheVariants as build
 use Rattle.mv_machine.specs.declared.machine.Stopped.{Stopped}
 use Rattle.mv_machine.specs.declared.machine.Stopped.TheVariants as stop
 use Rattle.mv_refine.specs.declared.execution.Execution.{Execution}

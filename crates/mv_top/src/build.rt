@@ -1,17 +1,17 @@
 //! `build`: a text is compiled, and its image saved.
 
 ghost use Rattle.std.specs.Prelude.{ℕ, ◌≡◌, List};
-ghost use Rattle.mv_build.specs.Verdicts.{IsBuiltFrom};
+ghost use Rattle.mv_refine.specs.Verdicts.{IsBuiltFrom};
 ghost use Rattle.mv_refine.specs.Environment.{Environment};
 ghost use Rattle.mv_top.specs.Building.{BuildDoes, BuildsFile, status_of_save};
 ghost use Rattle.mv_top.specs.Outside.{outside, shelved};
 
 use crate::files::status_of_shelf;
 use crate::run::status_of_build;
-use mv_build::{Built, build};
 use mv_image::write;
 use mv_io::{Shelf, ShelfError};
 use mv_notes::Status;
+use mv_refine::{Built, build};
 use std::alloc::Global;
 
 // The status of a save.

@@ -14,7 +14,6 @@ ghost use Rattle.mv_top.specs.Running.{IsCause, IsPrepared, RunDoes, status_of_b
 
 use crate::files::status_of_shelf;
 use mv_bindings::action::Action;
-use mv_build::{BuildError, Built, build};
 use mv_command::{Item, RunOptions};
 use mv_front::Refusal;
 use mv_image::Image;
@@ -24,7 +23,7 @@ use mv_notes::{Performed, Status, lines_of_run};
 use mv_num::list::List;
 use mv_operator::{ActionsError, actions_of};
 use mv_probe::{FetchOracle, Probe};
-use mv_refine::{Execution, execute};
+use mv_refine::{BuildError, Built, Execution, build, execute};
 use std::alloc::{AllocError, Global};
 
 /// A program with its image, and what the operator does at its polls.

@@ -15,7 +15,7 @@ use crate::generate::generate_program;
 use crate::list::list_file;
 use crate::run::run_file;
 use mv_command::{Command, command_of};
-use mv_count_limits::counted_programs_pass_no_limit;
+use mv_gen_accepted::counted_programs_pass_no_limit;
 use mv_io::{Shelf, Sink, Source};
 use mv_notes::{Performed, Status, report};
 use mv_probe::{FetchOracle, Probe};

@@ -4,8 +4,8 @@ use Rattle.std.proofs.lemmas.List.{take_more}
 use Rattle.mv_ir.proofs.Keeping.{map_append}
 use Rattle.mv_ast.specs.declared.program.Program.{Program}
 use Rattle.mv_merge.specs.declared.rows.Domain.{Domain}
-use Rattle.mv_parts_bound.specs.Led.{HaveWords}
-use Rattle.mv_parts_bound.specs.Switches.{DomainsAreWords}
+use Rattle.mv_variants.specs.Bound.Led.{HaveWords}
+use Rattle.mv_variants.specs.Bound.Switches.{DomainsAreWords}
 use Rattle.mv_variants.specs.Domains.{domain, IsDomain, AreDomainsOf}
 
 words_push : (domains : List Domain) (d : Domain) → HaveWords domains → All (λ v. v < 2 ^ 32) d.values → HaveWords (domains ++ d ∷ [])

@@ -7,7 +7,7 @@ use Rattle.mv_ir.proofs.Keeping.{map_append}
 use Rattle.mv_descriptors.specs.declared.rows.GuardRow.{GuardRow}
 use Rattle.mv_merge.specs.declared.rows.Guarded.{Guarded}
 use Rattle.mv_merge.specs.declared.rows.Variants.{Variants}
-use Rattle.mv_parts_bound.specs.Rows.{rows_of, groups_from}
+use Rattle.mv_variants.specs.Bound.Rows.{rows_of, groups_from}
 use Rattle.mv_variants.specs.declared.variant.Variant.{Variant}
 use Rattle.mv_variants.specs.Variants.{AreGroupedFrom, AreGrouped}
 

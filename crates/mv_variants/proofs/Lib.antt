@@ -3,3 +3,4 @@ pub mod Domains
 pub mod Rows
 pub mod Grouped
 pub mod Whole
+pub mod OfBound

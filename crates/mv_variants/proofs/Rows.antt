@@ -9,8 +9,8 @@ use Rattle.mv_ir.specs.declared.body.Assignment.{Assignment}
 use Rattle.mv_ir.specs.Combinations.{In, IsCombination, values_of}
 use Rattle.mv_ir.proofs.Keeping.{map_append}
 use Rattle.mv_merge.specs.declared.rows.Bound.{Bound}
-use Rattle.mv_parts_bound.specs.Meant.{IsMadeUnder}
-use Rattle.mv_parts_bound.specs.Led.{AreMade}
+use Rattle.mv_variants.specs.Bound.Meant.{IsMadeUnder}
+use Rattle.mv_variants.specs.Bound.Led.{AreMade}
 use Rattle.mv_variants.specs.Rows.{AreRowsUnder}
 use Rattle.mv_ir_worlds.proofs.Functions.{combination_length}
 

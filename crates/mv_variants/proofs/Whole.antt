@@ -11,14 +11,14 @@ use Rattle.mv_ir.specs.declared.body.Assignment.{Assignment}
 use Rattle.mv_ir.specs.Combinations.{AreDomains, AreAllCombinations, values_of}
 use Rattle.mv_ir.specs.Live.{IsWhole}
 use Rattle.mv_ir.specs.WellFormed as ir
-use Rattle.mv_lower_shape.specs.Law.{LoweredAreWhole, LoweredAreWellFormed}
+use Rattle.mv_lower_spec.specs.Shape.Law.{LoweredAreWhole, LoweredAreWellFormed}
 use Rattle.mv_source_forms.specs.WellFormed.{IsWellFormed}
 use Rattle.mv_merge.specs.declared.rows.Domain.{Domain}
 use Rattle.mv_merge.specs.declared.rows.Bound.{Bound}
 use Rattle.mv_merge.specs.declared.rows.Variants.{Variants}
 use Rattle.mv_merge.specs.Guards.{domain_values, all_values, IsMerged}
-use Rattle.mv_parts_bound.specs.Led.{AreMade, HaveWords}
-use Rattle.mv_parts_bound.specs.Switches.{domains_in}
+use Rattle.mv_variants.specs.Bound.Led.{AreMade, HaveWords}
+use Rattle.mv_variants.specs.Bound.Switches.{domains_in}
 use Rattle.mv_variants.specs.declared.variant.Variant.{Variant}
 use Rattle.mv_variants.specs.Domains.{switch_kind, domain, domains_or_none, own_domains, AreDomainsOf}
 use Rattle.mv_variants.specs.Rows.{AreRowsUnder}

@@ -9,7 +9,7 @@ use Rattle.mv_ast.specs.declared.program.Function.{Function}
 use Rattle.mv_ast.specs.declared.program.Program.{Program}
 use Rattle.mv_ast.specs.Switches.{switch_global, switch_domain}
 use Rattle.mv_merge.specs.declared.rows.Domain.{Domain}
-use Rattle.mv_parts_bound.specs.Led.{HaveWords}
+use Rattle.mv_variants.specs.Bound.Led.{HaveWords}
 
 -- an integer type, and `int` for any other
 abbrev pub integer_kind : CType → Kind

@@ -1,3 +1,4 @@
 pub mod Domains
 pub mod Rows
 pub mod Variants
+pub mod Bound

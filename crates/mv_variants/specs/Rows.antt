@@ -5,7 +5,7 @@ use Rattle.mv_ir.specs.declared.body.Assignment.{Assignment}
 use Rattle.mv_ir.specs.Combinations.{values_of}
 use Rattle.mv_merge.specs.declared.rows.Bound.{Bound}
 use Rattle.mv_merge.specs.Guards.{all_values}
-use Rattle.mv_parts_bound.specs.Led.{AreMade}
+use Rattle.mv_variants.specs.Bound.Led.{AreMade}
 
 -- for each assignment, in order, what is made of the body under it
 pub record AreRowsUnder (body : Body) (assignments : List Assignment) (rows : List Bound) : Type 0 where

@@ -12,9 +12,9 @@ use Rattle.mv_merge.specs.declared.rows.Bound.{Bound}
 use Rattle.mv_merge.specs.declared.rows.Guarded.{Guarded}
 use Rattle.mv_merge.specs.declared.rows.Variants.{Variants}
 use Rattle.mv_merge.specs.Guards.{all_values, IsMerged}
-use Rattle.mv_parts_bound.specs.Rows.{groups_from, groups}
-use Rattle.mv_parts_bound.specs.Led.{AreMade}
-use Rattle.mv_parts_bound.specs.Switches.{domains_in, DomainsAreWords}
+use Rattle.mv_variants.specs.Bound.Rows.{groups_from, groups}
+use Rattle.mv_variants.specs.Bound.Led.{AreMade}
+use Rattle.mv_variants.specs.Bound.Switches.{domains_in, DomainsAreWords}
 use Rattle.mv_variants.specs.declared.variant.Variant.{Variant}
 use Rattle.mv_variants.specs.Domains.{switch_kind}
 

@@ -1,7 +1,7 @@
 //! Variants with the rows that lead to each.
 
 ghost use Rattle.std.specs.Prelude.{◌≡◌, [], ◌∷◌, ◌++◌, cond, eqb, IfOk, OnOk};
-ghost use Rattle.mv_parts_bound.specs.Rows.{rows_of};
+ghost use Rattle.mv_variants.specs.Bound.Rows.{rows_of};
 ghost use Rattle.mv_variants.specs.Variants.{AreGrouped, AreGroupedFrom};
 
 use crate::variant::Variant;

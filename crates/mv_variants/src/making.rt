@@ -5,7 +5,7 @@ ghost use Rattle.std.specs.List.{zip};
 ghost use Rattle.mv_ir.specs.declared.body.Assignment.{Assignment};
 ghost use Rattle.mv_ir.specs.Live.{IsWhole};
 ghost use Rattle.mv_ir.specs.WellFormed.{IsWellFormed};
-ghost use Rattle.mv_parts_bound.specs.Meant.{IsMadeUnder};
+ghost use Rattle.mv_variants.specs.Bound.Meant.{IsMadeUnder};
 ghost use Rattle.mv_variants.specs.Rows.{AreRowsUnder};
 
 use mv_clone::bind::bind;

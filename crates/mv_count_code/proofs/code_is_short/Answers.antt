@@ -1,4 +1,4 @@
-use Rattle.mv_parts_bound.proofs.Patchable.{slots_called}
+use Rattle.mv_variants.proofs.OfBound.Patchable.{slots_called}
 use Rattle.mv_count_code.proofs.Sizes.{code_short, lines_short, variants_short, frames_fit, frames_pass, lowered_frames_pass}
 use Rattle.mv_count_code.proofs.Texts.{texts_pass}
 use Rattle.mv_count_code.proofs.Sites.{code_slots, slots_counted}

@@ -3,7 +3,7 @@ use Rattle.std.specs.Prelude.{IfOk, Result, Ok, Err}
 use Rattle.mv_ast.specs.declared.program.Program.{Program}
 use Rattle.mv_ir.specs.declared.body.IrProgram.{IrProgram}
 use Rattle.mv_lower_spec.specs.Functions.{lower_program}
-use Rattle.mv_lower_shape.specs.Lowering.{IsLowering}
+use Rattle.mv_lower_spec.specs.Shape.Lowering.{IsLowering}
 use Rattle.mv_lower.proofs.Small.{small_enough}
 use Rattle.mv_lower.proofs.lower.Goals as goal
 

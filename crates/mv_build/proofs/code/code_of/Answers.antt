@@ -3,7 +3,7 @@ use Rattle.std.specs.Prelude.{List}
 use Rattle.std.proofs.lemmas.Result.{err_from_is_err_and}
 use Rattle.mv_ir.specs.declared.body.Body.{Body}
 use Rattle.mv_lower.proofs.Small.{small_enough}
-use Rattle.mv_select_bodies.specs.SelectedBodies.{HasWords}
+use Rattle.mv_select.specs.Bodies.SelectedBodies.{HasWords}
 use Rattle.mv_build.proofs.Limits.{frame_refused, frames_fit}
 use Rattle.mv_build.proofs.code.code_of.Goals as goal
 

@@ -1,6 +1,6 @@
 use Rattle.std.proofs.Common.{◌≡◌, ℕ, ◌<◌, Some, slice_get}
 use Rattle.mv_ir.specs.declared.body.Body.{Body}
-use Rattle.mv_select_bodies.specs.SelectedBodies.{HasWords}
+use Rattle.mv_select.specs.Bodies.SelectedBodies.{HasWords}
 use Rattle.mv_build.proofs.code.have_words.Given as goal
 
 abbrev pub invariant-loop-body : goal.invariant-loop-body

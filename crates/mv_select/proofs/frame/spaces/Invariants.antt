@@ -1,6 +1,6 @@
 use Rattle.std.proofs.Common.{◌≡◌, ◌+◌, ◌++◌, drop}
 use Rattle.mv_ir.specs.Measures.{total}
-use Rattle.mv_select_functions.specs.FunctionCode.{arrays_start}
+use Rattle.mv_select.specs.Functions.FunctionCode.{arrays_start}
 use Rattle.mv_select.specs.Selected.{spaces_behind}
 use Rattle.mv_select.proofs.frame.spaces.Given as goal
 

@@ -1,7 +1,7 @@
 use Rattle.std.proofs.Common.{◌≤◌, All, sym, ap, subst, arith}
-use Rattle.mv_select_control.specs.declared.emitter.Emitter.{Emitter}
-use Rattle.mv_select_control.specs.declared.layout.Layout.{Layout}
-use Rattle.mv_select_control.specs.Layouts.{IsInFrame}
+use Rattle.mv_select_code.specs.declared.control.emitter.Emitter.{Emitter}
+use Rattle.mv_select_code.specs.declared.control.layout.Layout.{Layout}
+use Rattle.mv_select_code.specs.Control.Layouts.{IsInFrame}
 use Rattle.mv_select.proofs.Layouts.{arrays_within}
 use Rattle.mv_select.proofs.Selecting.{labels_fit, over_same, put_together, selected}
 use Rattle.mv_select.proofs.Within.{has_small_code}

@@ -1,5 +1,5 @@
 use Rattle.std.proofs.Common.{◌≡◌, take}
-use Rattle.mv_parts_bound.specs.Rows.{rows_of}
+use Rattle.mv_variants.specs.Bound.Rows.{rows_of}
 use Rattle.mv_variants.proofs.grouping.guards_of.Given as goal
 
 abbrev pub invariant-loop-guard : goal.invariant-loop-guard

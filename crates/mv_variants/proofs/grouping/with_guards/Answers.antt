@@ -1,5 +1,5 @@
 use Rattle.std.proofs.Common.{◌≡◌, ◌∙◌, ap, length}
-use Rattle.mv_parts_bound.specs.Rows.{rows_of}
+use Rattle.mv_variants.specs.Bound.Rows.{rows_of}
 use Rattle.mv_variants.proofs.Grouped.{group_push}
 use Rattle.mv_variants.proofs.grouping.with_guards.Goals as goal
 

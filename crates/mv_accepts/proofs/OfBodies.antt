@@ -1,0 +1,17 @@
+pub mod Tests
+pub mod Jumps
+pub mod Labels
+pub mod Shapes
+pub mod ExprProperty
+pub mod TestedForms
+pub mod ExprForms
+pub mod ExprCalls
+pub mod ExprJudged
+pub mod KnownExpressions
+pub mod KnownStatements
+pub mod Counted
+pub mod NamedExpressions
+pub mod NamedStatements
+pub mod DeclaredExpressions
+pub mod DeclaredStatements
+pub mod Definitions

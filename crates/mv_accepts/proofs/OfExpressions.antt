@@ -1,0 +1,10 @@
+pub mod CallForms
+pub mod Computed
+pub mod Converted
+pub mod Forms
+pub mod Induction
+pub mod Kept
+pub mod Made
+pub mod Plain
+pub mod Sound
+pub mod Types

@@ -1,0 +1,13 @@
+pub mod Tests
+pub mod Values
+pub mod Words
+pub mod Sizes
+pub mod Domains
+pub mod Specified
+pub mod Designated
+pub mod Objects
+pub mod Switches
+pub mod Units
+pub mod Nulls
+pub mod FirstWords
+pub mod FirstObjects

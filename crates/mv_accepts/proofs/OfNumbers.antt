@@ -1,0 +1,13 @@
+pub mod Lists
+pub mod NameLists
+pub mod Turns
+pub mod Items
+pub mod Designated
+pub mod Functions
+pub mod Attributed
+pub mod Marks
+pub mod Spaces
+pub mod Objects
+pub mod DeclaredObjects
+pub mod Switches
+pub mod Common

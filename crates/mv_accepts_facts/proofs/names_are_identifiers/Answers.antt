@@ -1,5 +1,0 @@
-use Rattle.mv_source_facts.proofs.Identifiers.{identifiers}
-use Rattle.mv_accepts_facts.proofs.names_are_identifiers.Goals as goal
-
-pub returns : goal.returns
-returns c = identifiers

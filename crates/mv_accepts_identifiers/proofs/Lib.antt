@@ -1,3 +1,0 @@
-pub mod Phrases
-mod Declarations
-mod Texts

@@ -1,5 +1,0 @@
-use Rattle.mv_accepts_numbers.proofs.Switches.{switches_counted}
-use Rattle.mv_accepts_numbers.proofs.objects_have_their_numbers.Goals as goal
-
-pub returns : goal.returns
-returns c items d main q = switches_counted items c.good_bodies_are_typed.ensures.grows c.good_parameters_fit.ensures d main q

@@ -1,5 +1,0 @@
-use Rattle.mv_lower_calls.proofs.Main.{main_alike}
-use Rattle.mv_lower_calls.proofs.laws.main_ends_alike.Goals as goal
-
-pub returns : goal.returns
-returns c = main_alike c.numbering_law.ensures.any c.numbering_law.ensures.strays

@@ -1,5 +1,0 @@
-use Rattle.mv_lower_calls.proofs.Main.{main_right}
-use Rattle.mv_lower_calls.proofs.laws.main_is_right.Goals as goal
-
-pub returns : goal.returns
-returns c = main_right c.numbering_law.ensures.any c.numbering_law.ensures.strays

@@ -1,6 +1,0 @@
-mod Rooms
-mod ReadGlobals
-mod Places
-mod Facts
-mod Own
-mod Varied

@@ -1,8 +1,0 @@
-use Rattle.mv_parts_bound.proofs.NamesKept.{binding_names, folding_names}
-use Rattle.mv_parts_bound.proofs.passes_name_no_more.Goals as goal
-
-pub returns-clause-bind : goal.returns-clause-bind
-returns-clause-bind c = binding_names
-
-pub returns-clause-fold : goal.returns-clause-fold
-returns-clause-fold c = folding_names

@@ -1,0 +1,67 @@
+-- The fields of the code of entry and return fit, and it has few words.
+use Rattle.std.proofs.Common.{ℕ, zero, suc, ◌+◌, ◌*◌, ◌≤◌, Bool, true, false, ◌++◌, pos, ◌-ℤ◌, arith}
+use Rattle.std.proofs.Math.Nat.{min-le_right}
+use Rattle.std.proofs.lemmas.Int.{ints}
+use Rattle.std.proofs.lemmas.List.Elements.{All-nil}
+use Rattle.mv_isa.specs.declared.instr.Instr.TheVariants.{Lw, Sw, Addi, Jalr}
+use Rattle.mv_isa.specs.Encoding.{IsSigned}
+use Rattle.mv_isa.specs.Code.{LineFits}
+use Rattle.mv_isa.specs.Registers.{ra as link_register, s10 as live_register}
+use Rattle.mv_select_code.specs.Trees.TreeCode.{one, two, minus_one, temp_register}
+use Rattle.mv_select_code.proofs.OfTrees.TreesFit.{small_fits, register_below}
+use Rattle.mv_select_code.specs.Statements.StatementCode.{first}
+use Rattle.mv_select_code.specs.Statements.Encoded.{IsCode}
+use Rattle.mv_select_code.proofs.OfStatements.EncodedCode.{both, wider, single, pair}
+use Rattle.mv_select.specs.Functions.FunctionCode.{saved_count, saved_register, save_lines, restore_lines, parameter_lines, enter_lines, leave_lines}
+use Rattle.mv_select.specs.Functions.Encoded.{FramesAreEncoded}
+use Rattle.mv_select.proofs.OfFunctions.Entry.{saved_below}
+
+save_code : (k : ℕ) → k ≤ 10 → IsCode k (save_lines k)
+save_code zero h = (All-nil LineFits, omega arith)
+save_code (suc k) h =
+    let i = Sw 2 (saved_register k) (pos (4 * k)) in
+    wider (k + 1) (suc k) (save_lines k ++ one i) (omega arith)
+    (both k 1 (save_lines k) (one i) (save_code k (omega (arith, h))) (single i (omega arith, saved_below k (omega (arith, h)), small_fits (4 * k) (omega (arith, h)))))
+
+restore_code : (k : ℕ) → k ≤ 10 → IsCode k (restore_lines k)
+restore_code zero h = (All-nil LineFits, omega arith)
+restore_code (suc k) h =
+    let i = Lw (saved_register k) 2 (pos (4 * k)) in
+    wider (k + 1) (suc k) (restore_lines k ++ one i) (omega arith)
+    (both k 1 (restore_lines k) (one i) (restore_code k (omega (arith, h))) (single i (saved_below k (omega (arith, h)), omega arith, small_fits (4 * k) (omega (arith, h)))))
+
+parameter_code : (k : ℕ) → k ≤ 8 → IsCode k (parameter_lines k)
+parameter_code zero h = (All-nil LineFits, omega arith)
+parameter_code (suc k) h =
+    let i = Addi (temp_register k) (first + k) (pos 0) in
+    wider (k + 1) (suc k) (parameter_lines k ++ one i) (omega arith)
+    (both k 1 (parameter_lines k) (one i) (parameter_code k (omega (arith, h))) (single i (register_below k (omega (arith, h)), omega (arith, h), small_fits 0 (omega arith))))
+
+enter_code : (attributed : Bool) → IsCode 1 (enter_lines attributed)
+enter_code true = single (Addi live_register live_register (pos 1)) (omega arith, omega arith, small_fits 1 (omega arith))
+enter_code false = (All-nil LineFits, omega arith)
+
+leave_code : (attributed : Bool) → IsCode 1 (leave_lines attributed)
+leave_code true = single (Addi live_register live_register minus_one) (omega arith, omega arith, (omega (arith, ints), omega (arith, ints)))
+leave_code false = (All-nil LineFits, omega arith)
+
+minus_fits : (n : ℕ) → n ≤ 2032 → IsSigned 2048 (pos 0 -ℤ pos n)
+minus_fits n h = (omega (arith, ints, h), omega (arith, ints, h))
+
+pub saved_few : (temps : ℕ) → saved_count temps ≤ 10
+saved_few temps = omega (arith, min-le_right temps 9)
+
+pub frames_encoded : FramesAreEncoded
+frames_encoded attributed params temps bytes few small =
+    let lower = Addi 2 2 (pos 0 -ℤ pos bytes) in
+    let raise = Addi 2 2 (pos bytes) in
+    let back = Jalr 0 link_register (pos 0) in (
+      wider (1 + (saved_count temps + (params + 1))) 20 (one lower ++ (save_lines (saved_count temps) ++ (parameter_lines params ++ enter_lines attributed))) (omega (arith, few, saved_few temps))
+          (both 1 (saved_count temps + (params + 1)) (one lower) (save_lines (saved_count temps) ++ (parameter_lines params ++ enter_lines attributed)) (single lower (omega arith, omega arith, minus_fits bytes small))
+          (both (saved_count temps) (params + 1) (save_lines (saved_count temps)) (parameter_lines params ++ enter_lines attributed) (save_code (saved_count temps) (saved_few temps))
+          (both params 1 (parameter_lines params) (enter_lines attributed) (parameter_code params few) (enter_code attributed)))),
+      wider (1 + (saved_count temps + 2)) 13 (leave_lines attributed ++ (restore_lines (saved_count temps) ++ two raise back)) (omega (arith, saved_few temps))
+          (both 1 (saved_count temps + 2) (leave_lines attributed) (restore_lines (saved_count temps) ++ two raise back) (leave_code attributed)
+          (both (saved_count temps) 2 (restore_lines (saved_count temps)) (two raise back) (restore_code (saved_count temps) (saved_few temps))
+          (pair raise back (omega arith, omega arith, small_fits bytes (omega (arith, small))) (omega arith, omega arith, small_fits 0 (omega arith))))),
+    )

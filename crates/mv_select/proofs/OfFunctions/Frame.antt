@@ -1,0 +1,223 @@
+-- The frame of a function: where its cells stand, and that they stand apart.
+use Rattle.std.proofs.Common.{◌≡◌, inl, inr, ⊎_elim, ℕ, zero, suc, ◌+◌, ◌*◌, ◌%◌, ◌^◌, ◌<◌, ◌≤◌, ◌⊎◌, Bool, true, not, ◌&&◌, ◌||◌, eqb, ltb, max, List, [], ◌∷◌, length, slice_index, None, refl, sym, ap, ◌∙◌, subst, arith}
+use Rattle.std.proofs.Math.Nat.{le-max_left, le-max_right}
+use Rattle.std.proofs.lemmas.Bool.{eqb-true, ltb-true, ltb-false, lt-ltb, le-ltb, eq-eqb, not-true}
+use Rattle.mv_bindings.specs.Traps.{depth_limit}
+use Rattle.mv_isa.specs.Code.{IsPlace}
+use Rattle.mv_isa.specs.Execution.{Access}
+use Rattle.mv_ir.specs.declared.stm.Array.{Array}
+use Rattle.mv_ir.specs.declared.stm.Array.TheVariants as array
+use Rattle.mv_ir.specs.World as ir
+use Rattle.mv_ir.specs.Measures.{total}
+use Rattle.mv_ir.specs.Trees.{found}
+use Rattle.mv_select_code.specs.Trees.TreeCode.{temp_offset}
+use Rattle.mv_select_code.specs.Statements.Frames.{Site, Cell, TempCell, Element, Kept, IsThere, address, size_of, Stored, IsFit, Reach, IsLoaded}
+use Rattle.mv_select_code.specs.Control.Runs.{Machine}
+use Rattle.mv_select.specs.Calls.Convention.{Layout, IsAbove, frame_limit}
+use Rattle.mv_select.specs.Calls.Laws.{IsOfFrame, IsCaller}
+use Rattle.mv_select.specs.Functions.FunctionCode.{words_before, Shape, bytes_of}
+use Rattle.mv_select.specs.Functions.Functions as functions
+use Rattle.mv_select.specs.Functions.Functions.{IsStack, IsWord, IsLaid, IsMemory, StandsInWords, site_of, IsAmple}
+use Rattle.mv_num.proofs.Booleans.{and_right, and_left, or_true, or_cases}
+
+-- ---- arrays in a row
+
+-- an element stands behind the arrays before its own, and within all of them
+element_within : (sizes : List ℕ) (a i : ℕ) → i < slice_index sizes a → words_before sizes a + i < total sizes
+element_within [] a i h = absurd (omega (arith, h))
+element_within (n ∷ sizes) zero i h = omega (arith, h)
+element_within (n ∷ sizes) (suc a) i h = omega (arith, element_within sizes a i h)
+
+element_unique : (sizes : List ℕ) (a b i j : ℕ) → i < slice_index sizes a → j < slice_index sizes b → words_before sizes a + i ≡ words_before sizes b + j → (a ≡ b) × (i ≡ j)
+element_unique [] a b i j h k e = absurd (omega (arith, h))
+element_unique (n ∷ sizes) zero zero i j h k e = (refl, omega (arith, e))
+element_unique (n ∷ sizes) zero (suc b) i j h k e = absurd (omega (arith, h, e))
+element_unique (n ∷ sizes) (suc a) zero i j h k e = absurd (omega (arith, k, e))
+element_unique (n ∷ sizes) (suc a) (suc b) i j h k e = let r = element_unique sizes a b i j h k (omega (arith, e)) in (ap suc r.0, r.1)
+
+size_within : (sizes : List ℕ) (a : ℕ) → slice_index sizes a ≤ total sizes
+size_within [] a = omega arith
+size_within (n ∷ sizes) zero = omega arith
+size_within (n ∷ sizes) (suc a) = omega (arith, size_within sizes a)
+
+-- ---- what a frame is to leave alone
+
+abbrev pub is_between : (from to b : ℕ) → Bool
+is_between from to b = not (ltb b from) && ltb b to
+
+-- the words of saved registers, and the stack from the caller's sp up
+abbrev pub keeps : (sp caller top b : ℕ) → Bool
+keeps sp caller top b = eqb (b % 4) 0 && (is_between sp (sp + 40) b || is_between caller top b)
+
+between : (from to b : ℕ) → is_between from to b ≡ true → (from ≤ b) × (b < to)
+between from to b e = (ltb-false b from (not-true (ltb b from) (and_left (not (ltb b from)) (ltb b to) e)), ltb-true b to (and_right (not (ltb b from)) (ltb b to) e))
+
+is_between_true : (from to b : ℕ) → from ≤ b → b < to → is_between from to b ≡ true
+is_between_true from to b low high = ap (λ x. not x && ltb b to) (le-ltb b from low) ∙ lt-ltb b to high
+
+kept_cases : (sp caller top b : ℕ) → keeps sp caller top b ≡ true → (b % 4 ≡ 0) × (((sp ≤ b) × (b < sp + 40)) ⊎ ((caller ≤ b) × (b < top)))
+kept_cases sp caller top b e = (
+  eqb-true (b % 4) 0 (and_left (eqb (b % 4) 0) (is_between sp (sp + 40) b || is_between caller top b) e),
+  ⊎_elim (λ (h : is_between sp (sp + 40) b ≡ true). inl (between sp (sp + 40) b h)) (λ (h : is_between caller top b ≡ true). inr (between caller top b h))
+      (or_cases (is_between sp (sp + 40) b) (is_between caller top b) (and_right (eqb (b % 4) 0) (is_between sp (sp + 40) b || is_between caller top b) e)),
+)
+
+pub kept_low : (sp caller top b : ℕ) → b % 4 ≡ 0 → sp ≤ b → b < sp + 40 → keeps sp caller top b ≡ true
+kept_low sp caller top b even low high =
+    ap (λ x. x && (is_between sp (sp + 40) b || is_between caller top b)) (eq-eqb (b % 4) 0 even) ∙ ap (λ x. x || is_between caller top b) (is_between_true sp (sp + 40) b low high)
+
+pub kept_high : (sp caller top b : ℕ) → b % 4 ≡ 0 → caller ≤ b → b < top → keeps sp caller top b ≡ true
+kept_high sp caller top b even low high =
+    ap (λ x. x && (is_between sp (sp + 40) b || is_between caller top b)) (eq-eqb (b % 4) 0 even) ∙ ap (λ x. is_between sp (sp + 40) b || x) (is_between_true caller top b low high)
+    ∙ or_true (is_between sp (sp + 40) b)
+
+-- ---- a frame
+
+pub temp_is : (t : ℕ) → temp_offset t ≡ 4 * (t + 1)
+unfolding temp_offset
+temp_is t = refl
+
+-- a frame of a function, below the sp of its caller
+pub record IsFrame (y : Layout) (shape : Shape) (sp caller : ℕ) : Type 0 where
+  pub below : sp + bytes_of shape ≡ caller
+  pub even : caller % 4 ≡ 0
+  pub low : y.bottom ≤ sp
+  pub high : caller ≤ y.top
+
+module _ (y : Layout) (laid : IsLaid y) (reach : Reach) (shape : Shape) (register : ℕ → ℕ) (caller : ℕ) (kept : ℕ → ℕ) (is : IsFrame y shape (register 2) caller) where
+  abbrev pub S : Site
+  S = site_of y reach shape register (keeps (register 2) caller y.top) kept
+
+  abbrev start : ℕ
+  start = max shape.temps 9
+
+  -- where a temporary, an element of an array and a word that is left alone stand, in bytes above sp
+  temp_place : (t : ℕ) → 9 ≤ t → t < shape.temps → (address S (TempCell t) ≡ register 2 + 4 * (t + 1)) × (4 * (t + 1) + 4 ≤ 4 * start + 4)
+  temp_place t low high = (ap (λ n. register 2 + n) (temp_is t), omega (arith, high, le-max_left shape.temps 9))
+
+  element_place : (a i : ℕ) → i < slice_index shape.arrays a → (address S (Element (array.Local a) i) ≡ register 2 + 4 * (start + 1 + words_before shape.arrays a + i))
+      × (register 2 + 4 * (start + 1 + words_before shape.arrays a + i) + 4 ≤ caller)
+  element_place a i h = (omega arith, omega (arith, element_within shape.arrays a i h, is.below))
+
+  enough : register 2 + 40 ≤ caller
+  enough = omega (arith, is.below, le-max_right shape.temps 9)
+
+  even_sp : register 2 % 4 ≡ 0
+  even_sp = omega (arith, is.below, is.even)
+
+  -- each cell but those of globals stands in the stack, from sp up
+  pub frame_word : (x : Cell) → IsThere S x → IsOfFrame x → IsAbove y (register 2) (address S x)
+  frame_word (TempCell t) h own =
+      let p = temp_place t h.0 h.1 in
+      subst (IsAbove y (register 2)) (sym p.0) (omega arith, omega (arith, p.1, is.below, is.high), omega (arith, even_sp))
+  frame_word (Element (array.Global g) i) h own = absurd own
+  frame_word (Element (array.Local a) i) h own =
+      let p = element_place a i h in
+      subst (IsAbove y (register 2)) (sym p.0) (omega arith, omega (arith, p.1, is.high), omega (arith, even_sp))
+  frame_word (Kept b) h own =
+      let k = kept_cases (register 2) caller y.top b h in
+      ⊎_elim (λ (r : (register 2 ≤ b) × (b < register 2 + 40)). (r.0, omega (arith, r.1, enough, is.high), k.0))
+      (λ (r : (caller ≤ b) × (b < y.top)). (omega (arith, r.0, is.below), r.1, k.0)) k.1
+
+  in_stack : (b : ℕ) → IsAbove y (register 2) b → IsStack y b
+  in_stack b h = let low = h.0 in (omega (arith, low, is.low), h.1, h.2)
+
+  pub cell_word : (x : Cell) → IsThere S x → IsWord y (address S x)
+  cell_word (TempCell t) h = inl (in_stack (address S (TempCell t)) (frame_word (TempCell t) h tt))
+  cell_word (Element (array.Global g) i) h = inr (g, i, h, refl)
+  cell_word (Element (array.Local a) i) h = inl (in_stack (address S (Element (array.Local a) i)) (frame_word (Element (array.Local a) i) h tt))
+  cell_word (Kept b) h = inl (in_stack b (frame_word (Kept b) h tt))
+
+  off_global : (g i : ℕ) → i < y.size g → (x : Cell) → IsThere S x → IsOfFrame x → address S x ≡ y.place g + 4 * i → ⊥
+  off_global g i lt x h own e = laid.off_stack g i lt (subst (IsStack y) e (in_stack (address S x) (frame_word x h own)))
+
+  temp_or_kept : (t b : ℕ) → 9 ≤ t → t < shape.temps → IsThere S (Kept b) → address S (TempCell t) ≡ b → ⊥
+  temp_or_kept t b low high h e =
+      let p = temp_place t low high in
+      ⊎_elim (λ (r : (register 2 ≤ b) × (b < register 2 + 40)). omega (arith, low, p.0, e, r.1))
+      (λ (r : (caller ≤ b) × (b < y.top)). omega (arith, p.0, p.1, e, r.0, is.below)) (kept_cases (register 2) caller y.top b h).1
+
+  element_or_kept : (a i b : ℕ) → i < slice_index shape.arrays a → IsThere S (Kept b) → address S (Element (array.Local a) i) ≡ b → ⊥
+  element_or_kept a i b lt h e =
+      let p = element_place a i lt in
+      ⊎_elim (λ (r : (register 2 ≤ b) × (b < register 2 + 40)). omega (arith, p.0, e, r.1, le-max_right shape.temps 9))
+      (λ (r : (caller ≤ b) × (b < y.top)). omega (arith, p.0, p.1, e, r.0)) (kept_cases (register 2) caller y.top b h).1
+
+  temp_or_element : (t a i : ℕ) → 9 ≤ t → t < shape.temps → i < slice_index shape.arrays a → address S (TempCell t) ≡ address S (Element (array.Local a) i) → ⊥
+  temp_or_element t a i low high lt e =
+      let p = temp_place t low high in let q = element_place a i lt in omega (arith, p.0, p.1, q.0, e)
+
+  pub cells_apart : (u v : Cell) → IsThere S u → IsThere S v → address S u ≡ address S v → u ≡ v
+  cells_apart (TempCell t) (TempCell n) h k e = ap TempCell (omega (arith, e, temp_is t, temp_is n))
+  cells_apart (TempCell t) (Element (array.Global g) i) h k e = absurd (off_global g i k (TempCell t) h tt e)
+  cells_apart (TempCell t) (Element (array.Local a) i) h k e = absurd (temp_or_element t a i h.0 h.1 k e)
+  cells_apart (TempCell t) (Kept b) h k e = absurd (temp_or_kept t b h.0 h.1 k e)
+  cells_apart (Element (array.Global g) i) (TempCell t) h k e = absurd (off_global g i h (TempCell t) k tt (sym e))
+  cells_apart (Element (array.Global g) i) (Element (array.Global n) j) h k e =
+      let r = laid.apart g i n j h k e in ap (λ m. Element (array.Global m) i) r.0 ∙ ap (Element (array.Global n)) r.1
+  cells_apart (Element (array.Global g) i) (Element (array.Local a) j) h k e = absurd (off_global g i h (Element (array.Local a) j) k tt (sym e))
+  cells_apart (Element (array.Global g) i) (Kept b) h k e = absurd (off_global g i h (Kept b) k tt (sym e))
+  cells_apart (Element (array.Local a) i) (TempCell t) h k e = absurd (temp_or_element t a i k.0 k.1 h (sym e))
+  cells_apart (Element (array.Local a) i) (Element (array.Global g) j) h k e = absurd (off_global g j k (Element (array.Local a) i) h tt e)
+  cells_apart (Element (array.Local a) i) (Element (array.Local b) j) h k e =
+      let p = element_place a i h in let q = element_place b j k in
+      let r = element_unique shape.arrays a b i j h k (omega (arith, p.0, q.0, e)) in
+      ap (λ m. Element (array.Local m) i) r.0 ∙ ap (Element (array.Local b)) r.1
+  cells_apart (Element (array.Local a) i) (Kept b) h k e = absurd (element_or_kept a i b h k e)
+  cells_apart (Kept b) (TempCell t) h k e = absurd (temp_or_kept t b k.0 k.1 h (sym e))
+  cells_apart (Kept b) (Element (array.Global g) i) h k e = absurd (off_global g i k (Kept b) h tt e)
+  cells_apart (Kept b) (Element (array.Local a) i) h k e = absurd (element_or_kept a i b k h (sym e))
+  cells_apart (Kept b) (Kept c) h k e = ap Kept e
+
+  pub cells_below : (x : Cell) → IsThere S x → address S x < 2 ^ 32
+  cells_below (Element (array.Global g) i) h = laid.addresses g i h
+  cells_below (TempCell t) h = let w = frame_word (TempCell t) h tt in omega (arith, w.1, laid.top)
+  cells_below (Element (array.Local a) i) h = let w = frame_word (Element (array.Local a) i) h tt in omega (arith, w.1, laid.top)
+  cells_below (Kept b) h = let w = frame_word (Kept b) h tt in omega (arith, w.1, laid.top)
+
+  pub own_words : StandsInWords y S
+  own_words x own h = cell_word x h
+
+  sizes_below : (a : Array) → size_of S a < 2 ^ 32
+  sizes_below (array.Global g) = laid.sizes g
+  sizes_below (array.Local a) = omega (arith, size_within shape.arrays a, is.below, is.high, laid.top)
+
+  module _ {M : Type 0} (access : Access M) (machine : Machine M) (memory : IsMemory access y machine) (setting : ir.Setting) (frame : ir.Frame)
+      (entries : (f : ℕ) → f < length setting.numbers → (slice_index setting.numbers f ≡ y.entry f) × IsPlace (y.entry f)) where
+    stored_in : (m : M) (x : Cell) (v : ℕ) → functions.Kept access y m (address S x) v → Stored S access m x v
+    stored_in m x v k = record { after = k.after; stored = k.stored; same = k.same; others = λ c there ne. k.others (address S c) (cell_word c there) ne }
+
+    loaded : IsAmple y reach → (x : Cell) → IsThere S x → IsLoaded S x → reach.may_load (address S x) ≡ true
+    loaded ample (TempCell t) h may = ample.stack (address S (TempCell t)) (in_stack (address S (TempCell t)) (frame_word (TempCell t) h tt))
+    loaded ample (Element (array.Global g) i) h may = ample.globals g i may h
+    loaded ample (Element (array.Local a) i) h may = ample.stack (address S (Element (array.Local a) i)) (in_stack (address S (Element (array.Local a) i)) (frame_word (Element (array.Local a) i) h tt))
+    loaded ample (Kept b) h may = ample.stack b (in_stack b (frame_word (Kept b) h tt))
+
+    pub frame_fits : IsAmple y reach → ((g : ℕ) → reach.is_read g ≡ true → 0 < y.size g) → ((g : ℕ) → reach.is_read g ≡ true → found frame.bound g ≡ None) → IsFit S access setting frame
+    frame_fits ample read free = record {
+      stores = λ m x v w there lt load. stored_in m x v (memory.stores m (address S x) v w (cell_word x there) lt load);
+      apart = cells_apart;
+      addresses = cells_below;
+      sizes = sizes_below;
+      loads = loaded ample;
+      has_word = read;
+      free = free;
+      entries = λ f lt. (entries f lt).0;
+      entry_words = λ f lt. let there = (entries f lt).1 in omega (arith, there.1);
+    }
+
+    pub frame_calls : register 26 ≡ frame.live → frame.live ≤ frame.depth → register 27 + frame.depth ≡ depth_limit → y.bottom + register 27 * frame_limit ≤ register 2 → IsCaller y S setting frame
+    frame_calls live counts left room = record {
+      places = λ g. refl;
+      sizes = λ g. refl;
+      entries = λ f. refl;
+      may_ask = λ k e. e;
+      entry_places = λ f lt. (entries f lt).1;
+      live = live;
+      counts = counts;
+      left = left;
+      even = even_sp;
+      room = room;
+      within = omega (arith, is.below, is.high);
+      above = frame_word;
+    }

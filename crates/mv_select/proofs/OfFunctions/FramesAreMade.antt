@@ -1,0 +1,44 @@
+-- What holds of instructions and of lines that are put together holds of the code that enters a function, and of the code that leaves it.
+use Rattle.std.proofs.Common.{ℕ, zero, suc, ◌*◌, ◌+◌, Bool, true, false, List, ◌++◌, pos, ◌-ℤ◌}
+use Rattle.mv_isa.specs.declared.instr.Instr.TheVariants.{Lw, Sw, Addi, Jalr}
+use Rattle.mv_isa.specs.declared.labelled.Line.{Line}
+use Rattle.mv_isa.specs.Registers.{ra as link_register, s10 as live_register}
+use Rattle.mv_select_code.specs.Trees.TreeCode.{one, two, minus_one, temp_register}
+use Rattle.mv_select_code.specs.Statements.StatementCode.{first}
+use Rattle.mv_select_code.proofs.OfControl.StatementsAreMade.{LineByLine, words_made}
+use Rattle.mv_select.specs.Functions.FunctionCode.{saved_count, saved_register, save_lines, restore_lines, parameter_lines, enter_lines, leave_lines, lowered_lines, prologue_lines, epilogue_lines}
+
+module _ {P : List Line → Type 0} {L J Q : ℕ → Type 0} (made : LineByLine P L J Q) where
+  save_made : (k : ℕ) → P (save_lines k)
+  save_made zero = made.none
+  save_made (suc k) = let i = Sw 2 (saved_register k) (pos (4 * k)) in made.after (save_lines k) (one i) (save_made k) (made.word i)
+
+  restore_made : (k : ℕ) → P (restore_lines k)
+  restore_made zero = made.none
+  restore_made (suc k) = let i = Lw (saved_register k) 2 (pos (4 * k)) in made.after (restore_lines k) (one i) (restore_made k) (made.word i)
+
+  parameter_made : (k : ℕ) → P (parameter_lines k)
+  parameter_made zero = made.none
+  parameter_made (suc k) = let i = Addi (temp_register k) (first + k) (pos 0) in made.after (parameter_lines k) (one i) (parameter_made k) (made.word i)
+
+  enter_made : (attributed : Bool) → P (enter_lines attributed)
+  enter_made true = made.word (Addi live_register live_register (pos 1))
+  enter_made false = made.none
+
+  leave_made : (attributed : Bool) → P (leave_lines attributed)
+  leave_made true = made.word (Addi live_register live_register minus_one)
+  leave_made false = made.none
+
+  pub prologue_made : (attributed : Bool) (params temps bytes : ℕ) → P (prologue_lines attributed params temps bytes)
+  prologue_made attributed params temps bytes =
+      let lower = Addi 2 2 (pos 0 -ℤ pos bytes) in
+      made.after (one lower) (lowered_lines attributed params temps) (made.word lower)
+      (made.after (save_lines (saved_count temps)) (parameter_lines params ++ enter_lines attributed) (save_made (saved_count temps))
+      (made.after (parameter_lines params) (enter_lines attributed) (parameter_made params) (enter_made attributed)))
+
+  pub epilogue_made : (attributed : Bool) (temps bytes : ℕ) → P (epilogue_lines attributed temps bytes)
+  epilogue_made attributed temps bytes =
+      let raise = Addi 2 2 (pos bytes) in
+      let back = Jalr 0 link_register (pos 0) in
+      made.after (leave_lines attributed) (restore_lines (saved_count temps) ++ two raise back) (leave_made attributed)
+      (made.after (restore_lines (saved_count temps)) (two raise back) (restore_made (saved_count temps)) (words_made made raise back))

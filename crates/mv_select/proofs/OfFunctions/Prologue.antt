@@ -1,0 +1,111 @@
+-- The prologue as a whole.
+use Rattle.std.proofs.Common.{◌≡◌, ◌≢◌, ℕ, ◌+◌, ◌*◌, ◌^◌, ◌<◌, ◌≤◌, cond, List, ◌++◌, slice_index, Some, sym, ap, ◌∙◌, arith}
+use Rattle.std.proofs.Math.Nat.{le-max_right, min-le_right}
+use Rattle.mv_isa.specs.Execution.{Access, reg, put}
+use Rattle.mv_isa.specs.Registers.{s10 as live_register}
+use Rattle.mv_ir.specs.World.{World}
+use Rattle.mv_select_code.specs.Trees.TreeCode.{temp_register}
+use Rattle.mv_select_code.specs.Trees.View.{AreRegisters}
+use Rattle.mv_select_code.proofs.OfTrees.Registers.{put_same, put_other, put_registers}
+use Rattle.mv_select_code.specs.Statements.StatementCode.{first}
+use Rattle.mv_select_code.specs.Statements.Frames.{Reach}
+use Rattle.mv_select_code.proofs.OfStatements.FrameChanges.{register_low, register_high}
+use Rattle.mv_select_code.specs.Control.Runs.{Machine}
+use Rattle.mv_select_code.proofs.OfControl.Walk.{placed_split}
+use Rattle.mv_select.specs.Calls.Convention.{Layout}
+use Rattle.mv_select.specs.Functions.FunctionCode.{Shape, bytes_of, saved_count, saved_register, save_lines, parameter_lines, enter_lines, lowered_lines}
+use Rattle.mv_select.specs.Functions.Functions.{IsStack, IsWord, IsLaid, IsMemory, IsAmple, RunsWithin}
+use Rattle.mv_select.proofs.OfFunctions.Entry.{Saves, Moves, sp_apart, save_walk, parameter_walk}
+use Rattle.mv_select.proofs.OfFunctions.Frame.{IsFrame}
+use Rattle.mv_select.proofs.OfFunctions.FrameWords.{frame_course}
+use Rattle.mv_select.proofs.OfFunctions.Steps.{Counted, enter_walk}
+
+-- a frame has room for its saved registers
+pub room_for_saved : (shape : Shape) → 40 ≤ bytes_of shape
+room_for_saved shape = omega (arith, le-max_right shape.temps 9)
+
+-- the words for saved registers are words of the stack
+pub saved_words : (y : Layout) (shape : Shape) (sp caller : ℕ) → IsFrame y shape sp caller → (j : ℕ) → j < 10 → IsStack y (sp + 4 * j)
+saved_words y shape sp caller is j lt =
+    let low = is.low in let high = is.high in let below = is.below in let even = is.even in
+    (omega (arith, low), omega (arith, lt, high, below, room_for_saved shape), omega (arith, below, even))
+
+module _ {M : Type 0} (access : Access M) (y : Layout) (laid : IsLaid y) (machine : Machine M) (memory : IsMemory access y machine)
+    (reach : Reach) (ample : IsAmple y reach) (runs : RunsWithin access y machine reach) (budget far : ℕ) (place : ℕ → ℕ) where
+  open frame_course access y laid machine memory reach ample runs budget far place use {of.{Placed as Ps}, Stands as Ws}
+
+  -- what stands there at the end of a prologue that began with other registers and another memory
+  pub record Prepared (shape : Shape) (args : List ℕ) (live sp : ℕ) (before : List ℕ) (m0 : M) (w : World) (next i : ℕ) : Type 0 where
+    pub regs : List ℕ
+    pub mem : M
+    pub time : ℕ
+    pub late : i ≤ time
+    pub soon : time ≤ i + 20
+    pub stands : Ws w next regs mem time
+    pub are : AreRegisters regs
+    pub sp_is : reg regs 2 ≡ sp
+    pub live_is : reg regs live_register ≡ live + cond shape.attributed 1 0
+    pub held : (j : ℕ) → j < shape.params → reg regs (temp_register j) ≡ slice_index args j
+    pub others : (q : ℕ) → q ≢ 2 → q ≢ live_register → ((j : ℕ) → j < shape.params → q ≢ temp_register j) → reg regs q ≡ reg before q
+    pub saved : (j : ℕ) → j < saved_count shape.temps → access.load mem (sp + 4 * j) 4 ≡ Some (reg before (saved_register j))
+    pub words : (b : ℕ) → IsWord y b → ((j : ℕ) → j < saved_count shape.temps → b ≢ sp + 4 * j) → access.load mem b 4 ≡ access.load m0 b 4
+
+  temp_low : (q j : ℕ) → q < 9 → q ≢ temp_register j
+  temp_low q j lt e = omega (arith, lt, e, register_low j)
+
+  temp_high : (q j : ℕ) → 26 ≤ q → j < 9 → q ≢ temp_register j
+  temp_high q j le lt e = omega (arith, le, e, register_high j lt)
+
+  pub prologue_walk : (shape : Shape) (args : List ℕ) (live sp caller : ℕ) (before : List ℕ) (m0 : M) (w : World) (pc next i : ℕ) → IsFrame y shape sp caller → shape.params ≤ 8
+      → reg before 2 ≡ caller → reg before live_register ≡ live → live + 1 < 2 ^ 32 → AreRegisters before → ((j : ℕ) → j < shape.params → reg before (first + j) ≡ slice_index args j)
+      → Ps (lowered_lines shape.attributed shape.params shape.temps) pc next → Ws w pc (put before 2 sp) m0 (i + 1) → Prepared shape args live sp before m0 w next i
+  prologue_walk shape args live sp caller before m0 w pc next i is few sp_before live_before small are held p a = record {
+    regs = d.after;
+    mem = b.after;
+    time = d.time;
+    late = let late = d.late in omega (arith, late);
+    soon = let soon = d.soon in omega (arith, soon, saved_few, few);
+    stands = d.stands;
+    are = d.are;
+    sp_is = d.others 2 (λ e. omega (arith, e)) ∙ c.moved.others 2 (λ j lt. temp_low 2 j (omega arith)) ∙ sp_now;
+    live_is = d.live;
+    held = λ j lt. d.others (temp_register j) (λ e. omega (arith, e, register_high j (omega (arith, lt, few)))) ∙ c.moved.moved j lt
+        ∙ put_other before 2 (first + j) sp (omega arith) (λ e. omega (arith, e)) ∙ held j lt;
+    others = λ q two live away. d.others q live ∙ c.moved.others q away ∙ put_other before 2 q sp (omega arith) two;
+    saved = λ j lt. b.saved.saved j lt ∙ ap Some (put_other before 2 (saved_register j) sp (omega arith) (λ e. sp_apart j (sym e)));
+    words = b.saved.others;
+  }
+    where
+      saved_few : saved_count shape.temps ≤ 10
+      saved_few = omega (arith, min-le_right shape.temps 9)
+
+      now : List ℕ
+      now = put before 2 sp
+
+      sp_now : reg (put before 2 sp) 2 ≡ sp
+      sp_now = put_same before 2 sp (omega arith) (omega (arith, are.count))
+
+      below : sp < 2 ^ 32
+      below = omega (arith, is.below, is.high, laid.top)
+
+      are_now : AreRegisters (put before 2 sp)
+      are_now = put_registers before 2 sp are (omega arith) (omega arith) below
+
+      q : (mid : ℕ) × Ps (save_lines (saved_count shape.temps)) pc mid × Ps (parameter_lines shape.params ++ enter_lines shape.attributed) mid next
+      q = placed_split machine.text place y.entry (save_lines (saved_count shape.temps)) (parameter_lines shape.params ++ enter_lines shape.attributed) pc next p
+
+      u : (mid : ℕ) × Ps (parameter_lines shape.params) q.0 mid × Ps (enter_lines shape.attributed) mid next
+      u = placed_split machine.text place y.entry (parameter_lines shape.params) (enter_lines shape.attributed) q.0 next q.2
+
+      b : Saves access y laid machine memory reach ample runs budget far place (saved_count shape.temps) sp w q.0 (put before 2 sp) m0 (i + 1 + saved_count shape.temps)
+      b = save_walk access y laid machine memory reach ample runs budget far place (saved_count shape.temps) sp w pc q.0 now m0 (i + 1) saved_few sp_now
+          (λ j lt. saved_words y shape sp caller is j (omega (arith, lt, saved_few))) are_now q.1 a
+
+      c : Moves access y laid machine memory reach ample runs budget far place shape.params w u.0 (put before 2 sp) b.after (i + 1 + saved_count shape.temps + shape.params)
+      c = parameter_walk access y laid machine memory reach ample runs budget far place shape.params w q.0 u.0 now b.after (i + 1 + saved_count shape.temps) few are_now u.1 b.stands
+
+      live_now : reg c.after live_register ≡ live
+      live_now = c.moved.others live_register (λ j lt. temp_high live_register j (omega arith) (omega (arith, lt, few))) ∙ put_other before 2 live_register sp (omega arith) (λ e. omega (arith, e)) ∙ live_before
+
+      d : Counted access y laid machine memory reach ample runs budget far place (live + cond shape.attributed 1 0) w next c.after b.after (i + 1 + saved_count shape.temps + shape.params)
+      d = enter_walk access y laid machine memory reach ample runs budget far place shape.attributed live w u.0 next c.after b.after (i + 1 + saved_count shape.temps + shape.params) c.moved.are small live_now u.2 c.stands

@@ -1,0 +1,114 @@
+-- The code of a whole function: its frame is made, its body carried out, and the frame taken down.
+use Rattle.std.specs.Prelude.{ℕ, zero, suc, ◌+◌, ◌*◌, ◌/◌, Bool, cond, max, min, slice_index, List, [], ◌∷◌, ◌++◌, pos, ◌-ℤ◌}
+use Rattle.mv_isa.specs.declared.instr.Instr.TheVariants.{Lw, Sw, Addi, Jalr}
+use Rattle.mv_isa.specs.declared.labelled.Line.{Line}
+use Rattle.mv_isa.specs.declared.labelled.Line.TheVariants.{Word, Label}
+use Rattle.mv_isa.specs.Registers.{x0, ra, sp, s10}
+use Rattle.mv_ir.specs.declared.stm.Stm.{Stm}
+use Rattle.mv_ir.specs.Measures.{total}
+use Rattle.mv_select_code.specs.Trees.TreeCode.{one, two, minus_one, temp_register}
+use Rattle.mv_select_code.specs.Statements.StatementCode.{first}
+use Rattle.mv_select_code.specs.Control.FlowCode.{Plan, code_of}
+use Rattle.mv_select.specs.Calls.CallCode.{calls_of}
+
+-- ---- frames, in words above sp: ra and the registers of temporaries, then the temporaries from number 9 on, then the arrays
+
+-- how many registers a frame saves: ra, and that of each temporary that has one
+abbrev pub saved_count : ℕ → ℕ
+saved_count temps = suc (min temps 9)
+
+abbrev pub saved_register : ℕ → ℕ
+saved_register zero = ra
+saved_register (suc t) = temp_register t
+
+-- where the arrays begin
+abbrev pub arrays_start : ℕ → ℕ
+arrays_start temps = max temps 9 + 1
+
+-- how many words the arrays before one have
+abbrev pub words_before : List ℕ → ℕ → ℕ
+words_before [] a = 0
+words_before (n ∷ sizes) zero = 0
+words_before (n ∷ sizes) (suc a) = n + words_before sizes a
+
+-- where an array begins, in bytes
+abbrev pub array_offset : ℕ → List ℕ → ℕ → ℕ
+array_offset temps sizes a = 4 * (arrays_start temps + words_before sizes a)
+
+-- how many bytes a frame has, a multiple of 16
+abbrev pub frame_bytes : ℕ → List ℕ → ℕ
+frame_bytes temps sizes = 16 * ((arrays_start temps + total sizes + 3) / 4)
+
+-- ---- entry and return
+
+abbrev pub save_lines : ℕ → List Line
+save_lines zero = []
+save_lines (suc k) = save_lines k ++ one (Sw sp (saved_register k) (pos (4 * k)))
+
+abbrev pub restore_lines : ℕ → List Line
+restore_lines zero = []
+restore_lines (suc k) = restore_lines k ++ one (Lw (saved_register k) sp (pos (4 * k)))
+
+-- the parameters come into the registers of the first temporaries
+abbrev pub parameter_lines : ℕ → List Line
+parameter_lines zero = []
+parameter_lines (suc k) = parameter_lines k ++ one (Addi (temp_register k) (first + k) (pos 0))
+
+-- an attributed function counts as live
+abbrev pub enter_lines : Bool → List Line
+enter_lines attributed = cond attributed (one (Addi s10 s10 (pos 1))) []
+
+abbrev pub leave_lines : Bool → List Line
+leave_lines attributed = cond attributed (one (Addi s10 s10 minus_one)) []
+
+-- what follows where sp has moved
+abbrev pub lowered_lines : Bool → (params temps : ℕ) → List Line
+lowered_lines attributed params temps = save_lines (saved_count temps) ++ (parameter_lines params ++ enter_lines attributed)
+
+abbrev pub prologue_lines : Bool → (params temps bytes : ℕ) → List Line
+prologue_lines attributed params temps bytes = Word (Addi sp sp (pos 0 -ℤ pos bytes)) ∷ lowered_lines attributed params temps
+
+abbrev pub epilogue_lines : Bool → (temps bytes : ℕ) → List Line
+epilogue_lines attributed temps bytes =
+    leave_lines attributed ++ (restore_lines (saved_count temps) ++ two (Addi sp sp (pos bytes)) (Jalr x0 ra (pos 0)))
+
+-- ---- functions
+
+-- the label of a function's end; those of its body come behind it
+abbrev pub end_label : ℕ
+end_label = 0
+
+-- a function's own numbers: whether it is attributed, how many parameters and temporaries it has, and the words of each of its arrays
+pub record Shape : Type 0 where
+  pub attributed : Bool
+  pub params : ℕ
+  pub temps : ℕ
+  pub arrays : List ℕ
+
+abbrev pub bytes_of : Shape → ℕ
+bytes_of shape = frame_bytes shape.temps shape.arrays
+
+module _ (place size : ℕ → ℕ) (is_attributed : ℕ → Bool) (shape : Shape) where
+  abbrev pub plan : Plan
+  plan = record {
+    place = place;
+    size = size;
+    array_at = array_offset shape.temps shape.arrays;
+    array_size = slice_index shape.arrays;
+    end = end_label;
+    calls = calls_of place is_attributed;
+  }
+
+  abbrev pub body_lines : List Stm → List Line
+  body_lines code = (code_of plan code).lines [] (end_label + 1)
+
+  -- the code behind its first instruction
+  abbrev pub later_lines : List Stm → List Line
+  later_lines code =
+      lowered_lines shape.attributed shape.params shape.temps
+      ++ (body_lines code ++ (Label end_label ∷ epilogue_lines shape.attributed shape.temps (bytes_of shape)))
+
+  abbrev pub function_lines : List Stm → List Line
+  function_lines code =
+      prologue_lines shape.attributed shape.params shape.temps (bytes_of shape)
+      ++ (body_lines code ++ (Label end_label ∷ epilogue_lines shape.attributed shape.temps (bytes_of shape)))

@@ -1,0 +1,22 @@
+//! The code of whole functions, which keeps the calling convention.
+//!
+//! - `push_prologue` and `push_epilogue` put exactly the lines of `specs/Functions/FunctionCode.antt` behind some code: a frame is
+//!   made, ra and the registers of temporaries are saved, parameters come to their temporaries; and the way back.
+//! - `function_code_law`, clause `each`: over any functions that keep the calling convention at each lower bound, the
+//!   code of a function that is called with as many arguments as it has parameters does what its body means for what its
+//!   frame holds at first, in no more than 44 instructions over its cost, and keeps the convention. `later`: so it does
+//!   where its first instruction is carried out elsewhere, as where its entry may be patched. `main`: so does the main
+//!   function, without parameters and not attributed, which begins with no frame above its own, no live attributed frame,
+//!   512 calls left, and room below sp for 513 frames. `encoded`: the instructions of entry and return have encodings,
+//!   and are at most 20 and 13 words.
+//! - Assumed: stores to globals and the stack are read back, globals stand apart from one another and from the stack, and
+//!   the known functions are served. The machine has to run a function's code only by itself, where no text stands but
+//!   the function's own, and only steps that load from the stack and from data words of globals that the function reads,
+//!   and that store to the stack and to globals that it writes. And of each function, that its frame has at most 2,032
+//!   bytes, and that its trees are fine in its frames.
+
+mod frames;
+mod laws;
+
+pub use frames::{push_epilogue, push_prologue};
+pub use laws::function_code_law;

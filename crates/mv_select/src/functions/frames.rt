@@ -1,0 +1,184 @@
+//! The entry of a function, which makes its frame, and its return, which takes it down.
+
+ghost use Rattle.std.specs.Prelude.{◌≡◌, ◌<◌, ◌≤◌, ◌++◌, OnOk};
+ghost use Rattle.mv_select.specs.Functions.FunctionCode.{saved_count, saved_register, save_lines, restore_lines, parameter_lines, enter_lines, leave_lines, prologue_lines, epilogue_lines};
+
+use mv_isa::Instr;
+use mv_isa::labelled::Line;
+use mv_num::list::List;
+use mv_select_code::trees::{push_one, push_two, temp_register};
+use std::alloc::AllocError;
+
+/// The return address, ra.
+const LINK: u8 = 1;
+/// The stack pointer, sp.
+const STACK: u8 = 2;
+/// The first argument, a0.
+const FIRST: u8 = 10;
+/// How many attributed frames are live, s10.
+const LIVE: u8 = 26;
+
+// How many registers a frame saves.
+fn saved_count(temps: u32) -> u32
+    ensures count { result ≡ saved_count temps }
+    ensures few { result ≤ 10 }
+{
+    temps.min(9) + 1
+}
+
+// The register that a frame saves in one of its first words.
+fn saved_register(index: u32) -> u8
+    requires { index < 10 }
+    ensures { result ≡ saved_register index }
+{
+    if index == 0 {
+        LINK
+    } else {
+        temp_register(index - 1)
+    }
+}
+
+// Registers are saved.
+#[tactic(auto, using(crate::proofs::OfFunctions::Equations::frames))]
+fn push_save(code: &mut List<Line>, count: u32) -> Result<(), AllocError>
+    requires { count ≤ 10 }
+    ensures { OnOk result (code.new ≡ code.old ++ save_lines count) }
+{
+    for index in 0..count {
+        push_one(
+            code,
+            Instr::Sw {
+                rs1: STACK,
+                rs2: saved_register(index),
+                imm: (4 * index) as i32,
+            },
+        )?;
+    }
+    Ok(())
+}
+
+// Registers are restored.
+#[tactic(auto, using(crate::proofs::OfFunctions::Equations::frames))]
+fn push_restore(code: &mut List<Line>, count: u32) -> Result<(), AllocError>
+    requires { count ≤ 10 }
+    ensures { OnOk result (code.new ≡ code.old ++ restore_lines count) }
+{
+    for index in 0..count {
+        push_one(
+            code,
+            Instr::Lw {
+                rd: saved_register(index),
+                rs1: STACK,
+                imm: (4 * index) as i32,
+            },
+        )?;
+    }
+    Ok(())
+}
+
+// Parameters come into the registers of the first temporaries.
+#[tactic(auto, using(crate::proofs::OfFunctions::Equations::frames))]
+fn push_parameters(code: &mut List<Line>, count: u32) -> Result<(), AllocError>
+    requires { count ≤ 8 }
+    ensures { OnOk result (code.new ≡ code.old ++ parameter_lines count) }
+{
+    for index in 0..count {
+        push_one(
+            code,
+            Instr::Addi {
+                rd: temp_register(index),
+                rs1: FIRST + index as u8,
+                imm: 0,
+            },
+        )?;
+    }
+    Ok(())
+}
+
+// An attributed function counts as live.
+fn push_enter(code: &mut List<Line>, attributed: bool) -> Result<(), AllocError>
+    ensures { OnOk result (code.new ≡ code.old ++ enter_lines attributed) }
+{
+    if attributed {
+        push_one(
+            code,
+            Instr::Addi {
+                rd: LIVE,
+                rs1: LIVE,
+                imm: 1,
+            },
+        )
+    } else {
+        Ok(())
+    }
+}
+
+// It does so no longer.
+fn push_leave(code: &mut List<Line>, attributed: bool) -> Result<(), AllocError>
+    ensures { OnOk result (code.new ≡ code.old ++ leave_lines attributed) }
+{
+    if attributed {
+        push_one(
+            code,
+            Instr::Addi {
+                rd: LIVE,
+                rs1: LIVE,
+                imm: -1,
+            },
+        )
+    } else {
+        Ok(())
+    }
+}
+
+/// Makes the frame of a function, of so many bytes, and puts its parameters into its first temporaries.
+pub fn push_prologue(
+    code: &mut List<Line>,
+    attributed: bool,
+    params: u32,
+    temps: u32,
+    bytes: u32,
+) -> Result<(), AllocError>
+    requires params { params ≤ 8 }
+    requires bytes { bytes ≤ 2032 }
+    ensures { OnOk result (code.new ≡ code.old ++ prologue_lines attributed params temps bytes) }
+{
+    push_one(
+        code,
+        Instr::Addi {
+            rd: STACK,
+            rs1: STACK,
+            imm: -(bytes as i32),
+        },
+    )?;
+    push_save(code, saved_count(temps))?;
+    push_parameters(code, params)?;
+    push_enter(code, attributed)
+}
+
+/// Takes the frame of a function down, and returns.
+pub fn push_epilogue(
+    code: &mut List<Line>,
+    attributed: bool,
+    temps: u32,
+    bytes: u32,
+) -> Result<(), AllocError>
+    requires { bytes ≤ 2032 }
+    ensures { OnOk result (code.new ≡ code.old ++ epilogue_lines attributed temps bytes) }
+{
+    push_leave(code, attributed)?;
+    push_restore(code, saved_count(temps))?;
+    push_two(
+        code,
+        Instr::Addi {
+            rd: STACK,
+            rs1: STACK,
+            imm: bytes as i32,
+        },
+        Instr::Jalr {
+            rd: 0,
+            rs1: LINK,
+            imm: 0,
+        },
+    )
+}

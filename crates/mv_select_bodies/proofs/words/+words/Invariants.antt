@@ -1,6 +1,0 @@
-use Rattle.std.proofs.Common.{take}
-use Rattle.mv_select_bodies.specs.SelectedBodies.{HasWords}
-use Rattle.mv_select_bodies.proofs.words.+words.Given as goal
-
-abbrev pub invariant-code_has_words-loop-stm : goal.invariant-code_has_words-loop-stm
-invariant-code_has_words-loop-stm l = HasWords (take l.stm-index l.code)

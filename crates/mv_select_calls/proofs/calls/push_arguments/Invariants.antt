@@ -1,9 +1,0 @@
-use Rattle.std.proofs.Common.{◌≡◌, ◌+◌, ◌++◌, drop}
-use Rattle.mv_select_trees.specs.Rooms.{place_in}
-use Rattle.mv_select_calls.specs.CallCode.{argument_lines}
-use Rattle.mv_select_calls.proofs.calls.push_arguments.Given as goal
-
--- with the code of the arguments that are left it is the whole
-abbrev pub invariant-loop-index : goal.invariant-loop-index
-invariant-loop-index l =
-    l.code ++ argument_lines (place_in l.rooms) (10 + l.index) (drop l.index l.arguments) ≡ l.initial.code ++ argument_lines (place_in l.rooms) 10 l.arguments

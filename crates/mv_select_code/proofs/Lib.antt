@@ -1,0 +1,3 @@
+pub mod OfTrees
+pub mod OfStatements
+pub mod OfControl

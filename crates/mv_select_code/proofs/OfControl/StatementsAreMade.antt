@@ -1,0 +1,132 @@
+-- What holds of single lines and of lines that are put together holds of the code of statements without control.
+use Rattle.std.proofs.Common.{ℕ, ◌+◌, ◌*◌, Bool, true, false, cond, ltb, List, [], ◌∷◌, ◌++◌, pos, All}
+use Rattle.std.proofs.lemmas.List.Elements.{All-append, All-cons, All-nil}
+use Rattle.mv_isa.specs.declared.instr.Instr.{Instr}
+use Rattle.mv_isa.specs.declared.instr.Instr.TheVariants.{Lui, Lw, Sw, Addi, Slli, Add}
+use Rattle.mv_isa.specs.declared.labelled.Line.{Line}
+use Rattle.mv_isa.specs.declared.labelled.Line.TheVariants.{Word, Label, Entry, Jump, Branch}
+use Rattle.mv_ir.specs.declared.tree.Tree.{Tree}
+use Rattle.mv_ir.specs.declared.tree.Tree.TheOpen as tree
+use Rattle.mv_ir.specs.declared.tree.Tree.TheViews.{roll-Tree}
+use Rattle.mv_select_code.specs.Trees.TreeCode.{one, two, upper_bits, lower_bits, number_lines, temp_offset, tree_into, tree_lines, operand_lines, operand_register}
+use Rattle.mv_select_code.proofs.OfTrees.TreesAreMade as trees
+use Rattle.mv_select_code.specs.declared.statements.elements.Home.{Home}
+use Rattle.mv_select_code.specs.declared.statements.elements.Home.TheVariants as home
+use Rattle.mv_select_code.specs.Statements.StatementCode.{first, second, third, trap_label, target, keep_lines, division, element_offset, element_lines, test_lines, bounds_lines, clear_lines, set_lines, set_global_lines, divide_lines, check_lines, read_lines, write_lines, return_lines}
+use Rattle.mv_select_code.specs.Control.Labels.{tree_functions, Names}
+use Rattle.mv_select_code.proofs.OfControl.TreeNames.{functions_inside, function_named}
+
+-- P holds of lines that are put together where it holds of each part; of a label's line where the label is of the kind L, of one that jumps where its
+-- goal is of the kind J, and of one that takes the address of a function where the function is of the kind Q
+pub record LineByLine (P : List Line → Type 0) (L J Q : ℕ → Type 0) : Type 0 where
+  pub none : P []
+  pub after : (a b : List Line) → P a → P b → P (a ++ b)
+  pub word : (i : Instr) → P (one i)
+  pub label : (l : ℕ) → L l → P (Label l ∷ [])
+  pub jump : (l : ℕ) → J l → P (Jump 0 l ∷ [])
+  pub branch : (funct3 a b l : ℕ) → J l → P (Branch funct3 a b l ∷ [])
+  pub entry : (r f : ℕ) → Q f → P (Entry r f ∷ [])
+
+module _ {P : List Line → Type 0} {L J Q : ℕ → Type 0} (made : LineByLine P L J Q) where
+  pub words_made : (i j : Instr) → P (two i j)
+  words_made i j = made.after (one i) (one j) (made.word i) (made.word j)
+
+  pub number_made : (n r : ℕ) → P (number_lines n r)
+  number_made = trees.number_made P made.none made.word made.after
+
+  keep_made : (t : ℕ) → P (keep_lines t)
+  unfolding keep_lines
+  keep_made t = by_place (ltb t 9)
+    where
+      by_place : (is_low : Bool) → P (cond is_low [] (one (Sw 2 first (pos (temp_offset t)))))
+      by_place true = made.none
+      by_place false = made.word (Sw 2 first (pos (temp_offset t)))
+
+  last_made : (i : Instr) (t : ℕ) → P (Word i ∷ keep_lines t)
+  last_made i t = made.after (one i) (keep_lines t) (made.word i) (keep_made t)
+
+  element_made : (h : Home) (q : ℕ) → P (element_lines h q)
+  element_made (home.Data at) q = made.after (one (Slli first q (pos 2))) (two (Lui third (pos (upper_bits at))) (Add first first third)) (made.word (Slli first q (pos 2))) (words_made (Lui third (pos (upper_bits at))) (Add first first third))
+  element_made (home.Frame at) q = words_made (Slli first q (pos 2)) (Add first first 2)
+
+  test_made : (size q : ℕ) → J (trap_label 2) → P (test_lines size q)
+  test_made size q h = made.after (number_lines size third) (Branch 7 q third (trap_label 2) ∷ []) (number_made size third) (made.branch 7 q third (trap_label 2) h)
+
+  pub bounds_made : (at n : ℕ) → P (bounds_lines at n)
+  bounds_made at n = words_made (Addi first 2 (pos at)) (Addi second 2 (pos (at + 4 * n)))
+
+  pub clear_made : P clear_lines
+  clear_made = words_made (Sw first 0 (pos 0)) (Addi first first (pos 4))
+
+  -- ---- trees, and statements that have some
+
+  abbrev Fs : Tree → Type 0
+  Fs t = All Q (tree_functions t)
+
+  entry_made : (f r : ℕ) → Fs (roll-Tree (tree.Function f)) → P (Entry r f ∷ [])
+  entry_made f r h = made.entry r f (function_named Q f h)
+
+  module _ (place : ℕ → ℕ) where
+    pub tree_made : (t : Tree) → Fs t → (r : ℕ) → P (tree_lines place t r)
+    tree_made = trees.lines_made P made.none made.word made.after Fs (functions_inside Q) entry_made place
+
+    pub operand_made : (t : Tree) → Fs t → (r : ℕ) → P (operand_lines place t r)
+    operand_made = trees.operand_made P made.none made.word made.after Fs (functions_inside Q) entry_made place
+
+    pub into_made : (t : Tree) → Fs t → (d r : ℕ) → P (tree_into place t d r)
+    into_made = trees.into_made P made.none made.word made.after Fs (functions_inside Q) entry_made place
+
+    pub set_made : (t : ℕ) (v : Tree) → Fs v → P (set_lines place t v)
+    set_made t v h = made.after (tree_into place v (target t) first) (keep_lines t) (into_made v h (target t) first) (keep_made t)
+
+    pub set_global_made : (g : ℕ) (v : Tree) → Fs v → P (set_global_lines place g v)
+    set_global_made g v h =
+        let high = Lui second (pos (upper_bits (place g))) in
+        let store = Sw second (operand_register v first) (lower_bits (place g)) in
+        made.after (operand_lines place v first) (two high store) (operand_made v h first) (words_made high store)
+
+    pub divide_made : (t o : ℕ) (a b : Tree) → J (trap_label 1) → Fs a → Fs b → P (divide_lines place t o a b)
+    divide_made t o a b p h k =
+        let left = operand_register a first in
+        let right = operand_register b second in
+        let test = Branch 0 right 0 (trap_label 1) ∷ [] in
+        let divide = division o (target t) left right in
+        made.after (operand_lines place a first) (operand_lines place b second ++ (test ++ (Word divide ∷ keep_lines t))) (operand_made a h first)
+        (made.after (operand_lines place b second) (test ++ (Word divide ∷ keep_lines t)) (operand_made b k second)
+        (made.after test (Word divide ∷ keep_lines t) (made.branch 0 right 0 (trap_label 1) p) (last_made divide t)))
+
+    pub check_made : (size : ℕ) (i : Tree) → J (trap_label 2) → Fs i → P (check_lines place size i)
+    check_made size i p h = let q = operand_register i first in made.after (operand_lines place i first) (test_lines size q) (operand_made i h first) (test_made size q p)
+
+    pub read_made : (t size : ℕ) (e : Home) (i : Tree) → J (trap_label 2) → Fs i → P (read_lines place t e size i)
+    read_made t size e i p h =
+        let q = operand_register i first in
+        let load = Word (Lw (target t) first (element_offset e)) ∷ keep_lines t in
+        made.after (operand_lines place i first) (test_lines size q ++ (element_lines e q ++ load)) (operand_made i h first)
+        (made.after (test_lines size q) (element_lines e q ++ load) (test_made size q p)
+        (made.after (element_lines e q) load (element_made e q) (last_made (Lw (target t) first (element_offset e)) t)))
+
+    pub write_made : (size : ℕ) (e : Home) (i v : Tree) → J (trap_label 2) → Fs i → Fs v → P (write_lines place e size i v)
+    write_made size e i v p h k =
+        let q = operand_register i first in
+        let store = Sw first (operand_register v second) (element_offset e) in
+        made.after (operand_lines place i first) (operand_lines place v second ++ (test_lines size q ++ (element_lines e q ++ one store))) (operand_made i h first)
+        (made.after (operand_lines place v second) (test_lines size q ++ (element_lines e q ++ one store)) (operand_made v k second)
+        (made.after (test_lines size q) (element_lines e q ++ one store) (test_made size q p)
+        (made.after (element_lines e q) (one store) (element_made e q) (made.word store))))
+
+    pub return_made : (end : ℕ) (v : Tree) → J end → Fs v → P (return_lines place end v)
+    return_made end v p h = made.after (tree_lines place v first) (Jump 0 end ∷ []) (tree_made v h first) (made.jump end p)
+
+-- ---- the labels that lines name; no label stands there
+
+pub names_made : (P : ℕ → Type 0) → LineByLine (All (Names P)) (λ l. ⊥) P P
+names_made P = record {
+  none = All-nil (Names P);
+  after = All-append (Names P);
+  word = λ i. All-cons (Names P) (Word i) [] tt (All-nil (Names P));
+  label = λ l h. absurd h;
+  jump = λ l h. All-cons (Names P) (Jump 0 l) [] h (All-nil (Names P));
+  branch = λ funct3 a b l h. All-cons (Names P) (Branch funct3 a b l) [] h (All-nil (Names P));
+  entry = λ r f h. All-cons (Names P) (Entry r f) [] h (All-nil (Names P));
+}

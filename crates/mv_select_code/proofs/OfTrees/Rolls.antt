@@ -1,0 +1,101 @@
+-- The definitions over trees, one level at a time.
+use Rattle.std.proofs.Common.{◌≡◌, ℕ, ◌+◌, Bool, cond, List, [], ◌∷◌, ◌++◌, Option, None, unwrap_or, refl, sym, ap, ◌∙◌}
+use Rattle.mv_isa.specs.declared.labelled.Line.{Line}
+use Rattle.mv_isa.specs.declared.labelled.Line.TheVariants.{Entry}
+use Rattle.mv_ir.specs.declared.tree.Tree.{Tree}
+use Rattle.mv_ir.specs.declared.tree.Tree.TheOpen.{Tree-F}
+use Rattle.mv_ir.specs.declared.tree.Tree.TheOpen as tree
+use Rattle.mv_ir.specs.declared.tree.Tree.TheViews.{roll-Tree}
+use Rattle.mv_ir.specs.declared.tree.Tree.TheFolds.{fold-roll-Tree, map-Tree}
+use Rattle.mv_ir.proofs.Induction.{TreeChildren, tree_ind}
+use Rattle.mv_select_code.specs.Trees.TreeCode.{one, number_lines, load_lines, read_temp, unary_lines, keeps_words, narrow_lines, own_layer, own_register, literal_layer, literal, right_of, operator_lines, unless, Code, ready, stands, into_layer, tree_layer, tree_code, tree_into, tree_lines, operand_lines, operand_register, immediate_of, temps_layer, temps_of}
+use Rattle.mv_select_code.specs.Trees.View.{View, names_layer, is_in_view}
+
+code_roll : (place : ℕ → ℕ) (x : Tree-F Tree) → tree_code place (roll-Tree x) ≡ tree_layer place (map-Tree Tree Code (tree_code place) x)
+unfolding tree_code
+code_roll place x = fold-roll-Tree Code (tree_layer place) x
+
+pub own_roll : (x : Tree-F Tree) → own_register (roll-Tree x) ≡ own_layer (map-Tree Tree (Option ℕ) own_register x)
+unfolding own_register
+own_roll x = fold-roll-Tree (Option ℕ) own_layer x
+
+pub literal_roll : (x : Tree-F Tree) → literal (roll-Tree x) ≡ literal_layer (map-Tree Tree (Option ℕ) literal x)
+unfolding literal
+literal_roll x = fold-roll-Tree (Option ℕ) literal_layer x
+
+pub temps_roll : (x : Tree-F Tree) → temps_of (roll-Tree x) ≡ temps_layer (map-Tree Tree ℕ temps_of x)
+unfolding temps_of
+temps_roll x = fold-roll-Tree ℕ temps_layer x
+
+pub in_view_roll : (v : View) (x : Tree-F Tree) → is_in_view v (roll-Tree x) ≡ names_layer v (map-Tree Tree Bool (is_in_view v) x)
+unfolding is_in_view
+in_view_roll v x = fold-roll-Tree Bool (names_layer v) x
+
+pub immediate_is : (o : ℕ) (t : Tree) → right_of o (literal t) ≡ immediate_of o t
+unfolding immediate_of
+immediate_is o t = refl
+
+-- ---- the code of a tree, of that of its parts
+
+module _ (place : ℕ → ℕ) where
+  abbrev OwnIs : Tree → Type 0
+  OwnIs t = (tree_code place t).own ≡ own_register t
+
+  own_is : (t : Tree) → OwnIs t
+  own_is = tree_ind OwnIs (λ x h. ap (λ (c : Code). c.own) (code_roll place x) ∙ same x h ∙ sym (own_roll x))
+    where
+      same : (x : Tree-F Tree) → TreeChildren OwnIs x → (tree_layer place (map-Tree Tree Code (tree_code place) x)).own ≡ own_layer (map-Tree Tree (Option ℕ) own_register x)
+      same (tree.Number n) h = refl
+      same (tree.Temp n) h = refl
+      same (tree.Global n) h = refl
+      same (tree.Function n) h = refl
+      same (tree.Unary o a) h = refl
+      same (tree.Binary o a b) h = refl
+      same (tree.Narrow k a) h = ap (λ w. cond (keeps_words k) w None) h
+
+  abbrev WrittenIs : Tree → Type 0
+  WrittenIs t = (tree_code place t).written ≡ literal t
+
+  written_is : (t : Tree) → WrittenIs t
+  written_is = tree_ind WrittenIs (λ x h. ap (λ (c : Code). c.written) (code_roll place x) ∙ same x ∙ sym (literal_roll x))
+    where
+      same : (x : Tree-F Tree) → (tree_layer place (map-Tree Tree Code (tree_code place) x)).written ≡ literal_layer (map-Tree Tree (Option ℕ) literal x)
+      same (tree.Number n) = refl
+      same (tree.Temp n) = refl
+      same (tree.Global n) = refl
+      same (tree.Function n) = refl
+      same (tree.Unary o a) = refl
+      same (tree.Binary o a b) = refl
+      same (tree.Narrow k a) = refl
+
+  abbrev pub into_tree : Tree-F Tree → (d r : ℕ) → List Line
+  into_tree (tree.Number n) d r = number_lines n d
+  into_tree (tree.Temp t) d r = one (read_temp t d)
+  into_tree (tree.Global g) d r = load_lines (place g) d
+  into_tree (tree.Function f) d r = Entry d f ∷ []
+  into_tree (tree.Unary o a) d r = operand_lines place a r ++ unary_lines o d (operand_register a r)
+  into_tree (tree.Binary o a b) d r = operand_lines place a r ++ operator_lines (immediate_of o b) o d (operand_register a r) (operand_lines place b (r + 1)) (operand_register b (r + 1))
+  into_tree (tree.Narrow k a) d r = cond (keeps_words k) (tree_into place a d r) (operand_lines place a r ++ narrow_lines k d (operand_register a r))
+
+  layer_is : (x : Tree-F Tree) (d r : ℕ) → into_layer place (map-Tree Tree Code (tree_code place) x) d r ≡ into_tree x d r
+  unfolding tree_into tree_lines operand_lines operand_register immediate_of
+  layer_is (tree.Number n) d r = refl
+  layer_is (tree.Temp t) d r = refl
+  layer_is (tree.Global g) d r = refl
+  layer_is (tree.Function f) d r = refl
+  layer_is (tree.Unary o a) d r = ap (λ w. unless w ((tree_code place a).into r r) ++ unary_lines o d (unwrap_or w r)) (own_is a)
+  layer_is (tree.Binary o a b) d r =
+      let s = r + 1 in
+      let cb = tree_code place b in
+      ap (λ w. unless w ((tree_code place a).into r r) ++ operator_lines (right_of o cb.written) o d (unwrap_or w r) (ready cb s) (stands cb s)) (own_is a)
+      ∙ ap (λ w. operand_lines place a r ++ operator_lines (right_of o cb.written) o d (operand_register a r) (unless w (cb.into s s)) (unwrap_or w s)) (own_is b)
+      ∙ ap (λ w. operand_lines place a r ++ operator_lines (right_of o w) o d (operand_register a r) (operand_lines place b s) (operand_register b s)) (written_is b)
+  layer_is (tree.Narrow k a) d r = ap (λ w. cond (keeps_words k) ((tree_code place a).into d r) (unless w ((tree_code place a).into r r) ++ narrow_lines k d (unwrap_or w r))) (own_is a)
+
+  pub into_roll : (x : Tree-F Tree) (d r : ℕ) → tree_into place (roll-Tree x) d r ≡ into_tree x d r
+  unfolding tree_into
+  into_roll x d r = ap (λ (c : Code). c.into d r) (code_roll place x) ∙ layer_is x d r
+
+  pub lines_are : (t : Tree) (r : ℕ) → tree_lines place t r ≡ tree_into place t r r
+  unfolding tree_lines
+  lines_are t r = refl

@@ -1,0 +1,215 @@
+-- The code of statements within one another. Its labels are counted on from a first free one.
+use Rattle.std.specs.Prelude.{ℕ, zero, suc, ◌+◌, ◌^◌, ◌&&◌, Bool, true, eqb, ltb, length, List, [], ◌∷◌, ◌++◌, map, Option, Some, None}
+use Rattle.mv_ast.specs.declared.program.Known.{Known}
+use Rattle.mv_ast.specs.declared.program.Known.TheVariants as known
+use Rattle.mv_isa.specs.declared.labelled.Line.{Line}
+use Rattle.mv_isa.specs.declared.labelled.Line.TheVariants.{Label, Jump, Branch}
+use Rattle.mv_isa.specs.Registers.{x0}
+use Rattle.mv_ir.specs.declared.tree.Tree.{Tree}
+use Rattle.mv_ir.specs.declared.stm.Array.{Array}
+use Rattle.mv_ir.specs.declared.stm.Array.TheVariants as array
+use Rattle.mv_ir.specs.declared.stm.Callee.{Callee}
+use Rattle.mv_ir.specs.declared.stm.Callee.TheVariants as callee
+use Rattle.mv_ir.specs.declared.stm.Stm.{Stm}
+use Rattle.mv_ir.specs.declared.stm.Stm.TheOpen.{Stm-F}
+use Rattle.mv_ir.specs.declared.stm.Stm.TheOpen as stm
+use Rattle.mv_ir.specs.declared.stm.Stm.TheFolds.{fold-Stm}
+use Rattle.mv_ir.specs.WellFormed.{all_true, known_arguments}
+use Rattle.mv_select_code.specs.Trees.TreeCode.{operand_lines, operand_register}
+use Rattle.mv_select_code.specs.declared.statements.elements.Home.{Home}
+use Rattle.mv_select_code.specs.declared.statements.elements.Home.TheVariants as place_at
+use Rattle.mv_select_code.specs.Statements.StatementCode.{first, second, set_lines, set_global_lines, divide_lines, check_lines, read_lines, write_lines, bounds_lines, clear_lines, return_lines}
+use Rattle.mv_select_code.specs.declared.control.enclosing.Enclosing.{Enclosing}
+
+-- the n-th of what encloses a statement, counted from 0, the innermost; the whole function past all of them
+abbrev pub enclosing_at : List Enclosing → ℕ → ℕ → Enclosing
+enclosing_at [] n end = record { start = end; end = end }
+enclosing_at (e ∷ around) zero end = e
+enclosing_at (e ∷ around) (suc n) end = enclosing_at around n end
+
+-- the code of calls of functions, and of known functions
+pub record CallLines : Type 0 where
+  pub call : Option ℕ → Callee → List Tree → List Line
+  pub known : Option ℕ → Known → List Tree → List Line
+
+-- Where things are: the address and the number of words of each global, the place above sp and the number of words of each array of the frame, the
+-- label of the end of the function, and the code of calls.
+pub record Plan : Type 0 where
+  pub place : ℕ → ℕ
+  pub size : ℕ → ℕ
+  pub array_at : ℕ → ℕ
+  pub array_size : ℕ → ℕ
+  pub end : ℕ
+  pub calls : CallLines
+
+-- How many labels some code takes; and its lines, by what encloses it, the innermost first, and the first free label.
+pub record Emitted : Type 0 where
+  pub labels : ℕ
+  pub lines : List Enclosing → ℕ → List Line
+
+-- ---- lists, loops, blocks and branches
+
+abbrev pub nothing : Emitted
+nothing = record { labels = 0; lines = λ around label. [] }
+
+-- one behind the other, which takes its labels behind those of the first
+abbrev pub both : Emitted → Emitted → Emitted
+both a b = record { labels = a.labels + b.labels; lines = λ around label. a.lines around label ++ b.lines around (label + a.labels) }
+
+abbrev pub in_turn : List Emitted → Emitted
+in_turn [] = nothing
+in_turn (a ∷ rest) = both a (in_turn rest)
+
+-- the second list, at a first label, where a register is 0, and else the first one, with a jump to the end, a second label
+abbrev pub branch_lines : (q label : ℕ) → List Line → List Line → List Line
+branch_lines q label a b = Branch 0 q x0 label ∷ (a ++ (Jump x0 (label + 1) ∷ Label label ∷ (b ++ (Label (label + 1) ∷ []))))
+
+abbrev pub if_lines : (ℕ → ℕ) → ℕ → Tree → List Line → List Line → List Line
+if_lines place label t a b = operand_lines place t first ++ branch_lines (operand_register t first) label a b
+
+abbrev pub loop_lines : ℕ → List Line → List Line
+loop_lines label b = Label label ∷ (b ++ (Jump x0 label ∷ Label (label + 1) ∷ []))
+
+abbrev pub block_lines : ℕ → List Line → List Line
+block_lines label b = b ++ (Label label ∷ [])
+
+-- a loop has a label at its start and one at its end, and a block one at its end
+abbrev pub loop_at : ℕ → Enclosing
+loop_at label = record { start = label; end = label + 1 }
+
+abbrev pub block_at : ℕ → Enclosing
+block_at label = record { start = label; end = label }
+
+abbrev pub branch_code : ℕ → Emitted → Emitted → Emitted
+branch_code q a b = record {
+  labels = 2 + (a.labels + b.labels);
+  lines = λ around label. branch_lines q label (a.lines around (label + 2)) (b.lines around (label + 2 + a.labels));
+}
+
+abbrev pub if_code : (ℕ → ℕ) → Tree → Emitted → Emitted → Emitted
+if_code place t a b =
+    let c = branch_code (operand_register t first) a b in record { labels = c.labels; lines = λ around label. operand_lines place t first ++ c.lines around label }
+
+abbrev pub loop_code : Emitted → Emitted
+loop_code b = record { labels = 2 + b.labels; lines = λ around label. loop_lines label (b.lines (loop_at label ∷ around) (label + 2)) }
+
+abbrev pub block_code : Emitted → Emitted
+block_code b = record { labels = 1 + b.labels; lines = λ around label. block_lines label (b.lines (block_at label ∷ around) (label + 1)) }
+
+abbrev pub break_code : ℕ → ℕ → Emitted
+break_code end n = record { labels = 0; lines = λ around label. Jump x0 (enclosing_at around n end).end ∷ [] }
+
+abbrev pub back_code : ℕ → ℕ → Emitted
+back_code end n = record { labels = 0; lines = λ around label. Jump x0 (enclosing_at around n end).start ∷ [] }
+
+-- Each word of an array of the frame becomes 0, the first one first. The test of the loop stands behind a turn, with a label of its own, and is come to
+-- first.
+abbrev pub zero_lines : ℕ → ℕ → ℕ → List Line
+zero_lines label at n =
+    bounds_lines at n ++ (Jump x0 (label + 1) ∷ Label label ∷ (clear_lines ++ (Label (label + 1) ∷ Branch 1 first second label ∷ [])))
+
+abbrev pub zero_code : ℕ → ℕ → Emitted
+zero_code at n = record { labels = 2; lines = λ around label. zero_lines label at n }
+
+-- ---- statements
+
+-- lines without labels
+abbrev pub plain : List Line → Emitted
+plain lines = record { labels = 0; lines = λ around label. lines }
+
+abbrev pub home_of : (place array_at : ℕ → ℕ) → Array → Home
+home_of place array_at (array.Global g) = place_at.Data (place g)
+home_of place array_at (array.Local a) = place_at.Frame (array_at a)
+
+abbrev pub size_of : (size array_size : ℕ → ℕ) → Array → ℕ
+size_of size array_size (array.Global g) = size g
+size_of size array_size (array.Local a) = array_size a
+
+module _ (plan : Plan) where
+  abbrev pub home : Array → Home
+  home = home_of plan.place plan.array_at
+
+  abbrev pub size : Array → ℕ
+  size = size_of plan.size plan.array_size
+
+  abbrev pub code_layer : Stm-F Emitted → Emitted
+  code_layer (stm.Set t v) = plain (set_lines plan.place t v)
+  code_layer (stm.SetGlobal g v) = plain (set_global_lines plan.place g v)
+  code_layer (stm.Divide t o a b) = plain (divide_lines plan.place t o a b)
+  code_layer (stm.Check a i) = plain (check_lines plan.place (size a) i)
+  code_layer (stm.Read t a i) = plain (read_lines plan.place t (home a) (size a) i)
+  code_layer (stm.Write a i v) = plain (write_lines plan.place (home a) (size a) i v)
+  code_layer (stm.Zero a) = zero_code (plan.array_at a) (plan.array_size a)
+  code_layer (stm.If t a b) = if_code plan.place t (in_turn a) (in_turn b)
+  code_layer (stm.Loop b) = loop_code (in_turn b)
+  code_layer (stm.Block b) = block_code (in_turn b)
+  code_layer (stm.Break n) = break_code plan.end n
+  code_layer (stm.Back n) = back_code plan.end n
+  code_layer (stm.Call r f args) = plain (plan.calls.call r f args)
+  code_layer (stm.Known r k args) = plain (plan.calls.known r k args)
+  code_layer (stm.Return v) = plain (return_lines plan.place plan.end v)
+
+  -- the code of a statement
+  unfoldable pub statement_code : Stm → Emitted
+  statement_code = fold-Stm Emitted code_layer
+
+  -- and of statements in order
+  abbrev pub code_of : List Stm → Emitted
+  code_of statements = in_turn (map statement_code statements)
+
+-- ---- what statements name is there
+
+-- which globals have a word, and of which the elements may be read and written
+pub record Uses : Type 0 where
+  pub has_word : ℕ → Bool
+  pub is_read : ℕ → Bool
+  pub is_written : ℕ → Bool
+
+-- Trees are fine by a test, each temporary that is written is below a number, and each array that is read or written may be; so may a global that is written
+-- as a scalar, and it has a word. A pointer switch through which a call goes may be read. A call has at most eight arguments, and a known function its own
+-- number; and the code may ask for it.
+module _ (is_fine : Tree → Bool) (may_ask : Known → Bool) (temps : ℕ) (uses : Uses) where
+  abbrev pub may_read : Array → Bool
+  may_read (array.Global g) = uses.is_read g
+  may_read (array.Local a) = true
+
+  abbrev pub may_write : Array → Bool
+  may_write (array.Global g) = uses.is_written g
+  may_write (array.Local a) = true
+
+  abbrev pub fine_target : Option ℕ → Bool
+  fine_target None = true
+  fine_target (Some t) = ltb t temps
+
+  abbrev pub fine_callee : Callee → Bool
+  fine_callee (callee.Direct f) = true
+  fine_callee (callee.Through t) = is_fine t
+  fine_callee (callee.Switched g) = uses.is_read g
+
+  -- the code may ask for it, and an order's numbers are a byte and a word
+  abbrev pub fine_known : Known → Bool
+  fine_known (known.Plan code index) = may_ask (known.Plan code index) && (ltb code 256 && ltb index (2 ^ 32))
+  fine_known k = may_ask k
+
+  abbrev pub fine_layer : Stm-F Bool → Bool
+  fine_layer (stm.Set t v) = ltb t temps && is_fine v
+  fine_layer (stm.SetGlobal g v) = (uses.has_word g && uses.is_written g) && is_fine v
+  fine_layer (stm.Divide t o a b) = ltb t temps && (is_fine a && is_fine b)
+  fine_layer (stm.Check a i) = is_fine i
+  fine_layer (stm.Read t a i) = ltb t temps && (may_read a && is_fine i)
+  fine_layer (stm.Write a i v) = may_write a && (is_fine i && is_fine v)
+  fine_layer (stm.Zero a) = true
+  fine_layer (stm.If t a b) = is_fine t && (all_true a && all_true b)
+  fine_layer (stm.Loop b) = all_true b
+  fine_layer (stm.Block b) = all_true b
+  fine_layer (stm.Break n) = true
+  fine_layer (stm.Back n) = true
+  fine_layer (stm.Call r f args) = ltb (length args) 9 && (fine_target r && (fine_callee f && all_true (map is_fine args)))
+  fine_layer (stm.Known r k args) = eqb (length args) (known_arguments k) && (fine_known k && (fine_target r && all_true (map is_fine args)))
+  fine_layer (stm.Return v) = is_fine v
+
+  unfoldable pub is_fine_statement : Stm → Bool
+  is_fine_statement = fold-Stm Bool fine_layer
+
+  abbrev pub are_fine : List Stm → Bool
+  are_fine statements = all_true (map is_fine_statement statements)

@@ -1,0 +1,76 @@
+//! Where the globals and the arrays stand that code names.
+
+ghost use Rattle.std.specs.Prelude.{◌≡◌, All};
+ghost use Rattle.mv_select_code.specs.Trees.Rooms.{place_in};
+ghost use Rattle.mv_select_code.specs.Statements.StatementCode.{home_below};
+ghost use Rattle.mv_select_code.specs.Control.FlowCode.{home_of, size_of};
+ghost use Rattle.mv_select_code.specs.Control.Layouts.{size_in, space_in, array_at_in, array_size_in, IsInFrame};
+
+use crate::statements::elements::Home;
+use crate::trees::place_of;
+use mv_ir::body::Room;
+use mv_ir::stm::Array;
+use mv_num::list::List;
+
+/// Where an array of the frame begins, in bytes above sp, and how many words it has.
+#[derive(Clone, Copy, PartialEq, Eq, Debug, Drop)]
+pub struct Space {
+    pub at: u32,
+    pub size: u32,
+}
+
+/// Where things stand that the code of a function names, and the label of its end.
+#[derive(Debug, Drop)]
+pub struct Layout {
+    pub rooms: List<Room>,
+    /// By the arrays' numbers.
+    pub arrays: List<Space>,
+    pub end: u32,
+}
+
+// How many words a global has, and 0 where it has no room.
+fn words_of(rooms: &[Room], global: u32) -> u32
+    ensures { result ≡ size_in rooms.now global }
+{
+    for room in rooms {
+        if room.global == global {
+            return room.size;
+        }
+    }
+    0
+}
+
+/// The space of an array of the frame, by its number. Past the last one it has no words, and is at sp.
+pub(crate) fn space_of(arrays: &[Space], array: u32) -> Space
+    requires { All IsInFrame arrays.now }
+    ensures value { result ≡ space_in arrays.now array }
+    ensures within { IsInFrame result }
+{
+    match arrays.get(array as usize) {
+        Some(space) => *space,
+        None => Space { at: 0, size: 0 },
+    }
+}
+
+/// Where an array's first element stands: for a global an address, 0 without room, and else the bytes above sp.
+pub(crate) fn home_of(rooms: &[Room], arrays: &[Space], array: Array) -> Home
+    requires { All IsInFrame arrays.now }
+    ensures value { result ≡ home_of (place_in rooms.now) (array_at_in arrays.now) array }
+    ensures within { home_below result 2032 }
+{
+    match array {
+        Array::Global(global) => Home::Data(place_of(rooms, global)),
+        Array::Local(local) => Home::Frame(space_of(arrays, local).at),
+    }
+}
+
+/// How many elements an array has, and 0 where it has no room.
+pub(crate) fn size_of(rooms: &[Room], arrays: &[Space], array: Array) -> u32
+    requires { All IsInFrame arrays.now }
+    ensures { result ≡ size_of (size_in rooms.now) (array_size_in arrays.now) array }
+{
+    match array {
+        Array::Global(global) => words_of(rooms, global),
+        Array::Local(local) => space_of(arrays, local).size,
+    }
+}

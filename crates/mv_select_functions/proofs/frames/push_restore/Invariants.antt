@@ -1,6 +1,0 @@
-use Rattle.std.proofs.Common.{◌≡◌, ◌++◌}
-use Rattle.mv_select_functions.specs.FunctionCode.{restore_lines}
-use Rattle.mv_select_functions.proofs.frames.push_restore.Given as goal
-
-abbrev pub invariant-loop-index : goal.invariant-loop-index
-invariant-loop-index l = l.code ≡ l.initial.code ++ restore_lines l.index

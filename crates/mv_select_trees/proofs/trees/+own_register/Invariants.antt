@@ -1,5 +1,0 @@
-use Rattle.mv_ir.specs.Trees.{depth}
-use Rattle.mv_select_trees.proofs.trees.+own_register.Given as goal
-
-abbrev pub decreases-own_register : goal.decreases-own_register
-decreases-own_register l = depth l.tree.now

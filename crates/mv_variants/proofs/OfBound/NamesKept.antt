@@ -1,0 +1,63 @@
+-- Binding and folding name no more.
+use Rattle.std.proofs.Common.{ℕ, List, sym, subst, Contains}
+use Rattle.std.proofs.lemmas.List.Elements.{All-contains, All-contains_itself}
+use Rattle.mv_ir.specs.declared.stm.Stm.{Stm}
+use Rattle.mv_select_code.specs.Control.Labels.{functions}
+use Rattle.mv_select_code.proofs.OfControl.TreeNames.{AnyNumber, each_any}
+use Rattle.mv_select.specs.Bodies.SelectedBodies.{HasWords, IsOrder, constants, knowns}
+use Rattle.mv_select.proofs.OfBodies.NamedTrees.{IsWord}
+use Rattle.mv_clone.specs.Bind.{bound_code}
+use Rattle.mv_regalloc.specs.Rename.{renamed_code}
+use Rattle.mv_fold.specs.Needed.{needed_code}
+use Rattle.mv_fold.specs.Folded.{simple_body}
+use Rattle.mv_variants.specs.Bound.Names.{NamesNoMore, BindingNamesNoMore, FoldingNamesNoMore}
+use Rattle.mv_variants.proofs.OfBound.Words.{unary_word, binary_word, narrow_word, divide_word}
+use Rattle.mv_select.proofs.OfBodies.Naming.{CodeNames, code_functions, code_knowns, code_constants, code_of}
+use Rattle.mv_variants.proofs.OfBound.BoundNames.{bound_names}
+use Rattle.mv_variants.proofs.OfBound.FoldedNames.{IsClosed, folded_names}
+use Rattle.mv_variants.proofs.OfBound.RenamedNames.{renamed_names}
+use Rattle.mv_ir.proofs.Common.{each_is_all}
+use Rattle.mv_select.proofs.OfBodies.Lists.{each_all}
+
+anything_closed : IsClosed AnyNumber
+anything_closed = record { one = λ o n h. tt; two = λ o n m h k. tt; narrowed = λ k n h. tt; divided = λ o n d h k. tt }
+
+words_closed : IsClosed IsWord
+words_closed = record { one = λ o n h. unary_word o n; two = λ o n m h k. binary_word o n m h k; narrowed = λ k n h. narrow_word k n h; divided = λ o n d h k. divide_word o n d h k }
+
+module _ (code result : List Stm) where
+  -- of code that names what this names
+  abbrev Named : List Stm → Type 0
+  Named = CodeNames (Contains (functions code)) (Contains (knowns code)) AnyNumber
+
+  abbrev Words : List Stm → Type 0
+  Words = CodeNames AnyNumber IsOrder IsWord
+
+  own : Named code
+  own = code_of (Contains (functions code)) (Contains (knowns code)) AnyNumber code
+      (each_all (Contains (functions code)) (functions code) (All-contains_itself (functions code))) (each_all (Contains (knowns code)) (knowns code) (All-contains_itself (knowns code))) (each_any (constants code))
+
+  words_in : HasWords code → Words code
+  words_in h = code_of AnyNumber IsOrder IsWord code (each_any (functions code)) (each_all IsOrder (knowns code) h.orders) (each_all IsWord (constants code) h.constants)
+
+  no_more : (Named code → Named result) → (Words code → Words result) → NamesNoMore code result
+  no_more h k = record {
+    functions = λ f. All-contains (Contains (functions code)) (functions result) f (each_is_all (Contains (functions code)) (functions result) (code_functions (Contains (functions code)) (Contains (knowns code)) AnyNumber result (h own)));
+    knowns = λ f. All-contains (Contains (knowns code)) (knowns result) f (each_is_all (Contains (knowns code)) (knowns result) (code_knowns (Contains (functions code)) (Contains (knowns code)) AnyNumber result (h own)));
+    words = λ w. record {
+      constants = each_is_all IsWord (constants result) (code_constants AnyNumber IsOrder IsWord result (k (words_in w)));
+      orders = each_is_all IsOrder (knowns result) (code_knowns AnyNumber IsOrder IsWord result (k (words_in w)));
+    };
+  }
+
+pub binding_names : BindingNamesNoMore
+binding_names ps words code =
+    no_more code (bound_code ps code) (bound_names (Contains (functions code)) (Contains (knowns code)) AnyNumber ps (λ g v e. tt) code) (bound_names AnyNumber IsOrder IsWord ps words code)
+
+pub folding_names : FoldingNamesNoMore
+folding_names temps code folded (needed, is, e) =
+    subst (NamesNoMore code) (sym e)
+    (no_more code (needed_code needed (simple_body temps code)) (folded_names (Contains (functions code)) (Contains (knowns code)) AnyNumber anything_closed needed temps code) (folded_names AnyNumber IsOrder IsWord words_closed needed temps code))
+
+pub renaming_names : (c : ℕ → ℕ) (code : List Stm) → NamesNoMore code (renamed_code c code)
+renaming_names c code = no_more code (renamed_code c code) (renamed_names (Contains (functions code)) (Contains (knowns code)) AnyNumber c code) (renamed_names AnyNumber IsOrder IsWord c code)

@@ -1,0 +1,45 @@
+-- Calls, each with a weight, are a measure of statements.
+use Rattle.std.proofs.Common.{arith, ◌≡◌, ℕ, ap, refl}
+use Rattle.mv_ir.specs.declared.stm.Callee.{Callee}
+use Rattle.mv_ir.specs.declared.stm.Callee.TheVariants as callee
+use Rattle.mv_ir.specs.declared.stm.Stm.{Stm}
+use Rattle.mv_ir.specs.declared.stm.Stm.TheOpen.{Stm-F}
+use Rattle.mv_ir.specs.declared.stm.Stm.TheViews.{roll-Stm}
+use Rattle.mv_ir.specs.declared.stm.Stm.TheFolds.{map-Stm, fold-roll-Stm}
+use Rattle.mv_lower_spec.specs.Shape.Calls.{callee_weight, layer_weight, stm_weight}
+use Rattle.mv_variants.proofs.OfBound.Measures.{SameGoal, Measure}
+
+module _ (direct : ℕ → ℕ) (through : ℕ) where
+  pub w_roll : (x : Stm-F Stm) → stm_weight direct through (roll-Stm x) ≡ layer_weight direct through (map-Stm Stm ℕ (stm_weight direct through) x)
+  unfolding stm_weight
+  w_roll x = fold-roll-Stm ℕ (layer_weight direct through) x
+
+  same_weight : (f g : Callee) → SameGoal f g → callee_weight direct through f ≡ callee_weight direct through g
+  same_weight (callee.Direct f) (callee.Direct g) e = ap direct e
+  same_weight (callee.Through t) (callee.Through u) e = refl
+  same_weight (callee.Direct f) (callee.Through u) e = absurd e
+  same_weight (callee.Through t) (callee.Direct g) e = absurd e
+  same_weight (callee.Switched g) (callee.Switched h) e = refl
+  same_weight (callee.Direct f) (callee.Switched h) e = absurd e
+  same_weight (callee.Through t) (callee.Switched h) e = absurd e
+  same_weight (callee.Switched g) (callee.Direct h) e = absurd e
+  same_weight (callee.Switched g) (callee.Through u) e = absurd e
+
+  pub weights : Measure (layer_weight direct through) (stm_weight direct through)
+  weights = record {
+    roll = w_roll;
+    set = λ t u v w. refl;
+    store = λ g h v w. refl;
+    divide = λ t u o p a b c d. refl;
+    divided = λ t u o v a b. omega arith;
+    check = λ r s i j. refl;
+    read = λ t u r s i j. refl;
+    write = λ r s i j v w. refl;
+    branch = λ t u a b c d h k. omega (arith, h, k);
+    chosen = λ t a b. omega arith;
+    loop = λ a b h. h;
+    block = λ a b h. h;
+    call = λ r s f g xs ys e. same_weight f g e;
+    known = λ r s k xs ys. refl;
+    return = λ v w. refl;
+  }
