@@ -1,9 +1,9 @@
 -- From the answers of the layers to what comes of the words of `mvharts`.
-use Rattle.std.proofs.Common.{ℕ, ◌≡◌, ◌⊎◌, ◌≤◌, List, [], Option, Some, None, refl, sym, subst, arith, ◌∙◌}
-use Rattle.std.specs.Prelude.{MatchOption, Ok, Vec}
+use Rattle.std.proofs.Common.{ℕ, ◌≡◌, ◌⊎◌, ◌≤◌, List, [], Option, Some, None, refl, ap, sym, subst, arith, ◌∙◌}
+use Rattle.std.specs.Prelude.{MatchOption, Ok, Err, Vec}
 use Rattle.std.specs.declared.alloc.Global.{Global}
 use Rattle.mv_io.specs.Outside.{Rose}
-use Rattle.mv_io.specs.Shelves.{Files, Lacks, Loads}
+use Rattle.mv_io.specs.Shelves.{Files, is_fault, Lacks, Loads}
 use Rattle.mv_io.specs.declared.outside.ShelfError.{ShelfError}
 use Rattle.mv_io.specs.declared.outside.ShelfError.TheVariants as shelf
 use Rattle.mv_eval.specs.Grown.{Grew, GrewLess}
@@ -15,7 +15,7 @@ use Rattle.mv_build.specs.declared.error.BuildError.{BuildError}
 use Rattle.mv_build.specs.declared.error.BuildError.TheVariants as build
 use Rattle.mv_harts_words.specs.Asked.{Asked, IsAsked, IsNotAsked, asked}
 use Rattle.mv_harts_words.specs.declared.command.Command.{Command}
-use Rattle.mv_notes.specs.Lines.{Noted}
+use Rattle.mv_notes.specs.Lines.{names_shelf, Noted}
 use Rattle.mv_notes.specs.declared.status.Status.{Status}
 use Rattle.mv_notes.specs.declared.status.Status.TheVariants.{Done, OutputFault}
 use Rattle.mv_harts.specs.Texts.{text_of}
@@ -57,6 +57,11 @@ module _ (was is : Output) (a : Asked) (text : List ℕ) where
     cut_off less rose = cut built told.0 from told.1 (subst (GrewLess was.written is.written) (same ∙ told.2) less) rose
 
 -- ---- the file
+
+-- the status of a load that gave nothing names the shelf where that was a fault
+pub names_of_error : (e : ShelfError) (status : Status) → status ≡ status_of_shelf e → names_shelf status ≡ is_fault {T = ℕ} (Err e)
+names_of_error shelf.Failed status same = ap names_shelf same
+names_of_error (shelf.Memory m) status same = ap names_shelf same
 
 holds_loaded : (told : Option Files) (name : List ℕ) (bytes : Vec ℕ Global) → Loads told name (Ok bytes) → Holds told name bytes.items
 holds_loaded None name bytes h = tt

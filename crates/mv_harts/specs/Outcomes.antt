@@ -1,7 +1,7 @@
 -- What each status of `mvharts` says, and when it may come.
 use Rattle.std.specs.Prelude.{ℕ, ◌≡◌, ◌⊎◌, ◌+◌, ◌-◌, ◌<◌, List, [], ◌∷◌, Option, Some, None}
-use Rattle.mv_io.specs.Outside.{Rose}
-use Rattle.mv_io.specs.Shelves.{Files, Lacks}
+use Rattle.mv_io.specs.Outside.{CountAfter, Rose}
+use Rattle.mv_io.specs.Shelves.{AsksFor, Files, Lacks}
 use Rattle.mv_io.specs.declared.outside.ShelfError.{ShelfError}
 use Rattle.mv_io.specs.declared.outside.ShelfError.TheVariants as shelf
 use Rattle.mv_eval.specs.Grown.{Grew, GrewLess}
@@ -15,7 +15,7 @@ use Rattle.mv_harts_runs.specs.Harts.{Harts, first_harts, harts_after}
 use Rattle.mv_harts_turns.specs.Runs.{turns_by}
 use Rattle.mv_harts_words.specs.Asked.{Asked, IsAsked, IsNotAsked}
 use Rattle.mv_harts_words.specs.Schedules.{schedule_of}
-use Rattle.mv_notes.specs.Lines.{Noted}
+use Rattle.mv_notes.specs.Lines.{names_output, names_shelf, Noted}
 use Rattle.mv_notes.specs.declared.status.Status.{Status}
 use Rattle.mv_notes.specs.declared.status.Status.TheVariants.{Usage, Refused, Memory, OutputFault, ShelfFault, Done}
 use Rattle.mv_harts.specs.HartsRan.{IsKept}
@@ -42,15 +42,16 @@ pub record Output : Type 0 where
 abbrev pub output : Option (List ℕ) → ℕ → Output
 output written faults = record { written = written; faults = faults }
 
--- the files that a shelf tells, its count of faults, and the output
+-- the files that a shelf tells, the names that it tells loads were asked for, its count of faults, and the output
 pub record Around : Type 0 where
   pub files : Option Files
+  pub asked : Option (List (List ℕ))
   pub faults : ℕ
   pub out : Output
 
 -- by its parts in their order
-abbrev pub around : Option Files → ℕ → Output → Around
-around files faults out = record { files = files; faults = faults; out = out }
+abbrev pub around : Option Files → Option (List (List ℕ)) → ℕ → Output → Around
+around files asked faults out = record { files = files; asked = asked; faults = faults; out = out }
 
 -- the file has these bytes, where the shelf tells its files
 abbrev pub Holds : Option Files → (file bytes : List ℕ) → Type 0
@@ -95,13 +96,20 @@ module _ (before after : Around) where
     unloaded : Untouched → FileComes asked Memory
     loaded : (text : List ℕ) (status : Status) → Holds before.files asked.file text → TextComes before.out after.out asked text status → KeepsFiles → FileComes asked status
 
+  -- The file is loaded once, and no other. Each count of faults stands as it was, but for that of the device that the status names, which is one more at most.
+  pub record Uses (asked : Asked) (status : Status) : Type 0 where
+    pub asks : AsksFor before.asked after.asked asked.file
+    pub shelf : CountAfter (names_shelf status) before.faults after.faults
+    pub output : CountAfter (names_output status) before.out.faults after.out.faults
+
   module _ (words : List (List ℕ)) where
     -- of the words
     pub data Comes : Status → Type 0 where
-      usage : IsNotAsked words → Untouched → Comes Usage
-      -- there was no memory to read them
-      unread : Untouched → Comes Memory
-      done : (asked : Asked) (status : Status) → IsAsked words asked → FileComes asked status → Comes status
+      -- nothing outside was asked for anything
+      usage : IsNotAsked words → after ≡ before → Comes Usage
+      -- nor was it where there was no memory to read them
+      unread : after ≡ before → Comes Memory
+      done : (asked : Asked) (status : Status) → IsAsked words asked → FileComes asked status → Uses asked status → Comes status
 
     -- A command was carried out: the status that is due has its cause, and the notes got its last line, or that could not be made or written and the status says so.
     pub record IsCarriedOut (was is : Output) (status : Status) : Type 0 where

@@ -3,6 +3,9 @@
 ghost use Rattle.std.specs.Prelude.{ℕ, ◌≡◌, ◌≤◌, List, IfOk, map};
 ghost use Rattle.std.specs.String.{string_bytes};
 ghost use Rattle.mv_image.specs.Faults.{Rules};
+ghost use Rattle.mv_io.specs.Outside.{CountAfter};
+ghost use Rattle.mv_io.specs.Shelves.{AsksFor};
+ghost use Rattle.mv_notes.specs.Lines.{names_output, names_shelf};
 ghost use Rattle.mv_harts_meant.specs.Runnable.{IsRunnable};
 ghost use Rattle.mv_harts_runs.specs.Harts.{Harts};
 ghost use Rattle.mv_harts_words.specs.Asked.{asked};
@@ -81,8 +84,9 @@ fn run_built<O: Sink>(
     requires some { 1 ≤ command.now.count }
     requires few { command.now.count ≤ 4 }
     requires sound { IsRunnable built.now.program built.now.image }
-    ensures { (text : List ℕ) → IsBuiltFrom text built.now →
+    ensures comes { (text : List ℕ) → IsBuiltFrom text built.now →
         TextComes (output (O.written out.old) (O.faults out.old)) (output (O.written out.new) (O.faults out.new)) (asked command.now) text result }
+    ensures writing { CountAfter (names_output result) (O.faults out.old) (O.faults out.new) }
 {
     let Ok(text) = text_of_run(alloc, built, command, oracle) else {
         return Status::Memory;
@@ -110,7 +114,8 @@ fn run_text<O: Sink>(
 ) -> Status
     requires some { 1 ≤ command.now.count }
     requires few { command.now.count ≤ 4 }
-    ensures { TextComes (output (O.written out.old) (O.faults out.old)) (output (O.written out.new) (O.faults out.new)) (asked command.now) text.now result }
+    ensures comes { TextComes (output (O.written out.old) (O.faults out.old)) (output (O.written out.new) (O.faults out.new)) (asked command.now) text.now result }
+    ensures writing { CountAfter (names_output result) (O.faults out.old) (O.faults out.new) }
 {
     built_programs_are_runnable();
     match build(alloc, text) {
@@ -132,9 +137,12 @@ fn run_file<H: Shelf, O: Sink>(
 ) -> Status
     requires some { 1 ≤ command.now.count }
     requires few { command.now.count ≤ 4 }
-    ensures { FileComes
-        (around (H.files shelf.old) (H.faults shelf.old) (output (O.written out.old) (O.faults out.old)))
-        (around (H.files shelf.new) (H.faults shelf.new) (output (O.written out.new) (O.faults out.new))) (asked command.now) result }
+    ensures comes { FileComes
+        (around (H.files shelf.old) (H.asked shelf.old) (H.faults shelf.old) (output (O.written out.old) (O.faults out.old)))
+        (around (H.files shelf.new) (H.asked shelf.new) (H.faults shelf.new) (output (O.written out.new) (O.faults out.new))) (asked command.now) result }
+    ensures asks { AsksFor (H.asked shelf.old) (H.asked shelf.new) command.now.file.now }
+    ensures count { CountAfter (names_shelf result) (H.faults shelf.old) (H.faults shelf.new) }
+    ensures writing { CountAfter (names_output result) (O.faults out.old) (O.faults out.new) }
 {
     match shelf.load(alloc, command.file) {
         Ok(text) => run_text(alloc, text.as_slice(), command, out, oracle),
@@ -151,8 +159,8 @@ fn perform<H: Shelf, O: Sink>(
     oracle: &mut Box<dyn FetchOracle>,
 ) -> Status
     ensures { Comes
-        (around (H.files shelf.old) (H.faults shelf.old) (output (O.written out.old) (O.faults out.old)))
-        (around (H.files shelf.new) (H.faults shelf.new) (output (O.written out.new) (O.faults out.new))) (map string_bytes words.now) result }
+        (around (H.files shelf.old) (H.asked shelf.old) (H.faults shelf.old) (output (O.written out.old) (O.faults out.old)))
+        (around (H.files shelf.new) (H.asked shelf.new) (H.faults shelf.new) (output (O.written out.new) (O.faults out.new))) (map string_bytes words.now) result }
 {
     match command_of(alloc, words) {
         Ok(Some(command)) => run_file(alloc, &command, shelf, out, oracle),
@@ -171,10 +179,11 @@ pub fn mvharts<H: Shelf, O: Sink, N: Sink>(
     notes: &mut N,
     oracle: &mut Box<dyn FetchOracle>,
 ) -> Status
-    ensures { IsCarriedOut
-        (around (H.files shelf.old) (H.faults shelf.old) (output (O.written out.old) (O.faults out.old)))
-        (around (H.files shelf.new) (H.faults shelf.new) (output (O.written out.new) (O.faults out.new)))
+    ensures carried_out { IsCarriedOut
+        (around (H.files shelf.old) (H.asked shelf.old) (H.faults shelf.old) (output (O.written out.old) (O.faults out.old)))
+        (around (H.files shelf.new) (H.asked shelf.new) (H.faults shelf.new) (output (O.written out.new) (O.faults out.new)))
         (map string_bytes words.now) (output (N.written notes.old) (N.faults notes.old)) (output (N.written notes.new) (N.faults notes.new)) result }
+    ensures notes { CountAfter (names_output result) (N.faults notes.old) (N.faults notes.new) }
 {
     let status = perform(alloc, words, shelf, out, oracle);
     report(alloc, Performed::alone(alloc, status), notes)

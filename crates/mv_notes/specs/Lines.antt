@@ -91,3 +91,16 @@ number_of Steps = 8
 number_of (BadImage code offset) = 9
 number_of (MachineFault address cause) = 10
 number_of Done = 0
+
+-- the device that a status names: the input, the output, or the shelf
+abbrev pub names_input : Status → Bool
+names_input InputFault = true
+names_input other = false
+
+abbrev pub names_output : Status → Bool
+names_output OutputFault = true
+names_output other = false
+
+abbrev pub names_shelf : Status → Bool
+names_shelf ShelfFault = true
+names_shelf other = false

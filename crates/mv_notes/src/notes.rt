@@ -1,9 +1,10 @@
 //! What is written to the notes.
 
 ghost use Rattle.std.specs.Prelude.{◌≡◌, ◌++◌, [], IfOk, if◌then◌else◌};
+ghost use Rattle.mv_io.specs.Outside.{CountAfter};
 ghost use Rattle.mv_list.specs.Bindings.{bindings_text};
 ghost use Rattle.mv_list.specs.Changes.{patched_text};
-ghost use Rattle.mv_notes.specs.Lines.{asked_lines, owed, Noted};
+ghost use Rattle.mv_notes.specs.Lines.{asked_lines, names_output, owed, Noted};
 
 use crate::status::Status;
 use mv_command::RunOptions;
@@ -98,7 +99,8 @@ fn owed(alloc: Global, performed: Performed) -> Result<Vec<u8>, AllocError>
 
 /// Writes what the notes are owed, and gives the status that then stands.
 pub fn report<N: Sink>(alloc: Global, performed: Performed, notes: &mut N) -> Status
-    ensures { Noted performed.lines.items performed.status (N.written notes.old) (N.written notes.new) (N.faults notes.old) (N.faults notes.new) result }
+    ensures noted { Noted performed.lines.items performed.status (N.written notes.old) (N.written notes.new) (N.faults notes.old) (N.faults notes.new) result }
+    ensures count { CountAfter (names_output result) (N.faults notes.old) (N.faults notes.new) }
 {
     let status = performed.status;
     let Ok(text) = owed(alloc, performed) else {

@@ -6,7 +6,8 @@
 //! - *The run* (`specs/Run.antt`): one run of that image by the machine's definition is what was done: its stop after the
 //!   given number of instructions is the answer (`Steps` where it goes on), the output grew by what it wrote, the input
 //!   lost what it took, each probe was told its log and left exactly where that used up its patience, and the machine
-//!   handed back is in its state. The oracle picked for each instruction that was executed, by its way, and its place
+//!   handed back is in its state. A device that failed is asked nothing more: its count of faults is one more, and no
+//!   count rises but that of the device which the answer names. The oracle picked for each instruction that was executed, by its way, and its place
 //!   went on by as many picks. Before a read or a write that failed it is a state after fewer instructions, and the
 //!   oracle picked once more.
 //! - *What the program means* with the actions (`specs/Meant.antt`), where the image does what its program means, the
@@ -26,9 +27,11 @@
 //! where its next instruction is a write, one byte more is written behind it.
 #![tactic(auto)]
 
-ghost use Rattle.std.specs.Prelude.{◌≤◌, All, IsTrue};
+ghost use Rattle.std.specs.Prelude.{◌≤◌, All, IfOk, IsTrue};
 ghost use Rattle.mv_bindings.specs.Acts.{IsOfWord};
+ghost use Rattle.mv_io.specs.Outside.{CountAfter};
 ghost use Rattle.mv_machine.specs.Actions.{fits};
+ghost use Rattle.mv_machine.specs.Snapshots.{is_input_fault, is_output_fault};
 ghost use Rattle.mv_probe.specs.Fates.{Fates};
 ghost use Rattle.mv_probe.specs.Hearing.{hearing, object_at, Becomes, IsPatient};
 ghost use Rattle.mv_refine.specs.Environment.{environment, reading, writing};
@@ -67,6 +70,8 @@ pub fn run_image<I: Source, O: Sink>(
         (λ events. Fates (Becomes (λ probe. object_at probe.ptr probe.vtable) (λ probe. hearing (told probe) (patience probe)) events) probes.old.items probes.new.items)
         result }
     ensures later { O.faults sink.old ≤ O.faults sink.new }
+    ensures reading { IfOk result (λ e. CountAfter (is_input_fault e.stopped) (I.faults source.old) (I.faults source.new)) }
+    ensures writing { IfOk result (λ e. CountAfter (is_output_fault e.stopped) (O.faults sink.old) (O.faults sink.new)) }
 {
     let mut machine = Machine::start(alloc, image)?;
     let stopped = machine.run(steps, source, sink, oracle, probes, actions);
@@ -93,6 +98,8 @@ pub fn execute<I: Source, O: Sink>(
         (λ events. Fates (Becomes (λ probe. object_at probe.ptr probe.vtable) (λ probe. hearing (told probe) (patience probe)) events) probes.old.items probes.new.items)
         result }
     ensures later { O.faults sink.old ≤ O.faults sink.new }
+    ensures reading { IfOk result (λ e. CountAfter (is_input_fault e.stopped) (I.faults source.old) (I.faults source.new)) }
+    ensures writing { IfOk result (λ e. CountAfter (is_output_fault e.stopped) (O.faults sink.old) (O.faults sink.new)) }
 {
     are_of_words(actions);
     run_image(

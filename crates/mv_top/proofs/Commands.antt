@@ -11,7 +11,8 @@ use Rattle.mv_top.specs.Evaluating.{EvaluatesFile}
 use Rattle.mv_top.specs.Generating.{GenDoes}
 use Rattle.mv_top.specs.Listing.{ListsFile}
 use Rattle.mv_top.specs.Outcomes.{Comes, done, unread, usage}
-use Rattle.mv_top.specs.Outside.{Outside, KeepsFiles, Untouched}
+use Rattle.mv_top.specs.Outside.{Outside, KeepsFiles}
+use Rattle.mv_top.specs.Uses.{Uses}
 use Rattle.mv_top.proofs.Performing.{alone}
 
 -- the command that was found
@@ -24,23 +25,23 @@ module _ (before after : Outside) (Heard : List Event → Type 0) (words : List 
   abbrev Came : List ℕ → Status → Type 0
   Came l s = Comes before after Heard words l s
 
-  pub no_command : due ≡ Usage → IsNoCommand words → Untouched before after → Came lines status
+  pub no_command : due ≡ Usage → IsNoCommand words → after ≡ before → Came lines status
   no_command is never untouched = alone Came lines status Usage none (same ∙ is) (usage never untouched unheard)
 
-  pub no_memory : due ≡ Memory → Untouched before after → Came lines status
+  pub no_memory : due ≡ Memory → after ≡ before → Came lines status
   no_memory is untouched = alone Came lines status Memory none (same ∙ is) (unread untouched unheard)
 
-  pub built : (file image : List ℕ) → IsCommand words (Builds file image) → BuildsFile before after file image due → Came lines status
-  built file image command builds = alone Came lines status due none same (done (Builds file image) [] due command (builds, (refl, unheard)))
+  pub built : (file image : List ℕ) → IsCommand words (Builds file image) → BuildsFile before after file image due → Uses before after (Builds file image) due → Came lines status
+  built file image command builds uses = alone Came lines status due none same (done (Builds file image) [] due command ((builds, (refl, unheard)), uses))
 
-  pub listed : (file : List ℕ) → IsCommand words (Lists file) → ListsFile before after file due → KeepsFiles before after → Came lines status
-  listed file command lists keeps = alone Came lines status due none same (done (Lists file) [] due command (lists, keeps, (refl, unheard)))
+  pub listed : (file : List ℕ) → IsCommand words (Lists file) → ListsFile before after file due → KeepsFiles before after → Uses before after (Lists file) due → Came lines status
+  listed file command lists keeps uses = alone Came lines status due none same (done (Lists file) [] due command ((lists, keeps, (refl, unheard)), uses))
 
-  pub evaluated : (file : List ℕ) (bound : ℕ) → IsCommand words (Evaluates file bound) → EvaluatesFile before after file bound due → KeepsFiles before after → Came lines status
-  evaluated file bound command evaluates keeps = alone Came lines status due none same (done (Evaluates file bound) [] due command (evaluates, keeps, (refl, unheard)))
+  pub evaluated : (file : List ℕ) (bound : ℕ) → IsCommand words (Evaluates file bound) → EvaluatesFile before after file bound due → KeepsFiles before after → Uses before after (Evaluates file bound) due → Came lines status
+  evaluated file bound command evaluates keeps uses = alone Came lines status due none same (done (Evaluates file bound) [] due command ((evaluates, keeps, (refl, unheard)), uses))
 
 module _ (before after : Outside) (Heard : List Event → Type 0) (words : List (List ℕ)) (lines : List ℕ) (status due : Status) (none : lines ≡ []) (same : status ≡ due) where
   pub made : (number : ℕ) (source : Bool) → IsCommand words (Generates number source) → GenDoes before.environment after.environment Heard number source due →
-      after.environment.input ≡ before.environment.input → KeepsFiles before after → Comes before after Heard words lines status
-  made number source command does input keeps =
-      alone (λ l s. Comes before after Heard words l s) lines status due none same (done (Generates number source) [] due command (does, input, keeps, refl))
+      after.environment.input ≡ before.environment.input → KeepsFiles before after → Uses before after (Generates number source) due → Comes before after Heard words lines status
+  made number source command does input keeps uses =
+      alone (λ l s. Comes before after Heard words l s) lines status due none same (done (Generates number source) [] due command ((does, input, keeps, refl), uses))

@@ -129,7 +129,7 @@ module _ (counted : CountedPassNone) (before after : Outside) (Heard : List Even
     did : {lines : List ℕ} {status : Status} → Came lines status → (asked : Asked) → IsCommand words asked → Did asked lines status ⊎ (status ≡ Memory)
     did (outcomes.usage none untouched unheard) asked c = absurd (none asked c)
     did (outcomes.unread untouched unheard) asked c = inr refl
-    did (outcomes.done other lines status d does) asked c = inl (subst (λ a. Did a lines status) (same_asked d c) does)
+    did (outcomes.done other lines status d does) asked c = inl (subst (λ a. Did a lines status) (same_asked d c) does.0)
 
     module _ (lines : List ℕ) (status : Status) (came : Came lines status) where
       abbrev files : Option Files

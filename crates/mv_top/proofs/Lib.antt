@@ -10,3 +10,4 @@ pub mod Decisions
 pub mod Few
 pub mod Causes
 pub mod Commands
+pub mod Counting

@@ -64,21 +64,21 @@ module _ (before after : Environment) (Heard : List Event → Type 0) (options :
 
 -- ---- a build
 
-module _ (files : Option Files) (faults : ℕ) (e : Environment) (image text : List ℕ) where
-  later_faults : (after : Option Files) (faults' faults'' : ℕ) (status : Status) → faults ≤ faults' →
-      BuildDoes (outside (shelved files faults') e) (outside (shelved after faults'') e) image text status →
-      BuildDoes (outside (shelved files faults) e) (outside (shelved after faults'') e) image text status
-  later_faults after faults' faults'' status later (building.unbuilt keeps) = building.unbuilt keeps
-  later_faults after faults' faults'' status later (building.not_built r why keeps) = building.not_built r why keeps
-  later_faults after faults' faults'' status later (building.built of bytes result is spells saves failed) =
+module _ (files : Option Files) (asked : Option (List (List ℕ))) (faults : ℕ) (e : Environment) (image text : List ℕ) where
+  later_faults : (after : Option Files) (asked' asked'' : Option (List (List ℕ))) (faults' faults'' : ℕ) (status : Status) → faults ≤ faults' →
+      BuildDoes (outside (shelved files asked' faults') e) (outside (shelved after asked'' faults'') e) image text status →
+      BuildDoes (outside (shelved files asked faults) e) (outside (shelved after asked'' faults'') e) image text status
+  later_faults after asked' asked'' faults' faults'' status later (building.unbuilt keeps) = building.unbuilt keeps
+  later_faults after asked' asked'' faults' faults'' status later (building.not_built r why keeps) = building.not_built r why keeps
+  later_faults after asked' asked'' faults' faults'' status later (building.built of bytes result is spells saves failed) =
       building.built of bytes result is spells saves (λ f. rose_later faults faults' faults'' later (failed f))
 
-  pub behind_load : (files' after : Option Files) (faults' faults'' : ℕ) (status : Status) → files' ≡ files → faults ≤ faults' →
-      BuildDoes (outside (shelved files' faults') e) (outside (shelved after faults'') e) image text status →
-      BuildDoes (outside (shelved files faults) e) (outside (shelved after faults'') e) image text status
-  behind_load files' after faults' faults'' status same later does =
-      later_faults after faults' faults'' status later
-      (subst (λ (f : Option Files). BuildDoes (outside (shelved f faults') e) (outside (shelved after faults'') e) image text status) same does)
+  pub behind_load : (files' after : Option Files) (asked' asked'' : Option (List (List ℕ))) (faults' faults'' : ℕ) (status : Status) → files' ≡ files → faults ≤ faults' →
+      BuildDoes (outside (shelved files' asked' faults') e) (outside (shelved after asked'' faults'') e) image text status →
+      BuildDoes (outside (shelved files asked faults) e) (outside (shelved after asked'' faults'') e) image text status
+  behind_load files' after asked' asked'' faults' faults'' status same later does =
+      later_faults after asked' asked'' faults' faults'' status later
+      (subst (λ (f : Option Files). BuildDoes (outside (shelved f asked' faults') e) (outside (shelved after asked'' faults'') e) image text status) same does)
 
 module _ (before after : Outside) (image text : List ℕ) where
   not_built_by : (e : BuildError) → build.IsCause text e → KeepsFiles before after → BuildDoes before after image text (status_of_build e)

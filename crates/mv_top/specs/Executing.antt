@@ -16,6 +16,7 @@ use Rattle.mv_command.specs.declared.command.RunOptions.{RunOptions}
 use Rattle.mv_notes.specs.Lines.{asked_lines}
 use Rattle.mv_notes.specs.declared.status.Status.{Status}
 use Rattle.mv_notes.specs.declared.status.Status.TheVariants.{Refused, Memory, BadImage}
+use Rattle.mv_top.specs.Counts.{Counts}
 use Rattle.mv_top.specs.Running.{no_action, status_of_stop, Unused}
 
 -- the status of bytes that are no image, or of items that are no actions of it
@@ -36,3 +37,7 @@ module _ (before after : Environment) (Heard : List Event → Type 0) where
         ExecDoes options bytes [] (Refused (no_action item))
     ran : (image : Fields) (actions : List Action) (e : Execution) → Spells bytes image → IsImageActions image options.items actions →
         Runs image (polls_of actions) before after Heard e.machine options.steps e.stopped → ExecDoes options bytes (asked_lines options image e.machine) (status_of_stop e.stopped)
+
+  -- and no count of faults rose but that of the device that the status names
+  abbrev pub ExecComes : RunOptions → (bytes lines : List ℕ) → Status → Type 0
+  ExecComes options bytes lines status = ExecDoes options bytes lines status × Counts before after status

@@ -1,4 +1,5 @@
 pub mod Outside
+pub mod Counts
 pub mod WordLines
 pub mod Running
 pub mod Building
@@ -6,5 +7,6 @@ pub mod Executing
 pub mod Listing
 pub mod Evaluating
 pub mod Generating
+pub mod Uses
 pub mod Decisions
 pub mod Outcomes

@@ -16,6 +16,7 @@ use Rattle.mv_top.specs.Generating.{GenDoes}
 use Rattle.mv_top.specs.Listing.{ListsFile}
 use Rattle.mv_top.specs.Outside.{Outside, KeepsFiles, OfFile, Untouched}
 use Rattle.mv_top.specs.Running.{RunDoes}
+use Rattle.mv_top.specs.Uses.{Uses}
 
 -- ---- what was performed
 
@@ -55,12 +56,17 @@ module _ (before after : Outside) (Heard : List Event → Type 0) where
   Does (Generates number source) lines status =
       GenDoes before.environment after.environment Heard number source status × (after.environment.input ≡ before.environment.input) × KeepsFiles before after × (lines ≡ [])
 
+  -- and with each device used as it uses it
+  abbrev pub Carries : Asked → (lines : List ℕ) → Status → Type 0
+  Carries asked lines status = Does asked lines status × Uses before after asked status
+
   module _ (words : List (List ℕ)) where
     pub data Comes : (lines : List ℕ) → Status → Type 0 where
-      usage : IsNoCommand words → Untouched before after → Heard [] → Comes [] Usage
-      -- there was no memory to read the words
-      unread : Untouched before after → Heard [] → Comes [] Memory
-      done : (asked : Asked) (lines : List ℕ) (status : Status) → IsCommand words asked → Does asked lines status → Comes lines status
+      -- nothing outside was asked for anything
+      usage : IsNoCommand words → after ≡ before → Heard [] → Comes [] Usage
+      -- nor was it where there was no memory to read the words
+      unread : after ≡ before → Heard [] → Comes [] Memory
+      done : (asked : Asked) (lines : List ℕ) (status : Status) → IsCommand words asked → Carries asked lines status → Comes lines status
 
     -- And behind the notes: the status that stands, once they were written, or could not be.
     pub record Gives (was is : Writing) (status : Status) : Type 0 where

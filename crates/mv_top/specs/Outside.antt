@@ -7,13 +7,14 @@ use Rattle.mv_refine.specs.Environment.{Environment, Wrote, WriteFailed}
 use Rattle.mv_notes.specs.declared.status.Status.{Status}
 use Rattle.mv_notes.specs.declared.status.Status.TheVariants.{Memory, OutputFault, ShelfFault}
 
--- a shelf: the files that it tells, and its count of faults
+-- a shelf: the files that it tells, the names that it tells loads were asked for, and its count of faults
 pub record Shelved : Type 0 where
   pub files : Option Files
+  pub asked : Option (List (List ℕ))
   pub faults : ℕ
 
-abbrev pub shelved : Option Files → ℕ → Shelved
-shelved files faults = record { files = files; faults = faults }
+abbrev pub shelved : Option Files → Option (List (List ℕ)) → ℕ → Shelved
+shelved files asked faults = record { files = files; asked = asked; faults = faults }
 
 -- what a command is carried out on: the shelf, and the input, the output and the oracle
 pub record Outside : Type 0 where

@@ -17,6 +17,7 @@ use Rattle.mv_refine.specs.Execution.{IsExecution}
 use Rattle.mv_command.specs.declared.items.Item.{Item}
 use Rattle.mv_command.specs.declared.command.RunOptions.{RunOptions}
 use Rattle.mv_operator.specs.Operator.{IsActions, IsFirstWrong}
+use Rattle.mv_top.specs.Counts.{Counts}
 use Rattle.mv_top.specs.WordLines.{CountsFrom}
 use Rattle.mv_notes.specs.Lines.{asked_lines}
 use Rattle.mv_notes.specs.declared.status.Status.{Status}
@@ -77,3 +78,7 @@ module _ (before after : Environment) (Heard : List Event → Type 0) where
     ran : (built : Built) (actions : List Action) (e : Execution) → IsBuiltFrom text built → IsActions built.program options.items actions →
         IsExecution built actions options.steps before after Heard e → CountsFrom built.program built.image actions options.steps e.machine before.input.left e.stopped →
         RunDoes options text (asked_lines options built.image e.machine) (status_of_stop e.stopped)
+
+  -- and no count of faults rose but that of the device that the status names
+  abbrev pub RunComes : RunOptions → (text lines : List ℕ) → Status → Type 0
+  RunComes options text lines status = RunDoes options text lines status × Counts before after status

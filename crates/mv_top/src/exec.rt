@@ -8,8 +8,8 @@ ghost use Rattle.mv_machine.specs.Actions.{fits};
 ghost use Rattle.mv_probe.specs.Fates.{Fates};
 ghost use Rattle.mv_probe.specs.Hearing.{hearing, object_at, Becomes, IsPatient};
 ghost use Rattle.mv_refine.specs.Environment.{environment, reading, writing};
-ghost use Rattle.mv_top.specs.Executing.{ExecDoes, status_of_load};
-ghost use Rattle.mv_top.specs.Outcomes.{Does, Performs};
+ghost use Rattle.mv_top.specs.Executing.{ExecComes, status_of_load};
+ghost use Rattle.mv_top.specs.Outcomes.{Carries, Performs};
 ghost use Rattle.mv_top.specs.Outside.{outside, shelved};
 
 use crate::files::status_of_shelf;
@@ -46,8 +46,8 @@ fn exec_loaded<I: Source, O: Sink>(
 ) -> Result<Performed, AllocError>
     requires patient { All (λ probe. IsPatient (hearing (told probe) (patience probe))) probes.old.items }
     requires fit { All (λ action. IsTrue (fits loaded.now.image.switches action)) loaded.now.actions.items }
-    ensures { (bytes : List ℕ) → IsLoaded bytes options.now.items loaded.now → Performs
-        (ExecDoes (environment (reading (I.left input.old) (I.faults input.old)) (writing (O.written out.old) (O.faults out.old)) (way oracle.old))
+    ensures { (bytes : List ℕ) → IsLoaded bytes options.now.items loaded.now → Performs (ExecComes
+        (environment (reading (I.left input.old) (I.faults input.old)) (writing (O.written out.old) (O.faults out.old)) (way oracle.old))
         (environment (reading (I.left input.new) (I.faults input.new)) (writing (O.written out.new) (O.faults out.new)) (way oracle.new))
         (λ events. Fates (Becomes (λ probe. object_at probe.ptr probe.vtable) (λ probe. hearing (told probe) (patience probe)) events) probes.old.items probes.new.items)
         options.now bytes) result }
@@ -81,8 +81,8 @@ fn exec_bytes<I: Source, O: Sink>(
 ) -> Result<Performed, AllocError>
     requires patient { All (λ probe. IsPatient (hearing (told probe) (patience probe))) probes.old.items }
     requires ascend { Ascend 0 options.now.items }
-    ensures { Performs
-        (ExecDoes (environment (reading (I.left input.old) (I.faults input.old)) (writing (O.written out.old) (O.faults out.old)) (way oracle.old))
+    ensures { Performs (ExecComes
+        (environment (reading (I.left input.old) (I.faults input.old)) (writing (O.written out.old) (O.faults out.old)) (way oracle.old))
         (environment (reading (I.left input.new) (I.faults input.new)) (writing (O.written out.new) (O.faults out.new)) (way oracle.new))
         (λ events. Fates (Becomes (λ probe. object_at probe.ptr probe.vtable) (λ probe. hearing (told probe) (patience probe)) events) probes.old.items probes.new.items)
         options.now bytes.now) result }
@@ -106,9 +106,9 @@ pub(crate) fn exec_file<H: Shelf, I: Source, O: Sink>(
 ) -> Result<Performed, AllocError>
     requires patient { All (λ probe. IsPatient (hearing (told probe) (patience probe))) probes.old.items }
     requires ascend { Ascend 0 options.now.items }
-    ensures { Performs (Does
-        (outside (shelved (H.files shelf.old) (H.faults shelf.old)) (environment (reading (I.left input.old) (I.faults input.old)) (writing (O.written out.old) (O.faults out.old)) (way oracle.old)))
-        (outside (shelved (H.files shelf.new) (H.faults shelf.new)) (environment (reading (I.left input.new) (I.faults input.new)) (writing (O.written out.new) (O.faults out.new)) (way oracle.new)))
+    ensures { Performs (Carries
+        (outside (shelved (H.files shelf.old) (H.asked shelf.old) (H.faults shelf.old)) (environment (reading (I.left input.old) (I.faults input.old)) (writing (O.written out.old) (O.faults out.old)) (way oracle.old)))
+        (outside (shelved (H.files shelf.new) (H.asked shelf.new) (H.faults shelf.new)) (environment (reading (I.left input.new) (I.faults input.new)) (writing (O.written out.new) (O.faults out.new)) (way oracle.new)))
         (λ events. Fates (Becomes (λ probe. object_at probe.ptr probe.vtable) (λ probe. hearing (told probe) (patience probe)) events) probes.old.items probes.new.items)
         (Executes file.now options.now)) result }
 {

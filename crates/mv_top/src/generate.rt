@@ -1,7 +1,8 @@
 //! `gen`: a program is made of a number, and its text written, or it is run.
 
-ghost use Rattle.std.specs.Prelude.{◌≡◌, ◌≤◌, ◌||◌, All, IfOk, IsTrue, Option, string_bytes};
+ghost use Rattle.std.specs.Prelude.{ℕ, ◌≡◌, ◌≤◌, ◌||◌, All, IfOk, IsTrue, Option, string_bytes};
 ghost use Rattle.mv_gen.specs.Generated.{generated};
+ghost use Rattle.mv_io.specs.Outside.{CountAfter};
 ghost use Rattle.mv_probe.specs.Fates.{Fates};
 ghost use Rattle.mv_probe.specs.Hearing.{hearing, object_at, Becomes, IsPatient};
 ghost use Rattle.mv_refine.specs.Environment.{environment, writing, Reading};
@@ -62,6 +63,7 @@ fn sum_up<O: Sink>(alloc: Global, number: u32, text: &[u8], ran: Status, out: &m
     ensures sums { IsTrue (is_summed_up ran || is_cut_short ran) →
         Sums number (writing (O.written out.old) (O.faults out.old)) (writing (O.written out.new) (O.faults out.new)) ran result }
     ensures later { O.faults out.old ≤ O.faults out.new }
+    ensures count { (before : ℕ) → CountAfter (is_cut_short ran) before (O.faults out.old) → CountAfter (is_cut_short result) before (O.faults out.new) }
 {
     if !is_summed_up(ran) {
         return ran;
@@ -90,6 +92,7 @@ fn run_plainly<O: Sink>(
         (λ events. Fates (Becomes (λ probe. object_at probe.ptr probe.vtable) (λ probe. hearing (told probe) (patience probe)) events) probes.old.items probes.new.items)
         text.now result }
     ensures later { O.faults out.old ≤ O.faults out.new }
+    ensures count { CountAfter (is_cut_short result) (O.faults out.old) (O.faults out.new) }
 {
     let options = RunOptions {
         steps: DEFAULT_STEPS,
@@ -114,11 +117,12 @@ fn run_generated<O: Sink>(
 ) -> Status
     requires patient { All (λ probe. IsPatient (hearing (told probe) (patience probe))) probes.old.items }
     requires text { text.now ≡ generated number }
-    ensures { (input : Reading) → RunsText
+    ensures does { (input : Reading) → RunsText
         (environment input (writing (O.written out.old) (O.faults out.old)) (way oracle.old))
         (environment input (writing (O.written out.new) (O.faults out.new)) (way oracle.new))
         (λ events. Fates (Becomes (λ probe. object_at probe.ptr probe.vtable) (λ probe. hearing (told probe) (patience probe)) events) probes.old.items probes.new.items)
         number result }
+    ensures count { CountAfter (is_cut_short result) (O.faults out.old) (O.faults out.new) }
 {
     generated_texts_are_accepted();
     let ran = run_plainly(alloc, text, out, oracle, probes);
@@ -135,11 +139,12 @@ pub(crate) fn generate_program<O: Sink>(
     probes: &mut Vec<Box<dyn Probe>>,
 ) -> Status
     requires { All (λ probe. IsPatient (hearing (told probe) (patience probe))) probes.old.items }
-    ensures { (input : Reading) → GenDoes
+    ensures does { (input : Reading) → GenDoes
         (environment input (writing (O.written out.old) (O.faults out.old)) (way oracle.old))
         (environment input (writing (O.written out.new) (O.faults out.new)) (way oracle.new))
         (λ events. Fates (Becomes (λ probe. object_at probe.ptr probe.vtable) (λ probe. hearing (told probe) (patience probe)) events) probes.old.items probes.new.items)
         number source result }
+    ensures count { CountAfter (is_cut_short result) (O.faults out.old) (O.faults out.new) }
 {
     match generate(alloc, number) {
         Ok(text) if source => write_text(text.as_slice(), out),

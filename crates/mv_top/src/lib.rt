@@ -36,6 +36,9 @@
 //! - `gen NUMBER` (`specs/Generating.antt`): with `--source`, `Done`, `out` grew by exactly the text of the number. Without it that text is
 //!   run as above on no input, without an operator and to the default limit, and then `out` grew by exactly the summary. It is never `Refused`. `input` is unchanged.
 //! - `InputFault`, `OutputFault`: the count of `input`, of `out` or of `notes` rose.
+//! - A device that failed is asked nothing more (`specs/Uses.antt`): the counts of `shelf`, `input` and `out` are as before, but for that of the device that the status due
+//!   names, which is one more at most; with `Memory` of `gen` that of `out` may be too. A shelf that tells which names it was asked to load was asked for FILE or
+//!   IMAGE of the command, once, and for nothing else; of `gen`, of words that are no command and of words that couldn't be read all is as before.
 //! - `notes` grew by exactly the lines that were asked for and the last line of the status (`mv_notes`); after `OutputFault` of `out` and after `Memory` they are
 //!   as before. Where there was no memory to make the lines, the notes are as before and the status is `Memory`; where a
 //!   write to them failed, they grew by less.

@@ -8,9 +8,9 @@ ghost use Rattle.mv_notes.specs.Lines.{asked_lines};
 ghost use Rattle.mv_probe.specs.Fates.{Fates};
 ghost use Rattle.mv_probe.specs.Hearing.{hearing, object_at, Becomes, IsPatient};
 ghost use Rattle.mv_refine.specs.Environment.{environment, reading, writing};
-ghost use Rattle.mv_top.specs.Outcomes.{Does, Performs};
+ghost use Rattle.mv_top.specs.Outcomes.{Carries, Performs};
 ghost use Rattle.mv_top.specs.Outside.{outside, shelved};
-ghost use Rattle.mv_top.specs.Running.{IsCause, IsPrepared, RunDoes, status_of_build, status_of_stop};
+ghost use Rattle.mv_top.specs.Running.{IsCause, IsPrepared, RunComes, status_of_build, status_of_stop};
 
 use crate::files::status_of_shelf;
 use mv_bindings::action::Action;
@@ -103,8 +103,8 @@ fn run_prepared<I: Source, O: Sink>(
 ) -> Result<Performed, AllocError>
     requires patient { All (λ probe. IsPatient (hearing (told probe) (patience probe))) probes.old.items }
     requires fit { All (λ action. IsTrue (fits prepared.now.built.image.switches action)) prepared.now.actions.items }
-    ensures ran { (text : List ℕ) → IsPrepared text options.now.items prepared.now → Performs
-        (RunDoes (environment (reading (I.left input.old) (I.faults input.old)) (writing (O.written out.old) (O.faults out.old)) (way oracle.old))
+    ensures ran { (text : List ℕ) → IsPrepared text options.now.items prepared.now → Performs (RunComes
+        (environment (reading (I.left input.old) (I.faults input.old)) (writing (O.written out.old) (O.faults out.old)) (way oracle.old))
         (environment (reading (I.left input.new) (I.faults input.new)) (writing (O.written out.new) (O.faults out.new)) (way oracle.new))
         (λ events. Fates (Becomes (λ probe. object_at probe.ptr probe.vtable) (λ probe. hearing (told probe) (patience probe)) events) probes.old.items probes.new.items)
         options.now text) result }
@@ -139,8 +139,8 @@ pub(crate) fn run_text<I: Source, O: Sink>(
 ) -> Result<Performed, AllocError>
     requires patient { All (λ probe. IsPatient (hearing (told probe) (patience probe))) probes.old.items }
     requires ascend { Ascend 0 options.now.items }
-    ensures ran { Performs
-        (RunDoes (environment (reading (I.left input.old) (I.faults input.old)) (writing (O.written out.old) (O.faults out.old)) (way oracle.old))
+    ensures ran { Performs (RunComes
+        (environment (reading (I.left input.old) (I.faults input.old)) (writing (O.written out.old) (O.faults out.old)) (way oracle.old))
         (environment (reading (I.left input.new) (I.faults input.new)) (writing (O.written out.new) (O.faults out.new)) (way oracle.new))
         (λ events. Fates (Becomes (λ probe. object_at probe.ptr probe.vtable) (λ probe. hearing (told probe) (patience probe)) events) probes.old.items probes.new.items)
         options.now text.now) result }
@@ -165,9 +165,9 @@ pub(crate) fn run_file<H: Shelf, I: Source, O: Sink>(
 ) -> Result<Performed, AllocError>
     requires patient { All (λ probe. IsPatient (hearing (told probe) (patience probe))) probes.old.items }
     requires ascend { Ascend 0 options.now.items }
-    ensures { Performs (Does
-        (outside (shelved (H.files shelf.old) (H.faults shelf.old)) (environment (reading (I.left input.old) (I.faults input.old)) (writing (O.written out.old) (O.faults out.old)) (way oracle.old)))
-        (outside (shelved (H.files shelf.new) (H.faults shelf.new)) (environment (reading (I.left input.new) (I.faults input.new)) (writing (O.written out.new) (O.faults out.new)) (way oracle.new)))
+    ensures { Performs (Carries
+        (outside (shelved (H.files shelf.old) (H.asked shelf.old) (H.faults shelf.old)) (environment (reading (I.left input.old) (I.faults input.old)) (writing (O.written out.old) (O.faults out.old)) (way oracle.old)))
+        (outside (shelved (H.files shelf.new) (H.asked shelf.new) (H.faults shelf.new)) (environment (reading (I.left input.new) (I.faults input.new)) (writing (O.written out.new) (O.faults out.new)) (way oracle.new)))
         (λ events. Fates (Becomes (λ probe. object_at probe.ptr probe.vtable) (λ probe. hearing (told probe) (patience probe)) events) probes.old.items probes.new.items)
         (Runs file.now options.now)) result }
 {

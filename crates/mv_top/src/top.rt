@@ -2,6 +2,8 @@
 
 ghost use Rattle.std.specs.Prelude.{All, map};
 ghost use Rattle.std.specs.String.{string_bytes};
+ghost use Rattle.mv_io.specs.Outside.{CountAfter};
+ghost use Rattle.mv_notes.specs.Lines.{names_output};
 ghost use Rattle.mv_probe.specs.Fates.{Fates};
 ghost use Rattle.mv_probe.specs.Hearing.{hearing, object_at, Becomes, IsPatient};
 ghost use Rattle.mv_refine.specs.Environment.{environment, reading, writing};
@@ -33,8 +35,8 @@ fn perform<H: Shelf, I: Source, O: Sink>(
 ) -> Result<Performed, AllocError>
     requires { All (λ probe. IsPatient (hearing (told probe) (patience probe))) probes.old.items }
     ensures { Performs (Comes
-        (outside (shelved (H.files shelf.old) (H.faults shelf.old)) (environment (reading (I.left input.old) (I.faults input.old)) (writing (O.written out.old) (O.faults out.old)) (way oracle.old)))
-        (outside (shelved (H.files shelf.new) (H.faults shelf.new)) (environment (reading (I.left input.new) (I.faults input.new)) (writing (O.written out.new) (O.faults out.new)) (way oracle.new)))
+        (outside (shelved (H.files shelf.old) (H.asked shelf.old) (H.faults shelf.old)) (environment (reading (I.left input.old) (I.faults input.old)) (writing (O.written out.old) (O.faults out.old)) (way oracle.old)))
+        (outside (shelved (H.files shelf.new) (H.asked shelf.new) (H.faults shelf.new)) (environment (reading (I.left input.new) (I.faults input.new)) (writing (O.written out.new) (O.faults out.new)) (way oracle.new)))
         (λ events. Fates (Becomes (λ probe. object_at probe.ptr probe.vtable) (λ probe. hearing (told probe) (patience probe)) events) probes.old.items probes.new.items)
         (map string_bytes words.now)) result }
 {
@@ -78,11 +80,12 @@ pub fn multiverse<H: Shelf, I: Source, O: Sink, N: Sink>(
     probes: &mut Vec<Box<dyn Probe>>,
 ) -> Status
     requires { All (λ probe. IsPatient (hearing (told probe) (patience probe))) probes.old.items }
-    ensures { IsCarriedOut
-        (outside (shelved (H.files shelf.old) (H.faults shelf.old)) (environment (reading (I.left input.old) (I.faults input.old)) (writing (O.written out.old) (O.faults out.old)) (way oracle.old)))
-        (outside (shelved (H.files shelf.new) (H.faults shelf.new)) (environment (reading (I.left input.new) (I.faults input.new)) (writing (O.written out.new) (O.faults out.new)) (way oracle.new)))
+    ensures carried_out { IsCarriedOut
+        (outside (shelved (H.files shelf.old) (H.asked shelf.old) (H.faults shelf.old)) (environment (reading (I.left input.old) (I.faults input.old)) (writing (O.written out.old) (O.faults out.old)) (way oracle.old)))
+        (outside (shelved (H.files shelf.new) (H.asked shelf.new) (H.faults shelf.new)) (environment (reading (I.left input.new) (I.faults input.new)) (writing (O.written out.new) (O.faults out.new)) (way oracle.new)))
         (λ events. Fates (Becomes (λ probe. object_at probe.ptr probe.vtable) (λ probe. hearing (told probe) (patience probe)) events) probes.old.items probes.new.items)
         (map string_bytes words.now) (writing (N.written notes.old) (N.faults notes.old)) (writing (N.written notes.new) (N.faults notes.new)) result }
+    ensures notes { CountAfter (names_output result) (N.faults notes.old) (N.faults notes.new) }
 {
     counted_programs_pass_no_limit();
     match perform(alloc, words, shelf, input, out, oracle, probes) {

@@ -1,4 +1,5 @@
 use Rattle.std.proofs.Common.{◌≡◌, length, arith, ap, refl}
+use Rattle.mv_io.proofs.Common.{count_kept}
 use Rattle.mv_front.proofs.Few.{few_functions, no_pointers}
 use Rattle.mv_top.proofs.Texts.{evaluation_done, not_evaluated}
 use Rattle.mv_check_limits.proofs.Orders.{none_exceeded}
@@ -12,10 +13,22 @@ eval-requires g c =
     let none : length p.pointers ≡ 0 = ap length (no_pointers is.unit p is.good) in
     omega (arith, few, none)
 
-pub returns-in-Ok : goal.returns-in-Ok
-returns-in-Ok g c way =
-    evaluation_done _ _ c.args.bound c.args.text.now c.status_of.result c.in-Ok.program c.eval.result c.status_of.ensures c.in-Ok.ensures.accepted c.eval.ensures.evaluates
+pub returns-in-Ok-clause-does : goal.returns-in-Ok-clause-does
+returns-in-Ok-clause-does g c way =
+    evaluation_done _ _ c.args.bound c.args.text.now c.status_of.result c.in-Ok.program c.eval.result c.status_of.ensures.status c.in-Ok.ensures.accepted c.eval.ensures.evaluates
 
-pub returns-in-Err : goal.returns-in-Err
-returns-in-Err g c way =
+pub returns-in-Err-clause-does : goal.returns-in-Err-clause-does
+returns-in-Err-clause-does g c way =
     not_evaluated _ _ c.args.bound c.args.text.now c.status_of_refusal.result c.in-Err.error c.status_of_refusal.ensures c.in-Err.ensures.refused refl
+
+pub returns-in-Ok-clause-reading : goal.returns-in-Ok-clause-reading
+returns-in-Ok-clause-reading g c = rw c.status_of.ensures.input c.eval.ensures.reading
+
+pub returns-in-Ok-clause-writing : goal.returns-in-Ok-clause-writing
+returns-in-Ok-clause-writing g c = rw c.status_of.ensures.output c.eval.ensures.writing
+
+pub returns-in-Err-clause-reading : goal.returns-in-Err-clause-reading
+returns-in-Err-clause-reading g c = count_kept _ _ _ refl
+
+pub returns-in-Err-clause-writing : goal.returns-in-Err-clause-writing
+returns-in-Err-clause-writing g c = count_kept _ _ _ refl

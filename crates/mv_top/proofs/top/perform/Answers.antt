@@ -3,6 +3,7 @@ use Rattle.std.specs.String.{string_bytes}
 use Rattle.mv_command.specs.Commands.{Executes, Runs}
 use Rattle.mv_command.specs.declared.command.Command.TheVariants.{Build, Eval, Exec, Gen, Run}
 use Rattle.mv_command.specs.declared.command.Command.TheVariants as command
+use Rattle.mv_io.proofs.Common.{count_kept}
 use Rattle.mv_command.proofs.Same.{exec_items, run_items}
 use Rattle.mv_probe.proofs.Logs.{told_nothing}
 use Rattle.mv_top.specs.Outcomes.{done}
@@ -31,7 +32,8 @@ returns-in-Ok-Some-Build g c =
     built _ _ _ (map string_bytes c.args.words.now) _ _ c.build_file.result c.alone.ensures.lines c.alone.ensures.status (told_nothing _ _ c.args.probes.now.items c.requires)
     c.in-Ok-Some-Build.file.now c.in-Ok-Some-Build.image.now
     (is_command (map string_bytes c.args.words.now) c.in-Ok-Some-Build.field-0 c.in-Ok-Some-Build.field-0-0 (Build c.in-Ok-Some-Build.file c.in-Ok-Some-Build.image)
-    c.in-Ok-Some-Build.ensures c.in-Ok-Some-Build.field-0-is c.in-Ok-Some-Build.field-0-0-is) (c.build_file.ensures _)
+    c.in-Ok-Some-Build.ensures c.in-Ok-Some-Build.field-0-is c.in-Ok-Some-Build.field-0-0-is) (c.build_file.ensures.does _)
+    (record { asks = c.build_file.ensures.asks; shelf = c.build_file.ensures.count; input = count_kept _ _ _ refl; output = count_kept _ _ _ refl })
 
 pub returns-in-Ok-Some-Exec : goal.returns-in-Ok-Some-Exec
 returns-in-Ok-Some-Exec g c =
@@ -45,6 +47,7 @@ returns-in-Ok-Some-List g c =
     (told_nothing _ _ c.args.probes.now.items c.requires) c.in-Ok-Some-List.image.now
     (is_command (map string_bytes c.args.words.now) c.in-Ok-Some-List.field-0 c.in-Ok-Some-List.field-0-0 (command.List c.in-Ok-Some-List.image)
     c.in-Ok-Some-List.ensures c.in-Ok-Some-List.field-0-is c.in-Ok-Some-List.field-0-0-is) (c.list_file.ensures.comes _ _) c.list_file.ensures.files
+    (record { asks = c.list_file.ensures.asks; shelf = c.list_file.ensures.count; input = count_kept _ _ _ refl; output = c.list_file.ensures.writing })
 
 pub returns-in-Ok-Some-Eval : goal.returns-in-Ok-Some-Eval
 returns-in-Ok-Some-Eval g c =
@@ -52,19 +55,21 @@ returns-in-Ok-Some-Eval g c =
     (told_nothing _ _ c.args.probes.now.items c.requires) c.in-Ok-Some-Eval.file.now c.in-Ok-Some-Eval.bound
     (is_command (map string_bytes c.args.words.now) c.in-Ok-Some-Eval.field-0 c.in-Ok-Some-Eval.field-0-0 (Eval c.in-Ok-Some-Eval.file c.in-Ok-Some-Eval.bound)
     c.in-Ok-Some-Eval.ensures c.in-Ok-Some-Eval.field-0-is c.in-Ok-Some-Eval.field-0-0-is) (c.eval_file-status.ensures.comes _) c.eval_file-status.ensures.files
+    (record { asks = c.eval_file-status.ensures.asks; shelf = c.eval_file-status.ensures.count; input = c.eval_file-status.ensures.reading; output = c.eval_file-status.ensures.writing })
 
 pub returns-in-Ok-Some-Gen : goal.returns-in-Ok-Some-Gen
 returns-in-Ok-Some-Gen g c =
     made _ _ _ (map string_bytes c.args.words.now) _ _ c.generate_program-status.result c.alone-in-Ok-Some-Gen.ensures.lines c.alone-in-Ok-Some-Gen.ensures.status
     c.in-Ok-Some-Gen.number c.in-Ok-Some-Gen.source
     (is_command (map string_bytes c.args.words.now) c.in-Ok-Some-Gen.field-0 c.in-Ok-Some-Gen.field-0-0 (Gen c.in-Ok-Some-Gen.number c.in-Ok-Some-Gen.source)
-    c.in-Ok-Some-Gen.ensures c.in-Ok-Some-Gen.field-0-is c.in-Ok-Some-Gen.field-0-0-is) (c.generate_program-status.ensures _) refl refl
+    c.in-Ok-Some-Gen.ensures c.in-Ok-Some-Gen.field-0-is c.in-Ok-Some-Gen.field-0-0-is) (c.generate_program-status.ensures.does _) refl refl
+    (record { asks = refl; shelf = count_kept _ _ _ refl; input = count_kept _ _ _ refl; output = c.generate_program-status.ensures.count })
 
 pub returns-in-Ok-None : goal.returns-in-Ok-None
 returns-in-Ok-None g c =
     no_command _ _ _ (map string_bytes c.args.words.now) _ _ _ c.alone-in-Ok-None.ensures.lines c.alone-in-Ok-None.ensures.status (told_nothing _ _ c.args.probes.now.items c.requires) refl
-    (rw c.in-Ok-None.field-0-is at c.in-Ok-None.ensures) (refl, refl)
+    (rw c.in-Ok-None.field-0-is at c.in-Ok-None.ensures) refl
 
 pub returns-in-Err : goal.returns-in-Err
 returns-in-Err g c =
-    no_memory _ _ _ (map string_bytes c.args.words.now) _ _ _ c.alone-in-Err.ensures.lines c.alone-in-Err.ensures.status (told_nothing _ _ c.args.probes.now.items c.requires) refl (refl, refl)
+    no_memory _ _ _ (map string_bytes c.args.words.now) _ _ _ c.alone-in-Err.ensures.lines c.alone-in-Err.ensures.status (told_nothing _ _ c.args.probes.now.items c.requires) refl refl
