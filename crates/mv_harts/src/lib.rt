@@ -16,6 +16,7 @@
 //!   these has its cause. The files of the shelf are unchanged. `notes` grew by the last line of the status (`mv_notes`).
 //!   A device that failed is asked nothing more: the counts of `shelf` and `out` are as before, but for that of the device that the status due names, which is one
 //!   more at most. A shelf that tells which names it was asked to load was asked for FILE, once, and for nothing else; of words that are no command for nothing.
+//!   The count of `notes` is as before, and one more at most with `OutputFault`.
 //! - Tested by the rows of `mv_test_harts` and one run of `mv_harts_cli`.
 #![tactic(auto)]
 

@@ -1,4 +1,4 @@
-use Rattle.std.proofs.Common.{refl, ap, subst}
+use Rattle.std.proofs.Common.{refl}
 use Rattle.mv_harts_words.specs.Asked.{asked}
 use Rattle.mv_harts.specs.Outcomes.{unmade}
 use Rattle.mv_harts.proofs.Coming.{cut_off, was_run}
