@@ -8,7 +8,6 @@
 //!   hart is its own run alone with what its polls took, and adopts the commits of hart 0 in order, none skipped; and what each hart does is what the
 //!   program means in it.
 //! - `built_programs_are_runnable`: what `build` gives is an image of which `run_harts` asks no more.
-//! - `let_go`: lets what was built go, for a crate that would else prove the drop of each of its parts.
 //! - An error of `run_harts` is want of memory; then each sink grew by what its hart wrote by some turn.
 //! - `mvharts(alloc, words, shelf, out, notes, oracle)` does all that the program does (`specs/Outcomes.antt`). With `Done`, `out` grew by exactly the text
 //!   (`specs/Texts.antt`) of one such run, by the schedule that the words ask for (`mv_harts_words`), of one image that `mv_build` gives of the text
@@ -17,7 +16,7 @@
 //!   A device that failed is asked nothing more: the counts of `shelf` and `out` are as before, but for that of the device that the status due names, which is one
 //!   more at most. A shelf that tells which names it was asked to load was asked for FILE, once, and for nothing else; of words that are no command for nothing.
 //!   The count of `notes` is as before, and one more at most with `OutputFault`.
-//! - Tested by the rows of `mv_test_harts` and one run of `mv_harts_cli`.
+//! - Tested by one run of `mv_harts_cli` alone.
 #![tactic(auto)]
 
 mod devices;
@@ -32,5 +31,5 @@ pub use harts::run_harts;
 pub use mv_harts_one::Taken;
 pub use mv_harts_turns::Committed;
 pub use mv_notes::Status;
-pub use runnable::{built_programs_are_runnable, let_go};
+pub use runnable::built_programs_are_runnable;
 pub use top::mvharts;

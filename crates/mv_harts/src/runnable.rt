@@ -3,7 +3,6 @@
 ghost use Rattle.mv_harts.specs.Runnable.{BuiltAreRunnable};
 
 use mv_accepts_programs::programs_of_texts_are_well_formed;
-use mv_build::Built;
 use mv_refine_images::tables::images_have_tables;
 
 /// What `build` gives of a text is an image that several harts may run, as `run_harts` asks for. The call does nothing: its contract is the law.
@@ -12,9 +11,4 @@ pub fn built_programs_are_runnable()
 {
     images_have_tables();
     programs_of_texts_are_well_formed();
-}
-
-/// Lets a program and its image go. A crate that does so by itself proves the drop of each of their parts anew.
-pub fn let_go(built: Built) {
-    drop(built);
 }
