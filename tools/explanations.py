@@ -1,4 +1,4 @@
-"""What `./multiverse` and `./mvharts` say at a terminal behind the program's notes."""
+"""What `./multiverse` and `./mvharts` say behind the program's notes, at a terminal or where `--explain on` asks for it."""
 import os
 
 import refusals
@@ -6,17 +6,17 @@ import refusals
 # Of each program what its commands are.
 SYNOPSES = {
     "multiverse": """\
-usage: ./multiverse [--explain off] run FILE [--steps N] [--at LIST] [--bindings] [--words]
-       ./multiverse [--explain off] build FILE IMAGE
-       ./multiverse [--explain off] exec IMAGE [--steps N] [--at LIST] [--bindings] [--words]
-       ./multiverse [--explain off] list IMAGE
-       ./multiverse [--explain off] eval FILE --bound K
-       ./multiverse [--explain off] gen NUMBER [--source]
+usage: ./multiverse [--explain on|off] run FILE [--steps N] [--at LIST] [--bindings] [--words]
+       ./multiverse [--explain on|off] build FILE IMAGE
+       ./multiverse [--explain on|off] exec IMAGE [--steps N] [--at LIST] [--bindings] [--words]
+       ./multiverse [--explain on|off] list IMAGE
+       ./multiverse [--explain on|off] eval FILE --bound K
+       ./multiverse [--explain on|off] gen NUMBER [--source]
        ./multiverse --build
 N is 1 to 1000000000000 (without it 1000000000), K and NUMBER are 0 to 4294967295, LIST is items POLL:SWITCH=VALUE with commas between;
 docs/commands.md has all""",
     "mvharts": """\
-usage: ./mvharts [--explain off] FILE COUNT NUMBER TURNS
+usage: ./mvharts [--explain on|off] FILE COUNT NUMBER TURNS
        ./mvharts --build
 COUNT is 2 to 4, NUMBER 0 to 4294967295, TURNS 1 to 10000000; docs/harts.md has all""",
 }
@@ -31,14 +31,18 @@ FAULTS = {"10": "something is missing", "11": "a field breaks a rule", "12": "so
 WIDTH, BEFORE = 100, 60
 
 
-def shown(file, place):
-    """Returns the line of a file with a place, and a caret below the place, if the file can be read again."""
+def line_at(file, place):
+    """Returns the text of a line of a file before a place and from it on, or None where the file can't be read again."""
     line, column = place
     if not os.path.isfile(file):
-        return []
+        return None
     with open(file, "rb") as it:
         text = b"".join(it.read().split(b"\n")[line - 1 : line])
-    before, after = (part.decode(errors="replace") for part in (text[: column - 1], text[column - 1 :]))
+    return tuple(part.decode(errors="replace") for part in (text[: column - 1], text[column - 1 :]))
+
+
+def shown(before, after):
+    """Returns a line, and a caret below the place between its two parts."""
     start = max(0, len(before) - BEFORE)
     blank = "".join("\t" if it == "\t" else " " for it in before[start:])
     whole = "".join(it if it.isprintable() or it == "\t" else " " for it in (before + after)[start : start + WIDTH])
@@ -80,5 +84,7 @@ def of_notes(name, notes, words):
     if not explained:
         return []
     place, cause, remedy = explained
+    line = line_at(files[0], place) if place else None
     at = f"{files[0]}:{place[0]}:{place[1]}" if place else files[0]
-    return [f"{at}: {cause}", *(shown(files[0], place) if place else []), f"what to do: {remedy}"]
+    remedy = (line and refusals.advice(last_line, *line)) or remedy
+    return [f"{at}: {cause}", *(shown(*line) if line else []), f"what to do: {remedy}"]

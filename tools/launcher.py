@@ -121,8 +121,8 @@ class Launcher:
             if signal.getsignal(number) != signal.SIG_IGN:
                 signal.signal(number, lambda number, _: sys.exit(128 + number))
         is_explained = os.isatty(2)
-        if words[:2] == ["--explain", "off"]:
-            is_explained, words = False, words[2:]
+        if words[:2] in (["--explain", "on"], ["--explain", "off"]):
+            is_explained, words = words[1] == "on", words[2:]
         program, kind = self.program_of_sources()
         if words == ["--build"]:
             return self.say(f"the {kind} program of these sources is kept")

@@ -3,7 +3,8 @@
 
   refusals.py     writes the tables of docs/refusals.md anew
 
-A table of docs/refusals.md stands below a comment that names a kind of sections, and the keys of its columns behind the first.
+A table of docs/refusals.md stands below a comment that names a kind of sections, and the keys of its columns behind the first. Of what one may write
+`looks` tells the text from the place on, and `behind` how the text of its line ends before it, each as a regular expression.
 """
 import configparser
 import os
@@ -20,6 +21,19 @@ def all_refusals():
     with open(os.path.join(DOCS, "refusals.ini"), encoding="utf-8") as it:
         found.read_file(it)
     return found
+
+
+def advice(last_line, before, after):
+    """Returns what to write in place of what stands at the place of a refusal, between these texts: of the sections that tell it, that which tells most; or None."""
+    number, rule = LINE.match(last_line).group(1, 5)
+    found = []
+    for name, section in all_refusals().items():
+        if "looks" not in section or LINE.match(section["answer"]).group(1, 5) != (number, rule):
+            continue
+        looks, behind = re.match(section["looks"], after), re.search(f"(?:{section.get('behind', '')})$", before)
+        if looks and behind:
+            found.append((len(looks[0]) + len(behind[0]), section["do"]))
+    return re.sub(r"\[(.*?)\]\(.*?\)", r"\1", max(found, key=lambda it: it[0])[1]) if found else None
 
 
 def explained(last_line):

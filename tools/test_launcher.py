@@ -178,7 +178,7 @@ class Launcher(unittest.TestCase):
             self.assertEqual(self.read(where), "image\n")
 
     def test_own_words_stand_before_the_command(self):
-        for words in (("run", "a.c", "--explain", "off"), ("run", "--build"), ("--explain", "on", "run"), ("--build", "run")):
+        for words in (("run", "a.c", "--explain", "off"), ("run", "--build"), ("--explain", "maybe", "run"), ("--build", "run")):
             self.assertEqual(self.run_it(*words)[1], "".join(f"[{it}]\n" for it in words))
         self.assertEqual(self.run_it("--explain", "off", "run", "a.c")[1], "[run]\n[a.c]\n")
 
@@ -381,10 +381,39 @@ class Launcher(unittest.TestCase):
         self.assertIn("multiverse:     \tint \u00e4 = y;\nmultiverse:     \t        ^\n", whole)
         self.assertIn("isn't declared before its use", whole)
 
+    def test_advice_is_by_what_was_written(self):
+        for notes, line, advice in (
+            ("refused 4 1:25", 'int main(void) { printf("Hi\\n"); }', "a string is only the first value of a global `char` array"),
+            ("refused 4 1:5", "int *a;", "there are no pointers to objects"),
+            ("refused 2 1:1", "#include <stdlib.h>", "`<stdio.h>` and `<multiverse.h>` alone may be included"),
+            ("refused 2 1:1", "struct point { int x, y; };", "an array for each member, and an index for each object"),
+            ("refused 2 1:20", "int a[10]; int n = sizeof a;", "the number of elements, as an enumerator"),
+            ("refused 2 1:1", "#define SIZE 10", "`enum { SIZE = 10 };`"),
+            ("refused 2 1:33", "int main(void) { int p; return p->x; }", "there are no structs and no pointers to them"),
+            ("refused 2 1:33", "int main(void) { int p; return p.x; }", "there are no structs: "),
+            ("refused 2 1:1", "long total;", "`int`, or two words of `unsigned int`"),
+            ("refused 2 1:1", "typedef unsigned int word;", "the type itself"),
+            ("refused 2 1:18", "int main(void) { goto done; }", "`break`, `continue`, `return`, a loop or a function"),
+            ("refused 6 1:24 rule 1", "int (*handler)(void) = NULL; int main(void) { }", "`0`"),
+            ("refused 4 1:1", "bool done;", "`_Bool`"),
+            ("refused 6 1:38 rule 1", "int main(void) { while (getchar() != EOF) ; }", "`-1`, or `enum { EOF = -1 };`"),
+            ("refused 6 1:18 rule 1", "int main(void) { printf('H'); }", "of the standard library there are `getchar` and `putchar` alone; examples/text.c"),
+            ("refused 6 1:18 rule 1", "int main(void) { totl = 1; }", "declare it further up; a function by a prototype"),
+        ):
+            with self.subTest(line=line):
+                self.write("a.c", f"{line}\n")
+                self.assertIn(f"\nmultiverse: what to do: {advice}", self.explained(notes, "run", "a.c"))
+
+    def test_explained_off_a_terminal_where_it_is_asked_for(self):
+        self.write("notes", "usage\n")
+        self.gate()
+        status, output, notes = self.run_it("--explain", "on", "fly")
+        self.assertTrue(notes.startswith("usage\nmultiverse: usage: ./multiverse [--explain on|off] run FILE"))
+
     def test_what_mvharts_says_is_explained(self):
         self.write("a.c", "int main(void) { return y; }\n")
         for notes, reason in (
-            ("usage", "mvharts: usage: ./mvharts [--explain off] FILE COUNT NUMBER TURNS"),
+            ("usage", "mvharts: usage: ./mvharts [--explain on|off] FILE COUNT NUMBER TURNS"),
             ("shelf fault", "mvharts: a.c can't be read"),
             ("refused 6 1:25 rule 1", "mvharts: a.c:1:25: rule 1: a name"),
         ):
