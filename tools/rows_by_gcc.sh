@@ -12,7 +12,7 @@ trap 'rm -rf "$scratch"' EXIT
 made() {
     sed '/#include/d' "$1" > "$scratch/guest.c"
     riscv64-unknown-elf-gcc -O0 -w -fwrapv -funsigned-char -fno-builtin -march=rv32im -mabi=ilp32 -nostdlib -static -Wl,--no-relax \
-        -include "$top/bench/code/linux.h" '-Dmultiverse_commit()=0' -o "$scratch/guest" "$scratch/guest.c" -lgcc 2> "$scratch/gcc.log" || { cat "$scratch/gcc.log" >&2; exit 1; }
+        -include "$top/bench/code/linux.h" -include "$top/include/multiverse.h" -o "$scratch/guest" "$scratch/guest.c" -lgcc 2> "$scratch/gcc.log" || { cat "$scratch/gcc.log" >&2; exit 1; }
     status=0
     qemu-riscv32 "$scratch/guest" < "$2" > "$scratch/out" || status=$?
     [ ! -s "$scratch/out" ] || [ -z "$(tail -c 1 "$scratch/out")" ] || echo >> "$scratch/out"
