@@ -6,17 +6,17 @@ import refusals
 # Of each program what its commands are.
 SYNOPSES = {
     "multiverse": """\
-usage: ./multiverse [--explain on|off] run FILE [--steps N] [--at LIST] [--bindings] [--words]
-       ./multiverse [--explain on|off] build FILE IMAGE
+usage: ./multiverse [--explain on|off] [--preprocess] run FILE [--steps N] [--at LIST] [--bindings] [--words]
+       ./multiverse [--explain on|off] [--preprocess] build FILE IMAGE
        ./multiverse [--explain on|off] exec IMAGE [--steps N] [--at LIST] [--bindings] [--words]
        ./multiverse [--explain on|off] list IMAGE
-       ./multiverse [--explain on|off] eval FILE --bound K
+       ./multiverse [--explain on|off] [--preprocess] eval FILE --bound K
        ./multiverse [--explain on|off] gen NUMBER [--source]
        ./multiverse --build
 N is 1 to 1000000000000 (without it 1000000000), K and NUMBER are 0 to 4294967295, LIST is items POLL:SWITCH=VALUE with commas between;
 docs/commands.md has all""",
     "mvharts": """\
-usage: ./mvharts [--explain on|off] FILE COUNT NUMBER TURNS
+usage: ./mvharts [--explain on|off] [--preprocess] FILE COUNT NUMBER TURNS
        ./mvharts --build
 COUNT is 2 to 4, NUMBER 0 to 4294967295, TURNS 1 to 10000000; docs/harts.md has all""",
 }
@@ -31,14 +31,19 @@ FAULTS = {"10": "something is missing", "11": "a field breaks a rule", "12": "so
 WIDTH, BEFORE = 100, 60
 
 
-def line_at(file, place):
-    """Returns the text of a line of a file before a place and from it on, or None where the file can't be read again."""
+def line_at(source, place):
+    """Returns the text of a line of a source before a place and from it on."""
     line, column = place
+    text = b"".join(source.split(b"\n")[line - 1 : line])
+    return tuple(part.decode(errors="replace") for part in (text[: column - 1], text[column - 1 :]))
+
+
+def text_of(file):
+    """Returns the bytes of a file, or None where it can't be read again."""
     if not os.path.isfile(file):
         return None
     with open(file, "rb") as it:
-        text = b"".join(it.read().split(b"\n")[line - 1 : line])
-    return tuple(part.decode(errors="replace") for part in (text[: column - 1], text[column - 1 :]))
+        return it.read()
 
 
 def shown(before, after):
@@ -49,31 +54,31 @@ def shown(before, after):
     return [f"    {whole}", f"    {blank}^"]
 
 
-def operands(words):
-    """Returns those of some words that are files or numbers: all but options."""
-    found, rest = [], list(words)
-    while rest:
-        word = rest.pop(0)
-        if word == "--":
-            return found + rest
-        if word in VALUED:
-            rest[:1] = []
-        elif not word.startswith("--"):
-            found.append(word)
+def operands(words, start):
+    """Returns the places of those of some words from a place on that are files or numbers: of all but options."""
+    found, at = [], start
+    while at < len(words):
+        if words[at] == "--":
+            return found + list(range(at + 1, len(words)))
+        if words[at] in VALUED:
+            at += 1
+        elif not words[at].startswith("--"):
+            found.append(at)
+        at += 1
     return found
 
 
-def files_of(name, words):
-    """Returns the files that the words of a program name, or its number."""
-    return operands(words)[:1] if name == "mvharts" else operands(words[1:])
+def places_of_files(name, words):
+    """Returns the places of the files that the words of a program name, or of its number."""
+    return operands(words, 0)[:1] if name == "mvharts" else operands(words, 1)
 
 
-def of_notes(name, notes, words):
-    """Returns the lines that explain the last line of the notes of a program with these words."""
+def of_notes(name, notes, words, source=None):
+    """Returns the lines that explain the last line of the notes of a program with these words. Where its source is told, that is what it was handed as its file."""
     last_line = notes.rstrip("\n").rpartition("\n")[2]
     if last_line == "usage":
         return SYNOPSES[name].split("\n")
-    files = files_of(name, words)
+    files = [words[at] for at in places_of_files(name, words)]
     if last_line == "shelf fault" and len(files) > 1:
         return [f"{files[0]} can't be read, or isn't there; or {files[1]} can't be written"]
     if last_line == "shelf fault":
@@ -84,7 +89,8 @@ def of_notes(name, notes, words):
     if not explained:
         return []
     place, cause, remedy = explained
-    line = line_at(files[0], place) if place else None
+    source = text_of(files[0]) if source is None else source
+    line = line_at(source, place) if place and source is not None else None
     at = f"{files[0]}:{place[0]}:{place[1]}" if place else files[0]
     remedy = (line and refusals.advice(last_line, *line)) or remedy
     return [f"{at}: {cause}", *(shown(*line) if line else []), f"what to do: {remedy}"]

@@ -14,6 +14,7 @@ import time
 
 import explanations
 import kept_program
+import preprocessing
 
 # The status where there is no program to run: none of the program's own.
 NO_PROGRAM = 125
@@ -23,6 +24,8 @@ ENDING = (signal.SIGINT, signal.SIGTERM, signal.SIGHUP)
 GUEST = "int main(void) { putchar('.'); while (1) ; }\n"
 # The stack of an unproved program: its checks take some ten times what a proved one does.
 UNPROVED_STACK = 256 << 20
+# The commands of `multiverse` whose file is a source.
+COMPILING = ("run", "build", "eval")
 WORDS = {"multiverse": ("run", "guest.c", "--steps", "1000000000000"), "mvharts": ("guest.c", "2", "0", "10000000")}
 
 
@@ -105,14 +108,29 @@ class Launcher:
         kind = kept_program.find(self.name, known_sum)
         return kept_program.place_of(self.name, kind, known_sum), kind
 
-    def run_explained(self, program, words):
-        """Runs the program, passes its notes on, and says behind them what helps."""
+    def preprocessed(self, words):
+        """Returns the words with the file that they name preprocessed, as a file of this process that the program inherits, and its text."""
+        places = explanations.places_of_files(self.name, words)
+        if not places or self.name == "multiverse" and words[0] not in COMPILING:
+            self.give_up("--preprocess stands before a command that has a source")
+        try:
+            text = preprocessing.preprocessed(words[places[0]])
+        except preprocessing.Refused as error:
+            self.give_up(error)
+        held = os.memfd_create("source")
+        os.set_inheritable(held, True)
+        with open(held, "wb", closefd=False) as it:
+            it.write(text)
+        return [f"/dev/fd/{held}" if at == places[0] else word for at, word in enumerate(words)], text
+
+    def run_explained(self, program, words, own_words, source):
+        """Runs the program, passes its notes on, and says behind them what helps, by the words that this one was given."""
         notes = b""
-        with started([program, *words], stderr=subprocess.PIPE) as running:
+        with started([program, *words], stderr=subprocess.PIPE, close_fds=False) as running:
             for piece in iter(running.stderr.read1, b""):
                 os.write(2, piece)
                 notes += piece
-        for line in explanations.of_notes(self.name, notes.decode(errors="replace"), words):
+        for line in explanations.of_notes(self.name, notes.decode(errors="replace"), own_words, source):
             self.say(line)
         sys.exit(running.returncode if running.returncode >= 0 else 128 - running.returncode)
 
@@ -120,17 +138,22 @@ class Launcher:
         for number in ENDING:
             if signal.getsignal(number) != signal.SIG_IGN:
                 signal.signal(number, lambda number, _: sys.exit(128 + number))
-        is_explained = os.isatty(2)
+        is_explained, is_preprocessed = os.isatty(2), False
         if words[:2] in (["--explain", "on"], ["--explain", "off"]):
             is_explained, words = words[1] == "on", words[2:]
+        if words[:1] == ["--preprocess"]:
+            is_preprocessed, words = True, words[1:]
         program, kind = self.program_of_sources()
         if words == ["--build"]:
             return self.say(f"the {kind} program of these sources is kept")
         if kind == "unproved":
             self.say("this program is unproved: .ci/run makes the proved one")
             widen_stack()
+        own_words, source = words, None
+        if is_preprocessed:
+            words, source = self.preprocessed(words)
         if is_explained:
-            self.run_explained(program, words)
+            self.run_explained(program, words, own_words, source)
         # (what Python ignores, the program doesn't)
         signal.signal(signal.SIGPIPE, signal.SIG_DFL)
         signal.signal(signal.SIGXFSZ, signal.SIG_DFL)

@@ -5,6 +5,7 @@ LAUNCHER is tried in the place of tools/launcher.py.
 """
 import os
 import pty
+import re
 import shutil
 import signal
 import subprocess
@@ -58,6 +59,7 @@ PROGRAM = r"""#!/bin/sh
 for word; do printf '[%s]\n' "$word"; done
 [ ! -e "$SCRATCH/long" ] || head -c 2000000 /dev/zero
 [ "$1" != build ] || echo image > "$3"
+[ ! -e "$SCRATCH/shown" ] || cat "$2"
 [ ! -e "$SCRATCH/waits" ] || { echo "$$" > "$SCRATCH/waiting"; exec sleep 60; }
 cat
 cat "$SCRATCH/notes" >&2
@@ -73,7 +75,7 @@ class Launcher(unittest.TestCase):
         self.room = os.path.join(self.scratch, "tmp")
         for folder in ("bin", "bare", "tmp", "top/tools", "top/docs", "top/.ci", "top/crates/mv_cli/src", "top/crates/mv_harts_cli/src"):
             os.makedirs(os.path.join(self.scratch, folder))
-        for name in ("kept_program.py", "explanations.py", "refusals.py"):
+        for name in ("kept_program.py", "explanations.py", "preprocessing.py", "refusals.py"):
             shutil.copy(os.path.join(TOP, "tools", name), os.path.join(self.top, "tools"))
         shutil.copy(os.path.join(TOP, "docs", "refusals.ini"), os.path.join(self.top, "docs"))
         shutil.copy(os.path.join(TOP, ".ci", "run"), os.path.join(self.top, ".ci"))
@@ -408,12 +410,39 @@ class Launcher(unittest.TestCase):
         self.write("notes", "usage\n")
         self.gate()
         status, output, notes = self.run_it("--explain", "on", "fly")
-        self.assertTrue(notes.startswith("usage\nmultiverse: usage: ./multiverse [--explain on|off] run FILE"))
+        self.assertTrue(notes.startswith("usage\nmultiverse: usage: ./multiverse [--explain on|off] [--preprocess] run FILE"))
+
+    def write_source_to_preprocess(self):
+        self.write("own.h", "/* names */\nenum { TEN = 10 };\nint twice(int n);\n")
+        self.write("a.c", '#include <stdio.h>\n#include "own.h"\n#define N 3\n#ifdef NONE\nint none;\n#endif\nint main(void) {\n    return N;\n}\n')
+
+    def test_preprocessed_source_has_its_own_lines(self):
+        self.write_source_to_preprocess()
+        self.write("shown", "")
+        self.gate()
+        whole = "\nenum { TEN = 10 }; int twice(int n);\n\n\n\n\nint main(void) {\n    return 3;\n}\n"
+        output = re.sub(r"/dev/fd/\d+", "/dev/fd/N", self.run_it("--preprocess", "run", "a.c", "--steps", "5")[1])
+        self.assertEqual(output, f"[run]\n[/dev/fd/N]\n[--steps]\n[5]\n{whole}")
+
+    def test_preprocessed_source_is_explained_by_its_lines(self):
+        self.write_source_to_preprocess()
+        self.write("notes", "refused 6 8:12 rule 1\n")
+        self.gate()
+        notes = self.run_it("--explain", "on", "--preprocess", "run", "a.c")[2]
+        self.assertIn("multiverse: a.c:8:12: rule 1", notes)
+        self.assertIn("multiverse:         return 3;\nmultiverse:                ^\n", notes)
+
+    def test_nothing_to_preprocess(self):
+        self.gate()
+        for words, reason in ((("list", "a.img"), "--preprocess stands before"), (("run", "none.c"), "none.c"), (("fly",), "--preprocess stands before")):
+            status, _, notes = self.run_it("--preprocess", *words)
+            self.assertEqual(status, NO_PROGRAM)
+            self.assertIn(reason, notes)
 
     def test_what_mvharts_says_is_explained(self):
         self.write("a.c", "int main(void) { return y; }\n")
         for notes, reason in (
-            ("usage", "mvharts: usage: ./mvharts [--explain on|off] FILE COUNT NUMBER TURNS"),
+            ("usage", "mvharts: usage: ./mvharts [--explain on|off] [--preprocess] FILE COUNT NUMBER TURNS"),
             ("shelf fault", "mvharts: a.c can't be read"),
             ("refused 6 1:25 rule 1", "mvharts: a.c:1:25: rule 1: a name"),
         ):
