@@ -1,11 +1,11 @@
 #!/usr/bin/env python3
-"""Checks that what the headers of the crates and README.md name is there.
+"""Checks that what the headers of the crates, README.md and docs/ name is there.
 
   check_headers.py [ROOT]
 
-Of each text in back quotes it looks at the names and the paths. A path has to be a file or folder of the repository, or of the crate whose header it
-stands in. A name has to be that of a crate or of a file at the top, or a word of the sources of some crate. It prints what isn't there, and ends with 1
-where there is something.
+Of each text in back quotes it looks at the paths, and at the names in headers and README.md. A path has to be a file or folder of the repository, or of the crate whose header it
+stands in, or in a document of some crate, where `.antt` may be left out. A name has to be that of a crate or of a file at the top, or a word of the sources of some crate. It prints
+what isn't there, and ends with 1 where there is something.
 """
 import glob
 import os
@@ -45,13 +45,24 @@ def header_of(crate):
     return ""
 
 
+def is_there(path, root, crate):
+    """Whether a path is that of a file or folder of the repository, or of a crate."""
+    places = [os.path.join(at, path) for at in (root, crate, os.path.join(root, "crates"), os.path.join(root, "crates", "*"))]
+    return any(glob.glob(place + ending) for place in places for ending in ("", ".antt"))
+
+
+def missing_paths(text, root):
+    """Returns the paths that a text has which aren't there, those of what is made (`out`) and of any NAME aside."""
+    paths = [quoted for quoted in QUOTED.findall(text) if PATH.match(quoted) and not re.search(r"(^|/)out/|NAME", quoted)]
+    return [path for path in paths if not is_there(path, root, root)]
+
+
 def missing(text, root, crate, every, crates):
     """Returns what a text names that isn't there."""
     found = []
     for quoted in QUOTED.findall(text):
         if PATH.match(quoted):
-            places = [os.path.join(at, quoted) for at in (root, crate, os.path.join(root, "crates", "*"))]
-            if not any(map(glob.glob, places)):
+            if not is_there(quoted, root, crate):
                 found.append(quoted)
             continue
         if not re.fullmatch(r"[\w:{}, ]+", quoted):
@@ -75,12 +86,16 @@ def main():
         for lacks in ["a header"] * (not header) + missing(header, root, crate, every, crates):
             print(f"{name}: {lacks} isn't there")
             bad += 1
-    with open(os.path.join(root, "README.md"), encoding="utf-8") as it:
-        for lacks in missing(re.sub(r"```.*?```", "", it.read(), flags=re.S), root, root, every, crates):
-            print(f"README.md: {lacks} isn't there")
+    for file in [os.path.join(root, "README.md"), *sorted(glob.glob(os.path.join(root, "docs", "*.md")))]:
+        with open(file, encoding="utf-8") as it:
+            text = re.sub(r"```.*?```", "", it.read(), flags=re.S)
+        is_readme = os.path.dirname(file) == root
+        for lacks in missing(text, root, root, every, crates) if is_readme else missing_paths(text, root):
+            print(f"{os.path.relpath(file, root)}: {lacks} isn't there")
             bad += 1
     return 1 if bad else 0
 
 
-sys.exit(main())
+if __name__ == "__main__":
+    sys.exit(main())
 ##### take_fast.py
