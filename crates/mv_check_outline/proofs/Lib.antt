@@ -1,3 +1,3 @@
 mod KeyLists
 mod OneMore
-mod Places
+pub mod Places

@@ -1,5 +1,5 @@
 -- The place of a name, by recursion over the names, and what a map with one key more has.
-use Rattle.std.proofs.Common.{◌≡◌, ◌∙◌, ℕ, subst, refl, sym, ap, ap₂, cond, not, nat_lt, ◌+◌, ◌<◌, ◌||◌, Bool, true, false, true≢false, ◌++◌, length, List, [], ◌∷◌, Option, Some, None, IfSome, arith}
+use Rattle.std.proofs.Common.{◌≡◌, ◌∙◌, ℕ, subst, refl, sym, ap, ap₂, cond, not, nat_lt, ◌+◌, ◌<◌, ◌||◌, Bool, true, false, true≢false, ◌++◌, length, List, [], ◌∷◌, Option, Some, None, IfSome, if◌then◌else◌, arith}
 use Rattle.std.specs.List.{position_or_len}
 use Rattle.std.specs.Option.{is_some}
 use Rattle.std.specs.Ordering.{is_eq, nat_cmp, eq_by_cmp}
@@ -14,7 +14,7 @@ use Rattle.std.specs.Cmp.{eq_by_cmp_equiv}
 use Rattle.std.proofs.lemmas.List.{map-append, length-map}
 use Rattle.std.proofs.lemmas.List.Quantifiers.{position-Some}
 use Rattle.std.proofs.lemmas.Map.Text.{is_eq-slice_cmp}
-use Rattle.mv_check_outline.specs.Names.{same_name, is_among, place_of, names_of}
+use Rattle.mv_check_outline.specs.Names.{same_name, is_among, with_name, place_of, names_of}
 use Rattle.mv_check_outline.specs.Places.{place_in, ArePlaces}
 
 abbrev next : Option ℕ → Option ℕ
@@ -58,7 +58,7 @@ place_within name ns = by (place_of name ns) refl
     by (Some i) e = (position-Some (same_name name) ns i [] e).0
 
 -- a new name has the next place
-place_more : (name key : List ℕ) (ns : List (List ℕ)) → is_among key ns ≡ false →
+pub place_more : (name key : List ℕ) (ns : List (List ℕ)) → is_among key ns ≡ false →
     cond (same_name key name) (Some (length ns)) (place_of name ns) ≡ place_of name (ns ++ key ∷ [])
 place_more name key [] h = ap (λ b. cond b (Some 0) None) (nat_list_eq_equiv.symm key name) ∙ sym (place_step name key [])
 place_more name key (n ∷ ns) h =
@@ -82,6 +82,21 @@ place_more name key (n ∷ ns) h =
     by true e c false f g o = refl
     by false e c true f g o = ap (λ k. Some k) (longer n ns)
     by false e c false f g o = refl
+
+pub place_last : (name : List ℕ) (ns : List (List ℕ)) → is_among name ns ≡ false → place_of name (ns ++ name ∷ []) ≡ Some (length ns)
+place_last name ns new =
+    sym (place_more name name ns new) ∙ ap (λ b. cond b (Some (length ns)) (place_of name ns)) (nat_list_eq_equiv.refl name)
+
+-- a name that has a place is there, and one that has none goes last
+module _ (name : List ℕ) (ns : List (List ℕ)) where
+  pub stays : (n : ℕ) → Some n ≡ place_of name ns → ns ≡ with_name ns name
+  stays n e = ap (λ (b : Bool). if b then ns else ns ++ name ∷ []) (ap is_some e ∙ has_place name ns)
+
+  pub is_new : None ≡ place_of name ns → is_among name ns ≡ false
+  is_new e = sym (ap is_some e ∙ has_place name ns)
+
+  pub grows : None ≡ place_of name ns → ns ++ name ∷ [] ≡ with_name ns name
+  grows e = ap (λ (b : Bool). if b then ns else ns ++ name ∷ []) (sym (is_new e))
 
 -- ---- a map that has one key more
 

@@ -1,4 +1,4 @@
-ghost use Rattle.std.specs.Prelude.{◌≡◌, [], ◌∷◌, ◌++◌, ◌<◌, length, false, IfSome, IfOk, OnOk};
+ghost use Rattle.std.specs.Prelude.{◌≡◌, [], ◌∷◌, ◌++◌, ◌<◌, length, false, Some, IfSome, IfOk, OnOk, OnErr};
 ghost use Rattle.mv_check_outline.specs.Names.{is_among, with_name, place_of, among};
 
 use std::alloc::{AllocError, Global};
@@ -38,7 +38,8 @@ impl Names {
     // Adds a name that is new at the end.
     fn push(&mut self, alloc: Global, name: &[u8]) -> Result<(), AllocError>
         requires { is_among name.now self.old ≡ false }
-        ensures { OnOk result (self.new ≡ self.old ++ name.now ∷ []) }
+        ensures added { OnOk result (self.new ≡ self.old ++ name.now ∷ []) }
+        ensures kept { OnErr result (self.new ≡ self.old) }
     {
         let place = self.names.len();
         let key = Vec::from_slice(alloc, name)?;
@@ -49,6 +50,22 @@ impl Names {
             return Err(AllocError);
         }
         Ok(())
+    }
+
+    /// The number of a name, which it gets if it has none yet.
+    pub fn number(&mut self, alloc: Global, name: &[u8]) -> Result<usize, AllocError>
+        ensures number { IfOk result (λ number. place_of name.now self.new ≡ Some number) }
+        ensures added { OnOk result (self.new ≡ with_name self.old name.now) }
+        ensures kept { OnErr result (self.new ≡ self.old) }
+    {
+        match self.number_of(name) {
+            Some(number) => Ok(number),
+            None => {
+                let number = self.len();
+                self.push(alloc, name)?;
+                Ok(number)
+            }
+        }
     }
 
     /// Adds a name at the end, unless it is there.
