@@ -1,5 +1,5 @@
 -- What an ordered map has at each text, where one has a new value.
-use Rattle.std.proofs.Common.{◌≡◌, ℕ, ◌∙◌, refl, sym, ap, subst, Bool, true, false, if◌then◌else◌, nat_eq, List, Option, Some}
+use Rattle.std.proofs.Common.{◌≡◌, ℕ, ◌∙◌, refl, sym, subst, Bool, true, false, if◌then◌else◌, nat_eq, List, Some}
 use Rattle.std.specs.Cmp.Lexicographic.{pointwise, slice_cmp, same_text}
 use Rattle.std.specs.Cmp.{eq_by_cmp_equiv}
 use Rattle.std.specs.Ordering.{is_eq, nat_cmp, eq_by_cmp}
@@ -9,8 +9,6 @@ use Rattle.std.specs.declared.vec.Vec.{Vec}
 use Rattle.std.specs.declared.alloc.Global.{Global}
 use Rattle.std.proofs.lemmas.Cmp.{nat_list_eq_equiv, nat_list_cmp_total}
 use Rattle.std.proofs.lemmas.Map.Text.{is_eq-slice_cmp}
-use Rattle.mv_check_scope.specs.declared.step.Binding.{Binding}
-use Rattle.mv_check_scope.specs.Bindings.{Entries, if_any, binding_among, IsBoundTo}
 use Rattle.mv_check_scope.specs.Entries.{value_at}
 
 -- texts that are apart, in either form
@@ -35,10 +33,3 @@ module _ {X : Type 0} (es fs : List (Vec ℕ Global × X)) (text : List ℕ) (v 
       by false e =
           others (λ k. is_eq (slice_cmp nat_cmp other k.items)) (λ j k. (eq_by_cmp_equiv nat_list_cmp_total).congr other j.items k.items)
           (λ k. apart_in_order text other k.items e)
-
-pub bound_to : (es fs : Entries) (name : List ℕ) (b : Option Binding) → IsThere es fs name b → OthersStay es fs name b → IsBoundTo es fs name b
-bound_to es fs name b here others other = ap if_any (written es fs name b here others other) ∙ by (pointwise nat_eq other name)
-  where
-    by : (t : Bool) → if_any (if t then Some b else value_at other es) ≡ (if t then b else binding_among es other)
-    by true = refl
-    by false = refl

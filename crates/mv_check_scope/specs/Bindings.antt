@@ -1,11 +1,10 @@
 -- What decides the meaning of a name: its innermost declaration, with how many blocks stand around that one's block.
 use Rattle.std.specs.Prelude.{◌≡◌, ℕ, ◌+◌, nat_eq, if◌then◌else◌, length, List, [], ◌∷◌, Option, Some, None}
 use Rattle.std.specs.Cmp.Lexicographic.{pointwise}
-use Rattle.std.specs.declared.vec.Vec.{Vec}
-use Rattle.std.specs.declared.alloc.Global.{Global}
+use Rattle.std.specs.Map.{lookup}
+use Rattle.mv_check_outline.specs.Names.{place_of}
 use Rattle.mv_check_scope.specs.declared.meaning.Meaning.{Meaning}
 use Rattle.mv_check_scope.specs.declared.step.Binding.{Binding}
-use Rattle.mv_check_scope.specs.Entries.{value_at}
 use Rattle.mv_check_scope.specs.Names.{Names, Space}
 use Rattle.mv_check_scope.specs.Spaces.{named}
 
@@ -26,19 +25,24 @@ binding_in depth (block ∷ inner) name = or_outer (binding_in (depth + 1) inner
 abbrev pub binding : Space → List ℕ → Option Binding
 binding space name = or_outer (at_depth (length space.around) (named name space.here)) (binding_in 0 space.around name)
 
--- ---- the entries of an ordered map
+-- ---- what is declared, under the numbers of names
 
 abbrev pub Entries : Type 0
-Entries = List (Vec ℕ Global × Option Binding)
+Entries = List (ℕ × Binding)
 
--- a name whose blocks were all left has an entry that says nothing
-abbrev pub if_any : Option (Option Binding) → Option Binding
-if_any None = None
-if_any (Some b) = b
+abbrev pub at_number : Entries → Option ℕ → Option Binding
+at_number entries None = None
+at_number entries (Some n) = lookup (nat_eq n) entries
 
-abbrev pub binding_among : Entries → List ℕ → Option Binding
-binding_among entries name = if_any (value_at name entries)
+-- a name's number is its place among all that were ever declared
+abbrev pub binding_among : List (List ℕ) → Entries → List ℕ → Option Binding
+binding_among names entries name = at_number entries (place_of name names)
 
--- a name is bound anew, and the others stay
-abbrev pub IsBoundTo : Entries → Entries → List ℕ → Option Binding → Type 0
-IsBoundTo before after name b = (other : List ℕ) → binding_among after other ≡ (if pointwise nat_eq other name then b else binding_among before other)
+-- a number is bound anew, or to nothing, and the others stay
+abbrev pub IsBoundAt : Entries → Entries → ℕ → Option Binding → Type 0
+IsBoundAt before after number b = (n : ℕ) → lookup (nat_eq n) after ≡ (if nat_eq number n then b else lookup (nat_eq n) before)
+
+-- a name is bound anew, or to nothing, and the others stay
+abbrev pub IsBoundTo : List (List ℕ) → Entries → Entries → List ℕ → Option Binding → Type 0
+IsBoundTo names before after name b =
+    (other : List ℕ) → binding_among names after other ≡ (if pointwise nat_eq other name then b else binding_among names before other)

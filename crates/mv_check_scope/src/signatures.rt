@@ -6,9 +6,13 @@ ghost use Rattle.mv_check_scope.specs.Signatures.{place_of, with_signature, sort
 use crate::convert::kind_number;
 use mv_ast::program::{CType, Signature};
 use mv_num::list::List;
+use smallvec::SmallVec;
 use std::alloc::{AllocError, Global};
 use std::collections::BTreeMap;
 use std::marker::Model;
+
+// The words of a signature. Those of a result and 8 parameters, the most that a function has, need no memory of their own.
+type Spelling = SmallVec<u32, 18>;
 
 /// Signatures in the order in which they came up, each once. The number of one is its place. It is found by its spelling in an
 /// ordered map, with no search through the others.
@@ -53,7 +57,7 @@ fn number_of(t: CType) -> u32
 }
 
 // Puts the words that tell a type from all others behind some.
-fn push_type(words: &mut Vec<u32>, t: CType) -> Result<(), AllocError>
+fn push_type(words: &mut Spelling, t: CType) -> Result<(), AllocError>
     ensures { OnOk result (words.new.items ≡ words.old.items ++ type_words t) }
 {
     words.push(sort_of(t))?;
@@ -62,10 +66,10 @@ fn push_type(words: &mut Vec<u32>, t: CType) -> Result<(), AllocError>
 }
 
 // The words that tell a signature from all others.
-fn spelling(alloc: Global, s: &Signature) -> Result<Vec<u32>, AllocError>
+fn spelling(alloc: Global, s: &Signature) -> Result<Spelling, AllocError>
     ensures { IfOk result (λ words. words.items ≡ spelling s.now) }
 {
-    let mut words = Vec::new(alloc);
+    let mut words = SmallVec::new(alloc);
     push_type(&mut words, s.result)?;
     for t in s.params.as_slice() {
         push_type(&mut words, *t)?;
@@ -110,7 +114,7 @@ impl SignatureList {
     }
 
     // Adds a signature that the list hasn't yet, by its spelling.
-    fn push(&mut self, words: Vec<u32>, s: Signature) -> Result<u32, AllocError>
+    fn push(&mut self, words: Spelling, s: Signature) -> Result<u32, AllocError>
         requires room { length self.old < 2 ^ 32 }
         requires spelt { words.items ≡ spelling s }
         requires new { place_spelled words.items self.old ≡ None }
@@ -118,8 +122,9 @@ impl SignatureList {
         ensures added { OnOk result (self.new ≡ self.old ++ s ∷ []) }
     {
         let place = self.signatures.len() as u32;
+        let key = words.into_vec()?;
         self.signatures.push(s)?;
-        if self.places.insert(words, place).is_err() {
+        if self.places.insert(key, place).is_err() {
             self.signatures.pop();
             return Err(AllocError);
         }

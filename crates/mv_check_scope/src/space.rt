@@ -6,13 +6,13 @@ ghost use Rattle.mv_check_scope.specs.Steps.{HasDeclared};
 
 use crate::bindings::Bindings;
 use crate::meaning::Meaning;
-use crate::step::{Binding, Step};
+use crate::step::{Binding, Declaration, Step};
 use std::alloc::{AllocError, Global};
 use std::marker::Model;
 
 /// A name space (C11 6.2.3) at a place of the source: the names of the innermost block, and the blocks around it, of which the
 /// innermost comes last. A name means what the innermost block that declares it says. The steps that led here are kept, so that
-/// leaving a block takes back what it declared, and a look-up doesn't go from block to block.
+/// leaving a block takes back what it declared, and a look-up doesn't go from block to block. A step has the number of its name.
 #[derive(Drop)]
 pub struct NameSpace {
     steps: Vec<Step>,
@@ -27,9 +27,9 @@ impl Model for NameSpace {
 
     ghost Value = { Space };
 
-    ghost view = { λ s. led_to no_names s.steps.items };
+    ghost view = { λ s. led_to s.bindings.names no_names s.steps.items };
 
-    ghost invariant = { λ s. Represents s.steps.items s.depth s.bindings.map.entries };
+    ghost invariant = { λ s. Represents s.bindings.names s.steps.items s.depth s.bindings.declared.entries };
 }
 
 impl NameSpace {
@@ -83,18 +83,19 @@ impl NameSpace {
         requires { named name.now self.old.here ≡ None }
         ensures { OnOk result (self.new ≡ with_name self.old name.now meaning) }
     {
-        let key = Vec::from_slice(alloc, name)?;
-        let declared = Vec::from_slice(alloc, name)?;
-        let hidden = self.bindings.find(name);
+        self.steps.reserve(1)?;
+        let number = self.bindings.names.number(alloc, name)?;
+        let hidden = self.bindings.at(number);
         let binding = Binding {
             depth: self.depth,
             meaning,
         };
-        self.steps.push(Step::Declared(declared, meaning, hidden))?;
-        if self.bindings.bind(key, binding).is_err() {
-            self.steps.pop();
-            return Err(AllocError);
-        }
+        self.bindings.bind(number, binding)?;
+        self.steps.push_reserved(Step::Declared(Declaration {
+            number,
+            meaning,
+            hidden,
+        }));
         Ok(())
     }
 
@@ -113,8 +114,9 @@ impl NameSpace {
         ensures block { result ≡ false → self.new ≡ left self.old }
     {
         match self.steps.pop() {
-            Some(Step::Declared(name, _, hidden)) => {
-                self.bindings.restore(name.as_slice(), hidden);
+            Some(Step::Declared(declaration)) => {
+                self.bindings
+                    .restore(declaration.number, declaration.hidden);
                 true
             }
             Some(Step::Entered) => {

@@ -9,9 +9,17 @@ pub struct Binding {
     pub meaning: Meaning,
 }
 
-/// A step that led to a name space: a name is declared, which hides what decided its meaning before, or a block is entered.
-#[derive(Drop)]
+/// A declaration of the name that has this number, with what decided its meaning before.
+#[derive(Clone, Copy)]
+pub struct Declaration {
+    pub number: usize,
+    pub meaning: Meaning,
+    pub hidden: Option<Binding>,
+}
+
+/// A step that led to a name space: a name is declared, or a block is entered.
+#[derive(Clone, Copy)]
 pub enum Step {
-    Declared(Vec<u8>, Meaning, Option<Binding>),
+    Declared(Declaration),
     Entered,
 }

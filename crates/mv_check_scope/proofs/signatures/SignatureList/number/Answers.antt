@@ -9,7 +9,7 @@ returns-in-Some-clause-number c =
     let there : place_spelled (spelling c.args.s) ss ≡ Some c.in-Some.place.now =
     sym
     (c.in-Some.ensures.value ∙
-    (c.self.invariant c.as_slice.result.now ∙ ap (λ w. place_spelled w ss) (c.as_slice.ensures.value ∙ c.in_ok-words.ensures))) in
+    (c.self.invariant c.as_slice.result.now ∙ ap (λ w. place_spelled w ss) (c.as_slice.ensures ∙ c.in_ok-words.ensures))) in
     (found c.args.s ss c.in-Some.place.now there).0 ∙ ap (place_of c.args.s) c.self.view_is
 
 pub returns-in-Some-clause-added : goal.returns-in-Some-clause-added
@@ -18,7 +18,7 @@ returns-in-Some-clause-added c =
     let there : place_spelled (spelling c.args.s) ss ≡ Some c.in-Some.place.now =
     sym
     (c.in-Some.ensures.value ∙
-    (c.self.invariant c.as_slice.result.now ∙ ap (λ w. place_spelled w ss) (c.as_slice.ensures.value ∙ c.in_ok-words.ensures))) in
+    (c.self.invariant c.as_slice.result.now ∙ ap (λ w. place_spelled w ss) (c.as_slice.ensures ∙ c.in_ok-words.ensures))) in
     sym c.self.view_is ∙ ((found c.args.s ss c.in-Some.place.now there).1 ∙ ap (with_signature c.args.s) c.self.view_is)
 
 pub returns-in-None-clause-number : goal.returns-in-None-clause-number
@@ -28,7 +28,7 @@ returns-in-None-clause-number c =
     sym
     (c.in-None.ensures.value ∙
     (c.self.invariant c.as_slice.result.now ∙
-    (ap (λ w. place_spelled w ss) (c.as_slice.ensures.value ∙ c.in_ok-words.ensures) ∙ ap (place_spelled (spelling c.args.s)) c.self.view_is))) in
+    (ap (λ w. place_spelled w ss) (c.as_slice.ensures ∙ c.in_ok-words.ensures) ∙ ap (place_spelled (spelling c.args.s)) c.self.view_is))) in
     subst (λ k. IfOk c.push.result (λ n. n ≡ k)) (missing c.args.s c.args.self.now none).0 c.push.ensures.number
 
 pub returns-in-None-clause-added : goal.returns-in-None-clause-added
@@ -38,5 +38,5 @@ returns-in-None-clause-added c =
     sym
     (c.in-None.ensures.value ∙
     (c.self.invariant c.as_slice.result.now ∙
-    (ap (λ w. place_spelled w ss) (c.as_slice.ensures.value ∙ c.in_ok-words.ensures) ∙ ap (place_spelled (spelling c.args.s)) c.self.view_is))) in
+    (ap (λ w. place_spelled w ss) (c.as_slice.ensures ∙ c.in_ok-words.ensures) ∙ ap (place_spelled (spelling c.args.s)) c.self.view_is))) in
     subst (λ l. OnOk c.push.result (c.push.new.self ≡ l)) (missing c.args.s c.args.self.now none).1 c.push.ensures.added

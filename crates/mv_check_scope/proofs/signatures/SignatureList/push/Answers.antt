@@ -14,8 +14,10 @@ invariant_of-self-else-is_err c =
     let l = c.self.inside in
     let es = l.places.entries in
     let fs = c.insert.new.self.entries in
-    let words = c.args.words.items in
+    let words = c.in_ok-key.key.items in
+    let is_words = c.in_ok-key.ensures.ok in
     let place : c.len-place.result ≡ length l.signatures.items = omega (arith, c.len-place.ensures, l.signatures.ok) in
     let updated = of_ok c.insert.result c.insert.ensures.updates c.if-is_err.ensures.value in
-    pushed es fs words c.len-place.result c.args.s l.signatures.items c.push.new.self.items c.self.invariant c.in_ok-push.ensures.items c.requires.spelt place
-    (ap (place_spelled words) c.self.view_is ∙ c.requires.new) (written es fs words c.len-place.result updated.1 updated.3)
+    pushed es fs words c.len-place.result c.args.s l.signatures.items c.push.new.self.items c.self.invariant c.in_ok-push.ensures.items (is_words ∙ c.requires.spelt) place
+    (ap (λ w. place_spelled w l.signatures.items) is_words ∙ (ap (place_spelled c.args.words.items) c.self.view_is ∙ c.requires.new))
+    (written es fs words c.len-place.result updated.1 updated.3)
