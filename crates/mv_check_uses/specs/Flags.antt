@@ -1,5 +1,5 @@
 -- What flags of globals say, and what parts of trees name.
-use Rattle.std.specs.Prelude.{ℕ, suc, Bool, false, List, [], map, replicate, option_to_list, Option}
+use Rattle.std.specs.Prelude.{ℕ, suc, Bool, false, List, map, replicate, option_to_list, Option}
 use Rattle.std.specs.List.{concat}
 use Rattle.mv_ast.specs.declared.program.Switch.{Switch}
 use Rattle.mv_ast.specs.declared.program.Expr.{Expr}

@@ -7,6 +7,7 @@ use crate::flags::{is_set, no_flags};
 use crate::marks::mark_stmts;
 use mv_ast::program::{Stmt, Switch};
 use mv_num::list::List;
+use smallvec::SmallVec;
 use std::alloc::{AllocError, Global};
 
 // An index as a number of 32 bits, which more items than have one don't find room for either.
@@ -19,7 +20,7 @@ fn number_of(index: usize) -> Result<u32, AllocError>
     }
 }
 
-// The numbers of those of some switches whose globals are flagged.
+// The numbers of those of some switches whose globals are flagged. The 6 that a function may name need no memory of their own while they are gathered.
 #[tactic(auto, using(crate::proofs::Numbers::pushes))]
 fn flagged_numbers(
     alloc: Global,
@@ -28,13 +29,13 @@ fn flagged_numbers(
 ) -> Result<List<u32>, AllocError>
     ensures { IfOk result (λ numbers. numbers ≡ numbers_from (is_set flags.now.items) 0 switches.now) }
 {
-    let mut numbers = List::new(alloc);
+    let mut numbers: SmallVec<u32, 6> = SmallVec::new(alloc);
     for (index, switch) in switches.as_slice().iter().enumerate() {
         if is_set(flags, switch.global) {
             numbers.push(number_of(index)?)?;
         }
     }
-    Ok(numbers)
+    Ok(List::from_vec(numbers.into_vec()?))
 }
 
 /// The numbers, in ascending order, of those of some switches that the statements of a function name. An error where memory
