@@ -1,7 +1,8 @@
 -- The longest lexeme, by the first byte of a text.
 use Rattle.std.proofs.Common.{◌≡◌, ℕ, zero, suc, subst, ◌+◌, ◌-◌, ◌<◌, ◌≤◌, Bool, true, false, List, [], ◌∷◌, length, get_or, take, refl, sym, ap, ◌∙◌, inl, inr, arith, ltb}
-use Rattle.std.specs.Prelude.{not, ◌&&◌, ◌==◌, ◌⊎◌}
-use Rattle.std.proofs.lemmas.Bool.{both_ways, and_parts, not-true, or_left, or_right, ltb-true, eq-eqb, and_from, false≢true}
+use Rattle.std.specs.Prelude.{not, ◌&&◌, ◌==◌, ◌⊎◌, nat_eq}
+use Rattle.std.specs.List.{starts_with}
+use Rattle.std.proofs.lemmas.Bool.{both_ways, and_parts, not-true, or_left, or_right, ltb-true, eqb-true, eq-eqb, and_from, false≢true}
 use Rattle.std.proofs.lemmas.Bool.Decides.{nat_tests}
 use Rattle.std.proofs.lemmas.List.{length-take-le, get_or-take}
 use Rattle.std.specs.Char.{is_ascii_digit}
@@ -24,6 +25,25 @@ pub passes_at : (p : List ℕ → Bool) (xs : List (List ℕ)) → each_passes p
 passes_at p [] all k below = absurd (omega arith)
 passes_at p (x ∷ xs) all zero below = (and_parts (p x) (each_passes p xs) all).0
 passes_at p (x ∷ xs) all (suc k) below = passes_at p xs (and_parts (p x) (each_passes p xs) all).1 k (omega arith)
+
+-- two bytes stand in front
+pub record Opens (a b : ℕ) (s : List ℕ) : Type 0 where
+  pub long : 2 ≤ length s
+  pub first : get_or s 0 0 ≡ a
+  pub second : get_or s 1 0 ≡ b
+
+pub opening : (a b : ℕ) (s : List ℕ) → starts_with nat_eq s (a ∷ b ∷ []) ≡ true → Opens a b s
+opening a b [] h = absurd (false≢true h)
+opening a b (x ∷ []) h = absurd (false≢true (and_parts (nat_eq a x) false h).1)
+opening a b (x ∷ y ∷ s) h =
+    let parts = and_parts (nat_eq a x) (nat_eq b y && true) h in
+    let last = and_parts (nat_eq b y) true parts.1 in
+    record { long = omega arith; first = sym (eqb-true a x parts.0); second = sym (eqb-true b y last.0) }
+
+pub opened : (a b : ℕ) (s : List ℕ) → 2 ≤ length s → get_or s 0 0 ≡ a → get_or s 1 0 ≡ b → starts_with nat_eq s (a ∷ b ∷ []) ≡ true
+opened a b [] long first second = absurd (omega arith)
+opened a b (x ∷ []) long first second = absurd (omega arith)
+opened a b (x ∷ y ∷ s) long first second = and_from _ _ (eq-eqb a x (sym first)) (and_from _ _ (eq-eqb b y (sym second)) refl)
 
 -- a byte with which a punctuator may begin
 abbrev pub is_punctuator_byte : ℕ → Bool
@@ -48,9 +68,9 @@ begins Other b = true
 pub lexeme_begins : (class : TokenClass) (s : List ℕ) → IsLexeme class s → begins class (get_or s 0 0) ≡ true
 lexeme_begins WhiteSpace s is = is.first
 lexeme_begins Identifier s is = is.first
-lexeme_begins Comment s (inl is) = eq-eqb (get_or s 0 0) 47 is.first
-lexeme_begins Comment s (inr is) = eq-eqb (get_or s 0 0) 47 is.first
-lexeme_begins UnclosedComment s is = eq-eqb (get_or s 0 0) 47 is.first
+lexeme_begins Comment s (inl is) = eq-eqb (get_or s 0 0) 47 (opening 47 47 s is.opens).first
+lexeme_begins Comment s (inr is) = eq-eqb (get_or s 0 0) 47 (opening 47 42 s is.opens).first
+lexeme_begins UnclosedComment s is = eq-eqb (get_or s 0 0) 47 (opening 47 42 s is.opens).first
 lexeme_begins CharacterConstant s is = eq-eqb (get_or s 0 0) 39 is.1.opens
 lexeme_begins StringLiteral s is = eq-eqb (get_or s 0 0) 34 is.1.opens
 lexeme_begins PreprocessingNumber s is = is.first
@@ -112,15 +132,18 @@ digit_no_slash b x y = grind (arith, nat_tests)
 line_begins : (s : List ℕ) → get_or s 0 0 ≡ 47 → get_or s 1 0 ≡ 47 → begins_comment s ≡ true
 line_begins s first second = and_from _ _ (eq-eqb (get_or s 0 0) 47 first) (or_left _ _ (eq-eqb (get_or s 1 0) 47 second))
 
-pub block_begins : (s : List ℕ) → get_or s 0 0 ≡ 47 → get_or s 1 0 ≡ 42 → begins_comment s ≡ true
+block_begins : (s : List ℕ) → get_or s 0 0 ≡ 47 → get_or s 1 0 ≡ 42 → begins_comment s ≡ true
 block_begins s first second = and_from _ _ (eq-eqb (get_or s 0 0) 47 first) (or_right _ _ (eq-eqb (get_or s 1 0) 42 second))
 
 pub comment_begins : (s : List ℕ) → IsLexeme Comment s → begins_comment s ≡ true
-comment_begins s (inl is) = line_begins s is.first is.second
-comment_begins s (inr is) = block_begins s is.first is.second
+comment_begins s (inl is) = let o = opening 47 47 s is.opens in line_begins s o.first o.second
+comment_begins s (inr is) = let o = opening 47 42 s is.opens in block_begins s o.first o.second
+
+pub unclosed_begins : (s : List ℕ) → IsLexeme UnclosedComment s → begins_comment s ≡ true
+unclosed_begins s is = let o = opening 47 42 s is.opens in block_begins s o.first o.second
 
 pub comment_long : (s : List ℕ) → IsLexeme Comment s → 2 ≤ length s
-comment_long s (inl is) = is.long
+comment_long s (inl is) = (opening 47 47 s is.opens).long
 comment_long s (inr is) = omega (arith, is.ends, is.behind)
 
 -- no punctuator begins a comment
@@ -131,6 +154,11 @@ module _ (text : List ℕ) (some : 0 < length text) where
   -- the first byte of a lexeme is the text's
   first_byte : (class : TokenClass) (m : ℕ) → 0 < m → IsLexeme class (take m text) → begins class (get_or text 0 0) ≡ true
   first_byte class m positive is = subst (λ b. begins class b ≡ true) (get_or-take m text 0 0 positive) (lexeme_begins class (take m text) is)
+
+  -- a front of two bytes and more begins as the text does
+  opened_front : (a b n : ℕ) → 2 ≤ n → n ≤ length text → get_or text 0 0 ≡ a → get_or text 1 0 ≡ b → starts_with nat_eq (take n text) (a ∷ b ∷ []) ≡ true
+  opened_front a b n long fits first second =
+      opened a b (take n text) (omega (arith, length-take-le n text fits)) (get_or-take n text 0 0 (omega arith) ∙ first) (get_or-take n text 1 0 (omega arith) ∙ second)
 
   -- no lexeme of one byte has more than one
   not_one : (n m : ℕ) → 0 < n → n < m → m ≤ length text → length (take m text) ≡ 1 → ⊥
@@ -203,9 +231,7 @@ module _ (text : List ℕ) (some : 0 < length text) where
   line_longest n first second long fits each stops = record {
     in_range = fits;
     lexeme = inl (record {
-      long = omega (arith, length-take-le n text fits);
-      first = get_or-take n text 0 0 (omega arith) ∙ first;
-      second = get_or-take n text 1 0 (omega arith) ∙ second;
+      opens = opened_front 47 47 n long fits first second;
       each = λ i below is. let near : i < n = omega (arith, length-take-le n text fits) in each i near (sym (get_or-take n text i 0 near) ∙ is);
     });
     longest = beyond;
@@ -214,8 +240,8 @@ module _ (text : List ℕ) (some : 0 < length text) where
       beyond : (m : ℕ) (other : TokenClass) → n < m → m ≤ length text → IsLexeme other (take m text) → ⊥
       beyond m WhiteSpace longer in_range is = not_one n m (omega arith) longer in_range is.one
       beyond m Comment longer in_range (inl is) = is.each n (omega (arith, length-take-le m text in_range)) (get_or-take m text n 0 longer ∙ stops (omega arith))
-      beyond m Comment longer in_range (inr is) = omega (arith, second, is.second, get_or-take m text 1 0 (omega arith))
-      beyond m UnclosedComment longer in_range is = omega (arith, second, is.second, get_or-take m text 1 0 (omega arith))
+      beyond m Comment longer in_range (inr is) = omega (arith, second, (opening 47 42 (take m text) is.opens).second, get_or-take m text 1 0 (omega arith))
+      beyond m UnclosedComment longer in_range is = omega (arith, second, (opening 47 42 (take m text) is.opens).second, get_or-take m text 1 0 (omega arith))
       beyond m CharacterConstant longer in_range is = not_first CharacterConstant m 47 first refl (omega arith) is
       beyond m StringLiteral longer in_range is = not_first StringLiteral m 47 first refl (omega arith) is
       beyond m Identifier longer in_range is = letter_no_slash (get_or text 0 0) (first_byte Identifier m (omega arith) is) (eq-eqb (get_or text 0 0) 47 first)
@@ -236,8 +262,7 @@ module _ (text : List ℕ) (some : 0 < length text) where
   block_longest close first second behind within closes none = record {
     in_range = omega arith;
     lexeme = inr (record {
-      first = get_or-take (close + 2) text 0 0 (omega arith) ∙ first;
-      second = get_or-take (close + 2) text 1 0 (omega arith) ∙ second;
+      opens = opened_front 47 42 (close + 2) (omega arith) (omega arith) first second;
       close = close;
       behind = behind;
       ends = length-take-le (close + 2) text (omega arith);
@@ -249,7 +274,7 @@ module _ (text : List ℕ) (some : 0 < length text) where
     where
       beyond : (m : ℕ) (other : TokenClass) → close + 2 < m → m ≤ length text → IsLexeme other (take m text) → ⊥
       beyond m WhiteSpace longer in_range is = not_one (close + 2) m (omega arith) longer in_range is.one
-      beyond m Comment longer in_range (inl is) = omega (arith, second, is.second, get_or-take m text 1 0 (omega arith))
+      beyond m Comment longer in_range (inl is) = omega (arith, second, (opening 47 47 (take m text) is.opens).second, get_or-take m text 1 0 (omega arith))
       beyond m Comment longer in_range (inr is) = is.none_before close behind (omega (arith, is.ends, length-take-le m text in_range)) (close_within m close (omega arith) closes)
       beyond m UnclosedComment longer in_range is = is.none close behind (omega (arith, length-take-le m text in_range)) (close_within m close (omega arith) closes)
       beyond m CharacterConstant longer in_range is = not_first CharacterConstant m 47 first refl (omega arith) is
@@ -259,6 +284,17 @@ module _ (text : List ℕ) (some : 0 < length text) where
       beyond m (Punctuator k) longer in_range is = no_entry Punctuators k m refl (block_begins text first second) (omega arith) is
       beyond m UnsupportedPunctuator longer in_range is = no_entry UnsupportedPunctuators is.0 m refl (block_begins text first second) (omega arith) is.1
       beyond m Other longer in_range is = not_one (close + 2) m (omega arith) longer in_range is.one
+
+  -- a comment that nothing closes goes on to the end
+  pub unclosed_longest : (n : ℕ) → n ≡ length text → 2 ≤ n → get_or text 0 0 ≡ 47 → get_or text 1 0 ≡ 42 → ((i : ℕ) → 2 ≤ i → i + 1 < n → ClosesComment text i → ⊥) → IsLongestLexeme text UnclosedComment n
+  unclosed_longest n all long first second none = record {
+    in_range = omega arith;
+    lexeme = record {
+      opens = opened_front 47 42 n long (omega arith) first second;
+      none = λ i from below is. let near : i + 1 < n = omega (arith, length-take-le n text (omega arith)) in none i from near (close_before n i near is);
+    };
+    longest = λ m other longer in_range is. omega arith;
+  }
 
   -- white space stands alone
   pub blank_longest : is_white_space (get_or text 0 0) ≡ true → IsLongestLexeme text WhiteSpace 1
@@ -345,7 +381,7 @@ module _ (text : List ℕ) (some : 0 < length text) where
     only_punctuators n positive no_punctuator no_unsupported m StringLiteral longer in_range is = let found = closing_of text 34 m is.0 in_range is.1 in no_closing (inl (sym found.0)) found.1.0 found.1.2
     only_punctuators n positive no_punctuator no_unsupported m Identifier longer in_range is = both_ways (is_nondigit (get_or text 0 0)) no_letter (first_byte Identifier m (omega arith) is)
     only_punctuators n positive no_punctuator no_unsupported m Comment longer in_range is = both_ways (begins_comment text) no_comment (sym (same_start m (omega (arith, length-take-le m text in_range, comment_long (take m text) is))) ∙ comment_begins (take m text) is)
-    only_punctuators n positive no_punctuator no_unsupported m UnclosedComment longer in_range is = both_ways (begins_comment text) no_comment (sym (same_start m (omega (arith, length-take-le m text in_range, is.long))) ∙ block_begins (take m text) is.first is.second)
+    only_punctuators n positive no_punctuator no_unsupported m UnclosedComment longer in_range is = both_ways (begins_comment text) no_comment (sym (same_start m (omega (arith, length-take-le m text in_range, (opening 47 42 (take m text) is.opens).long))) ∙ unclosed_begins (take m text) is)
     only_punctuators n positive no_punctuator no_unsupported m PreprocessingNumber longer in_range is = both_ways (is_ascii_digit (get_or text 0 0)) no_digit (first_byte PreprocessingNumber m (omega arith) is)
     only_punctuators n positive no_punctuator no_unsupported m (Punctuator k) longer in_range is = no_punctuator k m is.in_range longer in_range (sym is.is)
     only_punctuators n positive no_punctuator no_unsupported m UnsupportedPunctuator longer in_range is = no_unsupported is.0 m is.1.in_range longer in_range (sym is.1.is)
@@ -392,7 +428,7 @@ pub lexeme_some : (class : TokenClass) (s : List ℕ) → IsLexeme class s → 0
 lexeme_some WhiteSpace s is = omega (arith, is.one)
 lexeme_some Identifier s is = is.some
 lexeme_some Comment s is = omega (arith, comment_long s is)
-lexeme_some UnclosedComment s is = omega (arith, is.long)
+lexeme_some UnclosedComment s is = omega (arith, (opening 47 42 s is.opens).long)
 lexeme_some CharacterConstant s is = omega (arith, is.1.ends)
 lexeme_some StringLiteral s is = omega (arith, is.1.ends)
 lexeme_some PreprocessingNumber s is = is.some

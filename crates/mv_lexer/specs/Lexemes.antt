@@ -1,6 +1,9 @@
 -- What the lexemes of each class are (C11 6.4), and which is the longest at the front of a text.
-use Rattle.std.specs.Prelude.{◌≡◌, ◌≢◌, ◌<◌, ◌≤◌, ◌+◌, ◌==◌, ◌&&◌, ◌||◌, ◌⊎◌, ℕ, Bool, IsTrue, List, length, take, EachIndex, slice_index}
+use Prim.Native.Char.{code}
+use Rattle.std.specs.Prelude.{◌≡◌, ◌≢◌, ◌<◌, ◌≤◌, ◌+◌, ◌==◌, ◌&&◌, ◌||◌, ◌⊎◌, ℕ, Bool, IsTrue, List, length, take, EachIndex, slice_index, nat_eq, codes}
 use Rattle.std.specs.Char.{is_ascii_digit}
+use Rattle.std.specs.List.{starts_with}
+use Rattle.mv_num.specs.Lists.{is_among}
 use Rattle.mv_lexer.specs.Bytes.{is_white_space, is_nondigit, is_identifier_byte}
 use Rattle.mv_lexer.specs.Characters.{IsQuoted}
 use Rattle.mv_lexer.specs.Tables.{IsEntry}
@@ -21,7 +24,7 @@ pub record IsIdentifier (s : List ℕ) : Type 0 where
 
 -- a byte that may stand behind another in a preprocessing number: a nondigit, a digit, a point, or a sign behind the letter of an exponent
 abbrev pub continues_number : ℕ → ℕ → Bool
-continues_number before b = (is_identifier_byte b || (b == 46)) || (((b == 43) || (b == 45)) && ((before == 101) || (before == 69) || (before == 112) || (before == 80)))
+continues_number before b = (is_identifier_byte b || (b == code ".")) || (is_among b (codes "+-") && is_among before (codes "eEpP"))
 
 -- a digit, and then bytes that may stand there (C11 6.4.8; the profile has none that begin with a point)
 pub record IsPreprocessingNumber (s : List ℕ) : Type 0 where
@@ -31,19 +34,16 @@ pub record IsPreprocessingNumber (s : List ℕ) : Type 0 where
 
 -- // and then no line feed (C11 6.4.9p2)
 pub record IsLineComment (s : List ℕ) : Type 0 where
-  pub long : 2 ≤ length s
-  pub first : slice_index s 0 ≡ 47
-  pub second : slice_index s 1 ≡ 47
-  pub each : EachIndex s (λ i. slice_index s i ≢ 10)
+  pub opens : IsTrue (starts_with nat_eq s (codes "//"))
+  pub each : EachIndex s (λ i. slice_index s i ≢ code "\n")
 
 -- */ stands there
 abbrev pub ClosesComment : List ℕ → ℕ → Type 0
-ClosesComment s i = (slice_index s i ≡ 42) × (slice_index s (i + 1) ≡ 47)
+ClosesComment s i = (slice_index s i ≡ code "*") × (slice_index s (i + 1) ≡ code "/")
 
 -- /* and bytes up to and with the first */ behind it (C11 6.4.9p1)
 pub record IsBlockComment (s : List ℕ) : Type 0 where
-  pub first : slice_index s 0 ≡ 47
-  pub second : slice_index s 1 ≡ 42
+  pub opens : IsTrue (starts_with nat_eq s (codes "/*"))
   pub close : ℕ
   pub behind : 2 ≤ close
   pub ends : length s ≡ close + 2
@@ -52,9 +52,7 @@ pub record IsBlockComment (s : List ℕ) : Type 0 where
 
 -- /* and bytes with no */
 pub record IsUnclosedComment (s : List ℕ) : Type 0 where
-  pub long : 2 ≤ length s
-  pub first : slice_index s 0 ≡ 47
-  pub second : slice_index s 1 ≡ 42
+  pub opens : IsTrue (starts_with nat_eq s (codes "/*"))
   pub none : (i : ℕ) → 2 ≤ i → i + 1 < length s → ClosesComment s i → ⊥
 
 -- a byte that is no lexeme of another class, as C11 6.4p1 has it
@@ -72,8 +70,8 @@ IsLexeme WhiteSpace s = IsWhiteSpace s
 IsLexeme Identifier s = IsIdentifier s
 IsLexeme Comment s = IsLineComment s ⊎ IsBlockComment s
 IsLexeme UnclosedComment s = IsUnclosedComment s
-IsLexeme CharacterConstant s = (values : List ℕ) × IsQuoted 39 s values
-IsLexeme StringLiteral s = (values : List ℕ) × IsQuoted 34 s values
+IsLexeme CharacterConstant s = (values : List ℕ) × IsQuoted (code "'") s values
+IsLexeme StringLiteral s = (values : List ℕ) × IsQuoted (code "\"") s values
 IsLexeme PreprocessingNumber s = IsPreprocessingNumber s
 IsLexeme (Punctuator k) s = IsEntry Punctuators k s
 IsLexeme UnsupportedPunctuator s = (k : ℕ) × IsEntry UnsupportedPunctuators k s
@@ -81,16 +79,9 @@ IsLexeme Other s = IsOther s
 
 -- where s is between quotes it has values
 abbrev pub HasValues : TokenClass → List ℕ → Type 0
-HasValues WhiteSpace s = Unit {0}
-HasValues Comment s = Unit {0}
-HasValues UnclosedComment s = Unit {0}
-HasValues CharacterConstant s = (values : List ℕ) × IsQuoted 39 s values
-HasValues StringLiteral s = (values : List ℕ) × IsQuoted 34 s values
-HasValues Identifier s = Unit {0}
-HasValues PreprocessingNumber s = Unit {0}
-HasValues (Punctuator k) s = Unit {0}
-HasValues UnsupportedPunctuator s = Unit {0}
-HasValues Other s = Unit {0}
+HasValues CharacterConstant s = (values : List ℕ) × IsQuoted (code "'") s values
+HasValues StringLiteral s = (values : List ℕ) × IsQuoted (code "\"") s values
+HasValues _ s = Unit {0}
 
 -- the first n bytes of the text are a lexeme of this class, and no lexeme there is longer: maximal munch (C11 6.4p4)
 pub record IsLongestLexeme (text : List ℕ) (class : TokenClass) (n : ℕ) : Type 0 where

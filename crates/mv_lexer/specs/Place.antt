@@ -1,4 +1,5 @@
 -- Places in a source.
+use Prim.Native.Char.{code}
 use Rattle.std.specs.Prelude.{◌+◌, ◌&&◌, ◌||◌, ℕ, Bool, true, List, [], ◌∷◌, length, if◌then◌else◌, ◌==◌}
 use Rattle.mv_lexer.specs.Include.{is_skipped, has_line_feed}
 use Rattle.mv_lexer.specs.declared.class.TokenClass.{TokenClass}
@@ -7,7 +8,7 @@ use Rattle.mv_syntax.specs.declared.place.Place.{Place}
 
 -- the place behind one byte: a line feed begins the next line, every other byte takes one column
 abbrev pub place_next : Place → ℕ → Place
-place_next at b = if b == 10 then record { line = at.line + 1; column = 1 } else record { line = at.line; column = at.column + 1 }
+place_next at b = if b == code "\n" then record { line = at.line + 1; column = 1 } else record { line = at.line; column = at.column + 1 }
 
 -- the place behind some bytes
 abbrev pub place_after : Place → List ℕ → Place

@@ -1,4 +1,5 @@
 -- The reading of a source: its lexemes from the start, each the longest at its place, and what each evaluates to.
+use Prim.Native.Char.{code}
 use Rattle.std.specs.Prelude.{◌≡◌, ◌<◌, ◌≤◌, ◌⊎◌, ◌+◌, ℕ, Bool, true, false, List, [], ◌∷◌, ◌++◌, length, take, drop, Option, Some, None, Result, Ok, Err}
 use Rattle.mv_lexer.specs.Tables.{IsEntry}
 use Rattle.mv_lexer.specs.Include.{IsFrontLexeme}
@@ -42,10 +43,10 @@ pub data Evaluates : TokenClass → List ℕ → Evaluation → Type 0 where
   long : {s : List ℕ} → IsLongConstant s → Evaluates PreprocessingNumber s unsupported
   floating : {s : List ℕ} → ((unsigned : Bool) → IsIntegerConstant s unsigned → ⊥) → is_floating s ≡ true → Evaluates PreprocessingNumber s unsupported
   malformed : {s : List ℕ} → ((unsigned : Bool) → IsIntegerConstant s unsigned → ⊥) → (IsLongConstant s → ⊥) → is_floating s ≡ false → Evaluates PreprocessingNumber s bad
-  character : {s : List ℕ} (v : ℕ) → IsQuoted 39 s (v ∷ []) → Evaluates CharacterConstant s (token (Is.Number v Int))
-  no_character : {s : List ℕ} → IsQuoted 39 s [] → Evaluates CharacterConstant s bad
-  characters : {s : List ℕ} (v w : ℕ) (vs : List ℕ) → IsQuoted 39 s (v ∷ w ∷ vs) → Evaluates CharacterConstant s unsupported
-  string : {s : List ℕ} (values : List ℕ) → IsQuoted 34 s values → Evaluates StringLiteral s (token (Is.Chars values))
+  character : {s : List ℕ} (v : ℕ) → IsQuoted (code "'") s (v ∷ []) → Evaluates CharacterConstant s (token (Is.Number v Int))
+  no_character : {s : List ℕ} → IsQuoted (code "'") s [] → Evaluates CharacterConstant s bad
+  characters : {s : List ℕ} (v w : ℕ) (vs : List ℕ) → IsQuoted (code "'") s (v ∷ w ∷ vs) → Evaluates CharacterConstant s unsupported
+  string : {s : List ℕ} (values : List ℕ) → IsQuoted (code "\"") s values → Evaluates StringLiteral s (token (Is.Chars values))
   punctuator : {s : List ℕ} (k : ℕ) → Evaluates (Punctuator k) s (token (Is.Mark k))
   unsupported_punctuator : {s : List ℕ} → Evaluates UnsupportedPunctuator s unsupported
   other : {s : List ℕ} → Evaluates Other s bad

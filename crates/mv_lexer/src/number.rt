@@ -1,6 +1,9 @@
 //! Integer constants (C11 6.4.4.1), and the other preprocessing numbers.
-ghost use Rattle.std.specs.Prelude.{◌≡◌, ◌<◌, ◌≤◌, ◌^◌, ◌↔◌, length, drop, MatchOption, MatchBool, IsTrue, Bool, ◌==◌, ◌||◌, None, Some};
+ghost use Rattle.std.specs.Prelude.{◌≡◌, ◌<◌, ◌≤◌, ◌^◌, ◌↔◌, length, drop, MatchOption, MatchBool, IsTrue, Bool, None, Some, [], ◌∷◌, codes};
+ghost use Rattle.std.specs.Char.{digit_value};
 ghost use Rattle.std.specs.List.{list_any};
+ghost use Rattle.std.specs.Str.Parse.{digits_value};
+ghost use Rattle.mv_num.specs.Lists.{is_among};
 ghost use Rattle.mv_lexer.specs.Numbers as numbers;
 ghost use Rattle.mv_lexer.specs.Reading as spec;
 ghost use Rattle.mv_lexer.specs.declared.class.TokenClass.TheVariants as classes;
@@ -11,15 +14,15 @@ use mv_num::kind::Kind;
 use mv_syntax::place::Place;
 use mv_syntax::token::Piece;
 
-/// The value of a decimal or hexadecimal digit; every other byte has 99.
+/// The value of a digit or a letter; every other byte has 36.
 pub fn digit(byte: u8) -> u8
-    ensures { result ≡ numbers.digit byte }
+    ensures { result ≡ digit_value byte }
 {
     match byte {
         b'0'..=b'9' => byte - b'0',
-        b'a'..=b'f' => byte - b'a' + 10,
-        b'A'..=b'F' => byte - b'A' + 10,
-        _ => 99,
+        b'A'..=b'Z' => byte - b'A' + 10,
+        b'a'..=b'z' => byte - b'a' + 10,
+        _ => 36,
     }
 }
 
@@ -27,7 +30,7 @@ pub fn digit(byte: u8) -> u8
 pub fn value(base: u32, digits: &[u8]) -> Option<u32>
     requires some { 1 ≤ base }
     requires small { base ≤ 16 }
-    ensures { MatchOption result (2 ^ 32 ≤ numbers.number_from base 0 digits.now) (λ n. n ≡ numbers.number_from base 0 digits.now) }
+    ensures { MatchOption result (2 ^ 32 ≤ digits_value base digits.now) (λ n. n ≡ digits_value base digits.now) }
 {
     let mut value: u32 = 0;
     for byte in digits {
@@ -49,7 +52,7 @@ pub fn are_digits(base: u32, digits: &[u8]) -> bool
 
 /// Whether a byte may stand in a suffix.
 fn is_suffix_byte(byte: u8) -> bool
-    ensures { result ≡ numbers.is_suffix_byte byte }
+    ensures { result ≡ is_among byte (codes "uUlL") }
 {
     byte == b'u' || byte == b'U' || byte == b'l' || byte == b'L'
 }
@@ -159,30 +162,28 @@ fn constant(text: &[u8], unsigned: bool) -> Option<(u32, Kind)>
     Some((value, kind))
 }
 
-/// Whether a number has a point.
-fn has_point(text: &[u8]) -> bool
-    ensures { result ≡ list_any (λ b. b == 46) text.now }
+/// Whether a byte is a point or one of two letters.
+fn is_point_or(byte: u8, small: u8, capital: u8) -> bool
+    ensures { result ≡ is_among byte (46 ∷ small ∷ capital ∷ []) }
 {
-    text.iter().any(|byte| *byte == b'.')
+    byte == b'.' || byte == small || byte == capital
 }
 
-/// Whether one of two letters stands in a number.
-fn has_either(text: &[u8], small: u8, capital: u8) -> bool
-    ensures { result ≡ list_any (λ b. (b == small) || (b == capital)) text.now }
+/// Whether a point or one of two letters stands in a number.
+fn has_point_or(text: &[u8], small: u8, capital: u8) -> bool
+    ensures { result ≡ list_any (λ b. is_among b (46 ∷ small ∷ capital ∷ [])) text.now }
 {
-    text.iter().any(|byte| *byte == small || *byte == capital)
+    text.iter().any(|byte| is_point_or(*byte, small, capital))
 }
 
 /// Whether a number has a point, or the letter of an exponent: `p` where it is hexadecimal, else `e`.
 fn is_floating(text: &[u8]) -> bool
     ensures { result ≡ numbers.is_floating text.now }
 {
-    if has_point(text) {
-        true
-    } else if is_hexadecimal(text) {
-        has_either(text, b'p', b'P')
+    if is_hexadecimal(text) {
+        has_point_or(text, b'p', b'P')
     } else {
-        has_either(text, b'e', b'E')
+        has_point_or(text, b'e', b'E')
     }
 }
 
