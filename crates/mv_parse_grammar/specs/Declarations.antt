@@ -1,5 +1,5 @@
 -- The grammar of declarations (C11 6.7), production by production: specifiers, declarators, parameters, initial values.
-use Rattle.std.specs.Prelude.{ℕ, zero, suc, Bool, true, false, ◌&&◌, not, if◌then◌else◌, Option, Some, None, List, [], ◌∷◌, ◌++◌}
+use Rattle.std.specs.Prelude.{ℕ, zero, suc, Bool, true, false, ◌&&◌, not, if◌then◌else◌, Option, Some, None, is_none, List, [], ◌∷◌, ◌++◌}
 use Rattle.std.specs.Str.{bytes_eq}
 use Rattle.mv_syntax.specs.declared.place.Place.{Place}
 use Rattle.mv_syntax.specs.declared.token.Piece.{Piece}
@@ -68,10 +68,7 @@ param_of s d = record { specs = s; name = d }
 
 abbrev pub characters_of_piece : Piece → List ℕ
 characters_of_piece (piece.Chars cs) = cs
-characters_of_piece piece.Name = []
-characters_of_piece (piece.Keyword n) = []
-characters_of_piece (piece.Number n k) = []
-characters_of_piece (piece.Mark n) = []
+characters_of_piece _ = []
 
 -- the characters of a string literal
 abbrev pub characters_of : Terminal → List ℕ
@@ -161,10 +158,6 @@ parameter_name P s =
 abbrev pub parameter : Expressions → Parameters → Param → List Terminal → Type 0
 parameter E P = specs E >>= λ s. parameter_name P s
 
-abbrev pub is_none : {X : Type 0} → Option X → Bool
-is_none None = true
-is_none (Some x) = false
-
 abbrev pub is_plain : Shape → Bool
 is_plain s = is_plain_shape (out-Shape s)
 
@@ -174,7 +167,7 @@ is_empty (x ∷ xs) = false
 
 -- the one word `void`
 abbrev pub is_void : Specs → Bool
-is_void s = let f = out-Specs s in bytes_eq f.words (19 ∷ []) && not f.hidden && not f.fixed && is_empty f.tags && is_empty f.marks
+is_void s = let f = out-Specs s in bytes_eq f.words (keywords.void ∷ []) && not f.hidden && not f.fixed && is_empty f.tags && is_empty f.marks
 
 abbrev pub is_void_parameter : Param → Bool
 is_void_parameter p = is_void p.specs && is_none p.name.name && is_plain p.name.shape

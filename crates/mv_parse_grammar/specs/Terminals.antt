@@ -1,6 +1,8 @@
 -- The terminals of the grammar: tokens with their spelling, and the classes of them that its productions name.
-use Rattle.std.specs.Prelude.{ℕ, ◌-◌, ◌||◌, ◌&&◌, not, Bool, true, false, List, [], ◌∷◌, nat_eq, nat_le, nat_lt, if◌then◌else◌, slice_index, take, drop, codes}
+use Rattle.std.specs.Prelude.{ℕ, ◌-◌, ◌||◌, ◌&&◌, not, Bool, true, false, List, [], ◌∷◌, nat_eq, nat_le, take, drop, codes}
+use Rattle.std.specs.List.{position_or_len}
 use Rattle.std.specs.Str.{bytes_eq}
+use Rattle.mv_num.specs.Lists.{is_among}
 use Rattle.mv_syntax.specs.declared.place.Place.{Place}
 use Rattle.mv_syntax.specs.declared.token.Token.{Token}
 use Rattle.mv_syntax.specs.declared.token.Piece.{Piece}
@@ -25,18 +27,12 @@ terminals text (t ∷ ts) = terminal text t ∷ terminals text ts
 -- the number of a mark, and 255 for what is no mark
 abbrev pub mark_of : Piece → ℕ
 mark_of (Mark n) = n
-mark_of (Keyword n) = 255
-mark_of Name = 255
-mark_of (Number n k) = 255
-mark_of (Chars cs) = 255
+mark_of _ = 255
 
 -- the number of a keyword, and 255 for what is no keyword
 abbrev pub keyword_of : Piece → ℕ
 keyword_of (Keyword n) = n
-keyword_of (Mark n) = 255
-keyword_of Name = 255
-keyword_of (Number n k) = 255
-keyword_of (Chars cs) = 255
+keyword_of _ = 255
 
 abbrev pub mark : Terminal → ℕ
 mark t = mark_of t.what
@@ -52,10 +48,7 @@ is_keyword n t = nat_eq (keyword t) n
 
 abbrev pub is_name_piece : Piece → Bool
 is_name_piece Name = true
-is_name_piece (Keyword n) = false
-is_name_piece (Number n k) = false
-is_name_piece (Chars cs) = false
-is_name_piece (Mark n) = false
+is_name_piece _ = false
 
 -- an identifier
 abbrev pub is_name : Terminal → Bool
@@ -63,10 +56,7 @@ is_name t = is_name_piece t.what
 
 abbrev pub is_number_piece : Piece → Bool
 is_number_piece (Number n k) = true
-is_number_piece Name = false
-is_number_piece (Keyword n) = false
-is_number_piece (Chars cs) = false
-is_number_piece (Mark n) = false
+is_number_piece _ = false
 
 -- an integer constant or a character constant
 abbrev pub is_number : Terminal → Bool
@@ -74,10 +64,7 @@ is_number t = is_number_piece t.what
 
 abbrev pub is_string_piece : Piece → Bool
 is_string_piece (Chars cs) = true
-is_string_piece Name = false
-is_string_piece (Keyword n) = false
-is_string_piece (Number n k) = false
-is_string_piece (Mark n) = false
+is_string_piece _ = false
 
 -- a string literal
 abbrev pub is_string : Terminal → Bool
@@ -87,15 +74,28 @@ is_string t = is_string_piece t.what
 abbrev pub is_multiverse : Terminal → Bool
 is_multiverse t = is_name t && bytes_eq t.spelling (codes "multiverse")
 
--- How loosely a mark binds the operand before it: 0 after an operand, as an index, 1 to 10 for the binary operators
--- from `*` to `||`, 11 for `?`, 12 for the assignments, and 13 for all other marks, in the order of the marks.
-abbrev pub ranks : List ℕ
+-- The marks that go on from an operand, by rank, the tightest first: what stands behind an operand, the operators on two operands, `?`, the assignments.
+abbrev pub ranks : List (List ℕ)
 ranks =
-    0 ∷ 13 ∷ 0 ∷ 13 ∷ 13 ∷ 13 ∷ 13 ∷ 13 ∷ 13 ∷ 11 ∷ 13 ∷ 13 ∷ 2 ∷ 2 ∷ 1 ∷ 1 ∷ 1 ∷ 6 ∷ 8 ∷ 7 ∷ 4 ∷ 4 ∷ 12 ∷ 0 ∷ 0 ∷ 3 ∷ 3 ∷ 4 ∷ 4 ∷ 5
-    ∷ 5 ∷ 9 ∷ 10 ∷ 12 ∷ 12 ∷ 12 ∷ 12 ∷ 12 ∷ 12 ∷ 12 ∷ 12 ∷ 12 ∷ 12 ∷ []
+    (marks.open_parenthesis ∷ marks.open_bracket ∷ marks.increment ∷ marks.decrement ∷ []) ∷
+    (marks.star ∷ marks.slash ∷ marks.percent ∷ []) ∷
+    (marks.plus ∷ marks.minus ∷ []) ∷
+    (marks.shift_left ∷ marks.shift_right ∷ []) ∷
+    (marks.less ∷ marks.greater ∷ marks.less_or_equal ∷ marks.greater_or_equal ∷ []) ∷
+    (marks.equal ∷ marks.not_equal ∷ []) ∷
+    (marks.ampersand ∷ []) ∷
+    (marks.caret ∷ []) ∷
+    (marks.bar ∷ []) ∷
+    (marks.logical_and ∷ []) ∷
+    (marks.logical_or ∷ []) ∷
+    (marks.question ∷ []) ∷
+    (marks.assign ∷ marks.plus_assign ∷ marks.minus_assign ∷ marks.star_assign ∷ marks.slash_assign ∷ marks.percent_assign ∷ marks.ampersand_assign ∷
+        marks.bar_assign ∷ marks.caret_assign ∷ marks.shift_left_assign ∷ marks.shift_right_assign ∷ []) ∷
+    []
 
+-- how loosely a terminal binds the operand before it, by its place in these; every other terminal has 13
 abbrev pub rank : Terminal → ℕ
-rank t = if nat_lt (mark t) marks.count then slice_index ranks (mark t) else 13
+rank t = position_or_len (λ rank. is_among (mark t) rank) ranks
 
 abbrev pub is_rank : ℕ → Terminal → Bool
 is_rank n t = nat_eq (rank t) n
