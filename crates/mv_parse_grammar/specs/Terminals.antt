@@ -90,7 +90,7 @@ ranks =
     (marks.logical_or ∷ []) ∷
     (marks.question ∷ []) ∷
     (marks.assign ∷ marks.plus_assign ∷ marks.minus_assign ∷ marks.star_assign ∷ marks.slash_assign ∷ marks.percent_assign ∷ marks.ampersand_assign ∷
-        marks.bar_assign ∷ marks.caret_assign ∷ marks.shift_left_assign ∷ marks.shift_right_assign ∷ []) ∷
+    marks.bar_assign ∷ marks.caret_assign ∷ marks.shift_left_assign ∷ marks.shift_right_assign ∷ []) ∷
     []
 
 -- how loosely a terminal binds the operand before it, by its place in these; every other terminal has 13
