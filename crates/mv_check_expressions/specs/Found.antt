@@ -89,7 +89,6 @@ unfoldable pub change_of : ℕ → Object → Expr → Expr
 change_of op o b =
     typed o.ctype (form.Change op (left_type op o.ctype b.ctype) o.target (converted_to (right_type op o.ctype b.ctype) b))
 
--- `=` is 22
 unfoldable pub assign_to : ℕ → Object → Expr → Expr
 assign_to op o b =
     if nat_eq op marks.assign then typed o.ctype (form.Set o.target (converted_to o.ctype b)) else change_of (compound_operator op) o b
@@ -104,7 +103,7 @@ one = typed int (form.Number 1)
 -- `++l` is `l += 1`
 abbrev pub before_of : Bool → Option Object → Expr
 before_of up None = no_value
-before_of up (Some o) = change_of (if up then 12 else 13) o one
+before_of up (Some o) = change_of (if up then marks.plus else marks.minus) o one
 
 abbrev pub after_of : Bool → Option Object → Expr
 after_of up None = no_value

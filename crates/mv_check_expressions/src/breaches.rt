@@ -1,8 +1,8 @@
 // The rules that one node breaks.
 
 ghost use Rattle.std.specs.Prelude.{◌≡◌};
-ghost use Rattle.mv_check_expressions.specs.Judged.{IsJudged};
-ghost use Rattle.mv_check_expressions.specs.Breaches.{if_broken, least, concluded, breaches_of_use};
+ghost use Rattle.mv_check_expressions.specs.Judged.{IsJudged, first_broken};
+ghost use Rattle.mv_check_expressions.specs.Breaches.{if_broken, concluded, listed, breaches_of_use};
 ghost use Rattle.mv_check_expressions.specs.Rules.{is_bare, is_valueless, is_misnamed};
 
 use crate::error::RuleError;
@@ -46,9 +46,8 @@ fn if_broken(broken: bool, rule: u8, others: Option<u8>) -> Option<u8>
 }
 
 // The least rule that is broken, by the rules from the greatest down.
-#[tactic(auto, unfolding(crate::specs::Breaches::least))]
 fn least(breaches: Breaches) -> Option<u8>
-    ensures { result ≡ least breaches }
+    ensures { result ≡ first_broken (listed breaches) }
 {
     let found = if_broken(breaches.misplaced, rules::PLACEMENTS, None);
     let found = if_broken(breaches.undefined, rules::DEFINITIONS, found);
@@ -66,7 +65,7 @@ fn least(breaches: Breaches) -> Option<u8>
 /// What a node is, unless it breaks a rule.
 #[tactic(auto, unfolding(crate::specs::Breaches::concluded))]
 pub fn concluded(place: Place, breaches: Breaches, seen: Seen) -> Result<Seen, RuleError>
-    ensures { IsJudged (concluded place breaches seen) result }
+    ensures { IsJudged (concluded place (listed breaches) seen) result }
 {
     match least(breaches) {
         None => Ok(seen),
