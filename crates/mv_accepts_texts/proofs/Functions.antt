@@ -11,8 +11,9 @@ use Rattle.mv_syntax.specs.declared.unit.Param.{Param}
 use Rattle.mv_check_scope.specs.Scoped.{meaning_of}
 use Rattle.mv_check_scope.specs.declared.scope.Scope.{Scope}
 use Rattle.mv_check_limits.specs.Ordered.{line_parameters}
+use Rattle.mv_check_expressions.specs.Judged.{first_broken, unless_broken}
 use Rattle.mv_check_rules.specs.Nodes as node
-use Rattle.mv_check_rules.specs.Rules.{breaches, first_broken, least_broken, unless_broken, concluded}
+use Rattle.mv_check_rules.specs.Rules.{breaches, concluded}
 use Rattle.mv_check_rules.specs.Declarations.{parameters}
 use Rattle.mv_check_rules.specs.Statements.{body}
 use Rattle.mv_check_rules.specs.Units.{function_entered, definition, is_attributed}
@@ -39,9 +40,9 @@ none_broken (b ∷ bs) h = by b.1 refl h (none_broken bs)
 
 pub rules_kept : {A : Type 0} (place : Place) (s : Scope) (n : node.Node) (found : A) →
     IfGood (concluded place s n found) (λ x. (x ≡ found) × AllByRecursion (λ b. b.1 ≡ false) (breaches s n))
-rules_kept place s n found = by (least_broken s n) refl
+rules_kept place s n found = by (first_broken (breaches s n)) refl
   where
-    by : (o : Option ℕ) → least_broken s n ≡ o → IfGood (unless_broken place o found) (λ x. (x ≡ found) × AllByRecursion (λ b. b.1 ≡ false) (breaches s n))
+    by : (o : Option ℕ) → first_broken (breaches s n) ≡ o → IfGood (unless_broken place o found) (λ x. (x ≡ found) × AllByRecursion (λ b. b.1 ≡ false) (breaches s n))
     by None e = (refl, none_broken (breaches s n) e)
     by (Some rule) e = tt
 

@@ -17,14 +17,14 @@ use Rattle.mv_check_scope.specs.Scoped.{with_local}
 use Rattle.mv_check_scope.specs.Spaces.{named}
 use Rattle.mv_check_scope.specs.declared.meaning.Meaning.{Meaning}
 use Rattle.mv_check_scope.specs.declared.scope.Scope.{Scope}
-use Rattle.mv_check_expressions.specs.Judged.{each}
+use Rattle.mv_check_expressions.specs.Judged.{each, unless_broken}
 use Rattle.mv_check_expressions.specs.Judgements.{value_judgement}
 use Rattle.mv_check_limits.specs.Ordered.{declarator_parameters, shape_parameters}
 use Rattle.mv_check_limits.proofs.Forms.{declarator_is}
 use Rattle.mv_check_outline.specs.Outlined.{name_of}
 use Rattle.mv_check_rules.specs.Nodes.{Declared, Scalar, Array, Function, Given, Nothing, Value, Values, Characters}
 use Rattle.mv_check_rules.specs.Nodes as node
-use Rattle.mv_check_rules.specs.Rules.{stands_here, unless_broken, concluded}
+use Rattle.mv_check_rules.specs.Rules.{stands_here, concluded}
 use Rattle.mv_check_rules.specs.Declarations.{in_order, found_next, attributes, specifiers, declared_as, type_or_void, is_constant, local_of, scalar_here, defined_parameter, parameters, given, expressions_of, named_unless, local_named, local_found, local_node, local, local_declaration}
 use Rattle.mv_check_rules.specs.Declarations as rules
 use Rattle.mv_accepts.proofs.OfStatements.Judging.{IfGood, by_good, if_any, if_more, if_then}

@@ -15,9 +15,10 @@ use Rattle.mv_check_scope.specs.Scoped.{declared}
 use Rattle.mv_check_scope.specs.Spaces.{named}
 use Rattle.mv_check_scope.proofs.BoundNames.{names_kept}
 use Rattle.mv_check_outline.specs.Names.{is_among, same_name}
+use Rattle.mv_check_expressions.specs.Judged.{unless_broken, first_broken}
 use Rattle.mv_check_rules.specs.Nodes.{Bearer}
 use Rattle.mv_check_rules.specs.Nodes as node
-use Rattle.mv_check_rules.specs.Rules.{least_broken, unless_broken, concluded}
+use Rattle.mv_check_rules.specs.Rules.{concluded, breaches}
 use Rattle.mv_check_rules.specs.Declarations.{in_order, Enumerators, enumerator_value, enumerator, new_enumeration, enumeration_of, enumeration, attribute, Specifier, Enum, Attribute, stands_before, specifiers_in_order, Specified, specifier, kind_named, type_of_words, Base, base_of, specifiers}
 use Rattle.mv_accepts.proofs.OfStatements.Judging.{IfGood, if_any, if_more, if_then}
 use Rattle.mv_accepts_texts.specs.Expressions.{NameList}
@@ -168,4 +169,4 @@ specifiers_adds local bearers specs s =
     let n : node.Node = node.Specifiers (f.hidden && local) x.enums (type_of_words specs) in
     if_more (λ (d : Scope × Base). d ≡ base_of specs x) (λ (d : Scope × Base). Adds (enumerators_of specs) s d.0) (concluded f.place x.scope n (base_of specs x))
     (λ d q. subst (λ (e : Scope × Base). Adds (enumerators_of specs) s e.0) (sym q) (subst (λ names. Adds names s x.scope) (merged f.tags f.marks) h))
-    (if_found f.place (base_of specs x) (least_broken x.scope n)))
+    (if_found f.place (base_of specs x) (first_broken (breaches x.scope n))))

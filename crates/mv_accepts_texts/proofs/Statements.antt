@@ -14,11 +14,11 @@ use Rattle.mv_ast.specs.Operators.{converted}
 use Rattle.mv_check_scope.specs.Conversions.{is_integer, promotion, promoted, converted_to}
 use Rattle.mv_check_scope.specs.Scoped.{block_entered, block_left}
 use Rattle.mv_check_scope.specs.declared.scope.Scope.{Scope}
-use Rattle.mv_check_expressions.specs.Judged.{Judged, Good, and_then}
+use Rattle.mv_check_expressions.specs.Judged.{Judged, Good, and_then, first_broken}
 use Rattle.mv_check_expressions.specs.Judgements.{value_judgement, effect_judgement}
 use Rattle.mv_check_limits.specs.Ordered.{declarator_parameters, act_layer, line_layer, act_parameters, line_parameters}
 use Rattle.mv_check_rules.specs.Nodes as node
-use Rattle.mv_check_rules.specs.Rules.{least_broken, concluded}
+use Rattle.mv_check_rules.specs.Rules.{concluded, breaches}
 use Rattle.mv_check_rules.specs.Declarations.{constant, local_declaration}
 use Rattle.mv_check_rules.specs.Statements.{Surroundings, Piece, Labelled, Otherwise, Statement, labels, has_default, arms, Judges, Layer, loop_around, switch_around, lines, pieces, optional, alone, express, convert_result, is_block, arms_if_any, for_behind, statement_found, statement_of, line_of, piece_of, switch_body_of, function_body_of, act_step, line_step, judges, body, function_around}
 use Rattle.mv_check_rules.proofs.Statements.{act_found, no_pieces}
@@ -182,7 +182,7 @@ module _ (start : Scope) where
 
   concluded_told : (place : Place) (s t : Scope) (n : node.Node) (x : Stmt) (p : Part) (c : List ℕ) → ToStmt p c s (t, x) → IfGood (statement_found place t n x) (ToStmt p c s)
   concluded_told place s t n x p c h =
-      if_more (λ (d : Scope × Stmt). d ≡ (t, x)) (ToStmt p c s) (statement_found place t n x) (λ d q. subst (ToStmt p c s) (sym q) h) (if_found place (t, x) (least_broken t n))
+      if_more (λ (d : Scope × Stmt). d ≡ (t, x)) (ToStmt p c s) (statement_found place t n x) (λ d q. subst (ToStmt p c s) (sym q) h) (if_found place (t, x) (first_broken (breaches t n)))
 
   switched_told : (place : Place) (s t : Scope) (n : Node) (x : Expr) (o : Option (List Piece)) (p : Part) (c : List ℕ) → Value s (names_in n) x → OfBody p c s t o →
       IfGood (statement_found place t (node.Switch x.ctype (is_block o)) (stmt.Switch (promoted x) (arms_if_any o))) (ToStmt (next (naming (names_in n)) p) c s)
@@ -297,7 +297,7 @@ module _ (start : Scope) where
       IfGood (concluded place d.0 n (d.0, d.1 ++ x ∷ [])) (ToPieces (naming []) [] d)
   labelled_told place n d x h =
       if_more (λ (e : Scope × List Piece). e ≡ (d.0, d.1 ++ x ∷ [])) (ToPieces (naming []) [] d) (concluded place d.0 n (d.0, d.1 ++ x ∷ []))
-      (λ e q. subst (ToPieces (naming []) [] d) (sym q) (label_told d x h)) (if_found place (d.0, d.1 ++ x ∷ []) (least_broken d.0 n))
+      (λ e q. subst (ToPieces (naming []) [] d) (sym q) (label_told d x h)) (if_found place (d.0, d.1 ++ x ∷ []) (first_broken (breaches d.0 n)))
 
   then_piece : (p : Part) (c : List ℕ) (d : Scope × List Piece) (j : Judged (Scope × Stmt)) → IfGood j (ToStmt p c d.0) →
       IfGood (and_then j (λ e. Good (e.0, d.1 ++ Statement e.1 ∷ []))) (ToPieces p c d)

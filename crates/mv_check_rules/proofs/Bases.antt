@@ -10,7 +10,7 @@ use Rattle.mv_syntax.specs.declared.unit.Declarator.{Declarator}
 use Rattle.mv_syntax.specs.declared.unit.Specs.{Specs, out-Specs}
 use Rattle.mv_ast.specs.Names.{any_of}
 use Rattle.mv_check_scope.specs.declared.scope.Scope.{Scope}
-use Rattle.mv_check_expressions.specs.Judged.{Judged, Good, Broken, and_then}
+use Rattle.mv_check_expressions.specs.Judged.{Judged, Good, Broken, and_then, first_broken, unless_broken}
 use Rattle.mv_check_expressions.specs.TypeNames.{undeclared_enum, type_or_broken, named_type}
 use Rattle.mv_check_declarations.specs.declared.attributes.Attribute.{Attribute}
 use Rattle.mv_check_declarations.specs.declared.attributes.Holder.{Holder}
@@ -22,7 +22,7 @@ use Rattle.mv_check_declarations.specs.Specifiers as code_specifiers
 use Rattle.mv_check_declarations.specs.Turns.{Behind}
 use Rattle.mv_check_rules.specs.Nodes.{Bearer}
 use Rattle.mv_check_rules.specs.Nodes as node
-use Rattle.mv_check_rules.specs.Rules.{bears_none, is_again, is_undeclared, first_broken, unless_broken, concluded}
+use Rattle.mv_check_rules.specs.Rules.{bears_none, is_again, is_undeclared, concluded}
 use Rattle.mv_check_rules.specs.Declarations.{Found, in_order, is_switch, Attribution, Base, base_of, type_of_words, kind_named, specifiers_in_order, Specified, specifier, last_number}
 use Rattle.mv_check_rules.proofs.Agreement.{mapped, over, base_of_specified, holder, is_local, SpecifiersAgree}
 use Rattle.mv_check_rules.proofs.Parts.{IfGood}

@@ -9,7 +9,7 @@ use Rattle.mv_check_scope.specs.declared.meaning.Meaning.TheVariants as meaning
 use Rattle.mv_check_scope.specs.declared.scope.Scope.{Scope}
 use Rattle.mv_check_scope.specs.Scoped.{tag_of, tag_declared}
 use Rattle.mv_check_scope.specs.Spaces.{named}
-use Rattle.mv_check_expressions.specs.Judged.{Judged, Good, Broken, and_then}
+use Rattle.mv_check_expressions.specs.Judged.{Judged, Good, Broken, and_then, first_broken, unless_broken}
 use Rattle.mv_check_expressions.specs.TypeNames.{undeclared_enum, is_undeclared}
 use Rattle.mv_check_declarations.specs.declared.specifiers.Enumeration as said
 use Rattle.mv_check_declarations.specs.Constants.{next_int}
@@ -20,7 +20,7 @@ use Rattle.mv_check_declarations.specs.Specifiers as specifiers
 use Rattle.mv_check_declarations.specs.Turns.{Behind, through}
 use Rattle.mv_check_rules.specs.Nodes.{Enumeration, Again, Numbered}
 use Rattle.mv_check_rules.specs.Nodes as node
-use Rattle.mv_check_rules.specs.Rules.{stands_here, is_again, first_broken, unless_broken, concluded}
+use Rattle.mv_check_rules.specs.Rules.{stands_here, is_again, concluded}
 use Rattle.mv_check_rules.specs.Rules as rules
 use Rattle.mv_check_rules.specs.Declarations.{in_order, Enumerators, enumerator_value, with_enumerator, enumerator, number_of_tag, enumeration_named, with_enumeration, new_enumeration, enumeration_of, enumeration, number_of_enumeration}
 use Rattle.mv_check_rules.proofs.Agreement.{mapped}

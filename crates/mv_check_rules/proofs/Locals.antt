@@ -18,7 +18,7 @@ use Rattle.mv_check_scope.specs.Constants.{converts}
 use Rattle.mv_check_scope.specs.Conversions.{is_void, converted_to}
 use Rattle.mv_check_scope.specs.Scoped.{declared, with_local}
 use Rattle.mv_check_expressions.specs.declared.constant.Constant.{Constant}
-use Rattle.mv_check_expressions.specs.Judged.{Judged, Good, Broken, and_then}
+use Rattle.mv_check_expressions.specs.Judged.{Judged, Good, Broken, and_then, first_broken, unless_broken}
 use Rattle.mv_check_expressions.specs.Judgements.{value_judgement}
 use Rattle.mv_check_declarations.specs.declared.attributes.Position.TheVariants as position
 use Rattle.mv_check_declarations.specs.declared.declarators.Entity.{Entity}
@@ -33,7 +33,7 @@ use Rattle.mv_check_declarations.specs.Locals as code
 use Rattle.mv_check_declarations.specs.Declarators as code_declarators
 use Rattle.mv_check_rules.specs.Nodes.{Declared, Given, Nothing, Value, Values, Characters}
 use Rattle.mv_check_rules.specs.Nodes as node
-use Rattle.mv_check_rules.specs.Rules.{all_convert, array_size, converts_given, fits_extent, filled, is_string, stands_here, first_broken, unless_broken, concluded}
+use Rattle.mv_check_rules.specs.Rules.{all_convert, array_size, converts_given, fits_extent, filled, is_string, stands_here, concluded}
 use Rattle.mv_check_rules.specs.Declarations.{given, expressions_of, local_meaning, named_unless, local_named, local_found, local_node, local}
 use Rattle.mv_check_rules.proofs.Agreement.{mapped, over, attribution_of, declared_of, base_of_specified, LocalDeclarationAgrees}
 use Rattle.mv_check_rules.proofs.Parts.{or_true, or_false, IfGood, then_from, then_then, found_in_turn}

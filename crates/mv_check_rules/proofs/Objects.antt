@@ -21,7 +21,7 @@ use Rattle.mv_check_scope.specs.Constants.{converts}
 use Rattle.mv_check_scope.specs.Conversions.{is_void, same_type}
 use Rattle.mv_check_scope.specs.Scoped.{declared}
 use Rattle.mv_check_expressions.specs.declared.constant.Constant.{Constant}
-use Rattle.mv_check_expressions.specs.Judged.{Judged, Good, Broken, and_then}
+use Rattle.mv_check_expressions.specs.Judged.{Judged, Good, Broken, and_then, unless_broken, first_broken}
 use Rattle.mv_check_declarations.specs.declared.globals.Words.{Words}
 use Rattle.mv_check_declarations.specs.Initials as code_initials
 use Rattle.mv_check_declarations.specs.Globals.{no_words, global_words}
@@ -34,7 +34,7 @@ use Rattle.mv_types.specs.Objects as code
 use Rattle.mv_types.specs.Objects.{may_declare, agrees_with, object_at, number_of, object_scope, objects_behind, object_judgement}
 use Rattle.mv_check_rules.specs.Nodes.{Declared, Scalar, Array, Given, Nothing, Value, Values, Characters, Global}
 use Rattle.mv_check_rules.specs.Nodes as node
-use Rattle.mv_check_rules.specs.Rules.{all_convert, converts_given, array_size, fits_extent, is_string, is_char_array, is_void_object, is_size, has_type, is_given, same_domain, allows_object, meaning_here, unless_broken, first_broken, concluded}
+use Rattle.mv_check_rules.specs.Rules.{all_convert, converts_given, array_size, fits_extent, is_string, is_char_array, is_void_object, is_size, has_type, is_given, same_domain, allows_object, meaning_here, concluded}
 use Rattle.mv_check_rules.specs.Declarations.{given, local_size, type_or_void, named_unless}
 use Rattle.mv_check_rules.specs.Units.{Declarations, constant_expression, word_of, first_words, global_in, global_number, global_at, object_meaning, first_of, new_global, declared_again, with_global, object_named, object_found, earlier, object}
 use Rattle.mv_check_rules.proofs.Agreement.{mapped}

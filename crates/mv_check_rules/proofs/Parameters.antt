@@ -4,13 +4,13 @@ use Rattle.mv_syntax.specs.declared.place.Place.{Place}
 use Rattle.mv_syntax.specs.declared.unit.Param.{Param}
 use Rattle.mv_check_scope.specs.declared.scope.Scope.{Scope}
 use Rattle.mv_check_scope.specs.Conversions.{is_void}
-use Rattle.mv_check_expressions.specs.Judged.{Good, Broken}
+use Rattle.mv_check_expressions.specs.Judged.{Good, Broken, first_broken, unless_broken}
 use Rattle.mv_check_declarations.specs.declared.attributes.Position.TheVariants as position
 use Rattle.mv_check_declarations.specs.declared.declarators.Entity.{Entity}
 use Rattle.mv_check_declarations.specs.declared.declarators.Entity.TheVariants as entity
 use Rattle.mv_check_declarations.specs.Parameters.{new_defined, parameter_judgement}
 use Rattle.mv_check_rules.specs.Nodes as node
-use Rattle.mv_check_rules.specs.Rules.{stands_here, first_broken, unless_broken, concluded}
+use Rattle.mv_check_rules.specs.Rules.{stands_here, concluded}
 use Rattle.mv_check_rules.specs.Declarations.{defined_parameter, parameter}
 use Rattle.mv_check_rules.proofs.Agreement.{over, attribution_of, declared_of, base_of_specified, ParametersAgree}
 use Rattle.mv_check_rules.proofs.Parts.{then_from, in_order_same}

@@ -2,9 +2,8 @@
 use Rattle.std.proofs.Common.{◌≡◌, ℕ, refl, sym, ◌∙◌, ap, Bool, true, false, not, ◌&&◌, ◌||◌, if◌then◌else◌, List, [], ◌∷◌, ◌++◌, map}
 use Rattle.mv_syntax.specs.declared.place.Place.{Place}
 use Rattle.mv_check_scope.specs.declared.scope.Scope.{Scope}
-use Rattle.mv_check_expressions.specs.Judged.{Judged, Good, Broken, and_then}
+use Rattle.mv_check_expressions.specs.Judged.{Judged, Good, Broken, and_then, first_broken, unless_broken}
 use Rattle.mv_check_declarations.specs.Turns.{through, next_part, in_turn}
-use Rattle.mv_check_rules.specs.Rules.{first_broken, unless_broken}
 use Rattle.mv_check_rules.specs.Declarations.{Found, in_order, found_next}
 use Rattle.mv_check_rules.proofs.Agreement.{mapped}
 

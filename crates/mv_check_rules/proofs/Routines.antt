@@ -19,7 +19,7 @@ use Rattle.mv_check_scope.specs.declared.meaning.Meaning.TheVariants as meaning
 use Rattle.mv_check_scope.specs.declared.scope.Scope.{Scope}
 use Rattle.mv_check_scope.specs.Known.{known_function}
 use Rattle.mv_check_scope.specs.Scoped.{declared}
-use Rattle.mv_check_expressions.specs.Judged.{Judged, Good, Broken, and_then}
+use Rattle.mv_check_expressions.specs.Judged.{Judged, Good, Broken, and_then, unless_broken, first_broken}
 use Rattle.mv_check_expressions.specs.Judgements.{value_judgement}
 use Rattle.mv_check_declarations.specs.Initials.{plain_values}
 use Rattle.mv_check_declarations.specs.Parameters.{parameters_judgement}
@@ -30,7 +30,7 @@ use Rattle.mv_types.specs.Functions as code
 use Rattle.mv_types.specs.Functions.{may_declare, broken_rule, function_scope, function_meaning, definition_parameters, function_judgement}
 use Rattle.mv_check_rules.specs.Nodes.{Given, Nothing, Value, Values, Characters}
 use Rattle.mv_check_rules.specs.Nodes as node
-use Rattle.mv_check_rules.specs.Rules.{is_prototype, allows_function, is_given, meaning_here, concluded, unless_broken, first_broken}
+use Rattle.mv_check_rules.specs.Rules.{is_prototype, allows_function, is_given, meaning_here, concluded}
 use Rattle.mv_check_rules.specs.Declarations.{given}
 use Rattle.mv_check_rules.specs.Units.{Declarations, behind, function_number, is_attributed, is_defined, is_defined_at, routine_named, params_of_form, params_of, function_entered, function_left, definition, defined_if, defined_parameters, routine}
 use Rattle.mv_check_rules.proofs.Agreement.{mapped, ParametersAgree, BodyAgrees}

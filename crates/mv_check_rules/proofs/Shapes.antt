@@ -10,7 +10,7 @@ use Rattle.mv_syntax.specs.declared.unit.Shape.TheOpen as shape
 use Rattle.mv_check_scope.specs.declared.scope.Scope.{Scope}
 use Rattle.mv_check_scope.specs.Conversions.{is_void}
 use Rattle.mv_check_scope.specs.Scoped.{block_entered, block_left}
-use Rattle.mv_check_expressions.specs.Judged.{Judged, Good, Broken, and_then}
+use Rattle.mv_check_expressions.specs.Judged.{Judged, Good, Broken, and_then, first_broken, unless_broken}
 use Rattle.mv_check_declarations.specs.declared.attributes.Position.TheVariants as position
 use Rattle.mv_check_declarations.specs.declared.declarators.Entity.{Entity}
 use Rattle.mv_check_declarations.specs.declared.declarators.Entity.TheVariants as entity
@@ -19,7 +19,7 @@ use Rattle.mv_check_declarations.specs.Declarators.{new_parameter, size_of}
 use Rattle.mv_check_declarations.specs.Declarators as code
 use Rattle.mv_check_declarations.specs.Turns.{Behind, next_part, in_turn}
 use Rattle.mv_check_rules.specs.Nodes as node
-use Rattle.mv_check_rules.specs.Rules.{stands_here, first_broken, unless_broken, concluded}
+use Rattle.mv_check_rules.specs.Rules.{stands_here, concluded}
 use Rattle.mv_check_rules.specs.Declarations.{Found, in_order, found_next, Shapes, Declarators, Params, written_size, parameter_types, function_type, shape_step, type_or_void, parameter_declared, declarator_step, param_step, declared_as}
 use Rattle.mv_check_rules.proofs.Agreement.{mapped, over, attribution_of, declared_of, base_of_specified, DeclaredAgrees}
 use Rattle.mv_check_rules.proofs.Parts.{then_same, then_to, then_from}

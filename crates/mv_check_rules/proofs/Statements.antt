@@ -16,7 +16,7 @@ use Rattle.mv_check_scope.specs.Constants.{converts}
 use Rattle.mv_check_scope.specs.Conversions.{is_integer, is_void, promotion, promoted, converted_to}
 use Rattle.mv_check_scope.specs.Scoped.{block_entered}
 use Rattle.mv_check_expressions.specs.declared.constant.Constant.{Constant}
-use Rattle.mv_check_expressions.specs.Judged.{Judged, Good, Broken, and_then}
+use Rattle.mv_check_expressions.specs.Judged.{Judged, Good, Broken, and_then, first_broken, unless_broken}
 use Rattle.mv_check_expressions.specs.Judgements.{value_judgement, effect_judgement}
 use Rattle.mv_check_declarations.specs.Turns.{Behind}
 use Rattle.mv_check_statements.specs.declared.around.Around.{Around}
@@ -27,7 +27,7 @@ use Rattle.mv_check_statements.specs.Surroundings.{in_function, in_loop, in_swit
 use Rattle.mv_check_statements.specs.SwitchBodies.{arms_of, case_label, default_label, converts_constant, with_case, with_default}
 use Rattle.mv_check_statements.proofs.Blocks.{act_fold}
 use Rattle.mv_check_rules.specs.Nodes as node
-use Rattle.mv_check_rules.specs.Rules.{first_broken, unless_broken, concluded}
+use Rattle.mv_check_rules.specs.Rules.{concluded}
 use Rattle.mv_check_rules.specs.Declarations.{Found}
 use Rattle.mv_check_rules.specs.Statements.{Surroundings, Piece, Labelled, Otherwise, Statement, labels, has_default, arms, Judges, Layer, lines, pieces, optional, alone, is_block, arms_if_any, for_behind, statement_of, line_of, piece_of, switch_body_of, function_body_of, act_step, line_step, judges}
 use Rattle.mv_check_rules.proofs.Agreement.{mapped, over, BodyAgrees}

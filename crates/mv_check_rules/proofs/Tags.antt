@@ -15,12 +15,12 @@ use Rattle.mv_check_scope.specs.declared.scope.Scope.{Scope}
 use Rattle.mv_check_scope.specs.Names.{Names}
 use Rattle.mv_check_scope.specs.Scoped.{tag_of, tag_declared}
 use Rattle.mv_check_scope.specs.Spaces.{named, or_else, meaning_in}
-use Rattle.mv_check_expressions.specs.Judged.{Judged, Good, Broken, and_then}
+use Rattle.mv_check_expressions.specs.Judged.{Judged, Good, Broken, and_then, unless_broken, first_broken}
 use Rattle.mv_check_expressions.specs.TypeNames.{undeclared_enum}
 use Rattle.mv_check_expressions.specs.TypeNames as names
 use Rattle.mv_check_rules.specs.Nodes.{Bearer, Enumeration, Again, Numbered}
 use Rattle.mv_check_rules.specs.Nodes as node
-use Rattle.mv_check_rules.specs.Rules.{is_undeclared, least_broken, unless_broken}
+use Rattle.mv_check_rules.specs.Rules.{is_undeclared, breaches}
 use Rattle.mv_check_rules.specs.Declarations.{in_order, enumerator, enumerator_value, Enumerators, with_enumerator, with_enumeration, new_enumeration, enumeration_named, enumeration_of, enumeration, Attribution, attribute, Specifier, Enum, Attribute as Marked, stands_before, specifiers_in_order, Specified, specifier}
 use Rattle.mv_check_rules.proofs.Parts.{IfGood}
 use Rattle.mv_check_rules.proofs.Specifiers.{any_more}
@@ -84,7 +84,7 @@ SameTags s e = e.scope.tags ≡ s.tags
 enumerator_keeps : (m : Member) (s : Scope) (e : Enumerators) → SameTags s e → IfGood (SameTags s) (enumerator m e)
 enumerator_keeps m s e q =
     if_then (λ v. Unit {0}) (SameTags s) _
-    (λ v u. if_unbroken (SameTags s) (out-Member m).place (least_broken e.scope (node.Enumerator (out-Member m).name v))
+    (λ v u. if_unbroken (SameTags s) (out-Member m).place (first_broken (breaches e.scope (node.Enumerator (out-Member m).name v)))
     (with_enumerator e (out-Member m).name (unwrap_or v 0)) q)
     (enumerator_value e.scope e.following (out-Member m).value) (if_any (enumerator_value e.scope e.following (out-Member m).value))
 

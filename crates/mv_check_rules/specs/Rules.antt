@@ -21,7 +21,7 @@ use Rattle.mv_check_scope.specs.Spaces.{named}
 use Rattle.mv_check_expressions.specs.RuleNumbers as rules
 use Rattle.mv_check_expressions.specs.Calls.{known_arity, known_params}
 use Rattle.mv_check_expressions.specs.declared.constant.Constant.{Constant}
-use Rattle.mv_check_expressions.specs.Judged.{Judged, Good, Broken}
+use Rattle.mv_check_expressions.specs.Judged.{Judged, first_broken, unless_broken}
 use Rattle.mv_check_declarations.specs.Constants.{is_positive, is_value_of}
 use Rattle.mv_check_rules.specs.Nodes.{Declared, Scalar, Array, Function, Given, Nothing, Value, Values, Characters, Enumeration, Undeclared, Again, Bearer, Global, Node}
 use Rattle.mv_check_rules.specs.Nodes as node
@@ -295,20 +295,6 @@ breaches scope n =
     (rules.declarations, breaks_declarations n) ∷
     []
 
--- the first rule that is broken
-abbrev pub first_broken : List (ℕ × Bool) → Option ℕ
-first_broken [] = None
-first_broken (b ∷ bs) = if b.1 then Some b.0 else first_broken bs
-
--- the least rule that a node breaks
-abbrev pub least_broken : Scope → Node → Option ℕ
-least_broken scope n = first_broken (breaches scope n)
-
-module _ {A : Type 0} where
-  abbrev pub unless_broken : Place → Option ℕ → A → Judged A
-  unless_broken place None found = Good found
-  unless_broken place (Some rule) found = Broken place rule
-
-  -- what a node at a place is found to be, unless it breaks a rule
-  abbrev pub concluded : Place → Scope → Node → A → Judged A
-  concluded place scope n found = unless_broken place (least_broken scope n) found
+-- what a node at a place is found to be, unless it breaks a rule
+abbrev pub concluded : {A : Type 0} → Place → Scope → Node → A → Judged A
+concluded place scope n found = unless_broken place (first_broken (breaches scope n)) found

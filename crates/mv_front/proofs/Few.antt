@@ -5,12 +5,12 @@ use Rattle.std.proofs.lemmas.Bool.{ltb-false}
 use Rattle.mv_syntax.specs.declared.place.Place.{Place}
 use Rattle.mv_ast.specs.declared.program.Program.{Program}
 use Rattle.mv_syntax.specs.declared.unit.Unit as tree
-use Rattle.mv_check_expressions.specs.Judged.{Judged, Good, Broken, and_then}
+use Rattle.mv_check_expressions.specs.Judged.{Judged, Good, Broken, and_then, unless_broken, first_broken}
 use Rattle.mv_check_limits.specs.Limits.{excess, reported, first_some, functions_limit, first_exceeded}
 use Rattle.mv_check_limits.specs.declared.excess.Exceeded.{Exceeded}
 use Rattle.mv_check_rules.specs.Declarations.{in_order}
 use Rattle.mv_check_rules.specs.Nodes as node
-use Rattle.mv_check_rules.specs.Rules.{meaning_here, least_broken, unless_broken}
+use Rattle.mv_check_rules.specs.Rules.{meaning_here, breaches}
 use Rattle.mv_check_rules.specs.Units.{Declarations, none_declared, item, program, main_number, unit_end, judged_by_rules}
 
 pub first_none : (o : Option Exceeded) (os : List (Option Exceeded)) → first_some (o ∷ os) ≡ None → o ≡ None
@@ -38,7 +38,7 @@ none_broken place (Some rule) q p h = absurd (cc)
 at_end : (place : Place) (c : Declarations) (p : Program) → unit_end place c ≡ Good p → p.pointers ≡ []
 at_end place c p h =
     let main = main_number c.scope.signatures (meaning_here c.scope (codes "main")) in
-    let same : program c (unwrap_or main 0) ≡ p = none_broken place (least_broken c.scope (node.End main)) (program c (unwrap_or main 0)) p h in
+    let same : program c (unwrap_or main 0) ≡ p = none_broken place (first_broken (breaches c.scope (node.End main))) (program c (unwrap_or main 0)) p h in
     sym (ap (λ (q : Program). q.pointers) same)
 
 pub no_pointers : (u : tree.Unit) (p : Program) → judged_by_rules u ≡ Good p → p.pointers ≡ []

@@ -19,7 +19,7 @@ use Rattle.mv_check_scope.specs.Scoped.{meaning_of}
 use Rattle.mv_check_expressions.specs.declared.seen.Seen.{Seen}
 use Rattle.mv_check_expressions.specs.declared.seen.Seen.TheVariants as seen
 use Rattle.mv_check_expressions.specs.declared.seen.Use.TheVariants as «use»
-use Rattle.mv_check_expressions.specs.Breaches.{concluded, least}
+use Rattle.mv_check_expressions.specs.Breaches.{concluded}
 use Rattle.mv_check_expressions.specs.Found.{binary_of, choose_of}
 use Rattle.mv_check_expressions.specs.Judged.{Judged, Good, and_then}
 use Rattle.mv_check_expressions.specs.Judgements.{judgement, value_judgement}
@@ -104,20 +104,20 @@ module _ (names : Names) (signatures : List Signature) (p : Places) (j c : ℕ) 
   number_at at n = number_value scope at n
 
   sum_value : judgement scope (form_tree p 0 j c) «use».Value ≡ Good (seen.Value (form_expression 0 j c))
-  unfolding concluded least takes_two binary_of converted_to
+  unfolding concluded takes_two binary_of converted_to
   sum_value =
       binary_judged scope (p 14) «use».Value 12 _ _ argument (seen.Value (binary 14 (read_global j) (constant c))) (seen.Value (form_expression 0 j c)) (argument_at (p 14))
       (binary_judged scope (p 16) «use».Value 14 _ _ switch (count_of c) (seen.Value (binary 14 (read_global j) (constant c))) (switch_at (p 16)) (number_at (p 18) c) refl) refl
 
   choice_value : judgement scope (form_tree p 1 j c) «use».Value ≡ Good (seen.Value (form_expression 1 j c))
-  unfolding concluded least takes_two meet binary_of choose_of converted_to
+  unfolding concluded takes_two meet binary_of choose_of converted_to
   choice_value =
       choose_judged scope (p 14) «use».Value _ _ _ switch (seen.Value (binary 19 (read_local 0) (constant c))) argument (seen.Value (form_expression 1 j c)) (switch_at (p 14))
       (binary_judged scope (p 16) «use».Value 19 _ _ argument (count_of c) (seen.Value (binary 19 (read_local 0) (constant c))) (argument_at (p 16)) (number_at (p 18) c) refl)
       (argument_at (p 20)) refl
 
   test_value : judgement scope (form_tree p 2 j c) «use».Value ≡ Good (seen.Value (form_expression 2 j c))
-  unfolding concluded least takes_two meet binary_of choose_of converted_to
+  unfolding concluded takes_two meet binary_of choose_of converted_to
   test_value =
       choose_judged scope (p 14) «use».Value _ _ _ (seen.Value (binary 29 (read_global j) (constant 2))) (seen.Value (binary 12 (binary 14 (read_local 0) (constant 3)) (constant c)))
       (seen.Value (binary 13 (read_local 0) (constant c))) (seen.Value (form_expression 2 j c))

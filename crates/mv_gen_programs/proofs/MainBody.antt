@@ -31,7 +31,7 @@ use Rattle.mv_check_scope.specs.Spaces.{named}
 use Rattle.mv_check_expressions.specs.declared.seen.Seen.{Seen}
 use Rattle.mv_check_expressions.specs.declared.seen.Seen.TheVariants as seen
 use Rattle.mv_check_expressions.specs.declared.seen.Use.TheVariants as «use»
-use Rattle.mv_check_expressions.specs.Breaches.{concluded, least}
+use Rattle.mv_check_expressions.specs.Breaches.{concluded}
 use Rattle.mv_check_expressions.specs.Calls.{called_with}
 use Rattle.mv_check_expressions.specs.Found.{binary_of, assign_to}
 use Rattle.mv_check_expressions.specs.Judged.{Judged, Good, and_then}
@@ -190,7 +190,7 @@ module _ (names : Names) (count : ℕ) (are : AreNames names count) (around : Ar
 
   -- `sJ = i / N & 3;`
   store_line : (p : Places) (name : List ℕ) (j n : ℕ) → meaning_of v name ≡ Some (meaning.Object (switch_variable j)) → GivesLine (store_tree p name n) around v v (store_statement j n)
-  unfolding concluded least takes_two binary_of assign_to converted_to
+  unfolding concluded takes_two binary_of assign_to converted_to
   store_line p name j n h =
       express_line (p 0) around v _ _
       (effect_is v _ (seen.Value (typed int (form.Set (target.Global j) (binary 17 (binary 15 (read_local 0) (constant n)) (constant 3)))))
@@ -201,7 +201,7 @@ module _ (names : Names) (count : ℕ) (are : AreNames names count) (around : Ar
       (number_value v (p 6) 3) refl) refl))
 
   commit_line : (p : Places) → GivesLine (commit_tree p) around v v commit_statement
-  unfolding concluded least called_with
+  unfolding concluded called_with
   commit_line p =
       express_line (p 0) around v _ _
       (effect_is v _ (seen.Value (typed int (form.Known (known.Plan 0 0) [])))
@@ -226,7 +226,7 @@ module _ (names : Names) (count : ℕ) (are : AreNames names count) (around : Ar
       (commit_line (behind p 41)))))
 
   if_line_is : (p : Places) → GivesLine (if_tree p) around u u if_statement
-  unfolding concluded least takes_two binary_of converted_to
+  unfolding concluded takes_two binary_of converted_to
   if_line_is p =
       if_line (p 0) around u _ _ _ u _
       (value_is u _ (seen.Value (binary 29 (binary 16 (read_local 0) (constant 100)) (constant 0)))
@@ -239,7 +239,7 @@ module _ (names : Names) (count : ℕ) (are : AreNames names count) (around : Ar
   object_at at = object_value u at (codes "acc") object_variable refl (rw are.object refl)
 
   call_line : (p : Places) (i : ℕ) → i < count → GivesLine (call_tree p i) around u u (call_statement i)
-  unfolding concluded least called_with assign_to converted_to
+  unfolding concluded called_with assign_to converted_to
   call_line p i h =
       let f : named (function_name i) names ≡ Some (meaning.Function (routine i)) = are.functions i h in
       express_line (p 0) around u _ _
@@ -269,7 +269,7 @@ module _ (names : Names) (count : ℕ) (are : AreNames names count) (around : Ar
   -- a call of `putchar`
   put_line : (p : Places) (n : Node) (x : Seen) → judgement s n «use».Value ≡ Good x → (value_of x).ctype ≡ int →
       GivesLine (line_at (p 0) (a.Express (Some (node_at (p 0) (w.Call (word (p 0) (codes "putchar")) (n ∷ [])))))) around s s (put (value_of x))
-  unfolding concluded least called_with converted_to
+  unfolding concluded called_with converted_to
   put_line p n x h e =
       express_line (p 0) around s _ _
       (effect_is s _ (seen.Value (typed int (form.Known known.Putchar (value_of x ∷ []))))
@@ -277,7 +277,7 @@ module _ (names : Names) (count : ℕ) (are : AreNames names count) (around : Ar
       (one_argument s n «use».Value x h) (rw e refl)))
 
   output_line : (p : Places) → GivesLine (output_tree p) around s s (put (binary 12 (constant 65) (binary 17 (read_global 4) (constant 15))))
-  unfolding concluded least takes_two binary_of converted_to
+  unfolding concluded takes_two binary_of converted_to
   output_line p =
       put_line p _ (seen.Value (binary 12 (constant 65) (binary 17 (read_global 4) (constant 15))))
       (binary_judged s (p 2) «use».Value 12 _ _ (count_of 65) (seen.Value (binary 17 (read_global 4) (constant 15))) _ (number_value s (p 2) 65)
@@ -289,7 +289,7 @@ module _ (names : Names) (count : ℕ) (are : AreNames names count) (around : Ar
 -- the loop, whatever is around it
 loop_line : (names : Names) (count : ℕ) → AreNames names count → (around : Around) (p : Places) →
     GivesLine (loop_tree p (loop_lines p count)) around (local_scope names) (local_scope names) (loop_statement count)
-unfolding concluded least takes_two binary_of assign_to converted_to
+unfolding concluded takes_two binary_of assign_to converted_to
 loop_line names count are around p =
     let s = local_scope names in
     let t = block_entered s in

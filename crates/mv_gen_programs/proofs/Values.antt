@@ -22,7 +22,7 @@ use Rattle.mv_check_expressions.specs.declared.seen.Seen.{Seen}
 use Rattle.mv_check_expressions.specs.declared.seen.Seen.TheVariants as seen
 use Rattle.mv_check_expressions.specs.declared.seen.Use.{Use}
 use Rattle.mv_check_expressions.specs.declared.seen.Use.TheVariants as «use»
-use Rattle.mv_check_expressions.specs.Breaches.{by_itself, concluded, least}
+use Rattle.mv_check_expressions.specs.Breaches.{by_itself, concluded, listed}
 use Rattle.mv_check_expressions.specs.Judged.{Judged, Good, and_then}
 use Rattle.mv_check_expressions.specs.Judgements.{judgement, judgements}
 use Rattle.mv_check_expressions.specs.Rules.{is_uncalled, is_bare, is_valueless, is_misnamed}
@@ -34,7 +34,7 @@ use Rattle.mv_gen_programs.proofs.Trees.{word, number}
 module _ (s : Scope) where
   -- a name, by what it means
   abbrev by_meaning : Place → Use → Option Meaning → Judged Seen
-  by_meaning p u m = concluded p (record {
+  by_meaning p u m = concluded p (listed (record {
     undeclared = is_none m;
     operands = false;
     assigned = false;
@@ -46,33 +46,33 @@ module _ (s : Scope) where
     named = is_misnamed u (seen_name m);
     undefined = is_undefined (seen_name m);
     misplaced = is_uncalled u (seen_name m);
-  }) (seen_name m)
+  })) (seen_name m)
 
   name_judged : (p : Place) (name : List ℕ) (u : Use) (m : Meaning) → meaning_of s name ≡ Some m → judgement s (word p name) u ≡ by_meaning p u (Some m)
   name_judged p name u m h = judged-Name s (word p name) u name (w.outs-Name name) ∙ ap (by_meaning p u) h
 
   pub object_value : (p : Place) (name : List ℕ) (v : Variable) → is_void v.ctype ≡ false → meaning_of s name ≡ Some (meaning.Object v) →
       judgement s (word p name) «use».Value ≡ Good (seen.Object (object_of_variable v))
-  unfolding concluded least
+  unfolding concluded
   object_value p name v k h = name_judged p name «use».Value (meaning.Object v) h ∙ rw k refl
 
   pub object_place : (p : Place) (name : List ℕ) (v : Variable) → meaning_of s name ≡ Some (meaning.Object v) → judgement s (word p name) «use».Place ≡ Good (seen.Object (object_of_variable v))
-  unfolding concluded least
+  unfolding concluded
   object_place p name v h = name_judged p name «use».Place (meaning.Object v) h
 
   pub known_callee : (p : Place) (name : List ℕ) (k : Known) → meaning_of s name ≡ Some (meaning.Known k) → judgement s (word p name) «use».Callee ≡ Good (seen.Known k)
-  unfolding concluded least
+  unfolding concluded
   known_callee p name k h = name_judged p name «use».Callee (meaning.Known k) h
 
   pub function_callee : (p : Place) (name : List ℕ) (f : Routine) (n : ℕ) → f.number ≡ Some n → meaning_of s name ≡ Some (meaning.Function f) → judgement s (word p name) «use».Callee ≡ Good (seen.Function f)
-  unfolding concluded least
+  unfolding concluded
   function_callee p name f n e h = name_judged p name «use».Callee (meaning.Function f) h ∙ rw e refl
 
   pub one_argument : (n : Node) (u : Use) (x : Seen) → judgement s n u ≡ Good x → judgements s (n ∷ []) u ≡ Good (x ∷ [])
   one_argument n u x h = ap (λ (j : Judged Seen). and_then j (λ y. Good (y ∷ []))) h
 
   pub number_value : (p : Place) (n : ℕ) → judgement s (number p n) «use».Value ≡ Good (seen.Value (typed int (form.Number n)))
-  unfolding concluded least
+  unfolding concluded
   number_value p n = judged-Number s (number p n) «use».Value n Int (w.outs-Number n Int)
 
   module _ (p : Place) (u : Use) where

@@ -17,7 +17,7 @@ use Rattle.mv_check_expressions.specs.Judged.{Good}
 use Rattle.mv_check_expressions.specs.TypeNames.{type_of}
 use Rattle.mv_check_expressions.specs.Calls.{argument_use}
 use Rattle.mv_check_expressions.specs.Found.{Layer, found}
-use Rattle.mv_check_expressions.specs.Breaches.{breaches, by_itself}
+use Rattle.mv_check_expressions.specs.Breaches.{by_itself}
 use Rattle.mv_check_expressions.specs.Judgements.{operand_use, cast_use, judgement, judgements}
 use Rattle.mv_check_expressions.proofs.Equations.{judged-Number, judged-Name, judged-Unary, judged-Binary, judged-Choose, judged-Assign, judged-Before, judged-After, judged-Index, judged-Call, judged-Cast}
 use Rattle.mv_accepts.proofs.OfExpressions.Kept.{went_on, same_good, Keeps, kept}
@@ -28,7 +28,7 @@ form_of n = out-What (out-Node n).what
 -- what is found of a node by what it is used as, and of arguments that are used alike
 module _ (scope : Scope) (Has : Node → Use → Seen → Type 0) (HaveAll : List Node → Use → List Seen → Type 0) where
   abbrev Follows : Node → Use → Layer → Type 0
-  Follows n u layer = Keeps (breaches scope u layer) → Has n u (found scope u layer)
+  Follows n u layer = Keeps scope u layer → Has n u (found scope u layer)
 
   -- that it comes from the parts, for each form of expression
   pub record Steps : Type 0 where
@@ -101,7 +101,7 @@ module _ (scope : Scope) (Has : Node → Use → Seen → Type 0) (HaveAll : Lis
 
     -- what a node is by itself
     settled : (n : Node) (u : Use) (layer : Layer) (y : Seen) → by_itself scope (out-Node n).place u layer ≡ Good y → Follows n u layer → Has n u y
-    settled n u layer y h k = let s = kept (out-Node n).place (found scope u layer) y (breaches scope u layer) h in subst (Has n u) s.1 (k s.0)
+    settled n u layer y h k = let s = kept (out-Node n).place (found scope u layer) y scope u layer h in subst (Has n u) s.1 (k s.0)
 
     by_what : (x : What-F W E K M N S) (n : Node) → form_of n ≡ below x → NodeIs n
     by_what (what.Number m kind) n o u y h = settled n u (what.Number m kind) y (sym (judged-Number scope n u m kind o) ∙ h) (steps.number n u m kind o)

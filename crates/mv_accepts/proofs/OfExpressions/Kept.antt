@@ -1,10 +1,14 @@
 -- A good judgement: what its parts are, and which rules were kept.
-use Rattle.std.proofs.Common.{◌≡◌, ℕ, Bool, true, false, refl, Option, Some, None, is_none}
+use Rattle.std.proofs.Common.{◌≡◌, ℕ, Bool, true, false, refl, Option, Some, None, is_none, if◌then◌else◌, List, [], ◌∷◌}
+use Rattle.std.specs.List.{AllByRecursion}
 use Rattle.mv_syntax.specs.declared.place.Place.{Place}
-use Rattle.mv_check_expressions.specs.declared.breaches.Breaches.{Breaches}
+use Rattle.mv_check_scope.specs.declared.scope.Scope.{Scope}
 use Rattle.mv_check_expressions.specs.declared.seen.Seen.{Seen}
-use Rattle.mv_check_expressions.specs.Judged.{Judged, Good, Broken, and_then}
-use Rattle.mv_check_expressions.specs.Breaches.{if_broken, least, unless_broken, concluded}
+use Rattle.mv_check_expressions.specs.declared.seen.Use.{Use}
+use Rattle.mv_check_expressions.specs.Judged.{Judged, Good, Broken, and_then, first_broken, unless_broken}
+use Rattle.mv_check_expressions.specs.Found.{Layer}
+use Rattle.mv_check_expressions.specs.Rules.{breaks_names, breaks_operands, breaks_assignments, breaks_conversions, breaks_calls, breaks_indexes, breaks_void, breaks_switch_assignments, breaks_plan_arguments, breaks_definitions, breaks_placements}
+use Rattle.mv_check_expressions.specs.Breaches.{breaches, concluded}
 
 pub went_on : {A B : Type 0} → (j : Judged A) (next : A → Judged B) (y : B) → and_then j next ≡ Good y → (x : A) × (j ≡ Good x) × (next x ≡ Good y)
 went_on (Good x) next y h = (x, refl, h)
@@ -19,60 +23,48 @@ defined None h = absurd (cc)
 defined (Some x) h = (x, refl)
 
 -- the rules that a node keeps
-pub record Keeps (b : Breaches) : Type 0 where
-  pub undeclared : b.undeclared ≡ false
-  pub operands : b.operands ≡ false
-  pub assigned : b.assigned ≡ false
-  pub converted : b.converted ≡ false
-  pub called : b.called ≡ false
-  pub indexed : b.indexed ≡ false
-  pub void : b.void ≡ false
-  pub switch : b.switch ≡ false
-  pub named : b.named ≡ false
-  pub undefined : b.undefined ≡ false
-  pub misplaced : b.misplaced ≡ false
+pub record Keeps (scope : Scope) (u : Use) (layer : Layer) : Type 0 where
+  pub undeclared : breaks_names scope layer ≡ false
+  pub operands : breaks_operands layer ≡ false
+  pub assigned : breaks_assignments layer ≡ false
+  pub converted : breaks_conversions scope layer ≡ false
+  pub called : breaks_calls scope layer ≡ false
+  pub indexed : breaks_indexes scope u layer ≡ false
+  pub void : breaks_void scope u layer ≡ false
+  pub switch : breaks_switch_assignments scope layer ≡ false
+  pub named : breaks_plan_arguments scope u layer ≡ false
+  pub undefined : breaks_definitions scope layer ≡ false
+  pub misplaced : breaks_placements scope u layer ≡ false
 
 module _ (place : Place) (x y : Seen) where
-  one_kept : (flag : Bool) (rule : ℕ) (rest : Option ℕ) → unless_broken place (if_broken flag rule rest) x ≡ Good y → (flag ≡ false) × (unless_broken place rest x ≡ Good y)
+  one_kept : (flag : Bool) (rule : ℕ) (rest : Option ℕ) → unless_broken place (if flag then Some rule else rest) x ≡ Good y → (flag ≡ false) × (unless_broken place rest x ≡ Good y)
   one_kept true rule rest h = absurd (cc)
   one_kept false rule rest h = (refl, h)
 
-  pub kept : (b : Breaches) → concluded place b x ≡ Good y → Keeps b × (x ≡ y)
-  unfolding concluded least
-  kept b h =
-      let r20 : Option ℕ = if_broken b.misplaced 20 None in
-      let r19 : Option ℕ = if_broken b.undefined 19 r20 in
-      let r17 : Option ℕ = if_broken b.named 17 r19 in
-      let r15 : Option ℕ = if_broken b.switch 15 r17 in
-      let r8 : Option ℕ = if_broken b.void 8 r15 in
-      let r7 : Option ℕ = if_broken b.indexed 7 r8 in
-      let r6 : Option ℕ = if_broken b.called 6 r7 in
-      let r5 : Option ℕ = if_broken b.converted 5 r6 in
-      let r4 : Option ℕ = if_broken b.assigned 4 r5 in
-      let r3 : Option ℕ = if_broken b.operands 3 r4 in
-      let a1 = one_kept b.undeclared 1 r3 h in
-      let a3 = one_kept b.operands 3 r4 a1.1 in
-      let a4 = one_kept b.assigned 4 r5 a3.1 in
-      let a5 = one_kept b.converted 5 r6 a4.1 in
-      let a6 = one_kept b.called 6 r7 a5.1 in
-      let a7 = one_kept b.indexed 7 r8 a6.1 in
-      let a8 = one_kept b.void 8 r15 a7.1 in
-      let a15 = one_kept b.switch 15 r17 a8.1 in
-      let a17 = one_kept b.named 17 r19 a15.1 in
-      let a19 = one_kept b.undefined 19 r20 a17.1 in
-      let a20 = one_kept b.misplaced 20 None a19.1 in (
+  all_kept : (rows : List (ℕ × Bool)) → unless_broken place (first_broken rows) x ≡ Good y → AllByRecursion (λ b. b.1 ≡ false) rows × (x ≡ y)
+  all_kept [] h = (tt, same_good x y h)
+  all_kept (b ∷ rows) h =
+      let one = one_kept b.1 b.0 (first_broken rows) h in
+      let rest = all_kept rows one.1 in
+      ((one.0, rest.0), rest.1)
+
+  pub kept : (scope : Scope) (u : Use) (layer : Layer) → concluded place (breaches scope u layer) x ≡ Good y → Keeps scope u layer × (x ≡ y)
+  unfolding concluded
+  kept scope u layer h =
+      let all = all_kept (breaches scope u layer) h in
+      let k = all.0 in (
         record {
-          undeclared = a1.0;
-          operands = a3.0;
-          assigned = a4.0;
-          converted = a5.0;
-          called = a6.0;
-          indexed = a7.0;
-          void = a8.0;
-          switch = a15.0;
-          named = a17.0;
-          undefined = a19.0;
-          misplaced = a20.0;
+          undeclared = k.0;
+          operands = k.1.0;
+          assigned = k.1.1.0;
+          converted = k.1.1.1.0;
+          called = k.1.1.1.1.0;
+          indexed = k.1.1.1.1.1.0;
+          void = k.1.1.1.1.1.1.0;
+          switch = k.1.1.1.1.1.1.1.0;
+          named = k.1.1.1.1.1.1.1.1.0;
+          undefined = k.1.1.1.1.1.1.1.1.1.0;
+          misplaced = k.1.1.1.1.1.1.1.1.1.1.0;
         },
-        same_good x y a20.1,
+        all.1,
       )
