@@ -1,6 +1,7 @@
 -- Refusals, and how they are printed.
-use Rattle.std.specs.Prelude.{ℕ, Bool, ◌||◌, nat_eq, if◌then◌else◌, List, ◌++◌, codes}
+use Rattle.std.specs.Prelude.{ℕ, Bool, nat_eq, if◌then◌else◌, List, [], ◌∷◌, ◌++◌, codes}
 use Rattle.std.specs.Fmt.{decimal}
+use Rattle.mv_num.specs.Lists.{is_among}
 use Rattle.mv_syntax.specs.declared.place.Place.{Place}
 use Rattle.mv_front.specs.Codes as refusals
 use Rattle.mv_front.specs.declared.refusal.Refusal.{Refusal}
@@ -26,7 +27,7 @@ place_text place = decimal place.line ++ (codes ":" ++ decimal place.column)
 
 -- the refusals that name a place alone
 abbrev pub has_place : ℕ → Bool
-has_place code = nat_eq code refusals.token || (nat_eq code refusals.unsupported || (nat_eq code refusals.unit || (nat_eq code refusals.nesting || nat_eq code 16)))
+has_place code = is_among code (refusals.token ∷ refusals.unsupported ∷ refusals.unit ∷ refusals.nesting ∷ [])
 
 abbrev pub cause_text : Refusal → List ℕ
 cause_text r =

@@ -73,7 +73,7 @@ impl fmt::Display for Refusal {
             detail,
             count,
         } = *self;
-        if code == 1 || code == 2 || code == 4 || code == 5 || code == 16 {
+        if code == 1 || code == 2 || code == 4 || code == 5 {
             return write!(f, "refused {code} {line}:{column}");
         }
         if code == 6 {
