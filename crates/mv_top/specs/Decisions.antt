@@ -20,7 +20,7 @@ use Rattle.mv_meaning.specs.declared.meant.End.TheVariants.{More}
 use Rattle.mv_eval.specs.Evaluations.{most, meaning}
 use Rattle.mv_command.specs.Commands.{Asked, Runs, Builds, Executes, Lists, Evaluates, Generates, IsCommand, IsNoCommand}
 use Rattle.mv_command.specs.declared.command.RunOptions.{RunOptions}
-use Rattle.mv_command.specs.declared.options.TheConstants.{DEFAULT_STEPS}
+use Rattle.mv_command.specs.Spelled.{default_steps}
 use Rattle.mv_operator.specs.Operator.{IsActions, IsFirstWrong, IsImageActions, IsImageFirstWrong}
 use Rattle.mv_notes.specs.declared.status.Status.{Status}
 use Rattle.mv_notes.specs.declared.status.Status.TheVariants.{Ended, Trapped, Usage, Refused, Memory, ShelfFault, Steps, BadImage, MachineFault, Done}
@@ -132,5 +132,5 @@ module _ (words : List (List ℕ)) (files : Option Files) (left : Option (List �
     pub shown : (number : ℕ) → IsCommand words (Generates number true) → Is result Done
     -- a generated program, which is never refused: it has the program's end where there are steps enough
     pub generated_ended : (number bound : ℕ) (p : Program) (e : End) → IsCommand words (Generates number false) → IsProgram (generated number) p →
-        Ends p [] [] DEFAULT_STEPS bound e → Is result (status_of_end e)
+        Ends p [] [] default_steps bound e → Is result (status_of_end e)
     pub generated_runs : (number : ℕ) → IsCommand words (Generates number false) → IsSummedUp result

@@ -1,5 +1,5 @@
 -- What comes of the program that is generated of a number.
-use Rattle.std.specs.Prelude.{ℕ, ◌≡◌, ◌≤◌, Bool, true, false, List, [], ◌∷◌, ◌++◌, codes, length, IsTrue, Some, ◌⊎◌}
+use Rattle.std.specs.Prelude.{ℕ, ◌≡◌, ◌≤◌, Bool, true, false, List, [], ◌++◌, codes, length, IsTrue, Some, ◌⊎◌}
 use Rattle.std.specs.Fmt.{decimal}
 use Rattle.mv_bindings.specs.declared.binding.Event.{Event}
 use Rattle.mv_gen.specs.Generated.{generated, functions}
@@ -7,7 +7,7 @@ use Rattle.mv_io.specs.Outside.{Rose}
 use Rattle.mv_eval.specs.Grown.{Grew, GrewLess}
 use Rattle.mv_refine.specs.Environment.{Environment, Reading, Writing, environment, reading}
 use Rattle.mv_command.specs.declared.command.RunOptions.{RunOptions}
-use Rattle.mv_command.specs.declared.options.TheConstants.{DEFAULT_STEPS}
+use Rattle.mv_command.specs.Spelled.{default_steps}
 use Rattle.mv_notes.specs.Lines.{status_text}
 use Rattle.mv_notes.specs.declared.status.Status.{Status}
 use Rattle.mv_notes.specs.declared.status.Status.TheVariants.{Ended, Trapped, Memory, OutputFault, Steps, Done}
@@ -17,11 +17,11 @@ use Rattle.mv_top.specs.Running.{RunDoes, Unused}
 -- `gen NUMBER bytes B functions F` and the last line's text of the run
 abbrev pub summary : (number : ℕ) → Status → List ℕ
 summary number status =
-    codes "gen " ++ (decimal number ++ (codes " bytes " ++ (decimal (length (generated number)) ++ (codes " functions " ++ (decimal (functions number) ++ (codes " " ++ (status_text status ++ 10 ∷ [])))))))
+    codes "gen " ++ (decimal number ++ (codes " bytes " ++ (decimal (length (generated number)) ++ (codes " functions " ++ (decimal (functions number) ++ (codes " " ++ (status_text status ++ codes "\n")))))))
 
 -- it is run to the default limit, without an operator
 abbrev pub plain : RunOptions
-plain = record { steps = DEFAULT_STEPS; items = []; bindings = false; words = false }
+plain = record { steps = default_steps; items = []; bindings = false; words = false }
 
 -- it has no input, which never fails
 abbrev pub no_input : Reading
