@@ -1,7 +1,7 @@
 -- Bodies under assignments, one more at a time.
-use Rattle.std.proofs.Common.{arith, ◌≡◌, ◌⊎◌, inl, inr, ℕ, zero, suc, ◌<◌, ◌≤◌, List, [], ◌∷◌, ◌++◌, length, get_or, refl, sym, ◌∙◌, ap, subst, length-append}
+use Rattle.std.proofs.Common.{arith, ◌≡◌, ◌⊎◌, inl, inr, ℕ, zero, suc, ◌+◌, ◌<◌, ◌≤◌, List, [], ◌∷◌, ◌++◌, length, take, get_or, refl, sym, ◌∙◌, ap, subst, length-append}
 use Rattle.std.specs.List.{zip}
-use Rattle.std.proofs.lemmas.List.{get_or_append_left}
+use Rattle.std.proofs.lemmas.List.{get_or_append_left, take_more}
 use Rattle.std.proofs.lemmas.Bool.{cases_lt}
 use Rattle.std.proofs.Math.Seq.{get_or-append_seam}
 use Rattle.mv_ir.specs.declared.body.Body.{Body}
@@ -9,9 +9,13 @@ use Rattle.mv_ir.specs.declared.body.Assignment.{Assignment}
 use Rattle.mv_ir.specs.Combinations.{In, IsCombination, values_of}
 use Rattle.mv_ir.proofs.Keeping.{map_append}
 use Rattle.mv_merge.specs.declared.rows.Bound.{Bound}
+use Rattle.mv_merge.specs.declared.rows.Guarded.{Guarded}
+use Rattle.mv_merge.specs.declared.rows.Variants.{Variants}
+use Rattle.mv_merge.specs.Grouping.{IsAdded, IsGrouped}
+use Rattle.mv_merge.specs.Laws.{AddingKeepsGroups, NoRowsAreGrouped}
 use Rattle.mv_variants.specs.Bound.Meant.{IsMadeUnder}
 use Rattle.mv_variants.specs.Bound.Led.{AreMade}
-use Rattle.mv_variants.specs.Rows.{AreRowsUnder}
+use Rattle.mv_variants.specs.Rows.{AreMergedUnder, AreRowsUnder, IsRowUnder}
 use Rattle.mv_ir_worlds.proofs.Functions.{combination_length}
 
 in_push : {A : Type 0} (x y : A) (xs : List A) → In x (xs ++ y ∷ []) → In x xs ⊎ (y ≡ x)
@@ -30,19 +34,44 @@ made_push body rows row made here r at = by (in_push r row rows at)
     by (inl before) = made r before
     by (inr same) = subst (λ (x : Bound). IsMadeUnder (zip body.switches x.assignment.values) body x.body) same here
 
-pub no_rows : (body : Body) → AreRowsUnder body [] []
-no_rows body = record { values = refl; made = λ r at. absurd (omega (arith, at.1)) }
+pub none_merged : (body : Body) (variants : Variants) → variants.bodies ≡ [] → variants.guards ≡ [] → NoRowsAreGrouped → AreMergedUnder body [] variants
+none_merged body variants bodies guards none = record {
+  rows = [];
+  under = record { values = refl; made = λ r at. absurd (omega (arith, at.1)) };
+  grouped = subst (λ (bs : List Body). IsGrouped [] bs variants.guards) (sym bodies) (subst (IsGrouped [] []) (sym guards) none);
+}
 
-pub row_push : (body : Body) (assignments : List Assignment) (rows new : List Bound) (assignment : Assignment) (made : Body) → AreRowsUnder body assignments rows →
-    IsMadeUnder (zip body.switches assignment.values) body made → new ≡ rows ++ record { assignment = assignment; body = made } ∷ [] → AreRowsUnder body (assignments ++ assignment ∷ []) new
-row_push body assignments rows new assignment made are here e =
-    let row : Bound = record { assignment = assignment; body = made } in
-    subst (λ (rs : List Bound). AreRowsUnder body (assignments ++ assignment ∷ []) rs) (sym e) (record {
-      values =
-          map_append (λ (r : Bound). r.assignment.values) rows (row ∷ []) ∙ ap (λ vs. vs ++ assignment.values ∷ []) are.values ∙
-          sym (map_append (λ (a : Assignment). a.values) assignments (assignment ∷ []));
-      made = made_push body rows row are.made here;
-    })
+module _ (body : Body) (all : List Assignment) (k : ℕ) (a : Assignment) (below : k < length all) (at : a ≡ get_or all k a) (row : Bound) (is : IsRowUnder body a row) where
+  row_push : (rows : List Bound) → AreRowsUnder body (take k all) rows → AreRowsUnder body (take (k + 1) all) (rows ++ row ∷ [])
+  row_push rows are =
+      let more : take (k + 1) all ≡ take k all ++ a ∷ [] = take_more all k a below ∙ ap (λ x. take k all ++ x ∷ []) (sym at) in
+      record {
+        values =
+            map_append (λ (r : Bound). r.assignment.values) rows (row ∷ []) ∙ ap (λ vs. vs ++ row.assignment.values ∷ []) are.values ∙
+            ap (λ v. values_of (take k all) ++ v ∷ []) is.values ∙ sym (map_append (λ (x : Assignment). x.values) (take k all) (a ∷ [])) ∙ ap values_of (sym more);
+        made = made_push body rows row are.made (subst (λ vs. IsMadeUnder (zip body.switches vs) body row.body) (sym is.values) is.made);
+      }
+
+  pub merged_push : (variants new : Variants) → AddingKeepsGroups → AreMergedUnder body (take k all) variants → IsAdded variants.bodies variants.guards row new.bodies new.guards →
+      AreMergedUnder body (take (k + 1) all) new
+  merged_push variants new keeps are added = record {
+    rows = are.rows ++ row ∷ [];
+    under = row_push are.rows are.under;
+    grouped = keeps are.rows variants.bodies variants.guards row new.bodies new.guards are.grouped added;
+  }
+
+  -- its values are as few as the switches
+  pub row_short : length body.switches ≡ length a.values → length body.switches ≤ 6 → length row.assignment.values ≤ 6
+  row_short each few = omega (arith, ap length is.values, each, few)
+
+-- one body more at most
+pub few_more : (bodies : List Body) (guards : List Guarded) (row : Bound) (bodies' : List Body) (guards' : List Guarded) → IsAdded bodies guards row bodies' guards' → (k : ℕ) →
+    length bodies ≤ k → length bodies' ≤ k + 1
+few_more bodies guards row bodies' guards' added k few = by added.grown
+  where
+    by : (bodies' ≡ bodies) ⊎ ((bodies' ≡ bodies ++ row.body ∷ []) × (added.place ≡ length bodies) × ((i : ℕ) (d : Body) → i < length bodies → get_or bodies i d ≡ row.body → ⊥)) → length bodies' ≤ k + 1
+    by (inl e) = omega (arith, ap length e, few)
+    by (inr h) = omega (arith, ap length h.0, length-append bodies (row.body ∷ []), few)
 
 -- ---- how long assignments are
 

@@ -16,12 +16,13 @@ use Rattle.mv_source_forms.specs.WellFormed.{IsWellFormed}
 use Rattle.mv_merge.specs.declared.rows.Domain.{Domain}
 use Rattle.mv_merge.specs.declared.rows.Bound.{Bound}
 use Rattle.mv_merge.specs.declared.rows.Variants.{Variants}
-use Rattle.mv_merge.specs.Guards.{domain_values, all_values, IsMerged}
+use Rattle.mv_merge.specs.Guards.{domain_values, all_values}
+use Rattle.mv_merge.specs.Laws.{GroupedAreMerged}
 use Rattle.mv_variants.specs.Bound.Led.{AreMade, HaveWords}
 use Rattle.mv_variants.specs.Bound.Switches.{domains_in}
 use Rattle.mv_variants.specs.declared.variant.Variant.{Variant}
 use Rattle.mv_variants.specs.Domains.{switch_kind, domain, domains_or_none, own_domains, AreDomainsOf}
-use Rattle.mv_variants.specs.Rows.{AreRowsUnder}
+use Rattle.mv_variants.specs.Rows.{AreMergedUnder}
 use Rattle.mv_variants.specs.Variants.{IsLoweredFrom, AreGrouped, AreVariants, AreVariantsOf}
 use Rattle.mv_variants.proofs.Domains.{words_of}
 use Rattle.mv_variants.proofs.Functions.{IsAttributed, are_domains, few_switches, few_assignments, assignments_are}
@@ -48,12 +49,6 @@ module _ (p : Program) (formed : IsWellFormed p) (f : ℕ) (a : IsAttributed p f
   pub domains_apart : AreDomains (clone.domains_of p f)
   domains_apart = subst AreDomains (sym clone_domains) (are_domains p formed g.switches)
 
-  pub domains_few : (domains : List Domain) → AreDomainsOf (own_domains p f) domains → length domains ≤ 6
-  domains_few domains are = omega (arith, ap length (are.is ∙ own), length-map g.switches (domain p), few_switches p formed f g a.there a.attributed)
-
-  domains_match : (domains : List Domain) → AreDomainsOf (own_domains p f) domains → domain_values domains ≡ combined
-  domains_match domains are = ap domain_values (are.is ∙ own) ∙ values_in g.switches
-
   -- ---- assignments
 
   lengths : (ss : List ℕ) → map (λ (d : List ℕ). length d) (map (switch_domain p) ss) ≡ map (λ s. length (switch_domain p s)) ss
@@ -70,35 +65,41 @@ module _ (p : Program) (formed : IsWellFormed p) (f : ℕ) (a : IsAttributed p f
         let domains = ap length clone_domains ∙ length-map g.switches (switch_domain p) in
         own_switches ∙ sym domains ∙ sym (values_long (clone.domains_of p f) all every.only k d below)
 
-    module _ (body : Body) (lowered : IsLoweredFrom p f body) (rows : List Bound) (are : AreRowsUnder body all rows) where
-      rows_count : length rows ≡ product_of (map (λ s. length (switch_domain p s)) g.switches)
-      rows_count = sym (length-map rows (λ (r : Bound). r.assignment.values)) ∙ ap length are.values ∙ length-map all (λ (x : Assignment). x.values) ∙ count ∙ product
+    pub all_few : length all ≤ 64
+    all_few = omega (arith, count, product, few_assignments p formed f g a.there a.attributed)
 
-      pub rows_few : length rows ≤ 64
-      rows_few = omega (arith, rows_count, few_assignments p formed f g a.there a.attributed)
+    module _ (body : Body) (lowered : IsLoweredFrom p f body) (merged : Variants) (are : AreMergedUnder body all merged) where
+      abbrev rows : List Bound
+      rows = are.rows
+
+      rows_count : length rows ≡ product_of (map (λ s. length (switch_domain p s)) g.switches)
+      rows_count = sym (length-map rows (λ (r : Bound). r.assignment.values)) ∙ ap length are.under.values ∙ length-map all (λ (x : Assignment). x.values) ∙ count ∙ product
 
       combinations_are : AreAllCombinations combined (all_values rows)
-      combinations_are = subst (λ ds. AreAllCombinations ds (all_values rows)) clone_domains (subst (AreAllCombinations (clone.domains_of p f)) (sym are.values) every)
+      combinations_are = subst (λ ds. AreAllCombinations ds (all_values rows)) clone_domains (subst (AreAllCombinations (clone.domains_of p f)) (sym are.under.values) every)
 
-      pub rows_are_all : (domains : List Domain) → AreDomainsOf (own_domains p f) domains → AreAllCombinations (domain_values domains) (all_values rows)
-      rows_are_all domains ds = subst (λ vs. AreAllCombinations vs (all_values rows)) (sym (domains_match domains ds)) combinations_are
+      rows_are_all : AreAllCombinations (domain_values (domains_in p (switch_kind p) g)) (all_values rows)
+      rows_are_all = subst (λ vs. AreAllCombinations vs (all_values rows)) (sym (values_in g.switches)) combinations_are
 
-      pub are_variants : (domains : List Domain) → AreDomainsOf (own_domains p f) domains → (merged : Variants) → IsMerged domains rows merged → (variants : List Variant) → AreGrouped merged variants →
-          AreVariantsOf p f variants
-      are_variants domains ds merged is_merged variants grouped h there =
+      pub are_variants : GroupedAreMerged → (domains : List Domain) → AreDomainsOf (own_domains p f) domains → (variants : List Variant) → AreGrouped merged variants → AreVariantsOf p f variants
+      are_variants law domains ds variants grouped h there =
           let same : g ≡ h = let here = a.there in cc in
           subst (λ (x : Function). AreVariants p x variants) same (record {
             words = words_of p g.switches (subst HaveWords (ds.is ∙ own) ds.words);
             rows = rows;
             count = rows_count ∙ sym (assignments_are p formed f g a.there a.attributed);
             all = combinations_are;
-            made = subst (λ (b : Body). AreMade b rows) (lowered g a.there) are.made;
+            made = subst (λ (b : Body). AreMade b rows) (lowered g a.there) are.under.made;
             merged = merged;
-            is_merged = subst (λ xs. IsMerged xs rows merged) (ds.is ∙ own) is_merged;
+            is_merged = law (domains_in p (switch_kind p) g) rows merged rows_are_all are.grouped;
             grouped = grouped;
           })
 
   -- ---- the body
+
+  pub switches_few : (body : Body) → IsLoweredFrom p f body → length body.switches ≤ 6
+  switches_few body lowered =
+      omega (arith, ap (λ (b : Body). length b.switches) (lowered g a.there), length-map g.switches (switch_global p), few_switches p formed f g a.there a.attributed)
 
   pub body_formed : LoweredAreWellFormed → (body : Body) → IsLoweredFrom p f body → ir.IsWellFormed body
   body_formed law body lowered = subst ir.IsWellFormed (sym (lowered g a.there)) (law p f g (record { formed = formed; there = a.there }))

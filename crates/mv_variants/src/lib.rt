@@ -27,13 +27,13 @@ mod variant;
 
 use crate::domain::domains_of;
 use crate::grouping::grouped;
-use crate::making::rows_under;
+use crate::making::merged_under;
 pub use domain::switch_kind;
 use mv_ast::program::Program;
 use mv_clone::assignments::assignments;
 use mv_ir::body::Body;
 use mv_lower_spec::shape::lowered_forms_are_right;
-use mv_merge::merge::merge;
+use mv_merge::merge::added_rows_are_merged;
 use mv_num::list::List;
 use std::alloc::{AllocError, Global};
 pub use variant::Variant;
@@ -52,10 +52,11 @@ pub fn variants_of(
     ensures { IfOk result (λ variants. AreVariantsOf program.now function variants) }
 {
     lowered_forms_are_right();
+    added_rows_are_merged();
+    // The values of the domains are words, as the clause says.
+    let _domains = domains_of(alloc, program, function)?;
     let all = assignments(alloc, program, function)?;
-    let rows = rows_under(alloc, body, all.into_vec())?;
-    let domains = domains_of(alloc, program, function)?;
-    let merged = merge(alloc, &domains, rows)?;
+    let merged = merged_under(alloc, body, all.as_slice())?;
     let variants = grouped(alloc, merged)?;
     Ok(variants)
 }
