@@ -27,7 +27,9 @@ use Rattle.mv_build.specs.declared.error.BuildError.{BuildError}
 use Rattle.mv_build.specs.declared.error.BuildError.TheVariants.{Refused, Memory}
 use Rattle.mv_build.specs.Compiled.{IsLinkedOf, IsLinkedTo, IsLinkRefusal, IsSound, IsWithinLimits, OnRefusal, parts_of, without_data}
 use Rattle.mv_build.specs.Errors.{of_linking, of_selecting}
-use Rattle.mv_build.specs.Verdicts.{IsCoded, PassesLimit, PassesWith, large_frame, large_parts, many_sites, much_data, long_text}
+use Rattle.mv_num.specs.Regions.{text_limit}
+use Rattle.mv_build.specs.Sizes.{FitsAlone, PassesAlone, function_sites, function_words, too_many_sites, too_many_words}
+use Rattle.mv_build.specs.Verdicts.{IsCoded, PassesLimit, PassesWith, large_frame, large_functions, large_parts, many_sites, much_data, long_text}
 use Rattle.mv_num.proofs.Lists.{there_at}
 use Rattle.std.proofs.lemmas.Option.{same_Some}
 
@@ -43,6 +45,28 @@ frames_fit p bodies codes generics have f g below there =
     let code = there_at codes f (omega (arith, have.one_each, below)) in
     let h = have.each f body.0 code.0 body.1 code.1 in
     subst (λ (x : Function). frame_size p x ≤ frame_limit) (same_Some h.function g (sym h.there ∙ there)) h.frame
+
+-- ---- functions
+
+module _ (p : Program) (functions : List Labelled) where
+  pub sites_alone : (sites : ℕ) → sites ≡ up_to_greatest (function_sites functions) → site_limit < sites → PassesAlone p functions (counted 14 0 sites)
+  sites_alone sites is past = subst (λ n. PassesAlone p functions (counted 14 0 n)) (sym is) (too_many_sites (omega (arith, is, past)))
+
+  pub few_alone : (sites : ℕ) → sites ≡ up_to_greatest (function_sites functions) → sites ≤ site_limit → function_sites functions ≤ site_limit
+  few_alone sites is few = omega (arith, is, few)
+
+  pub words_alone : (words : ℕ) → words ≡ up_to_greatest (function_words functions) → text_limit < words → function_sites functions ≤ site_limit → data_words p ≤ data_limit →
+      PassesAlone p functions (counted 9 0 words)
+  words_alone words is past few fits = subst (λ n. PassesAlone p functions (counted 9 0 n)) (sym is) (too_many_words few fits (omega (arith, is, past)))
+
+  pub short_alone : (words : ℕ) → words ≡ up_to_greatest (function_words functions) → words ≤ text_limit → function_words functions ≤ text_limit
+  short_alone words is few = omega (arith, is, few)
+
+  -- and so the program passes it
+  pub functions_refused : (bodies : List Body) → FramesFit p (length p.functions) → AreGenerics p bodies → HaveCode p bodies functions → (e : BuildError) →
+      OnRefusal e (PassesAlone p functions) → OnRefusal e (PassesLimit p)
+  functions_refused bodies frames generics have (Refused r) h = large_functions bodies functions r frames generics have h
+  functions_refused bodies frames generics have (Memory e) h = tt
 
 -- ---- links
 
@@ -77,9 +101,9 @@ module _ (p : Program) (parts : Parts) where
     refusal_is (Memory e) h = tt
 
   -- and so the program passes it
-  pub limit_of : FramesFit p (length p.functions) → IsCoded p parts → (e : BuildError) → OnRefusal e (PassesWith p parts) → OnRefusal e (PassesLimit p)
-  limit_of frames coded (Refused r) h = large_parts parts r frames coded h
-  limit_of frames coded (Memory e) h = tt
+  pub limit_of : FramesFit p (length p.functions) → FitsAlone p parts.functions → IsCoded p parts → (e : BuildError) → OnRefusal e (PassesWith p parts) → OnRefusal e (PassesLimit p)
+  limit_of frames alone coded (Refused r) h = large_parts parts r frames alone coded h
+  limit_of frames alone coded (Memory e) h = tt
 
 -- ---- parts with their data
 

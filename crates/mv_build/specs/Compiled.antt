@@ -25,6 +25,7 @@ use Rattle.mv_build.specs.declared.error.BuildError.{BuildError}
 use Rattle.mv_build.specs.declared.error.BuildError.TheVariants.{Refused, Memory}
 use Rattle.mv_build.specs.Errors.{of_linking}
 use Rattle.mv_build.specs.Images.{IsImageOf}
+use Rattle.mv_build.specs.Sizes.{FitsAlone}
 
 -- a well-formed program without pointer switches, with what tables need to know of it
 pub record IsSound (p : Program) : Type 0 where
@@ -39,11 +40,12 @@ pub record IsCompiled (p : Program) (built : Built) : Type 0 where
 
 -- ---- code
 
--- The code of a program and what it is the code of. The constants in the bodies are words, and the frames are small enough.
+-- The code of a program and what it is the code of. The constants in the bodies are words, the frames are small enough, and there is room for the functions.
 pub record IsCode (p : Program) (c : Coded) : Type 0 where
   pub codes : AreCodesOf p c.generics c.variants c.functions c.attributed
   pub words : All (λ (b : Body). HasWords b.code) c.generics
   pub frames : FramesFit p (length p.functions)
+  pub alone : FitsAlone p c.functions
 
 -- the variants of a program's attributed functions, and their code
 pub record AreVaried (p : Program) (v : Varied) : Type 0 where

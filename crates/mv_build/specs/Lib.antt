@@ -1,4 +1,5 @@
 pub mod Images
+pub mod Sizes
 pub mod Verdicts
 pub mod Answers
 pub mod Errors

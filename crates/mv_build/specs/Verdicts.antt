@@ -1,6 +1,7 @@
 -- What a source is built to: a program and its image, or a refusal with its cause.
 use Rattle.std.specs.Prelude.{ℕ, ◌≡◌, ◌<◌, ◌≤◌, List, length}
 use Rattle.mv_ast.specs.declared.program.Program.{Program}
+use Rattle.mv_isa.specs.declared.labelled.Labelled.{Labelled}
 use Rattle.mv_isa.specs.Code.{text_start}
 use Rattle.mv_asm.specs.Outcome.{PassesText}
 use Rattle.mv_ir.specs.declared.body.Body.{Body}
@@ -14,12 +15,13 @@ use Rattle.mv_linker.specs.Linked.{linked_lines}
 use Rattle.mv_linker.specs.Tables.{site_count}
 use Rattle.mv_linker.specs.Outcome.{HasFewSites, data_limit, site_limit}
 use Rattle.mv_link_data.specs.FirstData.{data_words, first_data}
-use Rattle.mv_parts.specs.Codes.{FramesFit, PassesFirstFrame}
+use Rattle.mv_parts.specs.Codes.{AreGenerics, FramesFit, HaveCode, PassesFirstFrame}
 use Rattle.mv_parts.specs.Counts.{up_to_greatest}
 use Rattle.mv_parts.specs.Parts.{AreCodesOf}
 use Rattle.mv_parts.specs.Switches.{part_switches}
 use Rattle.mv_build.specs.declared.built.Built.{Built}
 use Rattle.mv_build.specs.Images.{IsImageOf}
+use Rattle.mv_build.specs.Sizes.{FitsAlone, PassesAlone}
 
 -- ---- limits
 
@@ -41,10 +43,13 @@ pub data PassesWith (p : Program) (parts : Parts) : Refusal → Type 0 where
   long_text : (count : ℕ) → HasFewSites parts → data_words p ≤ data_limit → PassesText text_start (linked_lines parts) count →
       PassesWith p parts (counted refusals.text 0 count)
 
--- A program has no image where it passes a limit: that of the frame of a function, which is the first such; or else one of the parts that it is compiled to.
+-- A program has no image where it passes a limit: that of the frame of a function, which is the first such; or else one with the code of its functions alone;
+-- or else one of the parts that it is compiled to.
 pub data PassesLimit (p : Program) : Refusal → Type 0 where
   large_frame : (f bytes : ℕ) → PassesFirstFrame p f bytes → PassesLimit p (counted refusals.frame f bytes)
-  large_parts : (parts : Parts) (r : Refusal) → FramesFit p (length p.functions) → IsCoded p parts → PassesWith p parts r → PassesLimit p r
+  large_functions : (bodies : List Body) (functions : List Labelled) (r : Refusal) → FramesFit p (length p.functions) → AreGenerics p bodies → HaveCode p bodies functions →
+      PassesAlone p functions r → PassesLimit p r
+  large_parts : (parts : Parts) (r : Refusal) → FramesFit p (length p.functions) → FitsAlone p parts.functions → IsCoded p parts → PassesWith p parts r → PassesLimit p r
 
 -- ---- a source
 

@@ -1,23 +1,31 @@
 //! The bodies and variants of a program's functions, and their code.
 
-ghost use Rattle.std.specs.Prelude.{◌≡◌, map, length, All, IfErr, IfOk};
+ghost use Rattle.std.specs.Prelude.{◌≡◌, map, length, All, IfErr, IfOk, OnOk};
 ghost use Rattle.mv_lower_spec.specs.Functions.{lower_function};
 ghost use Rattle.mv_select.specs.Bodies.SelectedBodies.{HasWords};
 ghost use Rattle.mv_parts.specs.Codes.{FramesFit};
 ghost use Rattle.mv_build.specs.Compiled.{AreVaried, IsCode, IsSound, OnRefusal};
+ghost use Rattle.mv_build.specs.Sizes.{FitsAlone, PassesAlone};
 ghost use Rattle.mv_build.specs.Verdicts.{PassesLimit};
 
 use crate::error::BuildError;
+use crate::image::{DATA_LIMIT, SITE_LIMIT, too_many};
+use crate::size::{sites_of, words_of};
 use mv_ast::program::Program;
 use mv_ir::body::Body;
 use mv_isa::labelled::Labelled;
+use mv_link_data::data_words;
 use mv_linker::PartFunction;
 use mv_lower::lower_each;
 use mv_num::list::List;
+use mv_num::regions;
 use mv_parts::{attributed_numbers, codes_of, generics_of, part_functions, tables_of};
 use mv_select::bodies::code_has_words;
 use mv_variants::Variant;
 use std::alloc::{AllocError, Global};
+
+/// How many words of text there may be.
+const WORD_LIMIT: u64 = regions::TEXT_LIMIT as u64;
 
 /// The code of a program, with what it is the code of.
 pub(crate) struct Coded {
@@ -37,7 +45,8 @@ struct Varied {
     attributed: List<PartFunction>,
 }
 
-/// The code of a program's functions and variants. The first whose frame is too large is refused.
+/// The code of a program's functions and variants. The first whose frame is too large is refused, and then what passes a limit without any variant, before these
+/// are made.
 pub(crate) fn code_of(alloc: Global, program: &Program) -> Result<Coded, BuildError>
     requires { IsSound program.now }
     ensures ok { IfOk result (λ c. IsCode program.now c) }
@@ -46,6 +55,7 @@ pub(crate) fn code_of(alloc: Global, program: &Program) -> Result<Coded, BuildEr
     let lowered = lower_each(alloc, program)?;
     let generics = generics_of(alloc, program, &lowered.bodies)?;
     let functions = codes_of(alloc, program, &generics)?;
+    test_functions(program, functions.as_slice())?;
     let Varied {
         variants,
         attributed,
@@ -57,6 +67,27 @@ pub(crate) fn code_of(alloc: Global, program: &Program) -> Result<Coded, BuildEr
         functions,
         attributed,
     })
+}
+
+/// Whether there is room for the code of functions, and for the data.
+fn test_functions(program: &Program, functions: &[Labelled]) -> Result<(), BuildError>
+    requires { IsSound program.now }
+    ensures ok { OnOk result (FitsAlone program.now functions.now) }
+    ensures err { IfErr result (λ e. OnRefusal e (PassesAlone program.now functions.now)) }
+{
+    let sites = sites_of(functions);
+    if sites > SITE_LIMIT {
+        return Err(too_many(14, sites));
+    }
+    let values = data_words(program);
+    if values > DATA_LIMIT {
+        return Err(too_many(13, values));
+    }
+    let words = words_of(functions);
+    if words > WORD_LIMIT {
+        return Err(too_many(9, words));
+    }
+    Ok(())
 }
 
 /// The variants of a program's attributed functions and their code, given what each function is lowered to.

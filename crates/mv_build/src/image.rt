@@ -22,9 +22,9 @@ use mv_parts::{labels_fit, part_switches, parts_law, site_count};
 use std::alloc::{AllocError, Global};
 
 /// How many sites there may be.
-const SITE_LIMIT: u64 = limits::SITE_LIMIT as u64;
+pub(crate) const SITE_LIMIT: u64 = limits::SITE_LIMIT as u64;
 /// How many words of data there may be.
-const DATA_LIMIT: u64 = regions::DATA_LIMIT as u64;
+pub(crate) const DATA_LIMIT: u64 = regions::DATA_LIMIT as u64;
 
 /// The image of a program with this code, or the limit that it passes: that of sites, of data, or of text, in this order. The count is that of this code.
 pub(crate) fn image_of(
@@ -86,7 +86,7 @@ fn test_limits(program: &Program, parts: &Parts) -> Result<(), BuildError>
 }
 
 /// The refusal of a count that is above the limit of its code.
-fn too_many(code: u8, count: u64) -> BuildError
+pub(crate) fn too_many(code: u8, count: u64) -> BuildError
     ensures { result ≡ Refused (counted code 0 count) }
 {
     BuildError::Refused(Refusal::counted(code, 0, count))

@@ -14,8 +14,9 @@
 //!   (`ShowsBindings`).
 //! - Each other answer has its cause, and each cause its answer unless memory is wanting: refusals 1 to 7 are those of
 //!   `mv_front`; 8 names the first function whose frame is above 2,032 bytes and its bytes, then 14 the sites above
-//!   16,384, then 13 the words of data above 262,144, then 9 the words of text above 131,072: each the count of the code
-//!   that was made, which is linked where it is within these limits. A program that passes none of them has an image.
+//!   16,384, then 13 the words of data above 262,144, then 9 the words of text above 131,072. These three count the code of
+//!   the functions alone, each branch taken for one word, where it passes a limit already, and no variant is made then; and
+//!   else all code that was made, which is linked where it is within the limits. A program that passes none has an image.
 //! - `compiled`: the same from a well-formed program without pointer switches, as `front` gives each.
 //! - The codes and counts of small sources are rows of `mv_test_top`.
 #![tactic(auto)]
@@ -32,6 +33,7 @@ mod built;
 mod code;
 mod error;
 mod image;
+mod size;
 
 use crate::code::{Coded, code_of};
 use crate::image::image_of;
@@ -51,7 +53,7 @@ use std::alloc::Global;
 ///
 /// The codes are tested in this order: 1 to 7 as `front` of `mv_front` tests them; 8, with the function's number as detail and the bytes that it needs, for
 /// the first frame above 2,032 bytes; 14 for more than 16,384 sites; 13 for more than 262,144 words of data; 9 for more than 131,072 words of text, each with
-/// their number.
+/// their number. The code of the functions is tested for the last three first, with each branch as one word, and then that of the variants too.
 pub fn build(alloc: Global, text: &[u8]) -> Result<Built, BuildError>
     // Each answer has its cause.
     ensures built { IfOk result (λ b. spec.IsBuiltFrom text.now b) }

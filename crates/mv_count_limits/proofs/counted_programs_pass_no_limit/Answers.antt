@@ -11,4 +11,6 @@ pub returns-clause-texts : goal.returns-clause-texts
 returns-clause-texts c = texts_counted c.programs_of_texts_are_well_formed.ensures c.parts_law.ensures.counts
 
 pub returns-clause-none : goal.returns-clause-none
-returns-clause-none c = pass_none c.programs_of_texts_are_well_formed.ensures c.code_is_short.ensures.lowered c.parts_law.ensures.counts
+returns-clause-none c =
+    pass_none c.programs_of_texts_are_well_formed.ensures c.code_is_short.ensures.lowered c.code_is_short.ensures.lines c.code_is_short.ensures.slots
+    c.parts_law.ensures.counts
