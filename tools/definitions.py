@@ -6,10 +6,11 @@
   definitions.py --check    ends with 1 where those in docs/trust.md are others
 
 Each part begins at some definitions and goes on through the text of each: a name is an item of the same file, or what a `use` line of the file
-brings. A definition stands behind those that it names; what an earlier part has isn't listed again. Names of the toolchain's libraries end the walk.
-The last part begins at a call's signature, with its clauses, and goes on through the traits that it names, with theirs.
+brings. A definition stands behind those that it names; what an earlier part has isn't listed again, and a part doesn't go into a definition at which a later one
+begins. Names of the toolchain's libraries end the walk. A part that begins at a call begins at its signature, with its clauses, and goes on through the traits that it names,
+with theirs.
 Types that are declared in Rust, traits and calls are named by their file in `src/`. A name of a number, as of a register or a limit, is listed in a part of its own with the
-number.
+number. Of each part the lines are counted: those of its definitions and, once, of the telescopes around them, without comments, attributes and imports.
 """
 import os
 import re
@@ -18,15 +19,34 @@ import sys
 TOP = os.path.dirname(os.path.dirname(os.path.realpath(__file__)))
 DOCUMENT = os.path.join(TOP, "docs", "trust.md")
 BEGIN, END = "<!-- definitions -->", "<!-- end of definitions -->"
-# Each part: what it is for, and the definitions at which it begins.
-PARTS = [
-    ("What a program means", [("mv_meaning/specs/Meaning.antt", "mean")]),
-    ("What a run of an image does", [("mv_machine/specs/Runs.antt", "runs")]),
-    ("That the run does what the program means", [("mv_refine_machine/specs/Runs/Behaves.antt", "BehavesAlways"), ("mv_refine_images/specs/Own.antt", "LoadsNoOwnSwitch")]),
-    ("Which text is which program", [("mv_front/specs/Verdicts.antt", "IsProgram")]),
-    ("What the command does", [("mv_top/src/top.rt", "multiverse")]),
-    ("What several harts do", [("mv_harts/src/harts.rt", "run_harts"), ("mv_harts/src/top.rt", "mvharts")]),
+# Each part: what it is for, and the definitions at which it begins. The core is what has to be believed for `run`, its first parts for the run of an image that does what a
+# source means; an appendix is for who relies on what it says.
+MEANT = [
+    ("1 What a program means", [("mv_meaning/specs/Meaning.antt", "mean")]),
+    ("1a The work that a meaning counts", [("mv_ast/specs/Names.antt", "names_local"), ("mv_ast/specs/Counts.antt", "patchable"), ("mv_meaning/specs/Meaning.antt", "poll_work")]),
+    ("2 What a run of an image does", [("mv_machine/specs/Runs.antt", "runs")]),
+    ("3 That the run does what the program means", [("mv_refine_machine/specs/Runs/Behaves.antt", "BehavesAlways"), ("mv_refine_images/specs/Own.antt", "LoadsNoOwnSwitch")]),
 ]
+COMMANDED = [
+    ("4 What `run` says of its status, its output and its notes", [("mv_top/specs/Running.antt", "RunDoes")]),
+    ("5 What joins it to the words of a command and to the devices", [("mv_top/src/top.rt", "multiverse")]),
+]
+APPENDICES = [
+    ("A Which text is which program", [("mv_front/specs/Verdicts.antt", "IsProgram")]),
+    ("A1 Which texts are accepted", [
+        ("mv_check_expressions/specs/Breaches.antt", "breaches"), ("mv_check_expressions/specs/Breaches.antt", "least"), ("mv_check_rules/specs/Rules.antt", "least_broken"),
+        ("mv_check_limits/specs/Ordered.antt", "first_excess"), ("mv_parser/specs/Verdict.antt", "IsShallow"), ("mv_front/specs/Verdicts.antt", "IsRefused"),
+        ("mv_count_limits/specs/Counted.antt", "IsWithinCounts")]),
+    ("B `build`, and the form of an image", [("mv_top/specs/Building.antt", "BuildsFile"), ("mv_image/specs/Faults.antt", "Spells")]),
+    ("C `exec`", [
+        ("mv_top/specs/Executing.antt", "ExecDoes"), ("mv_exec/specs/Loading.antt", "IsBadImage"), ("mv_operator/specs/Operator.antt", "IsImageFirstWrong"),
+        ("mv_operator/specs/Operator.antt", "IsImageActions")]),
+    ("D `list`", [("mv_top/specs/Listing.antt", "ListsFile")]),
+    ("E `eval`", [("mv_top/specs/Evaluating.antt", "EvaluatesFile"), ("mv_eval/specs/Evaluations.antt", "meaning")]),
+    ("F `gen`", [("mv_top/specs/Generating.antt", "GenDoes"), ("mv_gen/specs/Generated.antt", "generated"), ("mv_top/specs/Generating.antt", "is_cut_short")]),
+    ("G Several harts", [("mv_harts/src/harts.rt", "run_harts"), ("mv_harts/src/top.rt", "mvharts")]),
+]
+PARTS = MEANT + COMMANDED + APPENDICES
 # Of these only what an earlier part has is to be believed: the rest says which bodies and tables an image was made of.
 CLOSED = {("mv_build/specs/Images.antt", "IsImageOf"), ("mv_build/specs/Verdicts.antt", "PassesLimit")}
 
@@ -36,14 +56,21 @@ NUMBER = re.compile(r"^ *abbrev pub (?P<name>\w+) : ℕ\n *(?P=name) = (?P<value
 IMPORT = re.compile(r"^use +(?P<crate>mv_\w+)::(?:\{(?P<names>[^}]*)\}|(?P<name>\w+));$", re.M)
 CALL = re.compile(r"^pub fn (?P<name>\w+)(?P<text>.*?)^\{$", re.M | re.S)
 TRAIT = re.compile(r"^pub trait (?P<name>\w+)(?P<text>.*?)^\}$", re.M | re.S)
+TYPE = re.compile(r"^pub(?:\([a-z]+\))? (?:struct|enum|const) (?P<name>\w+)(?:[^\n{]*;|[^\n]*\{\}|.*?^\})$", re.M | re.S)
 WORD = re.compile(r"[^\s(){}\[\],;λ\"«»]+")
 
 
+def is_counted(line):
+    """A line is counted, if it is no comment, no attribute and no import."""
+    bare = line.strip()
+    return bool(bare) and not bare.startswith(("--", "//", "#[")) and not USE.match(line)
+
+
 class File:
-    """A file of definitions: what its `use` lines bring, and the text of each item."""
+    """A file of definitions: what its `use` lines bring, and the text of each item with the numbers of its lines."""
 
     def __init__(self, path):
-        self.path, self.names, self.modules, self.items = path, {}, {}, {}
+        self.path, self.names, self.modules, self.items, self.lines = path, {}, {}, {}, {}
         lines = open(path, encoding='utf-8').read().replace('«', '').replace('»', '').split('\n')
         starts = []
         for number, line in enumerate(lines):
@@ -64,14 +91,15 @@ class File:
         telescope = []
         for (number, name, bare), (stop, _, _) in zip(starts, starts[1:] + [(len(lines), None, '')]):
             text = '\n'.join(part.split(' -- ')[0] for part in lines[number:stop] if not part.lstrip().startswith('--'))
+            counted = {at for at in range(number, stop) if is_counted(lines[at])}
             indent = len(bare) - len(bare.lstrip())
-            telescope = [(depth, words) for depth, words in telescope if depth < indent]
+            telescope = [outer for outer in telescope if outer[0] < indent]
             if name is None:
-                telescope.append((indent, text))
+                telescope.append((indent, text, counted))
             else:
-                around = '\n'.join(words for _, words in telescope)
-                self.items.setdefault(name, '')
-                self.items[name] += '\n' + around + '\n' + text
+                around = '\n'.join(words for _, words, _ in telescope)
+                self.items[name] = self.items.get(name, '') + '\n' + around + '\n' + text
+                self.lines[name] = self.lines.get(name, set()).union(counted, *(outer for _, _, outer in telescope))
 
     def take(self, use):
         if use['names'] is not None:
@@ -102,7 +130,7 @@ class Code(File):
     traits."""
 
     def __init__(self, path):
-        self.path, self.names, self.modules, self.items, self.crates = path, {}, {}, {}, {}
+        self.path, self.names, self.modules, self.items, self.lines, self.crates = path, {}, {}, {}, {}, {}
         lines = [line for line in open(path, encoding='utf-8').read().split('\n') if not line.lstrip().startswith('//')]
         for line in lines:
             use = USE.match(line)
@@ -114,11 +142,19 @@ class Code(File):
                 self.crates[name.strip()] = found['crate']
         for found in [*CALL.finditer(text), *TRAIT.finditer(text)]:
             self.items[found['name']] = re.sub('[<>&:]', ' ', found['text'])
+            self.count(text, found)
+        for found in TYPE.finditer(text):
+            self.count(text, found)
+
+    def count(self, text, found):
+        """Keeps the numbers of the lines of a declaration."""
+        first = text.count('\n', 0, found.start())
+        self.lines[found['name']] = {first + at for at, line in enumerate(found[0].split('\n')) if is_counted(line)}
 
 
 class Walk:
     def __init__(self, root):
-        self.root, self.files, self.order, self.seen = root, {}, [], set()
+        self.root, self.files, self.order, self.seen, self.closed = root, {}, [], set(), set()
 
     def file(self, path):
         if path not in self.files:
@@ -179,7 +215,7 @@ class Walk:
         return found["value"].strip() if found else None
 
     def visit(self, path, name):
-        if (path, name) in self.seen:
+        if (path, name) in self.seen or (path, name) in self.closed:
             return
         self.seen.add((path, name))
         if (os.path.relpath(path, os.path.join(self.root, 'crates')), name) not in CLOSED:
@@ -219,6 +255,11 @@ class Walk:
             self.word(file, head, path)
 
 
+    def length(self, order):
+        """How many lines some definitions have together."""
+        return len({(path, at) for path, name in order for at in self.file(path).lines[name]})
+
+
 def grouped(order):
     """Returns lines of names by file, each file where its last name is read."""
     files = {}
@@ -236,18 +277,37 @@ def numbered(walk, order):
     return [f"- `{short}`: " + ", ".join(names) for short, names in files.items()]
 
 
+def listed(walk, later, starts):
+    """Returns the definitions of a part, which doesn't go into those at which later ones begin, and no names of numbers."""
+    before, walk.closed = len(walk.order), later
+    for path, name in starts:
+        walk.visit(path, name)
+    return [(path, name) for path, name in walk.order[before:] if walk.number(path, name) is None]
+
+
+def table(sizes):
+    """Returns the lines of a table of the parts, with sums."""
+    rows = [(title, *size) for (title, _), size in zip(PARTS, sizes)]
+
+    def total(title, count):
+        return (f"**{title}**", sum(definitions for _, definitions, _ in rows[:count]), sum(lines for _, _, lines in rows[:count]))
+
+    meant, core = len(MEANT), len(MEANT) + len(COMMANDED)
+    shown = rows[:meant] + [total("1 to 3, from the source to the run", meant)] + rows[meant:core] + [total("1 to 5, the core", core)] + rows[core:] + [total("All", len(rows))]
+    return ["| Part | Definitions | Lines |", "|---|---|---|"] + [f"| {title} | {definitions:,} | {lines:,} |" for title, definitions, lines in shown]
+
+
 def listing():
     """Returns the lines of all parts."""
-    walk, lines, before = Walk(TOP), [], 0
-    for title, starts in PARTS:
-        for path, name in starts:
-            walk.visit(os.path.join(TOP, "crates", path), name)
-        part = [(path, name) for path, name in walk.order[before:] if walk.number(path, name) is None]
-        lines += ["", f"### {title}", "", f"{len(part)} definitions in {len(grouped(part))} files.", ""] + grouped(part)
-        before = len(walk.order)
+    walk, lines, sizes = Walk(TOP), [], []
+    begins = [[(os.path.join(TOP, "crates", path), name) for path, name in starts] for _, starts in PARTS]
+    for number, (title, _) in enumerate(PARTS):
+        part = listed(walk, {start for starts in begins[number + 1:] for start in starts}, begins[number])
+        sizes.append((len(part), walk.length(part)))
+        lines += ["", f"### {title}", "", f"{len(part)} definitions, {sizes[-1][1]} lines, in {len(grouped(part))} files.", ""] + grouped(part)
     numbers = [(path, name) for path, name in walk.order if walk.number(path, name) is not None]
     lines += ["", "### Numbers that have a name", "", f"{len(numbers)} names in {len(numbered(walk, numbers))} files.", ""] + numbered(walk, numbers)
-    return lines
+    return [""] + table(sizes) + lines
 
 
 def main():
