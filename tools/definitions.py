@@ -20,16 +20,21 @@ TOP = os.path.dirname(os.path.dirname(os.path.realpath(__file__)))
 DOCUMENT = os.path.join(TOP, "docs", "trust.md")
 BEGIN, END = "<!-- definitions -->", "<!-- end of definitions -->"
 # Each part: what it is for, and the definitions at which it begins. The core is what has to be believed for `run`, its first parts for the run of an image that does what a
-# source means; an appendix is for who relies on what it says.
+# source means; the next two serve one clause alone, or none that is said of a text; an appendix is for who relies on what it says.
 MEANT = [
     ("1 What a program means", [("mv_meaning/specs/Meaning.antt", "mean")]),
-    ("1a The work that a meaning counts", [("mv_ast/specs/Names.antt", "names_local"), ("mv_ast/specs/Counts.antt", "patchable"), ("mv_meaning/specs/Meaning.antt", "poll_work")]),
     ("2 What a run of an image does", [("mv_machine/specs/Runs.antt", "runs")]),
     ("3 That the run does what the program means", [("mv_refine_machine/specs/Runs/Behaves.antt", "BehavesAlways"), ("mv_refine_images/specs/Own.antt", "LoadsNoOwnSwitch")]),
 ]
 COMMANDED = [
     ("4 What `run` says of its status, its output and its notes", [("mv_top/specs/Running.antt", "RunDoes")]),
     ("5 What joins it to the words of a command and to the devices", [("mv_top/src/top.rt", "multiverse")]),
+]
+APART = [
+    ("6 The work that a meaning counts", [("mv_ast/specs/Names.antt", "names_local"), ("mv_ast/specs/Counts.antt", "patchable"), ("mv_meaning/specs/Meaning.antt", "poll_work")]),
+    ("7 Pointer switches, of which no text has one", [
+        ("mv_ast/specs/Switches.antt", "pointer_number"), ("mv_ast/specs/Switches.antt", "called_word"), ("mv_ast/specs/Switches.antt", "pointer_bindings"),
+        ("mv_ast/specs/Orders.antt", "is_pointer_addressed"), ("mv_ast/specs/Orders.antt", "ordered_pointer")]),
 ]
 APPENDICES = [
     ("A Which text is which program", [("mv_front/specs/Verdicts.antt", "IsProgram")]),
@@ -44,9 +49,11 @@ APPENDICES = [
     ("D `list`", [("mv_top/specs/Listing.antt", "ListsFile")]),
     ("E `eval`", [("mv_top/specs/Evaluating.antt", "EvaluatesFile"), ("mv_eval/specs/Evaluations.antt", "meaning")]),
     ("F `gen`", [("mv_top/specs/Generating.antt", "GenDoes"), ("mv_gen/specs/Generated.antt", "generated"), ("mv_top/specs/Generating.antt", "is_cut_short")]),
-    ("G Several harts", [("mv_harts/src/harts.rt", "run_harts"), ("mv_harts/src/top.rt", "mvharts")]),
+    ("G Several harts, and what the other harts adopt", [
+        ("mv_harts/src/harts.rt", "run_harts"), ("mv_harts/src/top.rt", "mvharts"), ("mv_ast/specs/Bindings.antt", "are_bindings"),
+        ("mv_ast/specs/Bindings.antt", "are_typed_bindings"), ("mv_machine/specs/Runs.antt", "adopted")]),
 ]
-PARTS = MEANT + COMMANDED + APPENDICES
+PARTS = MEANT + COMMANDED + APART + APPENDICES
 # Of these only what an earlier part has is to be believed: the rest says which bodies and tables an image was made of.
 CLOSED = {("mv_build/specs/Images.antt", "IsImageOf"), ("mv_build/specs/Verdicts.antt", "PassesLimit")}
 
