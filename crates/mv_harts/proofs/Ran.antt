@@ -11,8 +11,6 @@ use Rattle.mv_image.specs.Spelling.{Fields}
 use Rattle.mv_isa.specs.declared.instr.Cause.{Cause}
 use Rattle.mv_machine.specs.Actions.{fits}
 use Rattle.mv_machine.specs.Runs.{State, Stop, Fault, bytes_to_come}
-use Rattle.mv_meaning.specs.Meaning.{hart_mean}
-use Rattle.mv_refine_machine.specs.Runs.Behaves.{EndsRight}
 use Rattle.mv_harts_runs.specs.Harts.{Hart, Harts}
 use Rattle.mv_harts_runs.specs.Alone.{IsWell, Passes}
 use Rattle.mv_harts_meant.specs.Laws.{ActionsPass, AreBytes, FittingLaw, Means, MeansLaw}
@@ -71,7 +69,7 @@ broken_behind image actions count schedule was is group ran = record {
 -- ---- the promise
 
 never_of : (p : Program) (h : ℕ) (bytes : List ℕ) (o : Hart) → Means p h bytes o → NeverFaults o
-never_of p h bytes o means why e = subst (EndsRight bytes o.state (hart_mean p h bytes o.taken o.count)) e means.ends
+never_of p h bytes o means why e = means.ends.faults why e
 
 module _ (p : Program) (image : Fields) (actions : List Action) (count : ℕ) (schedule : List ℕ) (was : Outside) (law : MeansLaw) (pass : ActionsPass) (sound : IsRunnable p image)
     (bytes : AreBytes (bytes_of was)) (words : All IsOfWord actions) (fit : All (λ action. IsTrue (fits image.switches action)) actions) where

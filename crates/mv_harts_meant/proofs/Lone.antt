@@ -1,5 +1,5 @@
 -- The run of one hart alone, by what its program means, is right in the words of runs of harts.
-use Rattle.std.proofs.Common.{◌≡◌, ℕ, length, replicate, List, [], Some, ap, ◌∙◌, subst}
+use Rattle.std.proofs.Common.{◌≡◌, ℕ, length, replicate, List, [], Some, ap, ◌∙◌}
 use Rattle.std.specs.Prelude.{◌⊎◌}
 use Rattle.std.proofs.Common.{inl, inr}
 use Rattle.mv_ast.specs.declared.program.Program.{Program}
@@ -8,8 +8,7 @@ use Rattle.mv_isa.specs.declared.instr.Instr.TheVariants.{Ecall}
 use Rattle.mv_image.specs.Spelling.{Fields}
 use Rattle.mv_machine.specs.Runs.{State, bytes_to_come}
 use Rattle.mv_machine.specs.Commits.{fetched_instr}
-use Rattle.mv_meaning.specs.Meaning.{hart_mean}
-use Rattle.mv_refine_machine.specs.Runs.Behaves.{Behaves, EndsRight, IsTextSettled}
+use Rattle.mv_refine_machine.specs.Runs.Behaves.{Behaves, IsTextSettled}
 use Rattle.mv_refine_machine.specs.Stores.Between.{IsBetween}
 use Rattle.mv_refine_machine.specs.Stores.Laws.{RoomsAreWhole}
 use Rattle.mv_harts_runs.specs.Harts.{Elsewhere, place}
@@ -38,5 +37,5 @@ module _ (rooms : RoomsAreWhole) (p : Program) (image : Fields) (h : ℕ) (bytes
     settled = λ n e. between_itself rooms image (at n) (b.settled n e);
     between = λ n old e. (b.between n old e).words;
     calls = λ n called. b.calls n (calls_there (at n) called);
-    faults = λ n why e. subst (EndsRight bytes (at n) (hart_mean p h bytes acts n)) e (b.ends n);
+    faults = λ n why e. (b.ends n).faults why e;
   }

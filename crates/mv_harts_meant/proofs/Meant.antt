@@ -3,7 +3,7 @@ use Rattle.std.proofs.Common.{◌≡◌, ℕ, suc, ◌-◌, ◌≤◌, List, [],
 use Rattle.std.specs.List.{All}
 use Rattle.mv_ast.specs.declared.program.Program.{Program}
 use Rattle.mv_image.specs.Spelling.{Fields}
-use Rattle.mv_machine.specs.Runs.{State, Stop, Going, Exit, Trap, Fault}
+use Rattle.mv_machine.specs.Runs.{State}
 use Rattle.mv_meaning.specs.declared.meant.End.{End}
 use Rattle.mv_meaning.specs.declared.meant.End.TheVariants as source
 use Rattle.mv_meaning.specs.declared.meant.Meant.{Meant}
@@ -32,14 +32,12 @@ module _ (bytes : List ℕ) (s o : State) (m : Meant) (same : IsOutside s o) whe
   whole_same : (e : End) → IsWhole bytes s m e → IsWhole bytes o m e
   whole_same e w = record { ending = w.ending; output = w.output ∙ same.output; taken = w.taken ∙ taken_same; bindings = w.bindings ∙ same.bindings; log = w.log ∙ same.log }
 
-  by_stop : (stop : Stop) → EndsRight bytes s m stop → EndsRight bytes o m stop
-  by_stop Going w = w
-  by_stop (Exit status) w = whole_same (source.Exit status) w
-  by_stop (Trap code) w = whole_same (source.Trap code) w
-  by_stop (Fault why) w = w
-
-  ends_same : EndsRight bytes s m s.stop → EndsRight bytes o m o.stop
-  ends_same w = subst (EndsRight bytes o m) same.stop (by_stop s.stop w)
+  ends_same : EndsRight bytes s m → EndsRight bytes o m
+  ends_same w = record {
+    exits = λ status e. whole_same (source.Exit status) (w.exits status (same.stop ∙ e));
+    traps = λ code e. whole_same (source.Trap code) (w.traps code (same.stop ∙ e));
+    faults = λ why e. w.faults why (same.stop ∙ e);
+  }
 
   done_same : HasDone s m → HasDone o m
   done_same d = record {

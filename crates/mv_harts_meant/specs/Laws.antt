@@ -34,7 +34,7 @@ ActionsPass =
 -- as that ends, with all of it done, and never with a fault; and it has done all that is meant at each bound for which there was time.
 pub record Means (p : Program) (h : ℕ) (bytes : List ℕ) (o : Hart) : Type 0 where
   pub within : IsWithin bytes o.state (hart_mean p h bytes o.taken o.count)
-  pub ends : EndsRight bytes o.state (hart_mean p h bytes o.taken o.count) o.state.stop
+  pub ends : EndsRight bytes o.state (hart_mean p h bytes o.taken o.count)
   pub does : (k : ℕ) → instructions_per_work * (1 + (hart_mean p h bytes o.taken k).work) ≤ o.count → HasDone o.state (hart_mean p h bytes o.taken k)
 
 -- After each schedule, with all picks and failing devices, each hart has done what the program means in it; and all is well as with harts whose runs alone are right.

@@ -99,9 +99,6 @@ module _ (p : Program) (image : Fields) (before after : Environment) (Heard : Li
     heard = subst Heard (sym whole.log) leaves.heard;
   }
 
-  right : (stop : Stop) → (state steps).stop ≡ stop → EndsRight bytes (state steps) meant stop
-  right stop stops = subst (EndsRight bytes (state steps) meant) stops (behaves.ends steps)
-
   keeps_up : (state steps).stop ≡ Going → KeepsUp p actions bytes steps (state steps).output
   keeps_up going k enough =
       let done = behaves.does steps k enough in
@@ -176,11 +173,14 @@ module _ (p : Program) (image : Fields) (behaves : BehavesAlways p image) (actio
         (runs image (bytes_to_come bytes) (polls_of actions) picks n).stop ≡ stop
     stop_at input picks n stop same stops = subst (λ (i : List (Option ℕ)). (runs image i (polls_of actions) picks n).stop ≡ stop) same stops
 
-    ends : (stop : Stop) → (s : Stands image (polls_of actions) before after Heard machine stop steps) → EndsRight bytes (runs image (bytes_to_come bytes) (polls_of actions) s.picks steps) (mean p bytes actions steps) stop
-    ends stop s = right p image before after Heard machine bytes actions s.picks steps (behaves bytes (polls_of actions) s.picks are words fit) stop (stop_at s.input s.picks steps stop (input_is s.input s.done.told) s.stops)
+    ends : (picks : List ℕ) → EndsRight bytes (runs image (bytes_to_come bytes) (polls_of actions) picks steps) (mean p bytes actions steps)
+    ends picks = (behaves bytes (polls_of actions) picks are words fit).ends steps
+
+    stops : (stop : Stop) (s : Stands image (polls_of actions) before after Heard machine stop steps) → (runs image (bytes_to_come bytes) (polls_of actions) s.picks steps).stop ≡ stop
+    stops stop s = stop_at s.input s.picks steps stop (input_is s.input s.done.told) s.stops
 
     over : (stop : Stop) → (stop ≡ Going → ⊥) → (s : Stands image (polls_of actions) before after Heard machine stop steps) → (runs image (bytes_to_come bytes) (polls_of actions) s.picks steps).stop ≡ Going → ⊥
-    over stop other s going = other (sym (stop_at s.input s.picks steps stop (input_is s.input s.done.told) s.stops) ∙ going)
+    over stop other s going = other (sym (stops stop s) ∙ going)
 
     -- before a call that failed it is so far, and the run on what the source tells stands there and goes on
     module _ (Next : State → ℕ → Type 0) (s : StandsBefore image (polls_of actions) before after Heard machine Next steps) where
@@ -207,17 +207,17 @@ module _ (p : Program) (image : Fields) (behaves : BehavesAlways p image) (actio
     does (answer.Ended status) r =
         let s = r.stands in
         all p image before after Heard machine bytes actions s.picks steps (behaves bytes (polls_of actions) s.picks are words fit) (source.Exit status) (leaves s.input s.picks steps s.done)
-        (over (Exit status) (λ e. cc) s) (ends (Exit status) s)
+        (over (Exit status) (λ e. cc) s) ((ends s.picks).exits status (stops (Exit status) s))
     does (answer.Trapped code) r =
         let s = r.stands in
         all p image before after Heard machine bytes actions s.picks steps (behaves bytes (polls_of actions) s.picks are words fit) (source.Trap code) (leaves s.input s.picks steps s.done)
-        (over (Trap code) (λ e. cc) s) (ends (Trap code) s)
+        (over (Trap code) (λ e. cc) s) ((ends s.picks).traps code (stops (Trap code) s))
     does answer.Steps r =
         let s = r.stands in
         let b = behaves bytes (polls_of actions) s.picks are words fit in (
           _,
           part p image before after Heard machine bytes actions s.picks steps b steps (omega arith) (leaves s.input s.picks steps s.done),
-          keeps_up p image before after Heard machine bytes actions s.picks steps b (stop_at s.input s.picks steps Going (input_is s.input s.done.told) s.stops),
+          keeps_up p image before after Heard machine bytes actions s.picks steps b (stops Going s),
         )
     does answer.InputFault r =
         let s = r.0 in
@@ -227,7 +227,7 @@ module _ (p : Program) (image : Fields) (behaves : BehavesAlways p image) (actio
         let s = r.0 in
         let part = stuck_part (λ s pick. Asks s pick Writes) s in
         (_, part, r.1, outputs_more p image behaves actions words fit bytes are s.picks s.count steps s.fewer (goes_on (λ s pick. Asks s pick Writes) s) (comes_next (λ s pick. Asks s pick Writes) s))
-    does (answer.Fault pc why) r = ends (Fault why) r.stands
+    does (answer.Fault pc why) r = (ends r.stands.picks).faults why (stops (Fault why) r.stands)
     does answer.Memory r = roomy r
 
   module _ (stopped : Stopped) (runs : Runs image (polls_of actions) before after Heard machine steps stopped) where

@@ -14,7 +14,7 @@ use Rattle.mv_ir.specs.Programs.{Ending, executed, execution_of}
 use Rattle.mv_ir.specs.Reached.{IsReached}
 use Rattle.mv_lower_spec.specs.Programs.Laws.{IsExecution, ending_of}
 use Rattle.mv_machine.specs.Acts.{PollActs}
-use Rattle.mv_machine.specs.Runs.{State, Stop, Going, Exit, Trap, bytes_to_come, first as first_state, runs}
+use Rattle.mv_machine.specs.Runs.{State, Stop, Going, Exit, Trap, Fault, bytes_to_come, first as first_state, runs}
 use Rattle.mv_meaning.specs.declared.meant.End as meant
 use Rattle.mv_meaning.specs.declared.meant.End.TheVariants as source
 use Rattle.mv_meaning.specs.declared.meant.Meant.{Meant}
@@ -61,6 +61,20 @@ never_stuck : (e : meant.End) → code.Meaningless ≡ ending_of e → ⊥
 never_stuck (source.Exit s) h = cc
 never_stuck (source.Trap d) h = cc
 never_stuck source.More h = cc
+
+-- a state with this stop has ended right
+abbrev EndsWith : (bytes : List ℕ) → State → Meant → Stop → Type 0
+EndsWith bytes s m Going = Unit {0}
+EndsWith bytes s m (Exit status) = IsWhole bytes s m (source.Exit status)
+EndsWith bytes s m (Trap code) = IsWhole bytes s m (source.Trap code)
+EndsWith bytes s m (Fault why) = ⊥
+
+ends_right : (bytes : List ℕ) (s : State) (m : Meant) → EndsWith bytes s m s.stop → EndsRight bytes s m
+ends_right bytes s m right = record {
+  exits = λ status e. subst (EndsWith bytes s m) e right;
+  traps = λ code e. subst (EndsWith bytes s m) e right;
+  faults = λ why e. subst (EndsWith bytes s m) e right;
+}
 
 cost_is : (w : World) (cost : ℕ) (e : End) → (execution_of w cost e).cost ≡ cost
 cost_is w cost (Returned v u) = refl
@@ -187,7 +201,7 @@ module _ (quiet_tested : QuietIsTested) (tells : SoundPlacesTell) (tested : Betw
     soon : last ≤ budget + 2
     says : Says bytes m world
     over : stop ≡ Going → ⊥
-    right : (s : State) → HasStopped world stop (rest_of s) → EndsRight bytes s m stop
+    right : (s : State) → HasStopped world stop (rest_of s) → EndsWith bytes s m stop
 
   -- the run goes on at least as long as was asked for, and the meaning is unfinished
   record Late (m : Meant) (budget far : ℕ) : Type 0 where
@@ -325,7 +339,7 @@ module _ (quiet_tested : QuietIsTested) (tells : SoundPlacesTell) (tested : Betw
     within = ⊎_elim ended_within late_within run_goes
 
     abbrev Right : Stop → Type 0
-    Right = EndsRight bytes (state n) (meaning n)
+    Right = EndsWith bytes (state n) (meaning n)
 
     -- behind its end it doesn't go on
     stops_behind : (e : Ended (meaning n) budget) → (state (e.last + 1)).stop ≡ Going → ⊥
@@ -392,7 +406,7 @@ module _ (quiet_tested : QuietIsTested) (tells : SoundPlacesTell) (tested : Betw
   behaves = (
     record {
       within = within;
-      ends = right;
+      ends = λ n. ends_right bytes (state n) (meaning n) (right n);
       does = done;
       fetches = λ n going. (told n).one;
       settled = λ n e. settled_told tested rooms closed image (state n) (told_under n None e);

@@ -8,6 +8,7 @@ use Rattle.mv_ast.specs.Counts.{instructions_per_work}
 use Rattle.mv_fetch.specs.Held.{choices, index_of}
 use Rattle.mv_image.specs.Patched.{text_of}
 use Rattle.mv_image.specs.Spelling.{Fields}
+use Rattle.mv_isa.specs.declared.instr.Cause.{Cause}
 use Rattle.mv_isa.specs.declared.instr.Instr.TheVariants.{Ecall}
 use Rattle.mv_isa.specs.Encoding.{decode}
 use Rattle.mv_select.specs.Functions.Loads.{loads_from}
@@ -16,7 +17,7 @@ use Rattle.mv_patch.specs.Plans.{plan_between}
 use Rattle.mv_patch.specs.Orders.{values_of}
 use Rattle.mv_machine.specs.Acts.{PollActs}
 use Rattle.mv_machine.specs.Commits.{commit_from, fetched_instr}
-use Rattle.mv_machine.specs.Runs.{State, Stop, Going, Exit, Trap, Fault, bytes_to_come, choices_at, first, runs}
+use Rattle.mv_machine.specs.Runs.{State, Going, Exit, Trap, Fault, bytes_to_come, choices_at, first, runs}
 use Rattle.mv_machine.specs.Snapshots.{WantsMemory}
 use Rattle.mv_meaning.specs.declared.meant.End.{End}
 use Rattle.mv_meaning.specs.declared.meant.End.TheVariants as source
@@ -43,12 +44,11 @@ pub record IsWhole (bytes : List ℕ) (s : State) (m : Meant) (e : End) : Type 0
   pub bindings : m.bindings ≡ s.bindings
   pub log : m.log ≡ s.log
 
--- a state with this stop: where the run ended, it ended as the meaning does, and never with a fault
-abbrev pub EndsRight : (bytes : List ℕ) → State → Meant → Stop → Type 0
-EndsRight bytes s m Going = Unit {0}
-EndsRight bytes s m (Exit status) = IsWhole bytes s m (source.Exit status)
-EndsRight bytes s m (Trap code) = IsWhole bytes s m (source.Trap code)
-EndsRight bytes s m (Fault why) = ⊥
+-- a run that has ended has ended as the meaning does, and never with a fault
+pub record EndsRight (bytes : List ℕ) (s : State) (m : Meant) : Type 0 where
+  pub exits : (status : ℕ) → s.stop ≡ Exit status → IsWhole bytes s m (source.Exit status)
+  pub traps : (code : ℕ) → s.stop ≡ Trap code → IsWhole bytes s m (source.Trap code)
+  pub faults : (why : Cause) → s.stop ≡ Fault why → ⊥
 
 -- a state has written and logged all that a meaning has, and has ended where that has
 pub record HasDone (s : State) (m : Meant) : Type 0 where
@@ -103,7 +103,7 @@ module _ (p : Program) (image : Fields) (bytes : List ℕ) (polls : PollActs) (p
   -- commit is under way, at a word that no binding changes. No instruction wants memory, whatever is picked.
   pub record Behaves : Type 0 where
     pub within : (n : ℕ) → IsWithin bytes (at n) (meant n)
-    pub ends : (n : ℕ) → EndsRight bytes (at n) (meant n) (at n).stop
+    pub ends : (n : ℕ) → EndsRight bytes (at n) (meant n)
     pub does : (n k : ℕ) → instructions_per_work * (1 + (meant k).work) ≤ n → HasDone (at n) (meant k)
     pub fetches : (n : ℕ) → (at n).stop ≡ Going → choices_at (at n) ≡ 1
     pub settled : (n : ℕ) → under_way n ≡ None → IsTextSettled image (at n)
