@@ -6,8 +6,8 @@ use Rattle.mv_image.specs.Spelling.{Fields}
 use Rattle.mv_isa.specs.declared.instr.Cause.{Cause}
 use Rattle.mv_machine.specs.declared.machine.Stopped.{Stopped}
 use Rattle.mv_machine.specs.declared.machine.Stopped.TheVariants as answer
-use Rattle.mv_machine.specs.Runs.{State, Stop, Going, Exit, Trap, Fault}
-use Rattle.mv_harts_runs.specs.Harts.{Hart, is_on, is_going}
+use Rattle.mv_machine.specs.Runs.{State, Stop, Going, Exit, Trap, Fault, is_going}
+use Rattle.mv_harts_runs.specs.Harts.{Hart, is_on}
 use Rattle.mv_harts_one.specs.declared.seat.Seat.{Seat}
 use Rattle.mv_harts_one.specs.Seats.{IsHalt, has_failed}
 use Rattle.mv_harts_one.specs.Seats as seats

@@ -30,7 +30,7 @@ use Rattle.mv_ir_worlds.specs.Laws.{BindingsAreTold}
 use Rattle.mv_ir_worlds.proofs.Combining.{combination_in, in_combination}
 use Rattle.mv_patch.specs.Orders.{bindings_after, bound_now, first_bindings, is_known_order, is_ordered, next_binding, ordered_rows, word_in}
 use Rattle.mv_patch.specs.Plans.{plan_of}
-use Rattle.mv_machine.specs.Runs.{State, Stop, Going, Exit, Trap, Fault, Request, Exits, Reads, Writes, Traps, Plans, Polls, Unknown, request_of, argument, answered, stopped, live_frames, refused, carried_out, ordered, planned, with_value, act, acted, polled, environment_call, fetched_step, after, where_going, turn, runs_from, first}
+use Rattle.mv_machine.specs.Runs.{State, Stop, Going, Exit, Trap, Fault, Request, Exits, Reads, Writes, Traps, Plans, Polls, Unknown, request_of, argument, answered, stopped, live_frames, refused, carried_out, ordered, planned, with_value, act, acted, polled, environment_call, fetched_step, after, is_going, turn, runs_from, first}
 use Rattle.mv_harts_runs.specs.Harts.{first_of}
 use Rattle.mv_harts_meant.specs.Runnable.{HasFunctions}
 
@@ -212,7 +212,7 @@ module _ (p : Program) (image : Fields) (tables : HasFunctions p image) where
     after_bound Calls = call_bound (request_of (reg s.regs a7))
     after_bound (Faults why) = as_before (after (Faults why) s) refl refl refl
 
-    by_stop : (stop : Stop) (t : State) → IsBound t → IsBound (where_going stop t s)
+    by_stop : (stop : Stop) (t : State) → IsBound t → IsBound (if is_going stop then t else s)
     by_stop Going t h = h
     by_stop (Exit status) t h = is
     by_stop (Trap code) t h = is

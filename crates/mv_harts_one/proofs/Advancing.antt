@@ -1,6 +1,6 @@
 -- What an instruction that just goes on is to the hart that its seat is.
 use Rattle.std.proofs.Common.{ℕ, ◌≡◌, ◌⊎◌, inl, inr, ◌+◌, ◌%◌, Bool, true, false, List, [], ◌∷◌, length, Option, Some, None, is_some, refl, sym, ap, ap₂, ◌∙◌, subst}
-use Rattle.std.specs.Prelude.{option_and_then, slice_get}
+use Rattle.std.specs.Prelude.{option_and_then, slice_get, if◌then◌else◌}
 use Rattle.mv_bindings.specs.declared.binding.Binding.{Binding}
 use Rattle.mv_bindings.specs.declared.binding.Event.{Event}
 use Rattle.mv_bindings.specs.Acts.{Act}
@@ -13,8 +13,8 @@ use Rattle.mv_rv32.specs.declared.hart.Hart.{Hart as CodeHart}
 use Rattle.mv_rv32.specs.declared.hart.Stepped.{Stepped}
 use Rattle.mv_rv32.specs.declared.hart.Stepped.TheVariants as stepped
 use Rattle.mv_machine.specs.declared.machine.Stopped.{Stopped}
-use Rattle.mv_machine.specs.Runs.{State, Stop, Going, Exit, Trap, Fault, choices_at, fetched_step, turn}
-use Rattle.mv_machine.specs.Commits.{fetched_instr, after_instr, where_it_goes}
+use Rattle.mv_machine.specs.Runs.{State, Going, choices_at, fetched_step, turn, is_going}
+use Rattle.mv_machine.specs.Commits.{fetched_instr, after_instr}
 use Rattle.mv_harts_runs.specs.Harts.{Hart, Store, shared, store_of, handed, Move, move}
 use Rattle.mv_harts_runs.proofs.Acts.{IsNoCall, ecall_or, calls_where, turn_by, step_acts, instr_acts, place_elsewhere}
 use Rattle.mv_harts_one.specs.declared.seat.Seat.{Seat}
@@ -23,11 +23,10 @@ use Rattle.mv_harts_one.specs.Executions.{is_into_text, HasAdvanced}
 use Rattle.mv_harts_one.proofs.Words.{only_word}
 use Rattle.mv_harts_one.proofs.Sitting.{sat, shared_same, shared_none, shared_outside, told_is}
 
-none_stays : (stop : Stop) → where_it_goes stop None None ≡ None
-none_stays Going = refl
-none_stays (Exit status) = refl
-none_stays (Trap code) = refl
-none_stays (Fault why) = refl
+-- nothing comes to nothing, whether a run goes on or not
+none_stays : (going : Bool) (under : Option (List Binding)) → (if going then under else under) ≡ under
+none_stays true under = refl
+none_stays false under = refl
 
 module _ (number : ℕ) (was is : Seat) (bytes : List ℕ) (o : Hart) (act : Act) (sits : Sits number was bytes o) (on : was.stop ≡ None) (w : ℕ) (word : Some w ≡ only (choices was.engine.memory.held was.engine.hart.pc))
     (hart : CodeHart) (room : Room) (goes : step access (Some w) was.engine.hart.regs was.engine.hart.pc was.engine.memory ≡ Goes hart.regs hart.pc room)
@@ -65,9 +64,9 @@ module _ (number : ℕ) (was is : Seat) (bytes : List ℕ) (o : Hart) (act : Act
   under_is : m.under ≡ None
   unfolding move
   under_is =
-      ap (λ i. where_it_goes o.state.stop (after_instr (handed o.state act) i None) None) (instr_acts o.state (act ∷ []) 0)
-      ∙ ap (λ (u : Option (List Binding)). where_it_goes o.state.stop u None) (no_call.calm (handed o.state act))
-      ∙ none_stays o.state.stop
+      ap (λ i. if is_going o.state.stop then after_instr (handed o.state act) i None else None) (instr_acts o.state (act ∷ []) 0)
+      ∙ ap (λ (u : Option (List Binding)). if is_going o.state.stop then u else None) (no_call.calm (handed o.state act))
+      ∙ none_stays (is_going o.state.stop) None
 
   pub has_advanced : is.engine.number ≡ was.engine.number → is.mode ≡ was.mode → is.waited ≡ false → is.stop ≡ was.stop → is.instructions ≡ was.instructions + 1
       → is_into_text (option_and_then (λ i. store_of i was.engine.hart.regs) (decode w)) ≡ false → HasAdvanced number o act m is bytes

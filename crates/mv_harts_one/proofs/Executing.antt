@@ -1,5 +1,5 @@
 -- What one instruction of an engine is to the hart that its seat is.
-use Rattle.std.proofs.Common.{ℕ, ◌≡◌, ◌⊎◌, inl, inr, ◌+◌, ◌%◌, ◌<◌, Bool, true, false, ◌&&◌, ◌||◌, not, cond, nat_eq, List, [], ◌∷◌, ◌++◌, length, Option, Some, None, option_map, refl, sym, ap, ap₂, ◌∙◌, subst, arith}
+use Rattle.std.proofs.Common.{ℕ, ◌≡◌, ◌⊎◌, inl, inr, ◌+◌, ◌%◌, ◌<◌, Bool, true, false, ◌&&◌, ◌||◌, not, cond, nat_eq, List, [], ◌∷◌, ◌++◌, length, Option, Some, None, option_map, refl, sym, ap, ap₂, ◌∙◌, subst, arith, if◌then◌else◌}
 use Rattle.mv_bindings.specs.declared.action.Action.{Action}
 use Rattle.mv_bindings.specs.declared.binding.Binding.{Binding}
 use Rattle.mv_bindings.specs.declared.binding.Event.{Event}
@@ -16,8 +16,8 @@ use Rattle.mv_probe.specs.Ways.{Way, Follows, way_after}
 use Rattle.mv_machine.specs.declared.engine.Engine.{Engine}
 use Rattle.mv_machine.specs.declared.machine.Stopped.{Stopped}
 use Rattle.mv_machine.specs.declared.machine.Stopped.TheVariants as answer
-use Rattle.mv_machine.specs.Runs.{State, Stop, Going, Exit, Trap, Fault, Request, Reads, Writes, request_of, environment_call, bytes_to_come, choices_at, fetched_step, turn}
-use Rattle.mv_machine.specs.Commits.{fetched_instr, is_some_pair, opens, after_instr, where_it_goes, commit_after}
+use Rattle.mv_machine.specs.Runs.{State, Stop, Going, Exit, Trap, Fault, Request, Reads, Writes, request_of, environment_call, bytes_to_come, choices_at, fetched_step, turn, is_going}
+use Rattle.mv_machine.specs.Commits.{fetched_instr, is_some_pair, opens, after_instr, commit_after}
 use Rattle.mv_machine.specs.Moves.{Seen, seen, shown, Moves, Outcomes, Called, Wanting, Turns}
 use Rattle.mv_harts_runs.specs.Harts.{Hart, Elsewhere, place_by, place_of, place, reads_or_writes, outside_of, is_outside, handed, Move, move}
 use Rattle.mv_harts_runs.proofs.Acts.{calls_where, where_calls, turn_by}
@@ -75,7 +75,7 @@ under_is : (s : State) (u : Option (List Binding)) (b : Bool) (w : ℕ) (bs : Li
 under_is s u b w bs going one e opened =
     let i : fetched_instr s 0 ≡ decode w = fetched_word s w one in
     let all : is_under (commit_after s 0 u) ≡ (b || (is_under u && not (is_fence_i (decode w)))) =
-    ap (λ stop. is_under (where_it_goes stop (after_instr s (fetched_instr s 0) u) u)) going
+    ap (λ stop. is_under (if is_going stop then after_instr s (fetched_instr s 0) u else u)) going
     ∙ ap (λ j. is_under (after_instr s j u)) i
     ∙ remains (decode w) s u b (λ c. called (i ∙ c)) (λ n. quiet (λ c. n (sym i ∙ c))) in
     sym all

@@ -1,6 +1,6 @@
 -- An instruction with other acts to come.
 use Rattle.std.proofs.Common.{◌≡◌, ◌⊎◌, inl, inr, ℕ, ◌%◌, ◌^◌, ◌-◌, Bool, true, false, ◌&&◌, cond, nat_eq, if◌then◌else◌, List, [], ◌∷◌, length, Option, Some, None, refl, sym, ap, ap₂, ◌∙◌, subst, arith}
-use Rattle.std.specs.Prelude.{option_and_then, slice_get}
+use Rattle.std.specs.Prelude.{option_and_then, slice_get, if◌then◌else◌}
 use Rattle.mv_bindings.specs.declared.binding.Binding.{Binding}
 use Rattle.mv_isa.specs.declared.instr.Instr.{Instr}
 use Rattle.mv_isa.specs.declared.instr.Instr.TheVariants.{Lui, Auipc, Jal, Jalr, Beq, Bne, Blt, Bge, Bltu, Bgeu, Lb, Lh, Lw, Lbu, Lhu, Sb, Sh, Sw, Addi, Slti, Sltiu, Xori, Ori, Andi, Slli, Srli, Srai, Add, Sub, Sll, Slt, Sltu, Xor, Srl, Sra, Or, And, Mul, Mulh, Mulhsu, Mulhu, Div, Divu, Rem, Remu, Fence, FenceI, Ebreak, Ecall}
@@ -12,8 +12,8 @@ use Rattle.mv_rv32.specs.Stepping.{access, picked_step}
 use Rattle.mv_patch.specs.Orders.{is_known_order}
 use Rattle.mv_patch.specs.Plans.{plan_between}
 use Rattle.mv_bindings.specs.Acts.{Act, Skip, Flip, Adopt}
-use Rattle.mv_machine.specs.Runs.{State, Stop, Going, Fault, Request, Exits, Reads, Writes, Traps, Plans, Polls, Unknown, request_of, argument, answered, stopped, live_frames, refused, ordered, planned, act, acted, polled, environment_call, choices_at, fetched_step, after, where_going, turn}
-use Rattle.mv_machine.specs.Commits.{fetched_instr, is_some_pair, after_instr, where_it_goes, commit_after}
+use Rattle.mv_machine.specs.Runs.{State, Stop, Going, Fault, Request, Exits, Reads, Writes, Traps, Plans, Polls, Unknown, request_of, argument, answered, stopped, live_frames, refused, ordered, planned, act, acted, polled, environment_call, choices_at, fetched_step, after, is_going, turn}
+use Rattle.mv_machine.specs.Commits.{fetched_instr, is_some_pair, after_instr, commit_after}
 use Rattle.mv_harts_runs.specs.Harts.{Place, AtOrder, AtPoll, Elsewhere, place_by, place_of, called_place, place, reads_or_writes, outside_of, is_outside, handed, Store, store_of, told, move}
 use Rattle.mv_harts_runs.proofs.Steps.{FetchedLed, fetched_led}
 
@@ -148,7 +148,7 @@ call_acts Unknown s a more = refl
 
 pub turn_by : (s : State) (pick : ℕ) (outcome : Outcome Room) → s.stop ≡ Going → fetched_step s pick ≡ outcome → turn s pick ≡ after outcome s
 unfolding turn
-turn_by s pick outcome going e = ap₂ (λ (stop : Stop) (o : Outcome Room). where_going stop (after o s) s) going e
+turn_by s pick outcome going e = ap₂ (λ (stop : Stop) (o : Outcome Room). if is_going stop then after o s else s) going e
 
 pub step_acts : (s : State) (acts : List Act) (pick : ℕ) → fetched_step (with_acts s acts) pick ≡ fetched_step s pick
 unfolding fetched_step choices_at
@@ -194,14 +194,14 @@ module _ (s : State) (a : Act) (more : List Act) (pick : ℕ) (going : s.stop �
           let same : (environment_call (request_of (reg s.regs 17)) (with_acts s acts)).bindings ≡ (environment_call (request_of (reg s.regs 17)) (handed s a)).bindings =
           ap (λ p. (environment_call (request_of (reg s.regs 17)) (with_acts s (coming p a more))).bindings) (place_at_call s pick e)
           ∙ ap (λ (t : State). t.bindings) (call_acts (request_of (reg s.regs 17)) s a more) in
-          ap (λ i. where_it_goes s.stop (after_instr (with_acts s acts) i u) u) (instr_acts s acts pick ∙ e)
-          ∙ ap (λ bs. where_it_goes s.stop (cond (is_some_pair (plan_between s.image s.bindings bs)) (Some s.bindings) u) u) same
-          ∙ sym (ap (λ i. where_it_goes s.stop (after_instr (handed s a) i u) u) (instr_acts s (a ∷ []) pick ∙ e))
+          ap (λ i. if is_going s.stop then after_instr (with_acts s acts) i u else u) (instr_acts s acts pick ∙ e)
+          ∙ ap (λ bs. if is_going s.stop then cond (is_some_pair (plan_between s.image s.bindings bs)) (Some s.bindings) u else u) same
+          ∙ sym (ap (λ i. if is_going s.stop then after_instr (handed s a) i u else u) (instr_acts s (a ∷ []) pick ∙ e))
       by_call (inr q) =
           let acts = coming (place s pick) a more in
-          ap (λ i. where_it_goes s.stop (after_instr (with_acts s acts) i u) u) (instr_acts s acts pick)
-          ∙ ap (λ x. where_it_goes s.stop x u) (q.after (with_acts s acts) (handed s a) u)
-          ∙ sym (ap (λ i. where_it_goes s.stop (after_instr (handed s a) i u) u) (instr_acts s (a ∷ []) pick))
+          ap (λ i. if is_going s.stop then after_instr (with_acts s acts) i u else u) (instr_acts s acts pick)
+          ∙ ap (λ x. if is_going s.stop then x else u) (q.after (with_acts s acts) (handed s a) u)
+          ∙ sym (ap (λ i. if is_going s.stop then after_instr (handed s a) i u else u) (instr_acts s (a ∷ []) pick))
 
 -- ---- where a fetch has one choice, the pick doesn't matter
 
@@ -214,6 +214,6 @@ move_pick s a u pick one = ap (λ k. record {
   place = place_of (option_and_then decode (slice_get (choices s.room.held s.pc) k)) (called_place s);
   outside = outside_of (option_and_then decode (slice_get (choices s.room.held s.pc) k)) (reads_or_writes (request_of (reg s.regs 17)));
   store = option_and_then (λ i. store_of i s.regs) (option_and_then decode (slice_get (choices s.room.held s.pc) k));
-  state = record (where_going s.stop (after (picked_step s.room k s.regs s.pc) (handed s a)) (handed s a)) { actions = [] };
-  under = where_it_goes s.stop (after_instr (handed s a) (option_and_then decode (slice_get (choices s.room.held s.pc) k)) u) u;
+  state = record (if is_going s.stop then after (picked_step s.room k s.regs s.pc) (handed s a) else handed s a) { actions = [] };
+  under = (if is_going s.stop then after_instr (handed s a) (option_and_then decode (slice_get (choices s.room.held s.pc) k)) u else u);
 }) (one_pick (length (choices s.room.held s.pc)) pick one)

@@ -12,9 +12,9 @@ use Rattle.mv_patch.specs.Stores.{stored_all}
 use Rattle.mv_patch.specs.Orders.{values_of}
 use Rattle.mv_refine_machine.specs.Stores.Between.{IsBetween}
 use Rattle.mv_bindings.specs.Acts.{Act, Skip, Flip, Adopt}
-use Rattle.mv_machine.specs.Runs.{State, Stop, Going, Exit, Trap, Fault, turn}
-use Rattle.mv_machine.specs.Commits.{fetched_instr, after_instr, where_it_goes, commit_after}
-use Rattle.mv_harts_runs.specs.Harts.{Mode, Runs, Parked, Freed, Hart, Harts, Place, AtOrder, AtPoll, Elsewhere, place, Store, told, is_in_text, shared_room, shared, is_going, is_on, fails, is_outside, next_act, left_behind, later_acts, took, handed, move, is_flip, is_commit, is_parked, is_away, all_away, freed_from, freed, leader_goes, leader_commits, leader_waits, leader_by, leader_turn}
+use Rattle.mv_machine.specs.Runs.{State, Stop, Going, Exit, Trap, Fault, turn, is_going}
+use Rattle.mv_machine.specs.Commits.{fetched_instr, after_instr, commit_after}
+use Rattle.mv_harts_runs.specs.Harts.{Mode, Runs, Parked, Freed, Hart, Harts, Place, AtOrder, AtPoll, Elsewhere, place, Store, told, is_in_text, shared_room, shared, is_on, fails, is_outside, next_act, left_behind, later_acts, took, handed, move, is_flip, is_commit, is_parked, is_away, all_away, freed_from, freed, leader_goes, leader_commits, leader_waits, leader_by, leader_turn}
 use Rattle.mv_harts_runs.specs.Alone.{texts_of, under_alone, Fitting, Known, adopts_of, IsAlone, IsUpToDate, IsBehind, StandsBy, Stands, IsOther, IsRight}
 use Rattle.mv_harts_runs.proofs.Rooms.{Follows, in_text, older_same, shared_follows, shared_elsewhere, no_store}
 use Rattle.mv_harts_runs.proofs.Acts.{IsNoCall, ecall_or, instr_acts, place_elsewhere, with_acts, move_pick}
@@ -86,7 +86,7 @@ called_told s called = by_call (ecall_or (fetched_instr s 0))
 
 after_going : (s : State) (a : Act) (u : Option (List Binding)) → s.stop ≡ Going → fetched_instr (handed s a) 0 ≡ fetched_instr s 0 → after_instr (handed s a) (fetched_instr s 0) u ≡ u → commit_after (handed s a) 0 u ≡ u
 after_going s a u going e q =
-    ap (λ (stop : Stop). where_it_goes stop (after_instr (handed s a) (fetched_instr (handed s a) 0) u) u) going ∙ ap (λ i. after_instr (handed s a) i u) e ∙ q
+    ap (λ (stop : Stop). if is_going stop then after_instr (handed s a) (fetched_instr (handed s a) 0) u else u) going ∙ ap (λ i. after_instr (handed s a) i u) e ∙ q
 
 -- a store is no commit
 pub store_no_commit : (s : State) (a : Act) (st : Store) → told s 0 ≡ Some st → is_commit (place s 0) a ≡ false

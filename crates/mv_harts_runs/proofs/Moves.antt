@@ -1,6 +1,6 @@
 -- What one instruction of a hart leaves, and that it is the next one of its run alone.
 use Rattle.std.proofs.Common.{◌≡◌, ◌⊎◌, inl, inr, ℕ, add-one, ◌+◌, ◌≤◌, Bool, true, false, cond, nat_eq, List, [], ◌∷◌, ◌++◌, append_assoc, slice_get, slice_index, Option, Some, None, refl, sym, ap, ap₂, ◌∙◌, subst}
-use Rattle.std.specs.Prelude.{option_and_then}
+use Rattle.std.specs.Prelude.{option_and_then, if◌then◌else◌}
 use Rattle.mv_num.specs.Regions.{data_start}
 use Rattle.mv_bindings.specs.declared.binding.Binding.{Binding}
 use Rattle.mv_descriptors.specs.declared.rows.SwitchRow.{SwitchRow}
@@ -16,8 +16,8 @@ use Rattle.mv_refine_machine.specs.Stores.Between.{IsWhole}
 use Rattle.mv_refine_machine.specs.Stores.Laws.{RoomsAreWhole}
 use Rattle.mv_patch.specs.Plans.{plan_between}
 use Rattle.mv_bindings.specs.Acts.{Act, Skip}
-use Rattle.mv_machine.specs.Runs.{State, Going, Fault, request_of, environment_call, fetched_step, after, turn, runs_from}
-use Rattle.mv_machine.specs.Commits.{fetched_instr, is_some_pair, after_instr, where_it_goes, commit_after, commit_from}
+use Rattle.mv_machine.specs.Runs.{State, Going, Fault, request_of, environment_call, fetched_step, after, turn, runs_from, is_going}
+use Rattle.mv_machine.specs.Commits.{fetched_instr, is_some_pair, after_instr, commit_after, commit_from}
 use Rattle.mv_harts_runs.specs.Harts.{first_of, Place, AtOrder, AtPoll, Elsewhere, place, handed, Store, store_of, told, took, move, is_in_text}
 use Rattle.mv_harts_runs.specs.Alone.{alone, under_alone, IsAlone}
 use Rattle.mv_harts_runs.proofs.Steps.{Effect, is_fence, FetchedLed, fetched_led}
@@ -114,7 +114,7 @@ module _ (rooms : RoomsAreWhole) (image : Fields) (in_data : (k : ℕ) (row : Sw
   under_stays u old same e = by_call (ecall_or (fetched_instr s pick))
     where
       at : after_instr (handed s a) (fetched_instr s pick) u ≡ Some old
-      at = sym (ap (λ stop. where_it_goes stop (after_instr (handed s a) (fetched_instr s pick) u) u) going) ∙ ap (λ i. where_it_goes s.stop (after_instr (handed s a) i u) u) (sym (instr_acts s (a ∷ []) pick)) ∙ e
+      at = sym (ap (λ stop. if is_going stop then after_instr (handed s a) (fetched_instr s pick) u else u) going) ∙ ap (λ i. if is_going s.stop then after_instr (handed s a) i u else u) (sym (instr_acts s (a ∷ []) pick)) ∙ e
 
       by_call : (fetched_instr s pick ≡ Some Ecall) ⊎ IsNoCall (fetched_instr s pick) → u ≡ Some old
       by_call (inl q) =
@@ -128,7 +128,7 @@ module _ (rooms : RoomsAreWhole) (image : Fields) (in_data : (k : ℕ) (row : Sw
   under_begins old e = by_call (ecall_or (fetched_instr s pick))
     where
       at : after_instr (handed s a) (fetched_instr s pick) None ≡ Some old
-      at = sym (ap (λ stop. where_it_goes stop (after_instr (handed s a) (fetched_instr s pick) None) None) going) ∙ ap (λ i. where_it_goes s.stop (after_instr (handed s a) i None) None) (sym (instr_acts s (a ∷ []) pick)) ∙ e
+      at = sym (ap (λ stop. if is_going stop then after_instr (handed s a) (fetched_instr s pick) None else None) going) ∙ ap (λ i. if is_going s.stop then after_instr (handed s a) i None else None) (sym (instr_acts s (a ∷ []) pick)) ∙ e
 
       by_cond : (b : Bool) → cond b (Some s.bindings) None ≡ Some old → old ≡ s.bindings
       by_cond true q = cc

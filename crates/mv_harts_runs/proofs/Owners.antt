@@ -6,7 +6,7 @@ use Rattle.mv_isa.specs.Registers.{a1, a7}
 use Rattle.mv_fetch.specs.Held.{Room}
 use Rattle.mv_patch.specs.Orders.{is_known_order}
 use Rattle.mv_bindings.specs.Acts.{Act, Skip, Flip, Adopt}
-use Rattle.mv_machine.specs.Runs.{State, Stop, Going, Exit, Trap, Fault, Request, Exits, Reads, Writes, Traps, Plans, Polls, Unknown, request_of, argument, answered, stopped, live_frames, refused, ordered, planned, act, acted, polled, environment_call, fetched_step, after, where_going, turn, runs_from}
+use Rattle.mv_machine.specs.Runs.{State, Stop, Going, Exit, Trap, Fault, Request, Exits, Reads, Writes, Traps, Plans, Polls, Unknown, request_of, argument, answered, stopped, live_frames, refused, ordered, planned, act, acted, polled, environment_call, fetched_step, after, is_going, turn, runs_from}
 
 pub record Owns (s t : State) : Type 0 where
   pub image : t.image ≡ s.image
@@ -50,7 +50,7 @@ after_owns (Goes regs pc room) s = record { image = refl; hart = refl }
 after_owns Calls s = call_owns (request_of (reg s.regs a7)) s
 after_owns (Faults why) s = record { image = refl; hart = refl }
 
-by_stop : (stop : Stop) (s x : State) → Owns s x → Owns s (where_going stop x s)
+by_stop : (stop : Stop) (s x : State) → Owns s x → Owns s (if is_going stop then x else s)
 by_stop Going s x h = h
 by_stop (Exit status) s x h = owns s
 by_stop (Trap code) s x h = owns s

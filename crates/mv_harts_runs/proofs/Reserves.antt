@@ -14,7 +14,7 @@ use Rattle.mv_patch.specs.Orders.{is_known_order}
 use Rattle.mv_patch.specs.Plans.{plan_between}
 use Rattle.mv_patch.specs.Stores.{stored, stored_all}
 use Rattle.mv_bindings.specs.Acts.{Act, Skip, Flip, Adopt}
-use Rattle.mv_machine.specs.Runs.{State, Stop, Going, Exit, Trap, Fault, Request, Exits, Reads, Writes, Traps, Plans, Polls, Unknown, plan_area, stored_word, stored_words, with_word_of, with_value, request_of, argument, answered, stopped, live_frames, refused, ordered, planned, act, acted, polled, environment_call, fetched_step, after, where_going, turn, runs_from}
+use Rattle.mv_machine.specs.Runs.{State, Stop, Going, Exit, Trap, Fault, Request, Exits, Reads, Writes, Traps, Plans, Polls, Unknown, plan_area, stored_word, stored_words, with_word_of, with_value, request_of, argument, answered, stopped, live_frames, refused, ordered, planned, act, acted, polled, environment_call, fetched_step, after, is_going, turn, runs_from}
 use Rattle.mv_machine.specs.Commits.{fetched_instr}
 use Rattle.mv_harts_runs.specs.Harts.{Store, store_of}
 use Rattle.mv_harts_runs.proofs.Steps.{Effect, is_fence, FetchedLed, fetched_led}
@@ -109,7 +109,7 @@ after_reserve s pick (Goes regs pc room) e = led_reserve (fetched_instr s pick) 
 after_reserve s pick Calls e = call_reserve (request_of (reg s.regs a7)) s
 after_reserve s pick (Faults why) e = refl
 
-by_stop : (stop : Stop) (s x : State) → Same s x → Same s (where_going stop x s)
+by_stop : (stop : Stop) (s x : State) → Same s x → Same s (if is_going stop then x else s)
 by_stop Going s x h = h
 by_stop (Exit status) s x h = refl
 by_stop (Trap code) s x h = refl

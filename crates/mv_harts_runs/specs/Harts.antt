@@ -12,7 +12,7 @@ use Rattle.mv_image.specs.Spelling.{Fields}
 use Rattle.mv_rv32.specs.Stepping.{access}
 use Rattle.mv_patch.specs.Orders.{is_known_order}
 use Rattle.mv_bindings.specs.Acts.{Act, Skip, Flip, Adopt}
-use Rattle.mv_machine.specs.Runs.{State, Stop, Going, Exit, Trap, Fault, Request, Reads, Writes, Plans, Polls, request_of, argument, live_frames, adopts, turn, first}
+use Rattle.mv_machine.specs.Runs.{State, is_going, Request, Reads, Writes, Plans, Polls, request_of, argument, live_frames, adopts, turn, first}
 use Rattle.mv_machine.specs.Commits.{fetched_instr, commit_after}
 
 -- A hart runs; it is parked at a poll; or a commit was made while it was parked, and it is free to adopt what that left. A freed hart is not parked.
@@ -71,12 +71,6 @@ called_place s = place_by (request_of (reg s.regs a7)) (is_known_order s.image (
 
 unfoldable pub place : State → (pick : ℕ) → Place
 place s pick = place_of (fetched_instr s pick) (called_place s)
-
-abbrev pub is_going : Stop → Bool
-is_going Going = true
-is_going (Exit status) = false
-is_going (Trap code) = false
-is_going (Fault why) = false
 
 -- a hart has not ended
 abbrev pub is_on : Hart → Bool

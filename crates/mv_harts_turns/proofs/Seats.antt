@@ -6,9 +6,9 @@ use Rattle.mv_image.specs.Spelling.{Fields}
 use Rattle.mv_num.proofs.Lists.{slice_get_left}
 use Rattle.mv_machine.specs.declared.machine.Stopped.{Stopped}
 use Rattle.mv_machine.specs.declared.machine.Stopped.TheVariants as answer
-use Rattle.mv_machine.specs.Runs.{State}
+use Rattle.mv_machine.specs.Runs.{State, is_going}
 use Rattle.mv_harts_runs.specs.Harts as harts
-use Rattle.mv_harts_runs.specs.Harts.{Hart, Store, is_on, is_going, is_away, all_away, shared, shared_room, freed}
+use Rattle.mv_harts_runs.specs.Harts.{Hart, Store, is_on, is_away, all_away, shared, shared_room, freed}
 use Rattle.mv_harts_one.specs.declared.seat.Seat.{Seat}
 use Rattle.mv_harts_one.specs.declared.seat.Mode.{Mode}
 use Rattle.mv_harts_one.specs.declared.seat.Mode.TheVariants as mode

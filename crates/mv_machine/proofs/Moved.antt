@@ -8,10 +8,10 @@ use Rattle.mv_rv32.specs.Stepping.{picked_step}
 use Rattle.mv_io.specs.Outside.{Takes}
 use Rattle.mv_io.specs.declared.outside.Failed.{Failed}
 use Rattle.mv_probe.specs.Ways.{Way, Follows, pick_of, way_after}
-use Rattle.mv_machine.specs.Runs.{Stop, Going, State, next_read, later_reads, bytes_to_come, choices_at, fetched_step, turn, runs_from, executed, counts_as}
+use Rattle.mv_machine.specs.Runs.{Stop, Going, State, next_read, later_reads, bytes_to_come, choices_at, fetched_step, turn, runs_from, executed}
 use Rattle.mv_machine.specs.Snapshots.{Tells, Under}
 use Rattle.mv_machine.specs.Moves.{Seen, shown, Meets, Moves}
-use Rattle.mv_machine.proofs.Turns.{runs_more, executed_more, runs_append, executed_append}
+use Rattle.mv_machine.proofs.Turns.{runs_more, adds_by, executed_more, runs_append, executed_append}
 
 -- ---- the sink
 
@@ -133,7 +133,7 @@ meets_more x y z stop way v way' Before Behind Told joins picks pick n len is fo
                 let here = start.2 o log in
                 let at : runs_from s all n ≡ shown y Going mid.0 (o ++ m.0) (log ++ m.1) = runs_append s picks (pick ∷ []) n le ∙ here.1 in
                 let count : choices_at (runs_from s picks n) ≡ length (choices y.room.held y.pc) = ap choices_at here.1 ∙ count_is y Going mid.0 (o ++ m.0) (log ++ m.1) in
-                let one : counts_as (runs_from s all n).stop ≡ 1 = ap (λ (e : State). counts_as e.stop) at in (
+                let one : adds_by (runs_from s all n).stop ≡ 1 = ap (λ (e : State). adds_by e.stop) at in (
                   (
                     under_more way v way' s picks pick (length (choices y.room.held y.pc)) n len is follows count here.0.0,
                     omega (arith, executed_more s all n, executed_append s picks (pick ∷ []) n le, here.0.1, one),

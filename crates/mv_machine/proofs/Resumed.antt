@@ -12,10 +12,10 @@ use Rattle.mv_io.specs.Outside.{CountAfter}
 use Rattle.mv_probe.specs.Ways.{Way, Follows, way_after}
 use Rattle.mv_machine.specs.declared.machine.Stopped.{Stopped}
 use Rattle.mv_machine.specs.declared.machine.Stopped.TheVariants as answer
-use Rattle.mv_machine.specs.Runs.{Stop, Going, Exit, Trap, Fault, State, Request, Reads, Writes, request_of, bytes_to_come, stopped, counts_as, choices_at, fetched_step, turn, runs_from, executed}
+use Rattle.mv_machine.specs.Runs.{Stop, Going, Exit, Trap, Fault, State, Request, Reads, Writes, request_of, bytes_to_come, stopped, choices_at, fetched_step, turn, runs_from, executed}
 use Rattle.mv_machine.specs.Snapshots.{Snapshot, resumed, Tells, Under, Asks, Reached, Whole, Broken, Answered, WantsMemory, Ran, Unless, last_of, is_input_fault, is_output_fault}
 use Rattle.mv_machine.specs.Moves.{Seen, shown, Meets, Moves, Called, Wanting, Turns, Goes, Walked, FaultAt, input_failed, output_failed}
-use Rattle.mv_machine.proofs.Turns.{turn_by, turn_faults, runs_more, executed_more, runs_over, executed_over, runs_append, IsOver}
+use Rattle.mv_machine.proofs.Turns.{turn_by, turn_faults, runs_more, adds_by, executed_more, runs_over, executed_over, runs_append, IsOver}
 use Rattle.mv_machine.proofs.Moved.{SoFar, way_more, under_more, Joins, meets_more}
 
 -- what is seen of a machine
@@ -227,7 +227,7 @@ module _ (was is : Snapshot) (x y : Seen) (a : IsSeen was x) (b : IsSeen is y) (
             λ o log.
                 let s = shown x Going t.0 o log in
                 let here = t.2 o log in
-                let one : counts_as (runs_from s g.0 n).stop ≡ 1 = ap (λ (e : State). counts_as e.stop) here.1 in (
+                let one : adds_by (runs_from s g.0 n).stop ≡ 1 = ap (λ (e : State). adds_by e.stop) here.1 in (
                   (here.0.0, omega (arith, executed_more s g.0 n, here.0.1, one)),
                   runs_more s g.0 n ∙ ap (λ (e : State). turn e (slice_index g.0 n)) here.1 ∙ one_more later (o ++ m.0) (log ++ m.1) (slice_index g.0 n),
                 ),

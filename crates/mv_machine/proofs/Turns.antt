@@ -7,7 +7,7 @@ use Rattle.mv_isa.specs.Execution.{Outcome, Goes, Calls, Faults, reg}
 use Rattle.mv_isa.specs.declared.instr.Cause.{Cause}
 use Rattle.mv_fetch.specs.Held.{Room}
 use Rattle.mv_patch.specs.Orders.{is_known_order}
-use Rattle.mv_machine.specs.Runs.{Stop, Going, Exit, Trap, Fault, Request, Exits, Reads, Writes, Traps, Plans, Polls, Unknown, request_of, environment_call, argument, answered, stopped, live_frames, refused, ordered, planned, act, acted, polled, State, where_going, after, fetched_step, turn, runs_from, executed, counts_as}
+use Rattle.mv_machine.specs.Runs.{Stop, Going, Exit, Trap, Fault, Request, Exits, Reads, Writes, Traps, Plans, Polls, Unknown, request_of, environment_call, argument, answered, stopped, live_frames, refused, ordered, planned, act, acted, polled, State, is_going, after, fetched_step, turn, runs_from, executed}
 
 -- after no instruction
 pub runs_none : (s : State) (picks : List ℕ) → runs_from s picks 0 ≡ s
@@ -19,14 +19,18 @@ pub runs_more : (s : State) (picks : List ℕ) (n : ℕ) → runs_from s picks (
 unfolding runs_from
 runs_more s picks n = ap (λ (k : ℕ). runs_from s picks k) (add-one n)
 
-pub executed_more : (s : State) (picks : List ℕ) (n : ℕ) → executed s picks (n + 1) ≡ executed s picks n + counts_as (runs_from s picks n).stop
+-- what one more instruction adds to those that were executed
+abbrev pub adds_by : Stop → ℕ
+adds_by stop = if is_going stop then 1 else 0
+
+pub executed_more : (s : State) (picks : List ℕ) (n : ℕ) → executed s picks (n + 1) ≡ executed s picks n + adds_by (runs_from s picks n).stop
 unfolding executed
 executed_more s picks n = ap (λ (k : ℕ). executed s picks k) (add-one n)
 
 -- an instruction of a run that goes on, by what its step leads to
 pub turn_by : (s : State) (pick : ℕ) (outcome : Outcome Room) → s.stop ≡ Going → fetched_step s pick ≡ outcome → turn s pick ≡ after outcome s
 unfolding turn
-turn_by s pick outcome going e = ap₂ (λ (stop : Stop) (o : Outcome Room). where_going stop (after o s) s) going e
+turn_by s pick outcome going e = ap₂ (λ (stop : Stop) (o : Outcome Room). if is_going stop then after o s else s) going e
 
 -- an instruction that faults changes nothing but that
 abbrev IsFault : Stop → Type 0
@@ -94,13 +98,13 @@ IsOver (Exit status) = Unit {0}
 IsOver (Trap code) = Unit {0}
 IsOver (Fault why) = Unit {0}
 
-over_stays : (stop : Stop) (a b : State) → IsOver stop → where_going stop a b ≡ b
+over_stays : (stop : Stop) (a b : State) → IsOver stop → (if is_going stop then a else b) ≡ b
 over_stays Going a b h = absurd h
 over_stays (Exit status) a b h = refl
 over_stays (Trap code) a b h = refl
 over_stays (Fault why) a b h = refl
 
-over_counts : (stop : Stop) → IsOver stop → counts_as stop ≡ 0
+over_counts : (stop : Stop) → IsOver stop → adds_by stop ≡ 0
 over_counts Going h = absurd h
 over_counts (Exit status) h = refl
 over_counts (Trap code) h = refl
@@ -121,7 +125,7 @@ pub executed_over : (s : State) (picks : List ℕ) (n m : ℕ) → IsOver (runs_
 executed_over s picks n zero h = let e : 0 + n ≡ n = omega arith in ap (λ (k : ℕ). executed s picks k) e
 executed_over s picks n (suc m) h =
     let before = executed_over s picks n m h in
-    let none : counts_as (runs_from s picks (m + n)).stop ≡ 0 = over_counts (runs_from s picks (m + n)).stop (subst (λ (t : State). IsOver t.stop) (sym (runs_over s picks n m h)) h) in
+    let none : adds_by (runs_from s picks (m + n)).stop ≡ 0 = over_counts (runs_from s picks (m + n)).stop (subst (λ (t : State). IsOver t.stop) (sym (runs_over s picks n m h)) h) in
     let e : executed s picks (suc m + n) ≡ executed s picks (m + n + 1) = (let k : suc m + n ≡ m + n + 1 = omega arith in ap (λ (i : ℕ). executed s picks i) k) in
     omega (arith, e, executed_more s picks (m + n), none, before)
 
@@ -134,4 +138,4 @@ runs_append s picks more (suc n) le = ap₂ turn (runs_append s picks more n (om
 pub executed_append : (s : State) (picks more : List ℕ) (n : ℕ) → n ≤ length picks → executed s (picks ++ more) n ≡ executed s picks n
 unfolding executed
 executed_append s picks more zero le = refl
-executed_append s picks more (suc n) le = ap₂ (λ (k : ℕ) (t : State). k + counts_as t.stop) (executed_append s picks more n (omega (arith, le))) (runs_append s picks more n (omega (arith, le)))
+executed_append s picks more (suc n) le = ap₂ (λ (k : ℕ) (t : State). k + adds_by t.stop) (executed_append s picks more n (omega (arith, le))) (runs_append s picks more n (omega (arith, le)))

@@ -1,5 +1,5 @@
 -- Which commit is under way in a run, told by its bindings alone: not by the plan area, and not by what is stored of the pairs.
-use Rattle.std.specs.Prelude.{ℕ, zero, suc, ◌%◌, Bool, true, false, cond, List, [], ◌∷◌, slice_get, slice_index, Option, Some, None, option_and_then}
+use Rattle.std.specs.Prelude.{ℕ, zero, suc, ◌%◌, Bool, true, false, cond, if◌then◌else◌, List, [], ◌∷◌, slice_get, slice_index, Option, Some, None, option_and_then}
 use Rattle.mv_bindings.specs.declared.binding.Binding.{Binding}
 use Rattle.mv_isa.specs.declared.instr.Instr.{Instr}
 use Rattle.mv_isa.specs.declared.instr.Instr.TheVariants.{FenceI, Ecall}
@@ -9,7 +9,7 @@ use Rattle.mv_isa.specs.Registers.{a7}
 use Rattle.mv_fetch.specs.Held.{choices}
 use Rattle.mv_patch.specs.declared.prepared.Pair.{Pair}
 use Rattle.mv_patch.specs.Plans.{plan_between}
-use Rattle.mv_machine.specs.Runs.{State, Stop, Going, Exit, Trap, Fault, choices_at, request_of, environment_call, runs_from}
+use Rattle.mv_machine.specs.Runs.{State, is_going, choices_at, request_of, environment_call, runs_from}
 
 abbrev pub is_some_pair : List Pair → Bool
 is_some_pair [] = false
@@ -29,14 +29,8 @@ after_instr s (Some Ecall) under_way = cond (opens s) (Some s.bindings) under_wa
 after_instr s (Some FenceI) under_way = None
 after_instr s _ under_way = under_way
 
-abbrev pub where_it_goes : Stop → (going ended : Option (List Binding)) → Option (List Binding)
-where_it_goes Going going ended = going
-where_it_goes (Exit status) going ended = ended
-where_it_goes (Trap code) going ended = ended
-where_it_goes (Fault why) going ended = ended
-
 abbrev pub commit_after : State → (pick : ℕ) → Option (List Binding) → Option (List Binding)
-commit_after s pick under_way = where_it_goes s.stop (after_instr s (fetched_instr s pick) under_way) under_way
+commit_after s pick under_way = if is_going s.stop then after_instr s (fetched_instr s pick) under_way else under_way
 
 -- the bindings whose text stood before the commit that is under way after n instructions; none where none is
 unfoldable pub commit_from : State → (picks : List ℕ) → (n : ℕ) → Option (List Binding)

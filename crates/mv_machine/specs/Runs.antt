@@ -1,7 +1,7 @@
 -- The run of a machine as a definition. `turn` is one instruction, `runs_from` is so many of them from any state, and `runs` is so many of an
 -- image from its start. All of them are functions: of the image, the input, the number of the hart and what its polls take, the picks of the fetches
 -- and the number of instructions.
-use Rattle.std.specs.Prelude.{ℕ, zero, suc, ◌&&◌, ◌+◌, ◌-◌, ◌%◌, ◌^◌, cond, eqb, ltb, if◌then◌else◌, nat_eq, List, [], ◌∷◌, ◌++◌, length, map, replicate, slice_get, slice_index, Option, Some, None, unwrap_or}
+use Rattle.std.specs.Prelude.{ℕ, zero, suc, ◌&&◌, ◌+◌, ◌-◌, ◌%◌, ◌^◌, Bool, true, false, cond, eqb, ltb, if◌then◌else◌, nat_eq, List, [], ◌∷◌, ◌++◌, length, map, replicate, slice_get, slice_index, Option, Some, None, unwrap_or}
 use Rattle.mv_num.specs.Words.{add}
 use Rattle.mv_bindings.specs.declared.binding.Binding.{Binding}
 use Rattle.mv_bindings.specs.declared.binding.Event.{Event}
@@ -31,6 +31,12 @@ pub data Stop : Type 0 where
   Exit : (status : ℕ) → Stop
   Trap : (code : ℕ) → Stop
   Fault : (why : Cause) → Stop
+
+abbrev pub is_going : Stop → Bool
+is_going Going = true
+is_going (Exit status) = false
+is_going (Trap code) = false
+is_going (Fault why) = false
 
 -- the machine and its outside
 pub record State : Type 0 where
@@ -204,15 +210,9 @@ after (Goes regs pc room) s = record s { regs = regs; pc = pc; room = room }
 after Calls s = environment_call (request_of (reg s.regs a7)) s
 after (Faults why) s = stopped s (Fault why)
 
-abbrev pub where_going : Stop → (going ended : State) → State
-where_going Going going ended = going
-where_going (Exit status) going ended = ended
-where_going (Trap code) going ended = ended
-where_going (Fault why) going ended = ended
-
 -- one instruction; nothing follows the one that ended the run
 unfoldable pub turn : State → (pick : ℕ) → State
-turn s pick = where_going s.stop (after (fetched_step s pick) s) s
+turn s pick = if is_going s.stop then after (fetched_step s pick) s else s
 
 -- ---- so many instructions
 
@@ -223,15 +223,9 @@ runs_from s picks zero = s
 runs_from s picks (suc n) = turn (runs_from s picks n) (slice_index picks n)
 
 -- how many of the first n instructions were executed
-abbrev pub counts_as : Stop → ℕ
-counts_as Going = 1
-counts_as (Exit status) = 0
-counts_as (Trap code) = 0
-counts_as (Fault why) = 0
-
 unfoldable pub executed : State → (picks : List ℕ) → (n : ℕ) → ℕ
 executed s picks zero = 0
-executed s picks (suc n) = executed s picks n + counts_as (runs_from s picks n).stop
+executed s picks (suc n) = executed s picks n + (if is_going (runs_from s picks n).stop then 1 else 0)
 
 -- ---- the start
 

@@ -8,7 +8,7 @@ use Rattle.mv_isa.specs.declared.instr.Cause.TheVariants as cause
 use Rattle.mv_patch.specs.Orders.{is_known_order}
 use Rattle.mv_machine.proofs.Leaving.{Leaves as EachLeaves, planned_leaves, polled_leaves}
 use Rattle.mv_machine.proofs.Turns.{turn_by, runs_more}
-use Rattle.mv_machine.specs.Runs.{State, Stop, Going, Exit, Trap, Fault, Request, Exits, Reads, Writes, Traps, Plans, Polls, Unknown, request_of, argument, live_frames, word_read, next_read, later_reads, answered, stopped, refused, ordered, planned, acted, polled, environment_call, choices_at, fetched_step, after, where_going, turn, runs_from}
+use Rattle.mv_machine.specs.Runs.{State, Stop, Going, Exit, Trap, Fault, Request, Exits, Reads, Writes, Traps, Plans, Polls, Unknown, request_of, argument, live_frames, word_read, next_read, later_reads, answered, stopped, refused, ordered, planned, acted, polled, environment_call, choices_at, fetched_step, after, is_going, turn, runs_from}
 use Rattle.mv_machine.specs.Snapshots.{Asks}
 use Rattle.mv_refine.specs.CutRuns.{with_input, TakenIsEnough, ReadTakesMore, WriteWritesMore}
 use Rattle.mv_refine.proofs.Leaves.{Leaves, turn_leaves}
@@ -101,7 +101,7 @@ module _ (rest : List (Option ℕ)) (more : Option ℕ) where
   after_follows Calls s mid e = call_follows (request_of (reg s.regs 17)) s mid e
   after_follows (Faults why) s mid e = inl (record { mid = mid; left = e; same = refl })
 
-  going_follows : (stop : Stop) (a b s t : State) → Follows a b → Follows s t → Follows (where_going stop a s) (where_going stop b t)
+  going_follows : (stop : Stop) (a b s t : State) → Follows a b → Follows s t → Follows (if is_going stop then a else s) (if is_going stop then b else t)
   going_follows Going a b s t h k = h
   going_follows (Exit status) a b s t h k = k
   going_follows (Trap code) a b s t h k = k

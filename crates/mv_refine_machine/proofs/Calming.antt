@@ -8,10 +8,10 @@ use Rattle.mv_fetch.specs.Held.{older_at}
 use Rattle.mv_image.specs.Spelling.{Fields}
 use Rattle.mv_image.specs.Patched.{text_of}
 use Rattle.mv_ir.specs.World.{World}
-use Rattle.mv_machine.specs.Runs.{Stop, Going, Exit, Trap, Fault, bytes_to_come}
+use Rattle.mv_machine.specs.Runs.{Stop, Going, Exit, Trap, Fault, bytes_to_come, is_going}
 use Rattle.mv_select.specs.Slots.Narrowed.{same_bindings}
 use Rattle.mv_select.proofs.OfSlots.Bindings.{bindings_are_told}
-use Rattle.mv_refine_machine.specs.Calm.{Rest, stack_words, IsCalm, is_going, all_empty, gives_bytes, is_same_event, same_events, is_calm_text, is_world_outside, is_calm}
+use Rattle.mv_refine_machine.specs.Calm.{Rest, stack_words, IsCalm, all_empty, gives_bytes, is_same_event, same_events, is_calm_text, is_world_outside, is_calm}
 use Rattle.mv_patch.specs.Orders.{values_of}
 use Rattle.mv_refine_machine.proofs.Memory.{KeepsText}
 use Rattle.mv_ir_worlds.proofs.Combining.{words_told, words_same, binding_told, binding_same}

@@ -1,9 +1,9 @@
 -- What each step keeps of a state, a run keeps.
-use Rattle.std.proofs.Common.{◌≡◌, ℕ, zero, suc, List, Option, slice_index, refl, sym, subst}
+use Rattle.std.proofs.Common.{◌≡◌, ℕ, zero, suc, List, Option, slice_index, refl, sym, subst, if◌then◌else◌}
 use Rattle.mv_isa.specs.declared.instr.Cause.{Cause}
 use Rattle.mv_isa.specs.Execution.{Outcome, Goes, Calls, Faults, reg}
 use Rattle.mv_fetch.specs.Held.{Room}
-use Rattle.mv_machine.specs.Runs.{State, Stop, Going, Exit, Trap, Fault, Request, Exits, Reads, Writes, Traps, Plans, Polls, Unknown, request_of, argument, planned, polled, answered, environment_call, fetched_step, after, where_going, turn, runs_from}
+use Rattle.mv_machine.specs.Runs.{State, Stop, Going, Exit, Trap, Fault, Request, Exits, Reads, Writes, Traps, Plans, Polls, Unknown, request_of, argument, planned, polled, answered, environment_call, fetched_step, after, is_going, turn, runs_from}
 
 pub record StepsKeep (P : State → Type 0) : Type 0 where
   pub goes : (regs : List ℕ) (pc : ℕ) (room : Room) (s : State) → P s → P (after (Goes regs pc room) s)
@@ -16,7 +16,7 @@ module _ (P : State → Type 0) (keep : StepsKeep P) where
   after_keeps Calls s h = keep.calls (request_of (reg s.regs 17)) s h
   after_keeps (Faults why) s h = keep.faults why s h
 
-  going_keeps : (stop : Stop) (going ended : State) → P going → P ended → P (where_going stop going ended)
+  going_keeps : (stop : Stop) (going ended : State) → P going → P ended → P (if is_going stop then going else ended)
   going_keeps Going going ended h k = h
   going_keeps (Exit status) going ended h k = k
   going_keeps (Trap code) going ended h k = k

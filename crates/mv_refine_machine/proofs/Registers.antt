@@ -1,5 +1,5 @@
 -- A run has 32 registers.
-use Rattle.std.proofs.Common.{◌≡◌, ℕ, zero, suc, ◌%◌, Bool, true, false, cond, eqb, List, length, slice_get, slice_index, Option, Some, None, ℤ, refl, ◌∙◌, length-set}
+use Rattle.std.proofs.Common.{◌≡◌, ℕ, zero, suc, ◌%◌, Bool, true, false, cond, eqb, List, length, slice_get, slice_index, Option, Some, None, ℤ, refl, ◌∙◌, length-set, if◌then◌else◌}
 use Rattle.std.proofs.lemmas.Bool.{ne_eqb}
 use Rattle.mv_machine.specs.Acts.{PollActs}
 use Rattle.mv_num.specs.declared.kind.Kind.{Kind}
@@ -13,7 +13,7 @@ use Rattle.mv_fetch.specs.Held.{Room, choices}
 use Rattle.mv_rv32.specs.Stepping.{access, picked_step}
 use Rattle.mv_image.specs.Spelling.{Fields}
 use Rattle.mv_machine.proofs.Leaving.{Leaves as EachLeaves, planned_leaves, polled_leaves}
-use Rattle.mv_machine.specs.Runs.{State, Stop, Going, Exit, Trap, Fault, Request, Exits, Reads, Writes, Traps, Plans, Polls, Unknown, request_of, argument, answered, environment_call, fetched_step, choices_at, after, where_going, turn, runs_from, first, runs}
+use Rattle.mv_machine.specs.Runs.{State, Stop, Going, Exit, Trap, Fault, Request, Exits, Reads, Writes, Traps, Plans, Polls, Unknown, request_of, argument, answered, environment_call, fetched_step, choices_at, after, is_going, turn, runs_from, first, runs}
 
 put_length : (regs : List ℕ) (rd value : ℕ) → length (put regs rd value) ≡ length regs
 unfolding put
@@ -131,7 +131,7 @@ after_keeps (Goes regs pc room) s h = h
 after_keeps Calls s h = call_keeps (request_of _) s
 after_keeps (Faults why) s h = refl
 
-going_keeps : (stop : Stop) (going ended : State) → length going.regs ≡ length ended.regs → length (where_going stop going ended).regs ≡ length ended.regs
+going_keeps : (stop : Stop) (going ended : State) → length going.regs ≡ length ended.regs → length (if is_going stop then going else ended).regs ≡ length ended.regs
 going_keeps Going going ended h = h
 going_keeps (Exit status) going ended h = refl
 going_keeps (Trap code) going ended h = refl

@@ -10,7 +10,7 @@ use Rattle.mv_image.specs.Patched.{text_of}
 use Rattle.mv_patch.specs.Orders.{values_of}
 use Rattle.mv_ir.specs.World.{World}
 use Rattle.mv_select.specs.Slots.Narrowed.{same_bindings}
-use Rattle.mv_machine.specs.Runs.{Stop, Going, Exit, Trap, Fault, bytes_to_come}
+use Rattle.mv_machine.specs.Runs.{Stop, Going, is_going, bytes_to_come}
 
 -- all of a machine's state but registers and pc
 pub record Rest : Type 0 where
@@ -35,12 +35,6 @@ pub record IsCalm (image : Fields) (w : World) (m : Rest) : Type 0 where
   pub log : m.log ≡ w.log
 
 -- ---- the same as a test
-
-abbrev pub is_going : Stop → Bool
-is_going Going = true
-is_going (Exit status) = false
-is_going (Trap code) = false
-is_going (Fault why) = false
 
 abbrev pub all_empty : List (List ℕ) → Bool
 all_empty [] = true

@@ -1,5 +1,5 @@
 -- The stub on an image, from its call to its return.
-use Rattle.std.proofs.Common.{◌≡◌, ◌≢◌, inl, inr, ⊎_elim, ℕ, add-one, ◌+◌, ◌-◌, ◌*◌, ◌/◌, ◌%◌, ◌<◌, ◌≤◌, Bool, true, false, ◌&&◌, ◌||◌, not, cond, eqb, ltb, List, [], ◌∷◌, ◌++◌, length, slice_get, slice_index, is_some, Option, Some, None, pos, refl, sym, ap, ap₂, ◌∙◌, subst, arith}
+use Rattle.std.proofs.Common.{◌≡◌, ◌≢◌, inl, inr, ⊎_elim, ℕ, add-one, ◌+◌, ◌-◌, ◌*◌, ◌/◌, ◌%◌, ◌<◌, ◌≤◌, Bool, true, false, ◌&&◌, ◌||◌, not, cond, eqb, ltb, List, [], ◌∷◌, ◌++◌, length, slice_get, slice_index, is_some, Option, Some, None, pos, refl, sym, ap, ap₂, ◌∙◌, subst, arith, if◌then◌else◌}
 use Rattle.std.proofs.lemmas.List.{append-nil, append_assoc}
 use Rattle.std.specs.List.{All}
 use Rattle.std.proofs.lemmas.List.Elements.{All-head, All-tail}
@@ -23,8 +23,8 @@ use Rattle.mv_patch.specs.Plans.{plan_between}
 use Rattle.mv_patch.specs.Pairs.{place}
 use Rattle.mv_patch.specs.Tables.{patchable}
 use Rattle.mv_ir.specs.World.{World}
-use Rattle.mv_machine.specs.Runs.{State, request_of, environment_call}
-use Rattle.mv_machine.specs.Commits.{opens, is_some_pair, after_instr, commit_from, where_it_goes}
+use Rattle.mv_machine.specs.Runs.{State, request_of, environment_call, is_going}
+use Rattle.mv_machine.specs.Commits.{opens, is_some_pair, after_instr, commit_from}
 use Rattle.mv_machine.proofs.Turns.{runs_more, turn_by}
 use Rattle.mv_select_code.specs.Trees.View.{AreRegisters}
 use Rattle.mv_select_code.proofs.OfTrees.Registers.{put_same, put_other, put_registers}
@@ -226,7 +226,7 @@ module _ (known : Known) (closed : (pc address : ℕ) → Bool) (image : Fields)
   unfolding commit_from
   calm_under w i t h =
       ap (commit_from first picks) (add-one t)
-      ∙ ap₂ (λ stop o. where_it_goes stop (after_instr (S t) o (U t)) (U t)) h.quiet.calm.goes_on (instr_is (S t) i h.stands.fields (calm_one w i t h) (slice_index picks t))
+      ∙ ap₂ (λ stop o. if is_going stop then after_instr (S t) o (U t) else U t) h.quiet.calm.goes_on (instr_is (S t) i h.stands.fields (calm_one w i t h) (slice_index picks t))
       ∙ ap (after_instr (S t) (Some i)) h.quiet.under
 
   call_is : (regs : List ℕ) (pc : ℕ) (room : Room) → execute access Ecall regs pc room ≡ Calls

@@ -1,5 +1,5 @@
 -- One instruction of the stub, in mid-commit.
-use Rattle.std.proofs.Common.{◌≡◌, ℕ, add-one, ◌+◌, Bool, true, false, ◌&&◌, not, eqb, List, [], ◌∷◌, ◌++◌, slice_index, Option, Some, refl, sym, ap, ap₂, ◌∙◌, append_assoc}
+use Rattle.std.proofs.Common.{◌≡◌, ℕ, add-one, ◌+◌, Bool, true, false, ◌&&◌, not, eqb, List, [], ◌∷◌, ◌++◌, slice_index, Option, Some, refl, sym, ap, ap₂, ◌∙◌, append_assoc, if◌then◌else◌}
 use Rattle.std.proofs.lemmas.Bool.{and_from}
 use Rattle.mv_bindings.specs.declared.binding.Binding.{Binding}
 use Rattle.mv_isa.specs.declared.instr.Instr.{Instr}
@@ -11,8 +11,8 @@ use Rattle.mv_rv32.specs.Stepping.{access, target}
 use Rattle.mv_patch.specs.declared.prepared.Pair.{Pair}
 use Rattle.mv_patch.specs.Laws.{PairsAreDifferences}
 use Rattle.mv_patch.specs.Pairs.{pairs_between}
-use Rattle.mv_machine.specs.Runs.{State, turn}
-use Rattle.mv_machine.specs.Commits.{after_instr, commit_after, commit_from, where_it_goes}
+use Rattle.mv_machine.specs.Runs.{State, turn, is_going}
+use Rattle.mv_machine.specs.Commits.{after_instr, commit_after, commit_from}
 use Rattle.mv_machine.proofs.Turns.{runs_more, turn_by}
 use Rattle.mv_select_code.specs.Trees.View.{AreRegisters}
 use Rattle.mv_select_code.proofs.OfControl.Walk.{before_next}
@@ -120,7 +120,7 @@ module _ (between : TextIsBetween) (tested : BetweenIsTested) (differ : PairsAre
         let one = mid_one pc i done left regs at q in
         ap (commit_from first picks) (add-one t)
         ∙ ap (λ (s : State). commit_after s (slice_index picks t) (U t)) is
-        ∙ ap₂ (λ stop o. where_it_goes stop (after_instr x o (U t)) (U t)) planned.going (instr_is x i at.fields one (slice_index picks t))
+        ∙ ap₂ (λ stop o. if is_going stop then after_instr x o (U t) else U t) planned.going (instr_is x i at.fields one (slice_index picks t))
 
     pub steps : (pc pc' : ℕ) (i : Instr) (done left done' left' : List Pair) (regs regs' : List ℕ) (t : ℕ) → Does pc pc' i done done' regs regs' → done' ++ left' ≡ coming
         → AreRegisters regs' → ((q : ℕ) → IsOther q → reg regs' q ≡ reg regs q) → In pc done left regs t → In pc' done' left' regs' (t + 1)

@@ -1,6 +1,6 @@
 -- The run whose memory tells the commit that is under way is one on which code runs.
 use Rattle.std.proofs.Common.{◌≡◌, ⊎_elim, ◌⊎◌, inl, inr, ℕ, add-one, ◌+◌, ◌-◌, ◌*◌, ◌/◌, ◌%◌, ◌<◌, ◌≤◌, Bool, true, false, ◌&&◌, not, cond, eqb, leb, ltb, List, [], ◌∷◌, length, slice_get, slice_index, Option, Some, None, option_map, Err, refl, sym, ap, ap₂, ◌∙◌, subst, arith, length-set}
-use Rattle.std.specs.Prelude.{option_and_then}
+use Rattle.std.specs.Prelude.{option_and_then, if◌then◌else◌}
 use Rattle.std.specs.Result.{result_ok}
 use Rattle.std.proofs.lemmas.Bool.{and_parts, and_from, ltb-true, ltb-false, leb-true, ne_eqb, cases_lt, lt-ltb, le-ltb}
 use Rattle.std.proofs.lemmas.Option.{slice_get_within, get_or_from_slice_get, slice_get-get_or}
@@ -21,8 +21,8 @@ use Rattle.mv_image.proofs.PatchLaws.{text_size, text_at}
 use Rattle.mv_patch.specs.Orders.{values_of}
 use Rattle.mv_ir.specs.World.{World}
 use Rattle.mv_machine.specs.Acts.{PollActs}
-use Rattle.mv_machine.specs.Runs.{State, first, runs_from, choices_at, fetched_step}
-use Rattle.mv_machine.specs.Commits.{after_instr, commit_from, where_it_goes}
+use Rattle.mv_machine.specs.Runs.{State, first, runs_from, choices_at, fetched_step, is_going}
+use Rattle.mv_machine.specs.Commits.{after_instr, commit_from}
 use Rattle.mv_machine.proofs.Turns.{runs_more, turn_by}
 use Rattle.mv_select_code.specs.Statements.Frames.{Site, address}
 use Rattle.mv_select_code.specs.Statements.Leads.{Writes, limited}
@@ -250,7 +250,7 @@ module _ (known : Known) (image : Fields) (rules : Rules image) (input : List (O
   unfolding commit_from choices_at
   next_under i w next l =
       ap (commit_from (first image input polls) picks) (add-one i)
-      ∙ ap₂ (λ stop o. where_it_goes stop (after_instr (S i) o (at i).memory.under) (at i).memory.under) l.quiet.calm.goes_on
+      ∙ ap₂ (λ stop o. if is_going stop then after_instr (S i) o (at i).memory.under else (at i).memory.under) l.quiet.calm.goes_on
       (ap (option_and_then decode) (one_picked l.word (slice_index picks i) (choices (S i).room.held (S i).pc) l.one) ∙ l.says)
       ∙ ap (after_instr (S i) (Some l.instr)) l.quiet.under
       ∙ quiet_instr (S i) l.instr (S i).regs (S i).pc (S i).room next.regs next.pc l.room l.goes

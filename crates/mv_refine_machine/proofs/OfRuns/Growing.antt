@@ -1,10 +1,10 @@
 -- What a run has written, logged and taken only grows, and where it goes on it went on before.
-use Rattle.std.proofs.Common.{◌≡◌, ℕ, zero, suc, ◌+◌, ◌-◌, ◌≤◌, List, [], ◌∷◌, length, slice_index, Option, refl, sym, ap, ◌∙◌, subst, arith}
+use Rattle.std.proofs.Common.{◌≡◌, ℕ, zero, suc, ◌+◌, ◌-◌, ◌≤◌, List, [], ◌∷◌, length, slice_index, Option, refl, sym, ap, ◌∙◌, subst, arith, if◌then◌else◌}
 use Rattle.mv_isa.specs.Execution.{Outcome, Goes, Calls, Faults, reg}
 use Rattle.mv_fetch.specs.Held.{Room}
 use Rattle.mv_bindings.specs.Bindings.{events_from}
 use Rattle.mv_machine.proofs.Leaving.{Leaves as EachLeaves, planned_leaves, polled_leaves}
-use Rattle.mv_machine.specs.Runs.{State, Stop, Going, Exit, Trap, Fault, Request, Exits, Reads, Writes, Traps, Plans, Polls, Unknown, request_of, argument, later_reads, answered, environment_call, fetched_step, after, where_going, turn, runs_from}
+use Rattle.mv_machine.specs.Runs.{State, Stop, Going, Exit, Trap, Fault, Request, Exits, Reads, Writes, Traps, Plans, Polls, Unknown, request_of, argument, later_reads, answered, environment_call, fetched_step, after, is_going, turn, runs_from}
 use Rattle.mv_machine.proofs.Turns.{runs_more, IsOver, runs_over}
 use Rattle.mv_meaning.specs.Growth.{Begins}
 use Rattle.mv_meaning.proofs.Growing.{Begins-refl, Begins-trans}
@@ -54,7 +54,7 @@ after_grew (Goes regs pc room) s = record { output = Begins-refl s.output; log =
 after_grew Calls s = call_grew (request_of (reg s.regs 17)) s
 after_grew (Faults why) s = record { output = Begins-refl s.output; log = Begins-refl s.log; input = omega arith }
 
-going_grew : (stop : Stop) (s going : State) → Grew s going → Grew s (where_going stop going s)
+going_grew : (stop : Stop) (s going : State) → Grew s going → Grew s (if is_going stop then going else s)
 going_grew Going s going h = h
 going_grew (Exit status) s going h = grew_none s
 going_grew (Trap code) s going h = grew_none s

@@ -1,6 +1,6 @@
 -- An instruction that ends a run changes nothing but that, and no commit is under way behind it.
 use Rattle.std.proofs.Common.{◌≡◌, ℕ, zero, suc, add-one, ◌+◌, ◌-◌, ◌%◌, ◌<◌, Bool, true, false, cond, List, slice_get, slice_index, Option, Some, None, refl, sym, ap, ap₂, ◌∙◌, subst, arith}
-use Rattle.std.specs.Prelude.{option_and_then}
+use Rattle.std.specs.Prelude.{option_and_then, if◌then◌else◌}
 use Rattle.mv_bindings.specs.declared.binding.Binding.{Binding}
 use Rattle.mv_isa.specs.declared.instr.Instr.TheVariants.{Ecall}
 use Rattle.mv_isa.specs.Encoding.{decode}
@@ -10,8 +10,8 @@ use Rattle.mv_fetch.specs.Held.{Room, choices}
 use Rattle.mv_rv32.specs.Stepping.{access, picked_step}
 use Rattle.mv_image.specs.Spelling.{Fields}
 use Rattle.mv_patch.specs.Plans.{plan_between}
-use Rattle.mv_machine.specs.Runs.{State, Stop, Going, Exit, Trap, Fault, Request, Exits, Reads, Writes, Traps, Plans, Polls, Unknown, request_of, argument, answered, stopped, choices_at, environment_call, fetched_step, after, turn, runs_from}
-use Rattle.mv_machine.specs.Commits.{opens, is_some_pair, fetched_instr, after_instr, where_it_goes, commit_after, commit_from}
+use Rattle.mv_machine.specs.Runs.{State, Stop, Going, Exit, Trap, Fault, Request, Exits, Reads, Writes, Traps, Plans, Polls, Unknown, request_of, argument, answered, stopped, choices_at, environment_call, fetched_step, after, turn, runs_from, is_going}
+use Rattle.mv_machine.specs.Commits.{opens, is_some_pair, fetched_instr, after_instr, commit_after, commit_from}
 use Rattle.mv_machine.proofs.Leaving.{Leaves as EachLeaves, planned_leaves, polled_leaves}
 use Rattle.mv_machine.proofs.Turns.{IsOver, runs_more, runs_over, turn_by}
 use Rattle.mv_refine_machine.specs.MachineRuns.{spot_of}
@@ -77,7 +77,7 @@ module _ (s : State) (pick : ℕ) (going : s.stop ≡ Going) (over : (turn s pic
 
   -- no commit begins with an instruction that ends the run
   commit_stops : commit_after s pick None ≡ None
-  commit_stops = ap (λ stop. where_it_goes stop (after_instr s (fetched_instr s pick) None) None) going ∙ begins_none (fetched_instr s pick) refl
+  commit_stops = ap (λ stop. if is_going stop then after_instr s (fetched_instr s pick) None else None) going ∙ begins_none (fetched_instr s pick) refl
 
 -- ---- a run
 
@@ -87,7 +87,7 @@ is_over (Exit status) over = tt
 is_over (Trap code) over = tt
 is_over (Fault why) over = tt
 
-where_over : (stop : Stop) (going ended : Option (List Binding)) → IsOver stop → where_it_goes stop going ended ≡ ended
+where_over : (stop : Stop) (going ended : Option (List Binding)) → IsOver stop → (if is_going stop then going else ended) ≡ ended
 where_over Going going ended h = absurd h
 where_over (Exit status) going ended h = refl
 where_over (Trap code) going ended h = refl

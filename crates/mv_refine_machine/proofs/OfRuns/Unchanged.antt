@@ -12,8 +12,8 @@ use Rattle.mv_image.specs.Patched.{all_free, text_of}
 use Rattle.mv_image.proofs.PatchLaws.{free_text}
 use Rattle.mv_patch.specs.Orders.{is_known_order, values_of}
 use Rattle.mv_patch.specs.Plans.{plan_between}
-use Rattle.mv_machine.specs.Runs.{State, Stop, Going, Exit, Trap, Fault, Request, Exits, Reads, Writes, Traps, Plans, Polls, Unknown, request_of, argument, answered, stopped, live_frames, plan_area, stored_words, spelled_pairs, with_plan, refused, ordered, planned, acted, polled, environment_call, after, fetched_step, where_going, turn}
-use Rattle.mv_machine.specs.Commits.{opens, is_some_pair, fetched_instr, after_instr, where_it_goes}
+use Rattle.mv_machine.specs.Runs.{State, Stop, Going, Exit, Trap, Fault, Request, Exits, Reads, Writes, Traps, Plans, Polls, Unknown, request_of, argument, answered, stopped, live_frames, plan_area, stored_words, spelled_pairs, with_plan, refused, ordered, planned, acted, polled, environment_call, after, fetched_step, is_going, turn}
+use Rattle.mv_machine.specs.Commits.{opens, is_some_pair, fetched_instr, after_instr}
 use Rattle.mv_refine_machine.proofs.OfCommits.Planned.{no_pairs}
 use Rattle.mv_refine_machine.specs.Runs.Unchanged.{IsForPlan, IsUnchanged, LiveFramesRefuse, FreeTextIsItsOwn}
 use Rattle.mv_refine_machine.proofs.OfRuns.Stopping.{calls_where}
@@ -82,13 +82,13 @@ module _ (s : State) (live : live_frames s ≢ 0) where
   call_leaves Polls h = polled_leaves
   call_leaves Unknown h = absurd h
 
-where_unchanged : (stop : Stop) (s going : State) → IsUnchanged s going → IsUnchanged s (where_going stop going s)
+where_unchanged : (stop : Stop) (s going : State) → IsUnchanged s going → IsUnchanged s (if is_going stop then going else s)
 where_unchanged Going s going h = h
 where_unchanged (Exit status) s going h = unchanged s
 where_unchanged (Trap code) s going h = unchanged s
 where_unchanged (Fault why) s going h = unchanged s
 
-where_same : (stop : Stop) (under : Option (List Binding)) (now : Option (List Binding)) → now ≡ under → where_it_goes stop now under ≡ under
+where_same : (stop : Stop) (under : Option (List Binding)) (now : Option (List Binding)) → now ≡ under → (if is_going stop then now else under) ≡ under
 where_same Going under now e = e
 where_same (Exit status) under now e = refl
 where_same (Trap code) under now e = refl
