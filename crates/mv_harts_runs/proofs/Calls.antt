@@ -1,4 +1,5 @@
 -- What environment calls leave as it is.
+use Rattle.std.specs.Option.{option_map_or}
 use Rattle.std.proofs.Common.{◌≡◌, ℕ, ◌+◌, ◌%◌, ◌^◌, ◌-◌, ◌≤◌, Bool, true, false, ◌&&◌, not, cond, eqb, ltb, nat_eq, if◌then◌else◌, List, [], ◌∷◌, slice_get, Option, Some, None, option_map, unwrap_or, Err, refl, sym, ap, ◌∙◌, subst, arith}
 use Rattle.std.specs.Result.{result_ok}
 use Rattle.std.proofs.lemmas.Bool.{le-ltb, eq-eqb}
@@ -21,7 +22,7 @@ use Rattle.mv_refine_machine.specs.Stores.Laws.{RoomsAreWhole}
 use Rattle.mv_patch.specs.Orders.{is_known_order, values_of}
 use Rattle.mv_patch.specs.Plans.{plan_between, plan_of}
 use Rattle.mv_bindings.specs.Acts.{Act, Skip, Flip, Adopt}
-use Rattle.mv_machine.specs.Runs.{State, Fault, Request, Exits, Reads, Writes, Traps, Plans, Polls, Unknown, plan_area, stored_word, stored_words, with_plan, spelled_pairs, with_word_of, with_value, argument, answered, stopped, live_frames, refused, ordered, planned, act, acted, polled, environment_call}
+use Rattle.mv_machine.specs.Runs.{State, Fault, Request, Exits, Reads, Writes, Traps, Plans, Polls, Unknown, plan_area, stored_word, stored_words, with_plan, spelled_pairs, with_value, argument, answered, stopped, live_frames, refused, ordered, planned, act, acted, polled, environment_call}
 use Rattle.mv_harts_runs.specs.Harts.{AtOrder, AtPoll, place_by, handed, is_in_text}
 
 -- text and older words stay, and memory stays whole
@@ -106,7 +107,7 @@ module _ (rooms : RoomsAreWhole) where
     value_kept : (r : Room) (switch value : ℕ) → Kept r (with_value image r switch value)
     value_kept r switch value = by_row (slice_get image.switches switch) refl
       where
-        by_row : (row : Option SwitchRow) → slice_get image.switches switch ≡ row → Kept r (with_word_of r value row)
+        by_row : (row : Option SwitchRow) → slice_get image.switches switch ≡ row → Kept r (option_map_or (λ (x : SwitchRow). stored_word r x.address value) row r)
         by_row None e = kept_none r
         by_row (Some row) e = word_kept r row.address value (in_data switch row e)
 

@@ -1,4 +1,5 @@
 -- How many stores are reserved stays.
+use Rattle.std.specs.Option.{option_map_or}
 use Rattle.std.proofs.Common.{◌≡◌, ℕ, zero, suc, ◌+◌, ◌^◌, ◌-◌, ◌&&◌, Bool, true, false, nat_eq, if◌then◌else◌, List, [], ◌∷◌, slice_get, slice_index, Option, Some, None, option_map, unwrap_or, refl, sym, ap, ◌∙◌, subst}
 use Rattle.std.specs.Result.{result_ok}
 use Rattle.mv_descriptors.specs.declared.rows.SwitchRow.{SwitchRow}
@@ -14,7 +15,7 @@ use Rattle.mv_patch.specs.Orders.{is_known_order}
 use Rattle.mv_patch.specs.Plans.{plan_between}
 use Rattle.mv_patch.specs.Stores.{stored, stored_all}
 use Rattle.mv_bindings.specs.Acts.{Act, Skip, Flip, Adopt}
-use Rattle.mv_machine.specs.Runs.{State, Stop, Going, Exit, Trap, Fault, Request, Exits, Reads, Writes, Traps, Plans, Polls, Unknown, plan_area, stored_word, stored_words, with_word_of, with_value, request_of, argument, answered, stopped, live_frames, refused, ordered, planned, act, acted, polled, environment_call, fetched_step, after, is_going, turn, runs_from}
+use Rattle.mv_machine.specs.Runs.{State, Stop, Going, Exit, Trap, Fault, Request, Exits, Reads, Writes, Traps, Plans, Polls, Unknown, plan_area, stored_word, stored_words, with_value, request_of, argument, answered, stopped, live_frames, refused, ordered, planned, act, acted, polled, environment_call, fetched_step, after, is_going, turn, runs_from}
 use Rattle.mv_machine.specs.Commits.{fetched_instr}
 use Rattle.mv_harts_runs.specs.Harts.{Store, store_of}
 use Rattle.mv_harts_runs.proofs.Steps.{Effect, is_fence, FetchedLed, fetched_led}
@@ -60,7 +61,7 @@ all_reserve (p ∷ pairs) r = all_reserve pairs (stored r p)
 value_reserve : (image : Fields) (r : Room) (switch value : ℕ) → (with_value image r switch value).reserve ≡ r.reserve
 value_reserve image r switch value = by_row (slice_get image.switches switch)
   where
-    by_row : (row : Option SwitchRow) → (with_word_of r value row).reserve ≡ r.reserve
+    by_row : (row : Option SwitchRow) → (option_map_or (λ (x : SwitchRow). stored_word r x.address value) row r).reserve ≡ r.reserve
     by_row None = refl
     by_row (Some row) = word_reserve r row.address value
 

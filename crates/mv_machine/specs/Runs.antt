@@ -2,6 +2,7 @@
 -- image from its start. All of them are functions: of the image, the input, the number of the hart and what its polls take, the picks of the fetches
 -- and the number of instructions.
 use Rattle.std.specs.Prelude.{ℕ, zero, suc, ◌&&◌, ◌+◌, ◌-◌, ◌%◌, ◌^◌, Bool, true, false, cond, eqb, ltb, if◌then◌else◌, nat_eq, List, [], ◌∷◌, ◌++◌, length, map, replicate, slice_get, slice_index, Option, Some, None, unwrap_or}
+use Rattle.std.specs.Option.{option_map_or}
 use Rattle.mv_num.specs.Words.{add}
 use Rattle.mv_bindings.specs.declared.binding.Binding.{Binding}
 use Rattle.mv_bindings.specs.declared.binding.Event.{Event}
@@ -149,13 +150,8 @@ planned s code index =
 -- ---- polls
 
 -- a value is stored in the word of a switch, and nothing where there is no such switch
-
-abbrev pub with_word_of : Room → (value : ℕ) → Option SwitchRow → Room
-with_word_of room value None = room
-with_word_of room value (Some row) = stored_word room row.address value
-
 abbrev pub with_value : Fields → Room → (switch value : ℕ) → Room
-with_value image room switch value = with_word_of room value (slice_get image.switches switch)
+with_value image room switch value = option_map_or (λ (row : SwitchRow). stored_word room row.address value) (slice_get image.switches switch) room
 
 -- the value is stored in the switch, and all functions are committed
 abbrev pub flipped : State → (switch value : ℕ) → State

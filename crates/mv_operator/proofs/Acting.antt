@@ -15,7 +15,7 @@ use Rattle.mv_command.specs.Items.{Ascend}
 use Rattle.mv_image.specs.Spelling.{Fields}
 use Rattle.mv_operator.specs.declared.controls.Control.{Control}
 use Rattle.mv_operator.specs.Controls.{controls_of, controls_in}
-use Rattle.mv_operator.specs.Operator.{flip_of, flip_or_skip, actions_from, wrong_item, AreActions, IsFirstIdle, IsActions, IsFirstWrong, IsImageActions, IsImageFirstWrong}
+use Rattle.mv_operator.specs.Operator.{flip_of, actions_from, wrong_item, AreActions, IsFirstIdle, IsActions, IsFirstWrong, IsImageActions, IsImageFirstWrong}
 
 -- the item behind so many, and those behind it
 pub next_item : (polls : ℕ) (items : List Item) (k : ℕ) (item : Item) → k < length items → item ≡ get_or items k item → Ascend polls (drop k items) → (polls < item.poll) × Ascend item.poll (drop (k + 1) items)
@@ -37,8 +37,8 @@ acting switches items all actions filled more k item flip here is does later bef
     let rest = actions_from switches item.poll (drop (k + 1) items) in
     let same : item.poll - length actions - 1 ≡ item.poll - 1 - length actions = omega arith in (
       long,
-      before ∙ ap (λ l. actions ++ actions_from switches (length actions) l) cut ∙ ap (λ n. actions ++ (replicate n Skip ++ (flip_or_skip (flip_of switches item) ∷ rest))) same ∙
-          ap (λ a. actions ++ (gap ++ (flip_or_skip a ∷ rest))) does ∙ sym (append_assoc actions gap (flip ∷ rest)) ∙ ap (λ l. l ++ flip ∷ rest) (sym kept) ∙ sym (append_assoc filled (flip ∷ []) rest) ∙
+      before ∙ ap (λ l. actions ++ actions_from switches (length actions) l) cut ∙ ap (λ n. actions ++ (replicate n Skip ++ (unwrap_or (flip_of switches item) Skip ∷ rest))) same ∙
+          ap (λ a. actions ++ (gap ++ (unwrap_or a Skip ∷ rest))) does ∙ sym (append_assoc actions gap (flip ∷ rest)) ∙ ap (λ l. l ++ flip ∷ rest) (sym kept) ∙ sym (append_assoc filled (flip ∷ []) rest) ∙
           ap (λ l. l ++ rest) (sym grown) ∙ ap (λ n. more ++ actions_from switches n (drop (k + 1) items)) (sym long),
     )
 
@@ -72,7 +72,7 @@ first_wrong switches items k item here is right none =
 
 -- ---- what holds of each action
 
-one_action : (P : Action → Type 0) (switches : List Control) (item : Item) → P Skip → ((flip : Action) → flip_of switches item ≡ Some flip → P flip) → (does : Option Action) → flip_of switches item ≡ does → P (flip_or_skip does)
+one_action : (P : Action → Type 0) (switches : List Control) (item : Item) → P Skip → ((flip : Action) → flip_of switches item ≡ Some flip → P flip) → (does : Option Action) → flip_of switches item ≡ does → P (unwrap_or does Skip)
 one_action P switches item nothing flips None e = nothing
 one_action P switches item nothing flips (Some flip) e = flips flip e
 
@@ -81,7 +81,7 @@ pub each_action : (P : Action → Type 0) (switches : List Control) → P Skip �
 each_action P switches nothing flips polls [] = All-nil P
 each_action P switches nothing flips polls (item ∷ rest) =
     let gap = replicate (item.poll - polls - 1) Skip in
-    let flip = flip_or_skip (flip_of switches item) in
+    let flip = unwrap_or (flip_of switches item) Skip in
     let later = actions_from switches item.poll rest in
     All-append P gap (flip ∷ later) (All-replicate P (item.poll - polls - 1) Skip nothing)
     (All-append P (flip ∷ []) later (All-replicate P 1 flip (one_action P switches item nothing (flips item) (flip_of switches item) refl)) (each_action P switches nothing flips item.poll rest))

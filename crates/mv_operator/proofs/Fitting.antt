@@ -1,6 +1,6 @@
 -- What an item does fits the switches.
 use Rattle.std.proofs.Common.{ℕ, ℤ, pos, negsuc, zero, suc, ◌≡◌, ◌<◌, ◌-◌, ◌^◌, Bool, true, false, List, [], ◌∷◌, map, refl, sym, ap, ◌∙◌, subst, arith}
-use Rattle.std.specs.Prelude.{Option, Some, None, All, IsTrue, slice_get, option_map, if◌then◌else◌, unwrap_or}
+use Rattle.std.specs.Prelude.{Option, Some, None, All, IsTrue, slice_get, option_map, option_and_then, if◌then◌else◌, unwrap_or}
 use Rattle.std.specs.List.{zip}
 use Rattle.std.proofs.lemmas.Bool.Decides.{nat_tests}
 use Rattle.std.proofs.lemmas.Option.{none-some, slice_get-map}
@@ -23,7 +23,7 @@ use Rattle.mv_image.specs.Spelling.{Fields}
 use Rattle.mv_machine.specs.Actions as rows
 use Rattle.mv_operator.specs.declared.controls.Control.{Control}
 use Rattle.mv_operator.specs.Controls.{kind_of_type, control_of_global, controls_of, control_of_row, controls_in}
-use Rattle.mv_operator.specs.Operator.{is_of_kind, kind_of_switch, switch_named, flip_by, flip_from, flip_of, AreActions}
+use Rattle.mv_operator.specs.Operator.{is_of_kind, kind_of_switch, switch_named, flip_by, flip_of, AreActions}
 use Rattle.mv_operator.proofs.Acting.{each_action}
 use Rattle.mv_num.proofs.Numbers.{word_of_pos, word_small, word_of_negsuc}
 
@@ -62,7 +62,7 @@ is_kind_value (Some kind) v = is_value (kind_number kind) v
 -- whether an action fits switches
 abbrev fits_switches : List Control → Action → Bool
 fits_switches switches Skip = true
-fits_switches switches (Flip s v) = is_kind_value (kind_of_switch (slice_get switches s)) v
+fits_switches switches (Flip s v) = is_kind_value (kind_of_switch switches s) v
 
 module _ (switches : List Control) (value : ℤ) (flip : Action) where
   fits_kind : (s : ℕ) (kind : Kind) (holds : Bool) → is_of_kind kind value ≡ holds → (is_value (kind_number kind) (word_of value) ≡ true → fits_switches switches (Flip s (word_of value)) ≡ true) →
@@ -70,13 +70,13 @@ module _ (switches : List Control) (value : ℤ) (flip : Action) where
   fits_kind s kind true h there e = subst (λ a. fits_switches switches a ≡ true) (some_same e) (there (value_fits kind value h))
   fits_kind s kind false h there e = absurd (none-some flip e)
 
-  fits_by : (s : ℕ) (kind : Option Kind) → (is_kind_value kind (word_of value) ≡ true → fits_switches switches (Flip s (word_of value)) ≡ true) → flip_by s value kind ≡ Some flip → fits_switches switches flip ≡ true
+  fits_by : (s : ℕ) (kind : Option Kind) → (is_kind_value kind (word_of value) ≡ true → fits_switches switches (Flip s (word_of value)) ≡ true) → option_and_then (flip_by value s) kind ≡ Some flip → fits_switches switches flip ≡ true
   fits_by s None there e = absurd (none-some flip e)
   fits_by s (Some kind) there e = fits_kind s kind (is_of_kind kind value) refl there e
 
-  fits_from : (number : Option ℕ) → flip_from switches value number ≡ Some flip → fits_switches switches flip ≡ true
+  fits_from : (number : Option ℕ) → option_and_then (λ s. option_and_then (flip_by value s) (kind_of_switch switches s)) number ≡ Some flip → fits_switches switches flip ≡ true
   fits_from None e = absurd (none-some flip e)
-  fits_from (Some s) e = fits_by s (kind_of_switch (slice_get switches s)) (λ h. h) e
+  fits_from (Some s) e = fits_by s (kind_of_switch switches s) (λ h. h) e
 
 flip_fits : (switches : List Control) (item : Item) (flip : Action) → flip_of switches item ≡ Some flip → fits_switches switches flip ≡ true
 flip_fits switches item flip e = fits_from switches item.value flip (switch_named switches item.name) e
@@ -88,21 +88,21 @@ type_same Void v = refl
 type_same (Scalar kind) v = refl
 type_same (Pointer signature) v = refl
 
-global_same : (global : Option Global) (v : ℕ) → is_kind_value (kind_of_switch (Some (control_of_global global))) v ≡ is_global_value global v
+global_same : (global : Option Global) (v : ℕ) → is_kind_value (control_of_global global).kind v ≡ is_global_value global v
 global_same None v = refl
 global_same (Some g) v = type_same g.ctype v
 
-switch_same : (p : Program) (switch : Option Switch) (v : ℕ) → is_kind_value (kind_of_switch (option_map (λ (s : Switch). control_of_global (slice_get p.globals s.global)) switch)) v ≡ is_switch_value p switch v
+switch_same : (p : Program) (switch : Option Switch) (v : ℕ) → is_kind_value (option_and_then (λ (c : Control). c.kind) (option_map (λ (s : Switch). control_of_global (slice_get p.globals s.global)) switch)) v ≡ is_switch_value p switch v
 switch_same p None v = refl
 switch_same p (Some s) v = global_same (slice_get p.globals s.global) v
 
 action_same : (p : Program) (action : Action) → fits_switches (controls_of p) action ≡ fits p action
 action_same p Skip = refl
-action_same p (Flip s v) = ap (λ c. is_kind_value (kind_of_switch c) v) (slice_get-map (λ (s : Switch). control_of_global (slice_get p.globals s.global)) p.switches s) ∙ switch_same p (slice_get p.switches s) v
+action_same p (Flip s v) = ap (λ o. is_kind_value (option_and_then (λ (c : Control). c.kind) o) v) (slice_get-map (λ (s : Switch). control_of_global (slice_get p.globals s.global)) p.switches s) ∙ switch_same p (slice_get p.switches s) v
 
 -- ---- of an image
 
-row_fits : (names : List (List ℕ)) (switches : List SwitchRow) (s v : ℕ) → is_kind_value (kind_of_switch (slice_get (map control_of_row (zip names switches)) s)) v ≡ true → rows.is_row_value (slice_get switches s) v ≡ true
+row_fits : (names : List (List ℕ)) (switches : List SwitchRow) (s v : ℕ) → is_kind_value (kind_of_switch (map control_of_row (zip names switches)) s) v ≡ true → rows.is_row_value (slice_get switches s) v ≡ true
 row_fits [] switches s v h = cc
 row_fits (name ∷ names) [] s v h = cc
 row_fits (name ∷ names) (row ∷ switches) zero v h = h
@@ -118,13 +118,13 @@ words_kind : (s : ℕ) (value : ℤ) (holds : Bool) (flip : Action) → (if hold
 words_kind s value true flip e = subst IsOfWord (some_same e) (word_small value)
 words_kind s value false flip e = absurd (none-some flip e)
 
-words_by : (s : ℕ) (value : ℤ) (kind : Option Kind) (flip : Action) → flip_by s value kind ≡ Some flip → IsOfWord flip
+words_by : (s : ℕ) (value : ℤ) (kind : Option Kind) (flip : Action) → option_and_then (flip_by value s) kind ≡ Some flip → IsOfWord flip
 words_by s value None flip e = absurd (none-some flip e)
 words_by s value (Some kind) flip e = words_kind s value (is_of_kind kind value) flip e
 
-words_from : (switches : List Control) (value : ℤ) (number : Option ℕ) (flip : Action) → flip_from switches value number ≡ Some flip → IsOfWord flip
+words_from : (switches : List Control) (value : ℤ) (number : Option ℕ) (flip : Action) → option_and_then (λ s. option_and_then (flip_by value s) (kind_of_switch switches s)) number ≡ Some flip → IsOfWord flip
 words_from switches value None flip e = absurd (none-some flip e)
-words_from switches value (Some s) flip e = words_by s value (kind_of_switch (slice_get switches s)) flip e
+words_from switches value (Some s) flip e = words_by s value (kind_of_switch switches s) flip e
 
 -- ---- all actions
 

@@ -1,5 +1,5 @@
 -- What the operator does at the polls of a program or of an image.
-use Rattle.std.specs.Prelude.{ℕ, ℤ, pos, negsuc, ◌+◌, ◌-◌, ◌≡◌, Bool, if◌then◌else◌, nat_eq, nat_lt, nat_le, Option, Some, None, is_none, List, [], ◌∷◌, ◌++◌, replicate, position, slice_get}
+use Rattle.std.specs.Prelude.{ℕ, ℤ, pos, negsuc, ◌+◌, ◌-◌, ◌≡◌, Bool, if◌then◌else◌, nat_eq, nat_lt, nat_le, Option, Some, None, is_none, option_and_then, unwrap_or, List, [], ◌∷◌, ◌++◌, replicate, position, slice_get}
 use Rattle.std.specs.Cmp.Lexicographic.{pointwise}
 use Rattle.mv_num.specs.Words.{word_of}
 use Rattle.mv_num.specs.declared.kind.Kind.{Kind}
@@ -51,34 +51,25 @@ is_named name switch = pointwise nat_eq switch.name name
 abbrev pub switch_named : List Control → List ℕ → Option ℕ
 switch_named switches name = position (is_named name) switches
 
-abbrev pub kind_of_switch : Option Control → Option Kind
-kind_of_switch None = None
-kind_of_switch (Some switch) = switch.kind
+-- the type of a switch
+abbrev pub kind_of_switch : List Control → ℕ → Option Kind
+kind_of_switch switches s = option_and_then (λ (switch : Control). switch.kind) (slice_get switches s)
 
 -- ---- actions
 
 -- a switch of this type gets a value, where it is one of that type
-abbrev pub flip_by : ℕ → ℤ → Option Kind → Option Action
-flip_by s value None = None
-flip_by s value (Some kind) = if is_of_kind kind value then Some (Flip s (word_of value)) else None
-
-abbrev pub flip_from : List Control → ℤ → Option ℕ → Option Action
-flip_from switches value None = None
-flip_from switches value (Some s) = flip_by s value (kind_of_switch (slice_get switches s))
+abbrev pub flip_by : ℤ → ℕ → Kind → Option Action
+flip_by value s kind = if is_of_kind kind value then Some (Flip s (word_of value)) else None
 
 -- What an item does: the first switch of its name gets its value. None where the name is no switch, or the value isn't one of its type.
 abbrev pub flip_of : List Control → Item → Option Action
-flip_of switches item = flip_from switches item.value (switch_named switches item.name)
-
-abbrev pub flip_or_skip : Option Action → Action
-flip_or_skip None = Skip
-flip_or_skip (Some flip) = flip
+flip_of switches item = option_and_then (λ s. option_and_then (flip_by item.value s) (kind_of_switch switches s)) (switch_named switches item.name)
 
 -- the actions behind so many polls: at the poll of each item its flip, and none at the polls between
 abbrev pub actions_from : List Control → ℕ → List Item → List Action
 actions_from switches polls [] = []
 actions_from switches polls (item ∷ rest) =
-    replicate (item.poll - polls - 1) Skip ++ (flip_or_skip (flip_of switches item) ∷ actions_from switches item.poll rest)
+    replicate (item.poll - polls - 1) Skip ++ (unwrap_or (flip_of switches item) Skip ∷ actions_from switches item.poll rest)
 
 -- the index of the first item that does nothing
 abbrev pub wrong_item : List Control → List Item → Option ℕ

@@ -58,7 +58,7 @@ fn switch_named(switches: &[Control], name: &[u8]) -> Option<usize>
 
 // The type of a switch.
 fn kind_of_switch(switches: &[Control], switch: usize) -> Option<Kind>
-    ensures { result ≡ kind_of_switch (slice_get switches.now switch) }
+    ensures { result ≡ kind_of_switch switches.now switch }
 {
     switches.get(switch)?.kind
 }

@@ -1,4 +1,5 @@
 -- Orders do by the tables what they do in the source.
+use Rattle.std.specs.Option.{option_map_or}
 use Rattle.std.proofs.Common.{◌≡◌, ◌≢◌, inr, ℕ, suc, ◌+◌, ◌*◌, ◌%◌, ◌^◌, ◌<◌, ◌≤◌, Bool, true, false, ◌&&◌, ◌||◌, cond, eqb, ltb, List, [], ◌∷◌, length, map, take, slice_get, slice_index, slice_index_or, is_some, unwrap_or, option_map, ◌++◌, Option, Some, None, Err, refl, sym, ap, ap₂, ◌∙◌, subst, arith}
 use Rattle.std.specs.List.{All}
 use Rattle.std.specs.Result.{result_ok}
@@ -30,7 +31,7 @@ use Rattle.mv_image.proofs.Limits.{is_within}
 use Rattle.mv_patch.specs.Orders.{word_in, words_now, bound_now, is_ordered, next_binding, ordered_rows, bound_rows, bindings_after, answer_after, is_known_order}
 use Rattle.mv_ir.specs.World.{World}
 use Rattle.mv_machine.specs.Acts.{polls_of}
-use Rattle.mv_machine.specs.Runs.{with_word_of, with_value}
+use Rattle.mv_machine.specs.Runs.{stored_word, with_value}
 use Rattle.mv_ir_worlds.proofs.Combining.{combination_in, in_combination}
 use Rattle.mv_select_code.specs.Control.Runs.{Machine}
 use Rattle.mv_select.specs.Calls.Convention.{Layout, HoldsGlobals}
@@ -281,7 +282,7 @@ module _ (p : Program) (numbers : List ℕ) (y : Layout) (laid : IsSetOut y) (im
 
   value_is : with_value image m.rest.room switch value ≡ stores.room
   value_is =
-      ap (λ (o : Option SwitchRow). with_word_of m.rest.room value o) row.1
+      ap (λ (o : Option SwitchRow). option_map_or (λ (r : SwitchRow). stored_word m.rest.room r.address value) o m.rest.room) row.1
       ∙ ap (λ a. unwrap_or (memory.access.store m.rest.room a 4 value) m.rest.room) at_row
       ∙ ap (λ (o : Option Room). unwrap_or o m.rest.room) stores.stored
 
