@@ -39,7 +39,7 @@ APART = [
 APPENDICES = [
     ("A Which text is which program", [("mv_front/specs/Verdicts.antt", "IsProgram")]),
     ("A1 Which texts are accepted", [
-        ("mv_check_expressions/specs/Breaches.antt", "breaches"), ("mv_check_expressions/specs/Breaches.antt", "least"), ("mv_check_rules/specs/Rules.antt", "least_broken"),
+        ("mv_check_expressions/specs/Breaches.antt", "breaches"), ("mv_check_expressions/specs/Judged.antt", "first_broken"),
         ("mv_check_limits/specs/Ordered.antt", "first_excess"), ("mv_parser/specs/Verdict.antt", "IsShallow"), ("mv_front/specs/Verdicts.antt", "IsRefused"),
         ("mv_count_limits/specs/Counted.antt", "IsWithinCounts")]),
     ("B `build`, and the form of an image", [("mv_top/specs/Building.antt", "BuildsFile"), ("mv_image/specs/Faults.antt", "Spells")]),
