@@ -1,6 +1,7 @@
-//! The objects over the machine. They tell nothing of what they hold: clauses see each as its count of faults.
-ghost use Rattle.std.specs.Prelude.{◌≡◌, ◌≤◌, ◌⊎◌, ◌^◌, None, length, IfOk, IsErrOf};
-ghost use Rattle.mv_io.specs.Outside.{Rose, CountAfter};
+//! The objects over the machine. They tell nothing of what they hold, but that a source has come to its end: clauses see each as its count of faults, and
+//! a source with whether it has ended.
+ghost use Rattle.std.specs.Prelude.{◌≡◌, ◌≤◌, ◌⊎◌, ◌^◌, false, None, length, IfOk, IsErrOf};
+ghost use Rattle.mv_io.specs.Outside.{Rose, CountAfter, left_outside};
 ghost use Rattle.mv_io.specs.Shelves.{untold, unasked, AsksFor, is_fault, Lacks, Loads};
 
 use crate::faults::count_fault;
@@ -32,19 +33,20 @@ pub struct StdSource<R: Read + Drop> {
 }
 
 impl<R: Read + Drop> Model for StdSource<R> {
-    ghost use Rattle.std.specs.Prelude.{ℕ, ◌≤◌};
+    ghost use Rattle.std.specs.Prelude.{◌≡◌, ◌≤◌, true};
+    ghost use Rattle.mv_io.specs.Outside.{SourceOutside};
 
-    ghost Value = { ℕ };
+    ghost Value = { SourceOutside };
 
-    ghost view = { λ s. s.faults };
+    ghost view = { λ s. record { ended = s.at_end; faults = s.faults } };
 
-    ghost invariant = { λ s. (s.next ≤ s.filled) × (s.filled ≤ 4096) };
+    ghost invariant = { λ s. (s.next ≤ s.filled) × (s.filled ≤ 4096) × (s.at_end ≡ true → s.next ≡ s.filled) };
 }
 
 impl<R: Read + Drop> StdSource<R> {
     /// A source of what the reader has still to give.
     pub fn new(reader: R) -> StdSource<R>
-        ensures { result ≡ 0 }
+        ensures { result ≡ record { ended = false; faults = 0 } }
     {
         StdSource {
             reader,
@@ -58,9 +60,9 @@ impl<R: Read + Drop> StdSource<R> {
 }
 
 impl<R: Read + Drop> Source for StdSource<R> {
-    ghost left = { λ _. None };
+    ghost left = { λ s. left_outside s };
 
-    ghost faults = { λ s. s };
+    ghost faults = { λ s. s.faults };
 
     fn read_byte(&mut self) -> Result<Option<u8>, Failed> {
         if self.next == self.filled && !self.at_end {
