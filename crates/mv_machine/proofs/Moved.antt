@@ -5,11 +5,12 @@ use Rattle.std.proofs.lemmas.Bool.{cases_lt}
 use Rattle.mv_bindings.specs.declared.binding.Event.{Event}
 use Rattle.mv_fetch.specs.Held.{choices}
 use Rattle.mv_rv32.specs.Stepping.{picked_step}
-use Rattle.mv_io.specs.Outside.{Takes}
+use Rattle.mv_io.specs.Outside.{MayCome, OnInput, Takes}
 use Rattle.mv_io.specs.declared.outside.Failed.{Failed}
 use Rattle.mv_probe.specs.Ways.{Way, Follows, pick_of, way_after}
 use Rattle.mv_machine.specs.Runs.{Stop, Going, State, next_read, later_reads, bytes_to_come, choices_at, fetched_step, turn, runs_from, executed}
-use Rattle.mv_machine.specs.Snapshots.{Tells, Under}
+use Rattle.mv_io.proofs.Common.{lost_both, lost_same, may_come}
+use Rattle.mv_machine.specs.Snapshots.{Under}
 use Rattle.mv_machine.specs.Moves.{Seen, shown, Meets, Moves}
 use Rattle.mv_machine.proofs.Turns.{runs_more, adds_by, executed_more, runs_append, executed_append}
 
@@ -25,53 +26,60 @@ written_then (Some a) b c xs ys e d = d ∙ ap (λ o. option_map (λ before. bef
 
 -- ---- the source
 
--- a read that was answered is the next one of an input that the source had
-pub record Read (left : Option (List ℕ)) (byte : Option ℕ) (later : List (Option ℕ)) : Type 0 where
-  pub input : List (Option ℕ)
-  pub tells : Tells left input
-  pub next : next_read input ≡ byte
-  pub rest : later_reads input ≡ later
+-- a read that was answered is the next one of what was taken and what comes behind, which is left
+abbrev IsRead : (left left' : Option (List ℕ)) (byte : Option ℕ) → Type 0
+IsRead left left' byte =
+    OnInput left left' (λ taken later. (next_read (bytes_to_come (taken ++ later)) ≡ byte) × (later_reads (bytes_to_come (taken ++ later)) ≡ bytes_to_come later))
 
-pub read : (left left' : Option (List ℕ)) (byte : Option ℕ) (later : List (Option ℕ)) → Takes {E = Failed} left left' (Ok byte) → Tells left' later → Read left byte later
-read None left' byte later t h = record { input = byte ∷ later; tells = tt; next = refl; rest = refl }
-read (Some old) left' (Some b) later t h =
-    record { input = Some b ∷ later; tells = ap (λ l. Some b ∷ l) (subst (λ o. Tells o later) t.2 h) ∙ sym (ap bytes_to_come t.1); next = refl; rest = refl }
-read (Some old) left' None later t h =
-    let none : later ≡ [] = subst (λ o. Tells o later) t.1 h ∙ ap bytes_to_come t.0 in
-    record { input = []; tells = sym (ap bytes_to_come t.0); next = refl; rest = sym none }
+read : (left left' : Option (List ℕ)) (byte : Option ℕ) → Takes {E = Failed} left left' (Ok byte) → IsRead left left' byte
+read left left' (Some b) t = (b ∷ [], t, λ later may. (refl, refl))
+read left left' None t = (
+  [],
+  t.0,
+  λ later may.
+      let none : later ≡ [] = subst (λ (o : Option (List ℕ)). MayCome o later) t.1 may in
+      (ap (λ (z : List ℕ). next_read (bytes_to_come z)) none, ap (λ (z : List ℕ). later_reads (bytes_to_come z)) none ∙ sym (ap bytes_to_come none)),
+)
 
 -- ---- one move
 
 pub moves_telling : (f : State → State) (x y : Seen) (stop : Stop) (Told : List Event → Type 0) (news : List Event) → y.left ≡ x.left → y.written ≡ x.written → Told news → ((input : List (Option ℕ)) (output : List ℕ) (log : List Event) → f (shown x Going input output log) ≡ shown y stop input output (log ++ news)) → Moves f x y stop Told
 moves_telling f x y stop Told news l w told e =
-    ([], news, w ∙ nothing_written x.written, told, λ later tells. (later, subst (λ o. Tells o later) l tells, λ out log. (tt, e later out log ∙ ap (λ o. shown y stop later o (log ++ news)) (sym (append-nil out)))))
+    ([], news, w ∙ nothing_written x.written, told, ([], lost_same x.left y.left l, λ later may out log.
+    (tt, e (bytes_to_come later) out log ∙ ap (λ o. shown y stop (bytes_to_come later) o (log ++ news)) (sym (append-nil out)))))
 
 pub moves_quietly : (f : State → State) (x y : Seen) (stop : Stop) (Told : List Event → Type 0) → y.left ≡ x.left → y.written ≡ x.written → Told [] → ((input : List (Option ℕ)) (output : List ℕ) (log : List Event) → f (shown x Going input output log) ≡ shown y stop input output log) → Moves f x y stop Told
 moves_quietly f x y stop Told l w quiet e =
     moves_telling f x y stop Told [] l w quiet (λ input output log. e input output log ∙ ap (λ all. shown y stop input output all) (sym (append-nil log)))
 
 pub moves_reading : (f : State → State) (x y : Seen) (byte : Option ℕ) (Told : List Event → Type 0) → Takes {E = Failed} x.left y.left (Ok byte) → y.written ≡ x.written → Told [] → ((input : List (Option ℕ)) (output : List ℕ) (log : List Event) → next_read input ≡ byte → f (shown x Going input output log) ≡ shown y Going (later_reads input) output log) → Moves f x y Going Told
-moves_reading f x y byte Told takes w quiet e = (
-  [],
-  [],
-  w ∙ nothing_written x.written,
-  quiet,
-  λ later tells. let r = read x.left y.left byte later takes tells in (
-    r.input,
-    r.tells,
-    λ out log.
-        (tt, e r.input out log r.next ∙ ap₂ (λ i o. shown y Going i o log) r.rest (sym (append-nil out)) ∙ ap (λ all. shown y Going later (out ++ []) all) (sym (append-nil log))),
-  ),
-)
+moves_reading f x y byte Told takes w quiet e =
+    let r : IsRead x.left y.left byte = read x.left y.left byte takes in (
+      [],
+      [],
+      w ∙ nothing_written x.written,
+      quiet,
+      (
+        r.0,
+        r.1,
+        λ later may out log.
+            let here = r.2 later may in (
+              tt,
+              e (bytes_to_come (r.0 ++ later)) out log here.0 ∙ ap₂ (λ i o. shown y Going i o log) here.1 (sym (append-nil out))
+                  ∙ ap (λ all. shown y Going (bytes_to_come later) (out ++ []) all) (sym (append-nil log)),
+            ),
+      ),
+    )
 
 pub moves_writing : (f : State → State) (x y : Seen) (byte : ℕ) (Told : List Event → Type 0) → y.left ≡ x.left → y.written ≡ option_map (λ before. before ++ byte ∷ []) x.written → Told [] → ((input : List (Option ℕ)) (output : List ℕ) (log : List Event) → f (shown x Going input output log) ≡ shown y Going input (output ++ byte ∷ []) log) → Moves f x y Going Told
 moves_writing f x y byte Told l w quiet e =
-    (byte ∷ [], [], w, quiet, λ later tells. (later, subst (λ o. Tells o later) l tells, λ out log. (tt, e later out log ∙ ap (λ all. shown y Going later (out ++ byte ∷ []) all) (sym (append-nil log)))))
+    (byte ∷ [], [], w, quiet, ([], lost_same x.left y.left l, λ later may out log.
+    (tt, e (bytes_to_come later) out log ∙ ap (λ all. shown y Going (bytes_to_come later) (out ++ byte ∷ []) all) (sym (append-nil log)))))
 
 -- the same of a function that does the same
 pub moves_as : (f g : State → State) (x y : Seen) (stop : Stop) (Told : List Event → Type 0) → ((input : List (Option ℕ)) (output : List ℕ) (log : List Event) → g (shown x Going input output log) ≡ f (shown x Going input output log)) → Moves f x y stop Told → Moves g x y stop Told
 moves_as f g x y stop Told e m =
-    (m.0, m.1, m.2, m.3, λ later tells. let t = m.4 later tells in (t.0, t.1, λ out log. (tt, e t.0 out log ∙ (t.2 out log).1)))
+    (m.0, m.1, m.2, m.3, (m.4.0, m.4.1, λ later may out log. (tt, e (bytes_to_come (m.4.0 ++ later)) out log ∙ (m.4.2 later may out log).1)))
 
 -- the fetch of a pick that is one of the choices
 pub fetched : (x : Seen) (stop : Stop) (input : List (Option ℕ)) (output : List ℕ) (log : List Event) (pick : ℕ) → pick < length (choices x.room.held x.pc) → fetched_step (shown x stop input output log) pick ≡ picked_step x.room pick x.regs x.pc
@@ -123,23 +131,25 @@ meets_more x y z stop way v way' Before Behind Told joins picks pick n len is fo
       m.1 ++ t.1,
       written_then x.written y.written z.written m.0 t.0 m.2 t.2,
       joins m.1 t.1 m.3 t.3,
-      λ later tells.
-          let mid = t.4 later tells in
-          let start = m.4 mid.0 mid.1 in (
-            start.0,
-            start.1,
-            λ o log.
-                let s = shown x Going start.0 o log in
-                let here = start.2 o log in
-                let at : runs_from s all n ≡ shown y Going mid.0 (o ++ m.0) (log ++ m.1) = runs_append s picks (pick ∷ []) n le ∙ here.1 in
-                let count : choices_at (runs_from s picks n) ≡ length (choices y.room.held y.pc) = ap choices_at here.1 ∙ count_is y Going mid.0 (o ++ m.0) (log ++ m.1) in
-                let one : adds_by (runs_from s all n).stop ≡ 1 = ap (λ (e : State). adds_by e.stop) at in (
-                  (
-                    under_more way v way' s picks pick (length (choices y.room.held y.pc)) n len is follows count here.0.0,
-                    omega (arith, executed_more s all n, executed_append s picks (pick ∷ []) n le, here.0.1, one),
-                  ),
-                  runs_more s all n ∙ ap₂ turn at (get_or_at picks pick [] 0 n len) ∙ (mid.2 (o ++ m.0) (log ++ m.1)).1
-                      ∙ ap₂ (λ (out : List ℕ) (events : List Event). shown z stop later out events) (append_assoc o m.0 t.0) (append_assoc log m.1 t.1),
-                ),
-          ),
+      (
+        m.4.0 ++ t.4.0,
+        lost_both x.left y.left z.left m.4.0 t.4.0 m.4.1 t.4.1,
+        λ later may o log.
+            let mid = bytes_to_come (t.4.0 ++ later) in
+            let s = shown x Going (bytes_to_come (m.4.0 ++ (t.4.0 ++ later))) o log in
+            let here = m.4.2 (t.4.0 ++ later) (may_come y.left z.left t.4.0 later t.4.1 may) o log in
+            let at : runs_from s all n ≡ shown y Going mid (o ++ m.0) (log ++ m.1) = runs_append s picks (pick ∷ []) n le ∙ here.1 in
+            let count : choices_at (runs_from s picks n) ≡ length (choices y.room.held y.pc) = ap choices_at here.1 ∙ count_is y Going mid (o ++ m.0) (log ++ m.1) in
+            let one : adds_by (runs_from s all n).stop ≡ 1 = ap (λ (e : State). adds_by e.stop) at in
+            subst (λ (bytes : List ℕ). SoFar way all (n + 1) (shown x Going (bytes_to_come bytes) o log)
+            × (runs_from (shown x Going (bytes_to_come bytes) o log) all (n + 1) ≡ shown z stop (bytes_to_come later) (o ++ (m.0 ++ t.0)) (log ++ (m.1 ++ t.1))))
+            (sym (append_assoc m.4.0 t.4.0 later)) (
+              (
+                under_more way v way' s picks pick (length (choices y.room.held y.pc)) n len is follows count here.0.0,
+                omega (arith, executed_more s all n, executed_append s picks (pick ∷ []) n le, here.0.1, one),
+              ),
+              runs_more s all n ∙ ap₂ turn at (get_or_at picks pick [] 0 n len) ∙ (t.4.2 later may (o ++ m.0) (log ++ m.1)).1
+                  ∙ ap₂ (λ (out : List ℕ) (events : List Event). shown z stop (bytes_to_come later) out events) (append_assoc o m.0 t.0) (append_assoc log m.1 t.1),
+            ),
+      ),
     )

@@ -17,7 +17,7 @@ use Rattle.mv_patch.specs.declared.order.Order.{Order}
 use Rattle.mv_patch.specs.declared.planning.PlanError.{PlanError}
 use Rattle.mv_patch.specs.declared.order.Order.TheVariants.{CommitAll, RevertAll, CommitFunction, RevertFunction, CommitRefs, RevertRefs}
 use Rattle.mv_machine.specs.declared.engine.Engine.{Engine}
-use Rattle.mv_machine.specs.Runs.{State, Stop, Going, Fault, Plans, Polls, environment_call, answered, stopped, with_plan, with_value, refused, carried_out, ordered, planned, flipped, act, acted, polled, adopts}
+use Rattle.mv_machine.specs.Runs.{State, Stop, Going, Fault, Plans, Polls, bytes_to_come, environment_call, answered, stopped, with_plan, with_value, refused, carried_out, ordered, planned, flipped, act, acted, polled, adopts}
 use Rattle.mv_machine.specs.Moves.{Seen, seen, shown, Moves, Does}
 use Rattle.mv_machine.specs.Engines.{Taken, IsAsked}
 use Rattle.mv_machine.proofs.Moved.{moves_telling, moves_quietly}
@@ -162,10 +162,10 @@ module _ (engine engine' : Engine) (left written : Option (List ℕ)) (Told : Li
     m.1,
     m.2,
     m.3,
-    λ later tells. let t = m.4 later tells in (
-      t.0,
-      t.1,
-      λ o l. (tt, ap (λ (b : Bool). polling b (shown (from (action ∷ is)) Going t.0 o l)) (idle_is idle) ∙ (t.2 o l).1),
+    (
+      m.4.0,
+      m.4.1,
+      λ later may o l. (tt, ap (λ (b : Bool). polling b (shown (from (action ∷ is)) Going (bytes_to_come (m.4.0 ++ later)) o l)) (idle_is idle) ∙ (m.4.2 later may o l).1),
     ),
   )
 

@@ -8,12 +8,13 @@ use Rattle.mv_isa.specs.declared.instr.Cause.{Cause}
 use Rattle.mv_isa.specs.declared.instr.Cause.TheVariants as cause
 use Rattle.mv_fetch.specs.Held.{Room, IsInText, choices}
 use Rattle.mv_rv32.specs.Stepping.{access, picked_step, picked_target, IsCarriedOut}
-use Rattle.mv_io.specs.Outside.{CountAfter}
+use Rattle.mv_io.specs.Outside.{CountAfter, OnInput}
+use Rattle.mv_io.proofs.Common.{some_later}
 use Rattle.mv_probe.specs.Ways.{Way, Follows, way_after}
 use Rattle.mv_machine.specs.declared.machine.Stopped.{Stopped}
 use Rattle.mv_machine.specs.declared.machine.Stopped.TheVariants as answer
 use Rattle.mv_machine.specs.Runs.{Stop, Going, Exit, Trap, Fault, State, Request, Reads, Writes, request_of, bytes_to_come, stopped, choices_at, fetched_step, turn, runs_from, executed}
-use Rattle.mv_machine.specs.Snapshots.{Snapshot, resumed, Tells, Under, Asks, Reached, Whole, Broken, Answered, WantsMemory, Ran, Unless, last_of, is_input_fault, is_output_fault}
+use Rattle.mv_machine.specs.Snapshots.{Snapshot, resumed, Under, Asks, Reached, Whole, Broken, Answered, WantsMemory, Ran, Unless, last_of, is_input_fault, is_output_fault}
 use Rattle.mv_machine.specs.Moves.{Seen, shown, Meets, Moves, Called, Wanting, Turns, Goes, Walked, FaultAt, input_failed, output_failed}
 use Rattle.mv_machine.proofs.Turns.{turn_by, turn_faults, runs_more, adds_by, executed_more, runs_over, executed_over, runs_append, IsOver}
 use Rattle.mv_machine.proofs.Moved.{SoFar, way_more, under_more, Joins, meets_more}
@@ -71,18 +72,12 @@ unfetched : (room : Room) (pick : ℕ) (regs : List ℕ) (pc : ℕ) → length (
 unfolding picked_step
 unfetched room pick regs pc none = ap (λ (words : List ℕ). step access (slice_get words pick) regs pc room) (nil_from_length (choices room.held pc) none)
 
--- some input that fits what a source tells
-pub some_input : (left : Option (List ℕ)) → (later : List (Option ℕ)) × Tells left later
-some_input None = ([], tt)
-some_input (Some bytes) = (bytes_to_come bytes, refl)
-
 -- an instruction that faults leaves pc and memory
 fault_stays : (x y : Seen) (pick : ℕ) (why : Cause) (Told : List Event → Type 0) → Moves (λ s. turn s pick) x y (Fault why) Told → (y.pc ≡ x.pc) × (y.room ≡ x.room)
 fault_stays x y pick why Told m =
-    let later = some_input y.left in
-    let t = m.4 later.0 later.1 in
-    let s : State = shown x Going t.0 [] [] in
-    let at = (t.2 [] []).1 in
+    let later = some_later y.left in
+    let s : State = shown x Going (bytes_to_come (m.4.0 ++ later.0)) [] [] in
+    let at = (m.4.2 later.0 later.1 [] []).1 in
     let same : turn s pick ≡ stopped s (Fault why) = turn_faults s pick why refl (ap (λ (e : State). e.stop) at) in
     (ap (λ (e : State). e.pc) (sym at ∙ same), ap (λ (e : State). e.room) (sym at ∙ same))
 
@@ -94,18 +89,23 @@ module _ (was is : Snapshot) (x y : Seen) (a : IsSeen was x) (b : IsSeen is y) (
   abbrev Told : List Event → Type 0
   Told = Tell p q
 
-  abbrev At : List (Option ℕ) → State → Stop → Type 0
-  At later e stop = Reached e stop is later x.written y.written Told
+  abbrev At : (later : List ℕ) → State → Stop → Type 0
+  At later e stop = Reached e stop is (bytes_to_come later) x.written y.written Told
 
   abbrev Runs : Stopped → Type 0
   Runs r = Ran steps r was is x.actions x.left y.left x.written y.written way way' A B Told
 
-  from_meets : (f : State → State) (P : State → Type 0) (stop : Stop) (Q : List (Option ℕ) → State → Type 0) → Meets P f x y stop Told → ((later : List (Option ℕ)) (s : State) → P s → Reached (f s) stop is later x.written y.written Told → Q later s) → (later : List (Option ℕ)) → Tells y.left later → (input : List (Option ℕ)) × Tells x.left input × Q later (resumed was input x.actions)
-  from_meets f P stop Q m q later tells =
-      let t = m.4 later tells in
-      let s : State = shown x Going t.0 [] [] in
-      let here = t.2 [] [] in
-      (t.0, t.1, subst (λ (e : State). Q later e) (resumed_is was x t.0 a) (q later s here.0 (reached (f s) y stop is later m.0 m.1 x.written Told b m.2 m.3 here.1)))
+  from_meets : (f : State → State) (P : State → Type 0) (stop : Stop) (Q : List ℕ → State → Type 0) → Meets P f x y stop Told → ((later : List ℕ) (s : State) → P s → At later (f s) stop → Q later s) →
+      OnInput x.left y.left (λ taken later. Q later (resumed was (bytes_to_come (taken ++ later)) x.actions))
+  from_meets f P stop Q m q = (
+    m.4.0,
+    m.4.1,
+    λ later may.
+        let input = bytes_to_come (m.4.0 ++ later) in
+        let s : State = shown x Going input [] [] in
+        let here = m.4.2 later may [] [] in
+        subst (λ (e : State). Q later e) (resumed_is was x input a) (q later s here.0 (reached (f s) y stop is (bytes_to_come later) m.0 m.1 x.written Told b m.2 m.3 here.1)),
+  )
 
   -- the steps were used up
   pub all_steps : Goes steps x y way way' Told → Runs answer.Steps
@@ -138,13 +138,13 @@ module _ (was is : Snapshot) (x y : Seen) (a : IsSeen was x) (b : IsSeen is y) (
         let k : steps ≡ (steps - (n + 1)) + (n + 1) = omega (arith, lt) in
         ap (λ (i : ℕ). executed s all i) k ∙ executed_over s all (n + 1) (steps - (n + 1)) (subst (λ t. IsOver t) (sym e) over)
 
-    whole : (stop : Stop) → IsOver stop → (later : List (Option ℕ)) (s : State) → SoFar way all (n + 1) s → Reached (runs_from s all (n + 1)) stop is later x.written y.written Told → Whole s all steps (At later) stop
+    whole : (stop : Stop) → IsOver stop → (later : List ℕ) (s : State) → SoFar way all (n + 1) s → At later (runs_from s all (n + 1)) stop → Whole s all steps (At later) stop
     whole stop over later s p r = record {
       reached = subst (λ (e : State). At later e stop) (sym (to_end s stop over r.stopped)) r;
       picked = executed_to_end s stop over r.stopped ∙ p.1 ∙ sym len;
     }
 
-    ended : (stop : Stop) (r : Stopped) → IsOver stop → Moves (λ s. turn s pick) mid y stop (Tell l q) → ((later : List (Option ℕ)) (s : State) → Whole s all steps (At later) stop → Answered r steps s all (At later) A B) → Runs r
+    ended : (stop : Stop) (r : Stopped) → IsOver stop → Moves (λ s. turn s pick) mid y stop (Tell l q) → ((later : List ℕ) (s : State) → Whole s all steps (At later) stop → Answered r steps s all (At later) A B) → Runs r
     ended stop r over t answers = record {
       image = rows;
       picks = all;
@@ -172,7 +172,7 @@ module _ (was is : Snapshot) (x y : Seen) (a : IsSeen was x) (b : IsSeen is y) (
     still_told quiet = (g.3.0, g.3.1, g.3.2, subst Told (append-nil g.3.1) (joins p l q g.3.1 [] g.3.3 quiet), g.3.4)
 
     -- an instruction was fetched and not carried out
-    broken : (r : Stopped) (Why : State → ℕ → Type 0) → y ≡ mid → Tell l q [] → ((e : State) → e.regs ≡ mid.regs → e.pc ≡ mid.pc → e.room ≡ mid.room → Why e pick) → ((later : List (Option ℕ)) (s : State) → Broken s all steps (At later) Why → Answered r steps s all (At later) A B) → Runs r
+    broken : (r : Stopped) (Why : State → ℕ → Type 0) → y ≡ mid → Tell l q [] → ((e : State) → e.regs ≡ mid.regs → e.pc ≡ mid.pc → e.room ≡ mid.room → Why e pick) → ((later : List ℕ) (s : State) → Broken s all steps (At later) Why → Answered r steps s all (At later) A B) → Runs r
     broken r Why still quiet why answers = record {
       image = rows;
       picks = all;
@@ -221,15 +221,15 @@ module _ (was is : Snapshot) (x y : Seen) (a : IsSeen was x) (b : IsSeen is y) (
           m.1,
           m.2,
           subst Told (append-nil m.1) (joins p l q m.1 [] m.3 quiet),
-          λ later tells. let t = m.4 later tells in (
-            t.0,
-            t.1,
-            λ o log.
-                let s = shown x Going t.0 o log in
-                let here = t.2 o log in
+          (
+            m.4.0,
+            m.4.1,
+            λ later may o log.
+                let s = shown x Going (bytes_to_come (m.4.0 ++ later)) o log in
+                let here = m.4.2 later may o log in
                 let one : adds_by (runs_from s g.0 n).stop ≡ 1 = ap (λ (e : State). adds_by e.stop) here.1 in (
                   (here.0.0, omega (arith, executed_more s g.0 n, here.0.1, one)),
-                  runs_more s g.0 n ∙ ap (λ (e : State). turn e (slice_index g.0 n)) here.1 ∙ one_more later (o ++ m.0) (log ++ m.1) (slice_index g.0 n),
+                  runs_more s g.0 n ∙ ap (λ (e : State). turn e (slice_index g.0 n)) here.1 ∙ one_more (bytes_to_come later) (o ++ m.0) (log ++ m.1) (slice_index g.0 n),
                 ),
           ),
         )

@@ -16,7 +16,8 @@ use Rattle.mv_probe.specs.Ways.{Way, Follows, way_after}
 use Rattle.mv_machine.specs.declared.engine.Engine.{Engine}
 use Rattle.mv_machine.specs.declared.machine.Stopped.{Stopped}
 use Rattle.mv_machine.specs.declared.machine.Stopped.TheVariants as answer
-use Rattle.mv_machine.specs.Runs.{Stop, Going, Fault, State, Reads, Writes, request_of, environment_call, turn, executed}
+use Rattle.mv_io.proofs.Common.{lost_none}
+use Rattle.mv_machine.specs.Runs.{Stop, Going, Fault, State, Reads, Writes, request_of, environment_call, bytes_to_come, turn, executed}
 use Rattle.mv_machine.specs.Snapshots.{Under}
 use Rattle.mv_machine.specs.Moves.{Seen, seen, shown, Moves, Outcomes, FromCall, Called, Wanting, Fetched, Steps, GoOn, Strides, Settles, Turns, Goes}
 use Rattle.mv_machine.proofs.Turns.{turn_by, runs_none}
@@ -123,13 +124,14 @@ goes_none x way Told quiet = (
     [],
     nothing_written x.written,
     quiet,
-    λ later tells. (
-      later,
-      tells,
-      λ o log. (
-        (under_none way (shown x Going later o log), executed_none (shown x Going later o log) []),
-        runs_none (shown x Going later o log) [] ∙ ap₂ (λ (out : List ℕ) (events : List Event). shown x Going later out events) (sym (append-nil o)) (sym (append-nil log)),
-      ),
+    (
+      [],
+      lost_none x.left,
+      λ later may o log.
+          let s = shown x Going (bytes_to_come later) o log in (
+            (under_none way s, executed_none s []),
+            runs_none s [] ∙ ap₂ (λ (out : List ℕ) (events : List Event). shown x Going (bytes_to_come later) out events) (sym (append-nil o)) (sym (append-nil log)),
+          ),
     ),
   ),
 )

@@ -15,7 +15,7 @@ use Rattle.mv_rv32.specs.declared.hart.Hart.{Hart}
 use Rattle.mv_rv32.specs.declared.hart.Stepped.{Stepped}
 use Rattle.mv_rv32.specs.declared.hart.Stepped.TheVariants as stepped
 use Rattle.mv_machine.specs.declared.engine.Engine.{Engine}
-use Rattle.mv_io.specs.Outside.{Takes}
+use Rattle.mv_io.specs.Outside.{OnInput, Takes}
 use Rattle.mv_io.specs.declared.outside.Failed.{Failed}
 use Rattle.mv_probe.specs.Ways.{Way, Follows, way_after}
 use Rattle.mv_machine.specs.declared.turning.Stride.{Stride}
@@ -23,8 +23,8 @@ use Rattle.mv_machine.specs.declared.machine.Stopped.{Stopped}
 use Rattle.mv_machine.specs.declared.machine.Stopped.TheVariants as answer
 use Rattle.mv_patch.specs.Plans.{plan_between}
 use Rattle.mv_machine.specs.Commits.{is_some_pair}
-use Rattle.mv_machine.specs.Runs.{State, Stop, Going, Exit, Trap, Fault, Request, Reads, Writes, request_of, environment_call, word_read, turn, runs_from, executed}
-use Rattle.mv_machine.specs.Snapshots.{Tells, Under, is_input_fault, is_output_fault}
+use Rattle.mv_machine.specs.Runs.{State, Stop, Going, Exit, Trap, Fault, Request, Reads, Writes, request_of, environment_call, word_read, bytes_to_come, turn, runs_from, executed}
+use Rattle.mv_machine.specs.Snapshots.{Under, is_input_fault, is_output_fault}
 
 -- an engine, the actions that are left, and what the source and the sink tell
 pub record Seen : Type 0 where
@@ -67,13 +67,14 @@ shown x stop input output log = record {
   stop = stop;
 }
 
--- one more piece of output stands in the sink, the probes were told some events, and whatever is still to come, the function takes a state of the
--- first kind with a fitting input to the one of the second kind; and P holds of the first
+-- one more piece of output stands in the sink, the probes were told some events, some bytes were taken of the source, and whatever may come behind these, the
+-- function takes a state of the first kind with both to read to the one of the second kind with what comes behind; and P holds of the first
 abbrev pub Meets : (State → Type 0) → (State → State) → Seen → Seen → Stop → (Told : List Event → Type 0) → Type 0
 Meets P f x y stop Told =
     (more : List ℕ) × (news : List Event) × (y.written ≡ option_map (λ before. before ++ more) x.written) × Told news
-    × ((later : List (Option ℕ)) → Tells y.left later → (input : List (Option ℕ)) × Tells x.left input
-    × ((output : List ℕ) (log : List Event) → P (shown x Going input output log) × (f (shown x Going input output log) ≡ shown y stop later (output ++ more) (log ++ news))))
+    × OnInput x.left y.left (λ taken later.
+    (output : List ℕ) (log : List Event) → P (shown x Going (bytes_to_come (taken ++ later)) output log)
+    × (f (shown x Going (bytes_to_come (taken ++ later)) output log) ≡ shown y stop (bytes_to_come later) (output ++ more) (log ++ news)))
 
 abbrev pub Moves : (State → State) → Seen → Seen → Stop → (Told : List Event → Type 0) → Type 0
 Moves f x y stop Told = Meets (λ s. Unit {0}) f x y stop Told

@@ -10,6 +10,7 @@ use Rattle.mv_isa.specs.declared.instr.Cause.{Cause}
 use Rattle.mv_isa.specs.Registers.{a7}
 use Rattle.mv_fetch.specs.Held.{Room, IsInText}
 use Rattle.mv_rv32.specs.Stepping.{picked_target, IsCarriedOut}
+use Rattle.mv_io.specs.Outside.{OnInput}
 use Rattle.mv_probe.specs.Ways.{Way, pick_of, way_after}
 use Rattle.mv_machine.specs.declared.machine.Stopped.{Stopped}
 use Rattle.mv_machine.specs.declared.machine.Stopped.TheVariants as answer
@@ -31,10 +32,6 @@ kept s last = record { image = s.image; regs = s.regs; pc = s.pc; room = s.room;
 -- the state from which a call of `run` goes on; the actions, the output and the log are those of this call
 unfoldable pub resumed : Snapshot → (input : List (Option ℕ)) → List Action → State
 resumed m input actions = record { hart = 0; image = m.image; regs = m.regs; pc = m.pc; room = m.room; bindings = m.bindings; input = input; actions = map act_of actions; output = []; log = []; stop = Going }
-
--- a source that tells what is left answers each of these bytes and then the end; one that tells nothing may answer anything
-abbrev pub Tells : (left : Option (List ℕ)) → (input : List (Option ℕ)) → Type 0
-Tells left input = IfSome left (λ bytes. input ≡ bytes_to_come bytes)
 
 -- the picks are the answers of a told way, in order
 abbrev pub Under : Option Way → State → (picks : List ℕ) → Type 0
@@ -92,15 +89,15 @@ Answered answer.InputFault steps s picks at input_rose output_rose = Broken s pi
 Answered answer.OutputFault steps s picks at input_rose output_rose = Broken s picks steps at (λ e pick. Asks e pick Writes × output_rose)
 Answered answer.Memory steps s picks at input_rose output_rose = Broken s picks steps at WantsMemory
 
--- What a call of `run` does on a machine that has not ended: there are picks, those of the oracle's way where it tells one, and an input, that of
--- the source where it tells what is left, with which the run is the defined one. Whatever a source that tells nothing gives later, the input
--- goes on with it.
+-- What a call of `run` does on a machine that has not ended: there are picks, those of the oracle's way where it tells one, and bytes that were taken of the
+-- source. Whatever may come behind these, the run with these picks on both is the defined one, and leaves what comes behind.
 pub record Ran (steps : ℕ) (answer : Stopped) (was is : Snapshot) (actions : List Action) (left left' written written' : Option (List ℕ)) (way way' : Option Way) (input_rose output_rose : Type 0) (Told : List Event → Type 0) : Type 0 where
   pub image : is.image ≡ was.image
   pub picks : List ℕ
   pub way_is : way' ≡ option_map (λ w. way_after w (length picks)) way
-  pub run : (later : List (Option ℕ)) → Tells left' later → (input : List (Option ℕ)) × Tells left input
-      × (Under way (resumed was input actions) picks × Answered answer steps (resumed was input actions) picks (λ e stop. Reached e stop is later written written' Told) input_rose output_rose)
+  pub run : OnInput left left' (λ taken later.
+      let s = resumed was (bytes_to_come (taken ++ later)) actions in
+      Under way s picks × Answered answer steps s picks (λ e stop. Reached e stop is (bytes_to_come later) written written' Told) input_rose output_rose)
 
 -- the call goes on only where the run has not ended before
 abbrev pub Unless : Option Stopped → Type 0 → Type 0
