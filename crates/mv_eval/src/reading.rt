@@ -3,7 +3,6 @@
 ghost use Rattle.std.specs.Prelude.{◌≤◌};
 ghost use Rattle.mv_io.specs.Outside.{Rose, CountAfter};
 ghost use Rattle.mv_eval.specs.Evaluations.{ReadsInput, is_input_error};
-ghost use Rattle.mv_eval.specs.Grown.{Lost};
 
 use crate::error::EvalError;
 use mv_io::Source;
@@ -15,7 +14,7 @@ const MOST: usize = 16_777_216;
 
 /// The first 16,777,216 bytes of the input, or all of it where there are fewer.
 pub fn read_input<S: Source>(alloc: Global, source: &mut S) -> Result<List<u8>, EvalError>
-    ensures reads { ReadsInput (S.left source.old) (λ bytes. Lost (S.left source.old) (S.left source.new) bytes) (Rose (S.faults source.old) (S.faults source.new)) result }
+    ensures reads { ReadsInput (S.left source.old) (S.left source.new) (Rose (S.faults source.old) (S.faults source.new)) result }
     ensures later { S.faults source.old ≤ S.faults source.new }
     ensures count { CountAfter (is_input_error result) (S.faults source.old) (S.faults source.new) }
 {

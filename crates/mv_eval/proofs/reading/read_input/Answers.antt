@@ -1,5 +1,5 @@
 use Rattle.std.proofs.Common.{arith, length-append, true, [], ◌∷◌}
-use Rattle.mv_eval.proofs.Inputs.{full, lost_more, lost_same, part, whole}
+use Rattle.mv_eval.proofs.Inputs.{full, lost_more, lost_still, part, whole}
 use Rattle.mv_eval.proofs.reading.read_input.Goals as goal
 use Rattle.mv_io.proofs.Common.{count_since, rose_since}
 
@@ -13,7 +13,7 @@ pub returns-in-Err-clause-reads : goal.returns-in-Err-clause-reads
 returns-in-Err-clause-reads g c =
     let i = c.reading.invariant in
     let left = g.S.Source.left c.read_byte.new.self in
-    let lost = lost_same (g.S.Source.left c.args.source.now) (g.S.Source.left c.reading.source) left c.reading.bytes c.in-Err.field-0 i.lost c.in-Err.ensures.bytes in (
+    let lost = lost_still (g.S.Source.left c.args.source.now) (g.S.Source.left c.reading.source) left c.reading.bytes i.lost c.in-Err.field-0 c.in-Err.ensures.bytes in (
       part (g.S.Source.left c.args.source.now) left c.reading.bytes lost i.few,
       rose_since (g.S.Source.faults c.args.source.now) (g.S.Source.faults c.reading.source) (g.S.Source.faults c.read_byte.new.self) i.stands c.in-Err.ensures.cause.failed,
     )
@@ -26,12 +26,12 @@ returns-then-is_err-clause-reads g c =
     let i = c.reading.invariant in
     let left = g.S.Source.left c.read_byte.new.self in
     let byte = c.in-Ok-Some.byte in
-    let lost = lost_more (g.S.Source.left c.args.source.now) (g.S.Source.left c.reading.source) left c.reading.bytes byte i.lost (rw c.in-Ok-Some.field-0-is at c.in-Ok-Some.ensures.bytes) in
+    let lost = lost_more (g.S.Source.left c.args.source.now) (g.S.Source.left c.reading.source) left c.reading.bytes i.lost byte (rw c.in-Ok-Some.field-0-is at c.in-Ok-Some.ensures.bytes) in
     part (g.S.Source.left c.args.source.now) left _ lost (omega (arith, c.reading-test.true, c.len.ensures, length-append c.reading.bytes (byte ∷ [])))
 
 pub returns-clause-reads : goal.returns-clause-reads
 returns-clause-reads g c =
     let i = c.reading.invariant in (
-      full (g.S.Source.left c.args.source.now) (g.S.Source.left c.reading.source) c.reading.bytes i.lost (omega (arith, i.few, c.len.ensures, c.reading-test.false)),
       i.lost,
+      λ later may. full c.reading.bytes (omega (arith, i.few, c.len.ensures, c.reading-test.false)) later,
     )

@@ -1,6 +1,6 @@
 use Rattle.std.proofs.Common.{◌≡◌, ◌≤◌, ◌-◌, length}
 use Rattle.mv_eval.specs.Evaluations.{most}
-use Rattle.mv_eval.specs.Grown.{Lost}
+use Rattle.mv_io.specs.Outside.{Lost}
 use Rattle.mv_eval.proofs.reading.read_input.Given as goal
 
 abbrev pub invariant-reading : goal.invariant-reading
