@@ -1,5 +1,7 @@
 -- What one instruction of an engine is to the hart that its seat is.
 use Rattle.std.proofs.Common.{ℕ, ◌≡◌, ◌⊎◌, inl, inr, ◌+◌, ◌%◌, ◌<◌, Bool, true, false, ◌&&◌, ◌||◌, not, cond, nat_eq, List, [], ◌∷◌, ◌++◌, length, Option, Some, None, option_map, refl, sym, ap, ap₂, ◌∙◌, subst, arith, if◌then◌else◌}
+use Rattle.std.proofs.Math.Option.{some-injective}
+use Rattle.std.proofs.lemmas.Option.{none-some}
 use Rattle.mv_bindings.specs.declared.action.Action.{Action}
 use Rattle.mv_bindings.specs.declared.binding.Binding.{Binding}
 use Rattle.mv_bindings.specs.declared.binding.Event.{Event}
@@ -92,10 +94,6 @@ under_is s u b w bs going one e opened =
 
 -- ---- an instruction that is executed
 
--- two inputs that differ have no state in common
-no_input : (s : State) (x y : State) → s ≡ x → s ≡ y → x.input ≡ [] → y.input ≡ None ∷ [] → ⊥
-no_input s x y e f p q = let r : x.input ≡ y.input = ap (λ (t : State). t.input) (sym e ∙ f) in cc
-
 module _ (number : ℕ) (was : Seat) (o : Hart) (act : Action) (bytes : List ℕ) (before : Option (List Binding)) (sits : Sits number was bytes o) (on : was.stop ≡ None) (one : choices_at o.state ≡ 1) where
   abbrev a : Act
   a = act_of act
@@ -131,17 +129,15 @@ module _ (number : ℕ) (was : Seat) (o : Hart) (act : Action) (bytes : List ℕ
     module _ (r : Option Stopped) (stop : Stop) (stop_is : stop_of r ≡ stop) (well : has_failed r ≡ false) (halts : IsHalt r) (counts : counted r ≡ 1) where
       executed : (left : Option (List ℕ)) → Moves (λ s. turn s 0) (x written) (y left) stop Told → HasExecuted number o a m (behind e r) (e.opened || stays) left written written'
       unfolding move
-      executed None moves =
-          let p = moves.4 [] tt in
-          let q = moves.4 (None ∷ []) tt in
-          let s : List (Option ℕ) → State = λ i. turn (shown (x written) Going i [] []) 0 in
-          absurd (no_input (s (bytes_to_come bytes)) _ _ (ap s (sym p.1) ∙ (p.2 [] []).1) (ap s (sym q.1) ∙ (q.2 [] []).1) refl refl)
+      executed None moves = absurd (none-some _ moves.4.1.2)
       executed (Some bs) moves =
           let more = moves.0 in
           let news = moves.1 in
-          let p = moves.4 (bytes_to_come bs) refl in
+          let whole : bytes ≡ moves.4.0 ++ bs =
+          moves.4.1.1 ∙ ap (λ (z : List ℕ). moves.4.0 ++ z) (sym (some-injective bs moves.4.1.0 moves.4.1.2)) in
           let t : turn h 0 ≡ shown (y (Some bs)) stop (bytes_to_come bs) (o.state.output ++ more) (o.state.log ++ news) =
-          ap (λ s. turn s 0) (handed_is written) ∙ ap (λ i. turn (shown (x written) Going i o.state.output o.state.log) 0) (sym p.1) ∙ (p.2 o.state.output o.state.log).1 in
+          ap (λ s. turn s 0) (handed_is written) ∙ ap (λ (i : List ℕ). turn (shown (x written) Going (bytes_to_come i) o.state.output o.state.log) 0) whole
+          ∙ (moves.4.2 bs refl o.state.output o.state.log).1 in
           let is : Seat = behind e r in
           let n : e.number ≡ number = same ∙ sits.engine in
           let q : m.state ≡ sat e.number is bs (o.state.output ++ more) (o.state.log ++ news) =

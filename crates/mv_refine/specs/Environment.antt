@@ -1,7 +1,7 @@
 -- What the environment of a run shows before a call and after it.
 use Rattle.std.specs.Prelude.{ℕ, List, Option}
-use Rattle.mv_eval.specs.Grown.{Grew, Lost}
-use Rattle.mv_io.specs.Outside.{Rose}
+use Rattle.mv_eval.specs.Grown.{Grew}
+use Rattle.mv_io.specs.Outside.{OnInput, Rose}
 use Rattle.mv_probe.specs.Ways.{Way}
 
 -- a source: the bytes that it tells as still to come, and its count of faults
@@ -30,9 +30,9 @@ abbrev pub environment : Reading → Writing → Option Way → Environment
 environment input output way = record { input = input; output = output; way = way }
 
 module _ (before after : Environment) where
-  -- these bytes were taken from the start of the input
-  abbrev pub Took : List ℕ → Type 0
-  Took bytes = Lost before.input.left after.input.left bytes
+  -- words were picked and bytes taken from the input, and whatever may come behind these, this holds of the picks, of what was taken and of what comes behind
+  abbrev pub OneRun : (Fact : (picks taken later : List ℕ) → Type 0) → Type 0
+  OneRun Fact = (picks : List ℕ) × OnInput before.input.left after.input.left (λ taken later. Fact picks taken later)
 
   -- these bytes were written at the end of the output
   abbrev pub Wrote : List ℕ → Type 0

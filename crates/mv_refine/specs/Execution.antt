@@ -1,5 +1,5 @@
 -- What a run of an image is, and an execution of a program that was built.
-use Rattle.std.specs.Prelude.{ℕ, ◌≡◌, List, [], Result, Ok, Err}
+use Rattle.std.specs.Prelude.{ℕ, ◌≡◌, List, [], ◌++◌, Result, Ok, Err}
 use Rattle.std.specs.declared.alloc.AllocError.{AllocError}
 use Rattle.mv_bindings.specs.declared.action.Action.{Action}
 use Rattle.mv_bindings.specs.declared.binding.Event.{Event}
@@ -11,7 +11,8 @@ use Rattle.mv_refine_machine.specs.Runs.Behaves.{BehavesAlways}
 use Rattle.mv_machine.specs.Actions as machine
 use Rattle.mv_machine.specs.Acts.{polls_of}
 use Rattle.mv_refine.specs.declared.execution.Execution.{Execution}
-use Rattle.mv_refine.specs.Environment.{Environment}
+use Rattle.mv_io.specs.Outside.{AreToldBytes}
+use Rattle.mv_refine.specs.Environment.{Environment, OneRun}
 use Rattle.mv_refine.specs.Meant.{Does, Decides}
 use Rattle.mv_refine.specs.Run.{Runs}
 
@@ -22,18 +23,20 @@ SameFit p image = (action : Action) → machine.fits image.switches action ≡ s
 module _ (image : Fields) (actions : List Action) (steps : ℕ) (before after : Environment) (Heard : List Event → Type 0) where
   -- one run of an image is what was done, or there was no memory before its first instruction, with all as before
   abbrev pub RunsImage : Result Execution AllocError → Type 0
-  RunsImage (Ok e) = Runs image (polls_of actions) before after Heard e.machine steps e.stopped
+  RunsImage (Ok e) = OneRun before after (λ picks taken later. Runs image (polls_of actions) before after Heard e.machine picks taken later steps e.stopped)
   RunsImage (Err why) = (after ≡ before) × Heard []
 
 module _ (built : Built) (actions : List Action) (steps : ℕ) (before after : Environment) (Heard : List Event → Type 0) where
-  -- One run of the image is what was done. Where the image behaves as the program means, and the same actions fit both, this is what the program means with
-  -- the actions, at that number as its bound.
-  pub record IsExecution (e : Execution) : Type 0 where
-    pub runs : Runs built.image (polls_of actions) before after Heard e.machine steps e.stopped
-    pub does : BehavesAlways built.program built.image → SameFit built.program built.image → Does built.program built.image actions steps before after Heard e.machine e.stopped
-    pub decides : BehavesAlways built.program built.image → SameFit built.program built.image → Decides built.program actions steps before after e.stopped
+  -- One run of the image, with these picks on the bytes that were taken and those behind, is what was done. Where the image behaves as the program means, the same
+  -- actions fit both, and the source tells nothing but bytes, this is what the program means with the actions on those bytes, at that number as its bound.
+  pub record IsExecution (picks taken later : List ℕ) (e : Execution) : Type 0 where
+    pub runs : Runs built.image (polls_of actions) before after Heard e.machine picks taken later steps e.stopped
+    pub does : BehavesAlways built.program built.image → SameFit built.program built.image → AreToldBytes before.input.left →
+        Does built.program built.image actions steps before after Heard e.machine taken later e.stopped
+    pub decides : BehavesAlways built.program built.image → SameFit built.program built.image → AreToldBytes before.input.left →
+        Decides built.program actions steps before after (taken ++ later) e.stopped
 
   -- an execution, or want of memory before its first instruction, with all as before
   abbrev pub Executes : Result Execution AllocError → Type 0
-  Executes (Ok e) = IsExecution e
+  Executes (Ok e) = OneRun before after (λ picks taken later. IsExecution picks taken later e)
   Executes (Err why) = (after ≡ before) × Heard []

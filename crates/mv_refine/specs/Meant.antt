@@ -1,5 +1,5 @@
 -- What a run of an image does in its environment, by what its program means.
-use Rattle.std.specs.Prelude.{ℕ, ◌≡◌, ◌+◌, ◌*◌, ◌^◌, ◌<◌, ◌≤◌, List, [], ◌∷◌, ◌++◌, length, take, All, Option, Some, None}
+use Rattle.std.specs.Prelude.{ℕ, ◌≡◌, ◌+◌, ◌*◌, ◌^◌, ◌<◌, ◌≤◌, List, [], ◌∷◌, ◌++◌, length}
 use Rattle.mv_ast.specs.declared.program.Program.{Program}
 use Rattle.mv_bindings.specs.declared.action.Action.{Action}
 use Rattle.mv_bindings.specs.declared.binding.Event.{Event}
@@ -15,28 +15,26 @@ use Rattle.mv_meaning.specs.declared.meant.End.TheVariants.{Exit, Trap, More}
 use Rattle.mv_meaning.specs.declared.meant.Meant.{Meant}
 use Rattle.mv_meaning.specs.Growth.{Begins}
 use Rattle.mv_meaning.specs.Meaning.{mean}
-use Rattle.mv_refine.specs.Environment.{Environment, Took, Wrote, ReadFailed, WriteFailed}
+use Rattle.mv_refine.specs.Environment.{Environment, Wrote, ReadFailed, WriteFailed}
 
 -- `Heard events`: the probes were told these events
-module _ (before after : Environment) (Heard : List Event → Type 0) (machine : Snapshot) (bytes : List ℕ) (m : Meant) where
-  -- A meaning has this end, all its output was written, the bytes that it takes of these were taken, its bindings are the machine's, in whose text the image
+module _ (before after : Environment) (Heard : List Event → Type 0) (machine : Snapshot) (taken : List ℕ) (m : Meant) where
+  -- A meaning has this end, all its output was written, it takes as many bytes as were taken, its bindings are the machine's, in whose text the image
   -- stands as under them, and the probes were told its log.
   pub record DoesAll (image : Fields) (e : End) : Type 0 where
     pub ending : m.«end» ≡ e
     pub output : Wrote before after m.output
-    pub input : Took before after (take m.taken bytes)
+    pub input : m.taken ≡ length taken
     pub bindings : machine.bindings ≡ m.bindings
     pub text : machine.room.held.text ≡ text_of image (values_of m.bindings)
     pub heard : Heard m.log
 
-  -- a piece was written with which a meaning's output begins, of the bytes no more were taken than the meaning takes, and the probes were told events
+  -- a piece was written with which a meaning's output begins, no more bytes were taken than the meaning takes, and the probes were told events
   -- with which its log begins
   pub record DoesPart (piece : List ℕ) : Type 0 where
     pub begins : Begins piece m.output
     pub output : Wrote before after piece
-    pub count : ℕ
-    pub few : count ≤ m.taken
-    pub input : Took before after (take count bytes)
+    pub few : length taken ≤ m.taken
     pub events : List Event
     pub logged : Begins events m.log
     pub heard : Heard events
@@ -58,29 +56,24 @@ TakesMore p actions steps taken = (byte : ℕ) → byte < 2 ^ 8 → length taken
 abbrev pub WritesMore : Program → List Action → (bytes : List ℕ) → (steps : ℕ) → (piece : List ℕ) → Type 0
 WritesMore p actions bytes steps piece = length piece < length (mean p bytes actions steps).output
 
-module _ (p : Program) (image : Fields) (actions : List Action) (steps : ℕ) (before after : Environment) (Heard : List Event → Type 0) (machine : Snapshot) where
-  -- part of what is meant at the bound `steps`
-  abbrev pub Part : (bytes piece : List ℕ) → Type 0
-  Part bytes piece = DoesPart before after Heard machine bytes (mean p bytes actions steps) piece
+module _ (p : Program) (image : Fields) (actions : List Action) (steps : ℕ) (before after : Environment) (Heard : List Event → Type 0) (machine : Snapshot) (taken later : List ℕ) where
+  -- what is meant at the bound `steps` on the bytes that were taken and those behind
+  abbrev pub meant : Meant
+  meant = mean p (taken ++ later) actions steps
 
-  -- What was written and taken, by the answer, on a source that has these bytes to come. Where a device failed, the meaning
-  -- reads or writes on. No answer is a fault or want of memory.
-  abbrev pub DoesOn : (bytes : List ℕ) → Stopped → Type 0
-  DoesOn bytes (Ended status) = DoesAll before after Heard machine bytes (mean p bytes actions steps) image (Exit status)
-  DoesOn bytes (Trapped code) = DoesAll before after Heard machine bytes (mean p bytes actions steps) image (Trap code)
-  DoesOn bytes Steps = (piece : List ℕ) × Part bytes piece × KeepsUp p actions bytes steps piece
-  DoesOn bytes InputFault = (piece : List ℕ) × (part : Part bytes piece) × ReadFailed before after × TakesMore p actions steps (take part.count bytes)
-  DoesOn bytes OutputFault = (piece : List ℕ) × Part bytes piece × WriteFailed before after × WritesMore p actions bytes steps piece
-  DoesOn bytes (Fault pc why) = ⊥
-  DoesOn bytes Memory = ⊥
+  -- part of that
+  abbrev pub Part : (piece : List ℕ) → Type 0
+  Part piece = DoesPart before after Heard machine taken meant piece
 
-  -- It stands where the source tells what is to come, and that is bytes. Of a source that tells nothing, nothing is said.
-  abbrev pub DoesFrom : (left : Option (List ℕ)) → Stopped → Type 0
-  DoesFrom None stopped = Unit {0}
-  DoesFrom (Some bytes) stopped = All (λ b. b < 2 ^ 8) bytes → DoesOn bytes stopped
-
+  -- What was written and taken, by the answer. Where a device failed, the meaning reads or writes on. No answer is a fault or want of memory.
   abbrev pub Does : Stopped → Type 0
-  Does stopped = DoesFrom before.input.left stopped
+  Does (Ended status) = DoesAll before after Heard machine taken meant image (Exit status)
+  Does (Trapped code) = DoesAll before after Heard machine taken meant image (Trap code)
+  Does Steps = (piece : List ℕ) × Part piece × KeepsUp p actions (taken ++ later) steps piece
+  Does InputFault = (piece : List ℕ) × Part piece × ReadFailed before after × TakesMore p actions steps taken
+  Does OutputFault = (piece : List ℕ) × Part piece × WriteFailed before after × WritesMore p actions (taken ++ later) steps piece
+  Does (Fault pc why) = ⊥
+  Does Memory = ⊥
 
 -- the answer is this end
 abbrev pub IsAnswer : End → Stopped → Type 0
@@ -89,16 +82,8 @@ IsAnswer (Trap code) stopped = stopped ≡ Trapped code
 IsAnswer More stopped = ⊥
 
 module _ (p : Program) (actions : List Action) (steps : ℕ) (before after : Environment) where
-  -- Where no count of faults rose, and there was time for all that is meant at a bound at which the meaning has ended, the answer is that end.
-  abbrev pub DecidesOn : (bytes : List ℕ) → Stopped → Type 0
-  DecidesOn bytes stopped =
+  -- Where no count of faults rose, and there was time for all that is meant on these bytes at a bound at which the meaning has ended, the answer is that end.
+  abbrev pub Decides : (bytes : List ℕ) → Stopped → Type 0
+  Decides bytes stopped =
       (ReadFailed before after → ⊥) → (WriteFailed before after → ⊥) → (bound : ℕ) → IsEnough p actions bytes steps bound →
       ((mean p bytes actions bound).«end» ≡ More → ⊥) → IsAnswer (mean p bytes actions bound).«end» stopped
-
-  -- it too stands where the source tells what is to come
-  abbrev pub DecidesFrom : (left : Option (List ℕ)) → Stopped → Type 0
-  DecidesFrom None stopped = Unit {0}
-  DecidesFrom (Some bytes) stopped = All (λ b. b < 2 ^ 8) bytes → DecidesOn bytes stopped
-
-  abbrev pub Decides : Stopped → Type 0
-  Decides stopped = DecidesFrom before.input.left stopped

@@ -3,15 +3,15 @@
 //! `run_image` starts a machine on an image and runs it. Its contract is *the run*, and trusts no image. `execute` does so with the image of
 //! a `Built`. Its contract has two parts.
 //!
-//! - *The run* (`specs/Run.antt`): one run of that image by the machine's definition is what was done: its stop after the
-//!   given number of instructions is the answer (`Steps` where it goes on), the output grew by what it wrote, the input
-//!   lost what it took, each probe was told its log and left exactly where that used up its patience, and the machine
+//! - *The run* (`specs/Run.antt`): one run of that image by the machine's definition, on the bytes that were taken and whatever may come behind them, is what was done: its stop after the
+//!   given number of instructions is the answer (`Steps` where it goes on), the output grew by what it wrote, it took what
+//!   was taken, each probe was told its log and left exactly where that used up its patience, and the machine
 //!   handed back is in its state. A device that failed is asked nothing more: its count of faults is one more, and no
 //!   count rises but that of the device which the answer names. The oracle picked for each instruction that was executed, by its way, and its place
 //!   went on by as many picks. Before a read or a write that failed it is a state after fewer instructions, and the
 //!   oracle picked once more.
-//! - *What the program means* with the actions (`specs/Meant.antt`), where the image does what its program means, the
-//!   same actions fit both, and the source tells bytes: after `Ended` and `Trapped` the meaning at the number of
+//! - *What the program means* with the actions on the same bytes (`specs/Meant.antt`), where the image does what its program means, the
+//!   same actions fit both, and the source tells bytes or tells nothing: after `Ended` and `Trapped` the meaning at the number of
 //!   instructions as its bound has that end, all its output was written and all that it takes was taken. After `Steps`,
 //!   `InputFault` and `OutputFault` it is a part of that output, and no more was taken; after `Steps` no bound for which
 //!   there was time has an end. A device fails only where the meaning asks for more: on what was taken before a failed

@@ -69,6 +69,10 @@ or_large : {Came : Type 0} {status : Status} {p : Program} → (Came → Stands 
 or_large so (inl came) = so came
 or_large so (inr none) = inl (inr none)
 
+or_none : {Came Due : Type 0} {status : Status} → (Came → (status ≡ Memory) ⊎ Due) → Came ⊎ (status ≡ Memory) → (status ≡ Memory) ⊎ Due
+or_none so (inl came) = so came
+or_none so (inr none) = inl none
+
 or_summed : {Came : Type 0} {status : Status} → (Came → IsSummedUp status) → Came ⊎ (status ≡ Memory) → IsSummedUp status
 or_summed so (inl came) = so came
 or_summed so (inr none) = inr none
@@ -135,7 +139,7 @@ module _ (counted : CountedPassNone) (before after : Outside) (Heard : List Even
       abbrev files : Option Files
       files = before.shelf.files
 
-      decided : Decides words files before.environment.input.left status
+      decided : Decides words files before.environment.input.left after.environment.input.left status
       decided = record {
         usage = usage_of came;
         absent = λ asked file c loaded lacks. or_memory (λ does. absent asked lines status does file loaded lacks) (did came asked c);
@@ -144,8 +148,8 @@ module _ (counted : CountedPassNone) (before after : Outside) (Heard : List Even
         wrong_item = λ file text options p item l good wrong.
             or_limits (λ does. or_limits (λ ran. run_wrong_item before.environment after.environment quiet.input quiet.output text Heard options counted p good ran item wrong)
             (given before after quiet.shelf _ file _ does.0 l.file text l.loaded l.tells)) (did came (Runs file options) l.command);
-        ended = λ file text bytes options bound p actions e l good are told are_bytes ends.
-            or_limits (λ does. or_limits (λ ran. run_ended before.environment after.environment quiet.input quiet.output text Heard options counted p good actions are ran bytes bound e told are_bytes ends)
+        ended = λ file text options p actions l good are told.
+            or_none (λ does. or_none (λ ran. run_ended before.environment after.environment quiet.input quiet.output text Heard options counted p good actions are ran told)
             (given before after quiet.shelf _ file _ does.0 l.file text l.loaded l.tells)) (did came (Runs file options) l.command);
         ran = λ file text options p actions l good are.
             or_large (λ does. or_large (λ ran. run_stands before.environment after.environment quiet.input quiet.output text Heard options counted p good actions are ran)
@@ -162,8 +166,8 @@ module _ (counted : CountedPassNone) (before after : Outside) (Heard : List Even
         listed = λ file bytes image l spells.
             or_memory (λ does. or_memory (λ made. list_done before.environment after.environment quiet.output bytes made.0 image spells)
             (given before after quiet.shelf _ file _ does.0 l.file bytes l.loaded l.tells)) (did came (Lists file) l.command);
-        evaluated = λ file text bytes bound p l good told.
-            or_memory (λ does. or_memory (λ made. eval_ended before.environment after.environment quiet.input quiet.output text bound made.0 p good bytes told)
+        evaluated = λ file text bound p l good.
+            or_none (λ does. or_none (λ made. eval_ended before.environment after.environment quiet.input quiet.output text bound made.0 p good)
             (given before after quiet.shelf _ file _ does.0 l.file text l.loaded l.tells)) (did came (Evaluates file bound) l.command);
         shown = λ number c. or_memory (λ does. show_done before.environment after.environment quiet.output Heard number does.0.0) (did came (Generates number true) c);
         generated_ended = λ number bound p e c good ends.
@@ -171,27 +175,27 @@ module _ (counted : CountedPassNone) (before after : Outside) (Heard : List Even
         generated_runs = λ number c. or_summed (λ does. gen_summed before.environment after.environment quiet.output Heard number does.0) (did came (Generates number false) c);
       }
 
-    memory_decided : Decides words before.shelf.files before.environment.input.left Memory
+    memory_decided : Decides words before.shelf.files before.environment.input.left after.environment.input.left Memory
     memory_decided = record {
       usage = λ never. inr refl;
       absent = λ asked file c loaded lacks. inr refl;
       refused = λ asked text r l source why. inr refl;
       bad_image = λ asked bytes code offset l image_file why. inr refl;
       wrong_item = λ file text options p item l good wrong. inl (inr refl);
-      ended = λ file text bytes options bound p actions e l good are told are_bytes ends. inl (inr refl);
+      ended = λ file text options p actions l good are told. inl refl;
       ran = λ file text options p actions l good are. inl (inr refl);
       built = λ file image text p l good. inl (inr refl);
       no_action_of_image = λ file bytes options image item l spells wrong. inr refl;
       executed = λ file bytes options image actions l spells are. inr refl;
       listed = λ file bytes image l spells. inr refl;
-      evaluated = λ file text bytes bound p l good told. inr refl;
+      evaluated = λ file text bound p l good. inl refl;
       shown = λ number c. inr refl;
       generated_ended = λ number bound p e c good ends. inr refl;
       generated_runs = λ number c. inr refl;
     }
 
     noted : (lines : List ℕ) (due status : Status) → Came lines due → Noted lines due was.written is.written was.faults is.faults status →
-        Decides words before.shelf.files before.environment.input.left status
+        Decides words before.shelf.files before.environment.input.left after.environment.input.left status
     noted lines due status came (written grew) = decided lines due came
     noted lines due status came (unmade same count) = memory_decided
     noted lines due status came (cut less rose) = absurd (quiet.notes rose)

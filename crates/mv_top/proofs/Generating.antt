@@ -43,23 +43,23 @@ module _ (was is : Writing) (way way' : Option Way) (Heard : List Event → Type
   no_lines : (text lines : List ℕ) (status : Status) → Ran plain text lines status → Ran plain text [] status
   no_lines text lines status (running.unread unused) = running.unread unused
   no_lines text lines status (running.not_run r why unused) = running.not_run r why unused
-  no_lines text lines status (running.ran built actions e good are execution words) = running.ran built actions e good are execution words
+  no_lines text lines status (running.ran built actions e good are one) = running.ran built actions e good are one
 
   never_fails : Rose 0 0 → ⊥
   never_fails rose = grind (arith, rose)
 
   -- no read fails where there is no input, and the machine never faults
-  stop_is : (p : Program) (image : Fields) (actions : List Action) (steps : ℕ) (machine : Snapshot) (s : Stopped) →
-      Runs image (polls_of actions) (environment no_input was way) (environment no_input is way') Heard machine steps s →
-      meant.Does p image actions steps (environment no_input was way) (environment no_input is way') Heard machine s →
+  stop_is : (p : Program) (image : Fields) (actions : List Action) (steps : ℕ) (machine : Snapshot) (picks taken later : List ℕ) (s : Stopped) →
+      Runs image (polls_of actions) (environment no_input was way) (environment no_input is way') Heard machine picks taken later steps s →
+      meant.Does p image actions steps (environment no_input was way) (environment no_input is way') Heard machine taken later s →
       IsTrue (is_summed_up (status_of_stop s) || is_cut_short (status_of_stop s))
-  stop_is p image actions steps machine (stop.Ended s) runs does = refl
-  stop_is p image actions steps machine (stop.Trapped c) runs does = refl
-  stop_is p image actions steps machine stop.Steps runs does = refl
-  stop_is p image actions steps machine stop.InputFault runs does = absurd (never_fails runs.1)
-  stop_is p image actions steps machine stop.OutputFault runs does = refl
-  stop_is p image actions steps machine (stop.Fault pc why) runs does = absurd (does (All-nil (λ b. b < 2 ^ 8)))
-  stop_is p image actions steps machine stop.Memory runs does = refl
+  stop_is p image actions steps machine picks taken later (stop.Ended s) runs does = refl
+  stop_is p image actions steps machine picks taken later (stop.Trapped c) runs does = refl
+  stop_is p image actions steps machine picks taken later stop.Steps runs does = refl
+  stop_is p image actions steps machine picks taken later stop.InputFault runs does = absurd (never_fails runs.1)
+  stop_is p image actions steps machine picks taken later stop.OutputFault runs does = refl
+  stop_is p image actions steps machine picks taken later (stop.Fault pc why) runs does = absurd does
+  stop_is p image actions steps machine picks taken later stop.Memory runs does = absurd does
 
   -- the text that is generated of a number is not refused, and its run no action
   never_refused : TextsHaveImages → (number : ℕ) (r : Refusal) → IsNotRun (generated number) [] r → ⊥
@@ -69,8 +69,10 @@ module _ (was is : Writing) (way way' : Option Way) (Heard : List Event → Type
   pub stands_so : TextsHaveImages → (number : ℕ) (lines : List ℕ) (status : Status) → Ran plain (generated number) lines status → IsTrue (is_summed_up status || is_cut_short status)
   stands_so images number lines status (running.unread unused) = refl
   stands_so images number lines status (running.not_run r why unused) = absurd (never_refused images number r why)
-  stands_so images number lines status (running.ran built actions e good are execution words) =
-      stop_is built.program built.image actions DEFAULT_STEPS e.machine e.stopped execution.runs (execution.does good.image.behaves good.image.fits)
+  stands_so images number lines status (running.ran built actions e good are (picks, (taken, lost, each))) =
+      let execution = (each [] refl).0 in
+      stop_is built.program built.image actions DEFAULT_STEPS e.machine picks taken [] e.stopped execution.runs
+      (execution.does good.image.behaves good.image.fits (All-nil (λ b. b < 2 ^ 8)))
 
   -- options that ask for nothing but these items
   abbrev with_items : List Item → RunOptions

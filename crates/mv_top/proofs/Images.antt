@@ -12,7 +12,7 @@ use Rattle.mv_list.specs.Listing.{listing_text}
 use Rattle.mv_machine.specs.Acts.{polls_of}
 use Rattle.mv_operator.specs.Operator.{IsImageActions}
 use Rattle.mv_refine.specs.declared.execution.Execution.{Execution}
-use Rattle.mv_refine.specs.Environment.{Environment}
+use Rattle.mv_refine.specs.Environment.{Environment, OneRun}
 use Rattle.mv_refine.specs.Run.{Runs}
 use Rattle.mv_command.specs.declared.command.RunOptions.{RunOptions}
 use Rattle.mv_notes.specs.Lines.{asked_lines}
@@ -44,7 +44,8 @@ module _ (before after : Environment) (Heard : List Event → Type 0) (options :
   not_started lines status none same unused = alone Ran lines status Memory none same (executing.unread unused)
 
   pub ran : (loaded : Loaded) (actions : List Action) (e : Execution) → actions ≡ loaded.actions.items → IsLoaded bytes options.items loaded →
-      Runs loaded.image (polls_of actions) before after Heard e.machine options.steps e.stopped → Ran (asked_lines options loaded.image e.machine) (status_of_stop e.stopped)
+      OneRun before after (λ picks taken later. Runs loaded.image (polls_of actions) before after Heard e.machine picks taken later options.steps e.stopped) →
+      Ran (asked_lines options loaded.image e.machine) (status_of_stop e.stopped)
   ran loaded actions e same is runs =
       executing.ran loaded.image actions e is.image (subst (λ a. IsImageActions loaded.image options.items a) (sym same) is.actions) runs
 

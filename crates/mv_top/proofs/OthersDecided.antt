@@ -1,10 +1,11 @@
 -- Which status comes of what is evaluated, built, run as an image, listed or generated.
-use Rattle.std.proofs.Common.{ℕ, ◌≡◌, ◌≤◌, ◌<◌, ◌^◌, ◌⊎◌, inl, inr, List, [], take, refl, sym, ap, ◌∙◌, subst, Some, arith}
+use Rattle.std.proofs.Common.{ℕ, ◌≡◌, ◌≤◌, ◌<◌, ◌^◌, ◌⊎◌, inl, inr, List, [], ◌++◌, refl, sym, ap, ◌∙◌, subst, Some, arith}
 use Rattle.std.specs.Prelude.{Result, Ok, Err, IsTrue, ⊤}
 use Rattle.std.proofs.lemmas.List.Elements.{All-nil}
 use Rattle.mv_ast.specs.declared.program.Program.{Program}
 use Rattle.mv_bindings.specs.declared.action.Action.{Action}
 use Rattle.mv_bindings.specs.declared.binding.Event.{Event}
+use Rattle.mv_io.specs.Outside.{OnInput}
 use Rattle.mv_io.specs.declared.outside.ShelfError.{ShelfError}
 use Rattle.mv_io.specs.declared.outside.ShelfError.TheVariants as shelf
 use Rattle.mv_image.specs.Faults.{Spells}
@@ -16,9 +17,9 @@ use Rattle.mv_front.proofs.OneVerdict.{one_program, one_refusal, not_both}
 use Rattle.mv_exec.specs.Loading.{IsBadImage}
 use Rattle.mv_exec.proofs.Answer.{one_bad, spells_not_bad}
 use Rattle.mv_gen.specs.Generated.{generated}
-use Rattle.mv_refine.specs.Environment.{Environment, Writing, Took, Wrote, ReadFailed, WriteFailed, environment}
+use Rattle.mv_refine.specs.Environment.{Environment, Writing, Wrote, ReadFailed, WriteFailed, environment}
 use Rattle.mv_meaning.specs.declared.meant.End.{End}
-use Rattle.mv_eval.specs.Evaluations.{most, meaning, IsInput, Evaluates}
+use Rattle.mv_eval.specs.Evaluations.{meaning, IsInput, Evaluates}
 use Rattle.mv_eval.specs.declared.error.EvalError.{EvalError}
 use Rattle.mv_eval.specs.declared.error.EvalError.TheVariants as fault
 use Rattle.mv_command.specs.declared.command.RunOptions.{RunOptions}
@@ -35,7 +36,7 @@ use Rattle.mv_machine.specs.declared.machine.Stopped.{Stopped}
 use Rattle.mv_machine.specs.declared.machine.Stopped.TheVariants as stop
 use Rattle.mv_machine.specs.Snapshots.{Snapshot}
 use Rattle.mv_refine.specs.Run.{Runs}
-use Rattle.mv_top.specs.Decisions.{Ends, Is, IsSummedUp, IsWithinLimits, Stands}
+use Rattle.mv_top.specs.Decisions.{Ends, Is, IsSummedUp, IsTooLarge, IsWithinLimits, Stands}
 use Rattle.mv_top.specs.Evaluating as evaluating
 use Rattle.mv_top.specs.Evaluating.{EvalDoes, status_of_end, status_of_evaluation}
 use Rattle.mv_top.specs.Executing as executing
@@ -49,7 +50,7 @@ use Rattle.mv_top.specs.Outside.{Outside, ShelfFailed, Writes}
 use Rattle.mv_top.specs.Running as running
 use Rattle.mv_top.specs.Running.{no_action, RunDoes, status_of_stop}
 use Rattle.mv_top.proofs.RunsDecided.{one_cause, only_limits, run_ended, stands, too_large}
-use Rattle.mv_io.proofs.Common.{rose_later}
+use Rattle.mv_io.proofs.Common.{of_told, rose_later, some_later}
 
 -- ---- a text that is written
 
@@ -65,22 +66,23 @@ module _ (before after : Environment) (no_input_fault : ReadFailed before after 
   eval_refused (evaluating.no_program s there untouched) r is = inl (ap Refused (one_refusal text s r there is))
   eval_refused (evaluating.evaluated p result good evaluates) r is = absurd (not_both text p r good is)
 
-  evaluation_is : (p : Program) (result : Result End EvalError) → Evaluates p bound before.input.left (Took before after) (Wrote before after) (ReadFailed before after) (WriteFailed before after) result →
-      (bytes : List ℕ) → before.input.left ≡ Some bytes → Is (status_of_evaluation result) (status_of_end (meaning p bound (take most bytes)).«end»)
-  evaluation_is p (Ok «end») (input, is, comes, took, wrote) bytes told =
-      let all : input ≡ take most bytes = subst (λ l. IsInput l input) told is in
-      inl (ap status_of_end (sym comes ∙ ap (λ i. (meaning p bound i).«end») all))
-  evaluation_is p (Err fault.Input) (input, count, is, took, wrote, rose) bytes told = absurd (no_input_fault rose)
-  evaluation_is p (Err fault.Output) (input, count, is, took, wrote, rose) bytes told = absurd (no_output_fault rose)
-  evaluation_is p (Err (fault.Memory e)) g bytes told = inr refl
+  -- the end of the program on all that was read
+  abbrev IsEnd : Program → Status → Type 0
+  IsEnd p status = OnInput before.input.left after.input.left (λ taken later. IsInput taken later × (status ≡ status_of_end (meaning p bound taken).«end»))
 
-  pub eval_ended : {status : Status} → EvalDoes before after bound text status → (p : Program) → IsProgram text p → (bytes : List ℕ) → before.input.left ≡ Some bytes →
-      Is status (status_of_end (meaning p bound (take most bytes)).«end»)
-  eval_ended (evaluating.unread untouched) p is bytes told = inr refl
-  eval_ended (evaluating.no_program r there untouched) p is bytes told = absurd (not_both text p r is there)
-  eval_ended (evaluating.evaluated q result good evaluates) p is bytes told =
-      subst (λ z. Is (status_of_evaluation result) (status_of_end (meaning z bound (take most bytes)).«end»)) (one_program text q p good is)
-      (evaluation_is q result evaluates bytes told)
+  evaluation_is : (p : Program) (result : Result End EvalError) → Evaluates p bound before.input.left after.input.left (Wrote before after) (ReadFailed before after) (WriteFailed before after) result →
+      (status_of_evaluation result ≡ Memory) ⊎ IsEnd p (status_of_evaluation result)
+  evaluation_is p (Ok «end») (taken, lost, each) =
+      inr (taken, lost, λ later may. let h = each later may in (h.0, ap status_of_end (sym h.1)))
+  evaluation_is p (Err fault.Input) (part, none, rose) = absurd (no_input_fault rose)
+  evaluation_is p (Err fault.Output) (count, part, rose) = absurd (no_output_fault rose)
+  evaluation_is p (Err (fault.Memory e)) g = inl refl
+
+  pub eval_ended : {status : Status} → EvalDoes before after bound text status → (p : Program) → IsProgram text p → (status ≡ Memory) ⊎ IsEnd p status
+  eval_ended (evaluating.unread untouched) p is = inl refl
+  eval_ended (evaluating.no_program r there untouched) p is = absurd (not_both text p r is there)
+  eval_ended (evaluating.evaluated q result good evaluates) p is =
+      subst (λ z. (status_of_evaluation result ≡ Memory) ⊎ IsEnd z (status_of_evaluation result)) (one_program text q p good is) (evaluation_is q result evaluates)
 
 -- ---- a build
 
@@ -129,8 +131,9 @@ module _ (before after : Environment) (no_input_fault : ReadFailed before after 
     exec_stands (executing.no_image c o there unused) actions are = absurd (spells_not_bad bytes image c o spells there)
     exec_stands (executing.wrong_item other n there first unused) actions are =
         absurd (operator.not_both_in image options.items actions n are (subst (λ z. IsImageFirstWrong z options.items n) (one_image bytes other image there spells) first))
-    exec_stands (executing.ran other taken e there are_taken runs) actions are =
-        stands before after Heard no_input_fault no_output_fault other (polls_of taken) e.machine options.steps e.stopped runs
+    exec_stands (executing.ran other acts e there are_acts (picks, (taken, lost, each))) actions are =
+        let later = some_later after.input.left in
+        stands before after Heard no_input_fault no_output_fault other (polls_of acts) e.machine picks taken later.0 options.steps e.stopped (each later.0 later.1)
 
 -- ---- a listing
 
@@ -175,8 +178,8 @@ module _ (before after : Environment) (no_output_fault : WriteFailed before afte
 
   module _ (between : Writing) (latest : between.faults ≤ after.output.faults) where
     -- a run that isn't summed up though no write failed is one for which there was no memory
-    stop_summed : (image : Fields) (actions : List Action) (machine : Snapshot) (s : Stopped) →
-        Runs image (polls_of actions) (environment no_input before.output before.way) (environment no_input between after.way) Heard machine DEFAULT_STEPS s →
+    stop_summed : (image : Fields) (actions : List Action) (machine : Snapshot) (picks taken later : List ℕ) (s : Stopped) →
+        Runs image (polls_of actions) (environment no_input before.output before.way) (environment no_input between after.way) Heard machine picks taken later DEFAULT_STEPS s →
         IsTrue (is_cut_short (status_of_stop s)) → IsSummedUp (status_of_stop s)
     stop_summed image actions machine (stop.Ended s) runs short = inl refl
     stop_summed image actions machine (stop.Trapped c) runs short = inl refl
@@ -190,7 +193,8 @@ module _ (before after : Environment) (no_output_fault : WriteFailed before afte
         IsTrue (is_cut_short ran) → IsSummedUp ran
     cut_summed (running.unread unused) short = inr refl
     cut_summed (running.not_run r why unused) short = cc
-    cut_summed (running.ran built actions e good are execution words) short = stop_summed built.image actions e.machine e.stopped execution.runs short
+    cut_summed (running.ran built actions e good are (picks, (taken, lost, each))) short =
+        stop_summed built.image actions e.machine picks taken [] e.stopped (each [] refl).0.runs short
 
     summed_up : before.output.faults ≤ between.faults → (ran : Status) →
         RunDoes (environment no_input before.output before.way) (environment no_input between after.way) Heard plain (generated number) [] ran →
@@ -211,9 +215,22 @@ module _ (before after : Environment) (no_output_fault : WriteFailed before afte
     ended_so between ran status e (inr none) sums (inl due) = inr none
     ended_so between ran status e stands sums (inr large) = inr (none_refused between large.refusal (subst (λ s. Sums number between after.output s status) large.is sums))
 
+    -- where there is no input, none is taken and none may come
+    abbrev EndsSo : (ran : Status) (taken later : List ℕ) → Type 0
+    EndsSo ran taken later = (bound : ℕ) (e : End) → Ends p [] (taken ++ later) DEFAULT_STEPS bound e → ran ≡ status_of_end e
+
+    without_input : (ran : Status) (bound : ℕ) (e : End) → Ends p [] [] DEFAULT_STEPS bound e → (ran ≡ Memory) ⊎ (IsTooLarge p ran ⊎ OnInput (Some []) (Some []) (EndsSo ran)) →
+        IsWithinLimits ran (status_of_end e) p
+    without_input ran bound e ends (inl none) = inl (inr none)
+    without_input ran bound e ends (inr (inl large)) = inr large
+    without_input ran bound e ends (inr (inr on)) =
+        let told = of_told [] (Some []) (EndsSo ran) on in
+        inl (inl (told.3 bound e (subst (λ (bytes : List ℕ). Ends p [] bytes DEFAULT_STEPS bound e) told.2 ends)))
+
     pub gen_ended : {status : Status} → RunsText before after Heard number status → (bound : ℕ) (e : End) → Ends p [] [] DEFAULT_STEPS bound e → Is status (status_of_end e)
     gen_ended (generating.unmade unused) bound e ends = inr refl
     gen_ended (generating.ran between ran status does later latest sums) bound e ends =
         ended_so between ran status (status_of_end e) (summed_so between ran later sums) sums
+        (without_input ran bound e ends
         (run_ended (environment no_input before.output before.way) (environment no_input between after.way) (no_reading_fault before.output between) (no_fault_before between latest)
-        (generated number) Heard plain counted p is [] (record { right = refl; are = refl }) does [] bound e refl (All-nil (λ b. b < 2 ^ 8)) ends)
+        (generated number) Heard plain counted p is [] (record { right = refl; are = refl }) does (All-nil (λ b. b < 2 ^ 8))))

@@ -1,6 +1,5 @@
 -- Which status comes of the run of a text.
-use Rattle.std.proofs.Common.{ℕ, ◌≡◌, ◌^◌, ◌<◌, ◌⊎◌, inl, inr, List, [], refl, sym, ap, ◌∙◌, subst, Some}
-use Rattle.std.specs.Prelude.{All}
+use Rattle.std.proofs.Common.{ℕ, ◌≡◌, ◌⊎◌, inl, inr, List, [], ◌++◌, refl, sym, ap, ◌∙◌, subst}
 use Rattle.mv_ast.specs.declared.program.Program.{Program}
 use Rattle.mv_bindings.specs.declared.action.Action.{Action}
 use Rattle.mv_bindings.specs.declared.binding.Event.{Event}
@@ -12,6 +11,8 @@ use Rattle.mv_refine.specs.Verdicts.{HasNoImage, PassesLimit}
 use Rattle.mv_machine.specs.Acts.{PollActs, polls_of}
 use Rattle.mv_machine.specs.declared.machine.Stopped.{Stopped}
 use Rattle.mv_machine.specs.declared.machine.Stopped.TheVariants as stop
+use Rattle.mv_io.specs.Outside.{AreToldBytes, OnInput}
+use Rattle.mv_io.proofs.Common.{some_later}
 use Rattle.mv_refine.specs.Environment.{Environment, ReadFailed, WriteFailed}
 use Rattle.mv_refine.specs.Meant as meant
 use Rattle.mv_refine.specs.Meant.{IsAnswer}
@@ -26,7 +27,7 @@ use Rattle.mv_command.specs.declared.command.RunOptions.{RunOptions}
 use Rattle.mv_operator.specs.Operator.{IsActions, IsFirstWrong}
 use Rattle.mv_operator.proofs.Acting as operator
 use Rattle.mv_notes.specs.declared.status.Status.{Status}
-use Rattle.mv_notes.specs.declared.status.Status.TheVariants.{Refused}
+use Rattle.mv_notes.specs.declared.status.Status.TheVariants.{Memory, Refused}
 use Rattle.mv_gen_accepted.specs.Counted.{CountedPassNone}
 use Rattle.mv_top.specs.Decisions.{Ends, Is, IsTooLarge, IsWithinLimits, Stands}
 use Rattle.mv_top.specs.Evaluating.{status_of_end}
@@ -69,15 +70,16 @@ status_of_answer More stopped is = absurd is
 
 -- a run in which no read and no write failed stands, unless memory was wanting
 pub stands : (before after : Environment) (Heard : List Event → Type 0) → (ReadFailed before after → ⊥) → (WriteFailed before after → ⊥) →
-    (image : Fields) (polls : PollActs) (machine : Snapshot) (steps : ℕ) (s : Stopped) → Runs image polls before after Heard machine steps s →
+    (image : Fields) (polls : PollActs) (machine : Snapshot) (picks taken later : List ℕ) (steps : ℕ) (s : Stopped) →
+    Runs image polls before after Heard machine picks taken later steps s →
     Stands (status_of_stop s)
-stands before after Heard no_input_fault no_output_fault image polls machine steps (stop.Ended s) runs = inl tt
-stands before after Heard no_input_fault no_output_fault image polls machine steps (stop.Trapped c) runs = inl tt
-stands before after Heard no_input_fault no_output_fault image polls machine steps stop.Steps runs = inl tt
-stands before after Heard no_input_fault no_output_fault image polls machine steps stop.InputFault runs = absurd (no_input_fault runs.1)
-stands before after Heard no_input_fault no_output_fault image polls machine steps stop.OutputFault runs = absurd (no_output_fault runs.1)
-stands before after Heard no_input_fault no_output_fault image polls machine steps (stop.Fault pc why) runs = inl tt
-stands before after Heard no_input_fault no_output_fault image polls machine steps stop.Memory runs = inr refl
+stands before after Heard no_input_fault no_output_fault image polls machine picks taken later steps (stop.Ended s) runs = inl tt
+stands before after Heard no_input_fault no_output_fault image polls machine picks taken later steps (stop.Trapped c) runs = inl tt
+stands before after Heard no_input_fault no_output_fault image polls machine picks taken later steps stop.Steps runs = inl tt
+stands before after Heard no_input_fault no_output_fault image polls machine picks taken later steps stop.InputFault runs = absurd (no_input_fault runs.1)
+stands before after Heard no_input_fault no_output_fault image polls machine picks taken later steps stop.OutputFault runs = absurd (no_output_fault runs.1)
+stands before after Heard no_input_fault no_output_fault image polls machine picks taken later steps (stop.Fault pc why) runs = inl tt
+stands before after Heard no_input_fault no_output_fault image polls machine picks taken later steps stop.Memory runs = inr refl
 
 module _ (before after : Environment) (no_input_fault : ReadFailed before after → ⊥) (no_output_fault : WriteFailed before after → ⊥) (text : List ℕ) (Heard : List Event → Type 0)
     (options : RunOptions) where
@@ -87,7 +89,7 @@ module _ (before after : Environment) (no_input_fault : ReadFailed before after 
   pub run_refused : {lines : List ℕ} {status : Status} → Ran lines status → (r : Refusal) → IsRefused text r → Is status (Refused r)
   run_refused (running.unread unused) r is = inr refl
   run_refused (running.not_run s none unused) r is = inl (ap Refused (not_run_cause text options.items s r none is))
-  run_refused (running.ran b actions x good are is_one words) r is = absurd (not_both text b.program r good.program is)
+  run_refused (running.ran b actions x good are one_run) r is = absurd (not_both text b.program r good.program is)
 
   module _ (counted : CountedPassNone) (p : Program) (is : IsProgram text p) where
     wrong_cause : (s : Refusal) (item : ℕ) → IsFirstWrong p options.items item → PassesLimit p s ⊎ ((n : ℕ) × IsFirstWrong p options.items n × (s ≡ no_action n)) →
@@ -99,7 +101,7 @@ module _ (before after : Environment) (no_input_fault : ReadFailed before after 
         IsWithinLimits status (Refused (no_action item)) p
     run_wrong_item (running.unread unused) item wrong = inl (inr refl)
     run_wrong_item (running.not_run s none unused) item wrong = wrong_cause s item wrong (limit_or_item text options.items p is s none)
-    run_wrong_item (running.ran b actions x good are is_one words) item wrong =
+    run_wrong_item (running.ran b actions x good are one_run) item wrong =
         absurd (operator.not_both p options.items actions item (subst (λ z. IsActions z options.items actions) (one_program text b.program p good.program is) are) wrong)
 
     module _ (actions : List Action) (are : IsActions p options.items actions) where
@@ -108,30 +110,36 @@ module _ (before after : Environment) (no_input_fault : ReadFailed before after 
       limit_cause s (inr (n, first, same)) = absurd (operator.not_both p options.items actions n are first)
 
       -- where a run has time enough for an end, it ends so
-      decided : (bytes : List ℕ) (bound : ℕ) (e : End) (stopped : Stopped) → meant.Decides p actions options.steps before after stopped → before.input.left ≡ Some bytes →
-          All (λ b. b < 2 ^ 8) bytes → Ends p actions bytes options.steps bound e → Is (status_of_stop stopped) (status_of_end e)
-      decided bytes bound e stopped decides told are_bytes ends =
-          let here : meant.DecidesFrom p actions options.steps before after (Some bytes) stopped =
-          subst (λ l. meant.DecidesFrom p actions options.steps before after l stopped) told decides in
+      decided : (bytes : List ℕ) (bound : ℕ) (e : End) (stopped : Stopped) → meant.Decides p actions options.steps before after bytes stopped →
+          Ends p actions bytes options.steps bound e → status_of_stop stopped ≡ status_of_end e
+      decided bytes bound e stopped decides ends =
           let over : (mean p bytes actions bound).«end» ≡ More → ⊥ = λ more. ends.over (sym ends.comes ∙ more) in
-          let answer : IsAnswer (mean p bytes actions bound).«end» stopped = here are_bytes no_input_fault no_output_fault bound ends.enough over in
-          inl (status_of_answer e stopped (subst (λ z. IsAnswer z stopped) ends.comes answer))
+          let answer : IsAnswer (mean p bytes actions bound).«end» stopped = decides no_input_fault no_output_fault bound ends.enough over in
+          status_of_answer e stopped (subst (λ z. IsAnswer z stopped) ends.comes answer)
 
-      pub run_ended : {lines : List ℕ} {status : Status} → Ran lines status → (bytes : List ℕ) (bound : ℕ) (e : End) → before.input.left ≡ Some bytes →
-          All (λ b. b < 2 ^ 8) bytes → Ends p actions bytes options.steps bound e → IsWithinLimits status (status_of_end e) p
-      run_ended (running.unread unused) bytes bound e told are_bytes ends = inl (inr refl)
-      run_ended (running.not_run s none unused) bytes bound e told are_bytes ends = inr (too_large counted text p is s (limit_cause s (limit_or_item text options.items p is s none)))
-      run_ended (running.ran b taken x good are_taken is_one words) bytes bound e told are_bytes ends =
-          let one : b.program ≡ p = one_program text b.program p good.program is in
-          let same : taken ≡ actions = operator.one_list p options.items taken actions (subst (λ z. IsActions z options.items taken) one are_taken) are in
-          let decides : meant.Decides b.program taken options.steps before after x.stopped = is_one.decides good.image.behaves good.image.fits in
-          let here : meant.Decides p actions options.steps before after x.stopped =
-          subst (λ acts. meant.Decides p acts options.steps before after x.stopped) same (subst (λ z. meant.Decides z taken options.steps before after x.stopped) one decides) in
-          inl (decided bytes bound e x.stopped here told are_bytes ends)
+      -- so it is on what was taken and whatever may come behind it; or there was no memory, or the program passes a limit
+      pub run_ended : {lines : List ℕ} {status : Status} → Ran lines status → AreToldBytes before.input.left → (status ≡ Memory) ⊎ (IsTooLarge p status
+          ⊎ OnInput before.input.left after.input.left (λ taken later. (bound : ℕ) (e : End) → Ends p actions (taken ++ later) options.steps bound e → status ≡ status_of_end e))
+      run_ended (running.unread unused) told = inl refl
+      run_ended (running.not_run s none unused) told = inr (inl (too_large counted text p is s (limit_cause s (limit_or_item text options.items p is s none))))
+      run_ended (running.ran b acts x good are_taken (picks, (taken, lost, each))) told = inr (inr (
+        taken,
+        lost,
+        λ later may bound e ends.
+            let one : b.program ≡ p = one_program text b.program p good.program is in
+            let same : acts ≡ actions = operator.one_list p options.items acts actions (subst (λ z. IsActions z options.items acts) one are_taken) are in
+            let decides : meant.Decides b.program acts options.steps before after (taken ++ later) x.stopped =
+            (each later may).0.decides good.image.behaves good.image.fits told in
+            let here : meant.Decides p actions options.steps before after (taken ++ later) x.stopped =
+            subst (λ a. meant.Decides p a options.steps before after (taken ++ later) x.stopped) same
+            (subst (λ z. meant.Decides z acts options.steps before after (taken ++ later) x.stopped) one decides) in
+            decided (taken ++ later) bound e x.stopped here ends,
+      ))
 
       -- it stands, or there was no memory, or the program passes a limit
       pub run_stands : {lines : List ℕ} {status : Status} → Ran lines status → Stands status ⊎ IsTooLarge p status
       run_stands (running.unread unused) = inl (inr refl)
       run_stands (running.not_run s none unused) = inr (too_large counted text p is s (limit_cause s (limit_or_item text options.items p is s none)))
-      run_stands (running.ran b taken x good are_taken is_one words) =
-          inl (stands before after Heard no_input_fault no_output_fault b.image (polls_of taken) x.machine options.steps x.stopped is_one.runs)
+      run_stands (running.ran b acts x good are_taken (picks, (taken, lost, each))) =
+          let later = some_later after.input.left in
+          inl (stands before after Heard no_input_fault no_output_fault b.image (polls_of acts) x.machine picks taken later.0 options.steps x.stopped (each later.0 later.1).0.runs)

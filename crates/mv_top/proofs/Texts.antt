@@ -18,7 +18,7 @@ use Rattle.mv_refine.specs.Built.{Built}
 use Rattle.mv_refine.specs.BuildError.{BuildError}
 use Rattle.mv_refine.specs.BuildError.TheVariants as build_error
 use Rattle.mv_refine.specs.declared.execution.Execution.{Execution}
-use Rattle.mv_refine.specs.Environment.{Environment, Took, Wrote, ReadFailed, WriteFailed}
+use Rattle.mv_refine.specs.Environment.{Environment, OneRun, Wrote, ReadFailed, WriteFailed}
 use Rattle.mv_refine.specs.Execution.{IsExecution}
 use Rattle.mv_meaning.specs.declared.meant.End.{End}
 use Rattle.mv_eval.specs.Evaluations.{Evaluates}
@@ -57,10 +57,19 @@ module _ (before after : Environment) (Heard : List Event → Type 0) (options :
   not_started lines status none same unused = alone Ran lines status Memory none same (running.unread unused)
 
   pub ran : (prepared : Prepared) (actions : List Action) (e : Execution) → actions ≡ prepared.actions.items → IsPrepared text options.items prepared →
-      IsExecution prepared.built actions options.steps before after Heard e → Ran (asked_lines options prepared.built.image e.machine) (status_of_stop e.stopped)
-  ran prepared actions e same is execution =
-      running.ran prepared.built actions e is.built (subst (λ a. IsActions prepared.built.program options.items a) (sym same) is.actions) execution
-      (word_lines text prepared.built actions options.steps before after Heard e is.built execution)
+      OneRun before after (λ picks taken later. IsExecution prepared.built actions options.steps before after Heard picks taken later e) →
+      Ran (asked_lines options prepared.built.image e.machine) (status_of_stop e.stopped)
+  ran prepared actions e same is (picks, (taken, lost, each)) =
+      running.ran prepared.built actions e is.built (subst (λ a. IsActions prepared.built.program options.items a) (sym same) is.actions) (
+        picks,
+        (
+          taken,
+          lost,
+          λ later may.
+              let execution = each later may in
+              (execution, word_lines text prepared.built actions options.steps before after Heard picks taken later e is.built execution),
+        ),
+      )
 
 -- ---- a build
 
@@ -104,5 +113,5 @@ module _ (before after : Environment) (bound : ℕ) (text : List ℕ) where
   not_evaluated status e same is unused = subst (λ (s : Status). EvalDoes before after bound text s) (sym same) (no_program_by e is unused)
 
   pub evaluation_done : (status : Status) (p : Program) (result : Result End EvalError) → status ≡ status_of_evaluation result → IsProgram text p →
-      Evaluates p bound before.input.left (Took before after) (Wrote before after) (ReadFailed before after) (WriteFailed before after) result → EvalDoes before after bound text status
+      Evaluates p bound before.input.left after.input.left (Wrote before after) (ReadFailed before after) (WriteFailed before after) result → EvalDoes before after bound text status
   evaluation_done status p result same is evaluates = subst (λ (s : Status). EvalDoes before after bound text s) (sym same) (evaluating.evaluated p result is evaluates)

@@ -1,8 +1,8 @@
 -- Which status comes where no count of faults rises.
-use Rattle.std.specs.Prelude.{ℕ, ◌≡◌, ◌^◌, ◌<◌, ◌⊎◌, Bool, true, false, List, [], take, All, IsTrue, Option, Some}
+use Rattle.std.specs.Prelude.{ℕ, ◌≡◌, ◌⊎◌, Bool, true, false, List, [], ◌++◌, IsTrue, Option}
 use Rattle.mv_ast.specs.declared.program.Program.{Program}
 use Rattle.mv_bindings.specs.declared.action.Action.{Action}
-use Rattle.mv_io.specs.Outside.{Rose}
+use Rattle.mv_io.specs.Outside.{AreToldBytes, OnInput, Rose}
 use Rattle.mv_io.specs.Shelves.{Files, Lacks}
 use Rattle.mv_front.specs.Verdicts.{IsProgram, IsRefused}
 use Rattle.mv_front.specs.declared.refusal.Refusal.{Refusal}
@@ -17,7 +17,7 @@ use Rattle.mv_refine.specs.Meant.{IsEnough}
 use Rattle.mv_meaning.specs.Meaning.{mean}
 use Rattle.mv_meaning.specs.declared.meant.End.{End}
 use Rattle.mv_meaning.specs.declared.meant.End.TheVariants.{More}
-use Rattle.mv_eval.specs.Evaluations.{most, meaning}
+use Rattle.mv_eval.specs.Evaluations.{IsInput, meaning}
 use Rattle.mv_command.specs.Commands.{Asked, Runs, Builds, Executes, Lists, Evaluates, Generates, IsCommand, IsNoCommand}
 use Rattle.mv_command.specs.declared.command.RunOptions.{RunOptions}
 use Rattle.mv_command.specs.Spelled.{default_steps}
@@ -97,7 +97,8 @@ pub record Ends (p : Program) (actions : List Action) (bytes : List ℕ) (steps 
 
 -- ---- the status of each command
 
-module _ (words : List (List ℕ)) (files : Option Files) (left : Option (List ℕ)) (result : Status) where
+-- `left`, `left'`: what the input tells as still to come, before and after the command
+module _ (words : List (List ℕ)) (files : Option Files) (left left' : Option (List ℕ)) (result : Status) where
   -- a file of these bytes is loaded by the command that the words are
   pub record Loads (asked : Asked) (bytes : List ℕ) : Type 0 where
     pub command : IsCommand words asked
@@ -115,9 +116,10 @@ module _ (words : List (List ℕ)) (files : Option Files) (left : Option (List �
     -- a run
     pub wrong_item : (file text : List ℕ) (options : RunOptions) (p : Program) (item : ℕ) → Loads (Runs file options) text → IsProgram text p →
         IsFirstWrong p options.items item → IsWithinLimits result (Refused (no_action item)) p
-    pub ended : (file text bytes : List ℕ) (options : RunOptions) (bound : ℕ) (p : Program) (actions : List Action) (e : End) → Loads (Runs file options) text →
-        IsProgram text p → IsActions p options.items actions → left ≡ Some bytes → All (λ b. b < 2 ^ 8) bytes → Ends p actions bytes options.steps bound e →
-        IsWithinLimits result (status_of_end e) p
+    -- some bytes were taken, and whatever may come behind them, the status is the end of the program on both, where it has one for which there were steps enough
+    pub ended : (file text : List ℕ) (options : RunOptions) (p : Program) (actions : List Action) → Loads (Runs file options) text →
+        IsProgram text p → IsActions p options.items actions → AreToldBytes left →
+        (result ≡ Memory) ⊎ (IsTooLarge p result ⊎ OnInput left left' (λ taken later. (bound : ℕ) (e : End) → Ends p actions (taken ++ later) options.steps bound e → result ≡ status_of_end e))
     pub ran : (file text : List ℕ) (options : RunOptions) (p : Program) (actions : List Action) → Loads (Runs file options) text → IsProgram text p →
         IsActions p options.items actions → Stands result ⊎ IsTooLarge p result
     pub built : (file image text : List ℕ) (p : Program) → Loads (Builds file image) text → IsProgram text p → IsWithinLimits result Done p
@@ -127,8 +129,8 @@ module _ (words : List (List ℕ)) (files : Option Files) (left : Option (List �
     pub executed : (file bytes : List ℕ) (options : RunOptions) (image : Fields) (actions : List Action) → Loads (Executes file options) bytes → Spells bytes image →
         IsImageActions image options.items actions → Stands result
     pub listed : (file bytes : List ℕ) (image : Fields) → Loads (Lists file) bytes → Spells bytes image → Is result Done
-    pub evaluated : (file text bytes : List ℕ) (bound : ℕ) (p : Program) → Loads (Evaluates file bound) text → IsProgram text p → left ≡ Some bytes →
-        Is result (status_of_end (meaning p bound (take most bytes)).«end»)
+    pub evaluated : (file text : List ℕ) (bound : ℕ) (p : Program) → Loads (Evaluates file bound) text → IsProgram text p →
+        (result ≡ Memory) ⊎ OnInput left left' (λ taken later. IsInput taken later × (result ≡ status_of_end (meaning p bound taken).«end»))
     pub shown : (number : ℕ) → IsCommand words (Generates number true) → Is result Done
     -- a generated program, which is never refused: it has the program's end where there are steps enough
     pub generated_ended : (number bound : ℕ) (p : Program) (e : End) → IsCommand words (Generates number false) → IsProgram (generated number) p →

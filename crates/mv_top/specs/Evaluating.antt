@@ -10,7 +10,7 @@ use Rattle.mv_meaning.specs.declared.meant.End.TheVariants.{Exit, Trap, More}
 use Rattle.mv_eval.specs.Evaluations.{Evaluates}
 use Rattle.mv_eval.specs.declared.error.EvalError.{EvalError}
 use Rattle.mv_eval.specs.declared.error.EvalError.TheVariants as fault
-use Rattle.mv_refine.specs.Environment.{Environment, Took, Wrote, ReadFailed, WriteFailed}
+use Rattle.mv_refine.specs.Environment.{Environment, Wrote, ReadFailed, WriteFailed}
 use Rattle.mv_notes.specs.declared.status.Status.{Status}
 use Rattle.mv_notes.specs.declared.status.Status.TheVariants.{Ended, Trapped, Refused, Memory, InputFault, OutputFault, Steps}
 use Rattle.mv_top.specs.Outside.{Outside, OfFile, Untouched}
@@ -39,7 +39,7 @@ module _ (before after : Environment) where
     unread : after ≡ before → EvalDoes bound text Memory
     no_program : (r : Refusal) → IsRefused text r → after ≡ before → EvalDoes bound text (Refused r)
     evaluated : (p : Program) (result : Result End EvalError) → IsProgram text p →
-        Evaluates p bound before.input.left (Took before after) (Wrote before after) (ReadFailed before after) (WriteFailed before after) result →
+        Evaluates p bound before.input.left after.input.left (Wrote before after) (ReadFailed before after) (WriteFailed before after) result →
         EvalDoes bound text (status_of_evaluation result)
 
 module _ (before after : Outside) where

@@ -9,7 +9,7 @@ use Rattle.mv_image.specs.Faults.{Spells}
 use Rattle.mv_image.specs.Spelling.{Fields}
 use Rattle.mv_operator.specs.Operator.{IsImageActions, IsImageFirstWrong}
 use Rattle.mv_refine.specs.declared.execution.Execution.{Execution}
-use Rattle.mv_refine.specs.Environment.{Environment}
+use Rattle.mv_refine.specs.Environment.{Environment, OneRun}
 use Rattle.mv_machine.specs.Acts.{polls_of}
 use Rattle.mv_refine.specs.Run.{Runs}
 use Rattle.mv_command.specs.declared.command.RunOptions.{RunOptions}
@@ -36,7 +36,8 @@ module _ (before after : Environment) (Heard : List Event → Type 0) where
     wrong_item : (image : Fields) (item : ℕ) → Spells bytes image → IsImageFirstWrong image options.items item → Unused before after Heard →
         ExecDoes options bytes [] (Refused (no_action item))
     ran : (image : Fields) (actions : List Action) (e : Execution) → Spells bytes image → IsImageActions image options.items actions →
-        Runs image (polls_of actions) before after Heard e.machine options.steps e.stopped → ExecDoes options bytes (asked_lines options image e.machine) (status_of_stop e.stopped)
+        OneRun before after (λ picks taken later. Runs image (polls_of actions) before after Heard e.machine picks taken later options.steps e.stopped) →
+        ExecDoes options bytes (asked_lines options image e.machine) (status_of_stop e.stopped)
 
   -- and no count of faults rose but that of the device that the status names
   abbrev pub ExecComes : RunOptions → (bytes lines : List ℕ) → Status → Type 0

@@ -76,4 +76,4 @@ module _ (before after : Outside) (Heard : List Event → Type 0) where
     -- A command was carried out: each status has its cause, and the cause its status where no count of faults rose.
     pub record IsCarriedOut (was is : Writing) (status : Status) : Type 0 where
       pub gives : Gives was is status
-      pub decides : Quiet before after was is → Decides words before.shelf.files before.environment.input.left status
+      pub decides : Quiet before after was is → Decides words before.shelf.files before.environment.input.left after.environment.input.left status

@@ -1,5 +1,5 @@
 -- How many words of text have changed where a run has ended, by the source.
-use Rattle.std.specs.Prelude.{ℕ, ◌<◌, ◌^◌, List, All, Option, Some, None}
+use Rattle.std.specs.Prelude.{ℕ, List}
 use Rattle.mv_ast.specs.declared.program.Program.{Program}
 use Rattle.mv_bindings.specs.declared.action.Action.{Action}
 use Rattle.mv_image.specs.Spelling.{Fields}
@@ -17,7 +17,7 @@ module _ (p : Program) (image : Fields) (actions : List Action) (steps : ℕ) (m
   abbrev pub CountsLines : (bytes : List ℕ) → Type 0
   CountsLines bytes = CountsWords p (mean p bytes actions steps).bindings (line_count (patched_text image machine.room.held))
 
-  -- so it is where the program has ended, on a source that has these bytes to come
+  -- so it is where the program has ended
   abbrev pub CountsOn : (bytes : List ℕ) → Stopped → Type 0
   CountsOn bytes (Ended status) = CountsLines bytes
   CountsOn bytes (Trapped code) = CountsLines bytes
@@ -26,8 +26,3 @@ module _ (p : Program) (image : Fields) (actions : List Action) (steps : ℕ) (m
   CountsOn bytes OutputFault = Unit {0}
   CountsOn bytes (Fault pc why) = Unit {0}
   CountsOn bytes Memory = Unit {0}
-
-  -- It stands where the source tells what is to come, and that is bytes.
-  abbrev pub CountsFrom : (left : Option (List ℕ)) → Stopped → Type 0
-  CountsFrom None stopped = Unit {0}
-  CountsFrom (Some bytes) stopped = All (λ b. b < 2 ^ 8) bytes → CountsOn bytes stopped

@@ -13,8 +13,8 @@
 //!   a limit, as `mv_build` says; or, behind all these, 15 with the number of the first item of LIST that is no action of
 //!   the program (`mv_operator`). `input` and `out` are unchanged. Each other answer but `Memory` is that of an execution
 //!   (`mv_refine`) of an image that `mv_build` gives of the text, with the actions of LIST: there is one image, with its
-//!   tables and the bodies and variants that it is linked of, and one run of it, on the input that is told and by the
-//!   oracle's way where that is told. `Ended`, `Trapped` and `Steps` are how this run stands after N instructions, `out`
+//!   tables and the bodies and variants that it is linked of, and one run of it, on the bytes that were taken from
+//!   `input` and whatever may come behind them, and by the oracle's way where that is told. `Ended`, `Trapped` and `Steps` are how this run stands after N instructions, `out`
 //!   grew by exactly its output, `input` lost exactly what it took, each probe was told exactly its log in order and left
 //!   exactly where that used up its patience, the others keep their order, and the oracle picked by its way for each
 //!   instruction. The lines of `--bindings` and `--words` are those of its bindings and of its text against the image's.
@@ -22,7 +22,7 @@
 //!   failed.
 //! - This image does what the program means with the actions, on each input and whatever the fetches give, also while
 //!   commits, reverts and polls rewrite its text. Where the run has ended, its bindings and its text are the meaning's, and
-//!   each probe heard exactly the meaning's log. `MachineFault` comes of it only where the input tells nothing or what is no byte.
+//!   each probe heard exactly the meaning's log. `MachineFault` comes of it only where the input tells what is no byte.
 //! - `build FILE IMAGE` (`specs/Building.antt`): refused as `run` without items. `Done`: the shelf tells under IMAGE bytes that spell
 //!   an image which `mv_build` gives of the text, and all other names are as before. `ShelfFault` of the save: the count rose, and other names
 //!   are as before; with `Refused` all are, and with `Memory` too. `input` and `out` are unchanged.
@@ -30,7 +30,7 @@
 //!   one run of this image is what was done, as above, with no word on any source. `Memory` may come of the run too.
 //! - `list IMAGE` (`specs/Listing.antt`), `Done`: `out` grew by exactly the listing of the image that the bytes spell.
 //! - `eval FILE --bound K` (`specs/Evaluating.antt`), where the text of FILE is a program: `Ended`, `Trapped` and `Steps` are the end of its
-//!   meaning at K on the first 16,777,216 bytes of what `input` tells, or all of it; `input` lost exactly these bytes,
+//!   meaning at K on the first 16,777,216 bytes of `input`, or all of it; exactly these bytes were taken,
 //!   and `out` grew by exactly the output of that meaning. After `InputFault`, `OutputFault` and `Memory` it is as
 //!   `mv_eval` says. No probe is told anything.
 //! - `gen NUMBER` (`specs/Generating.antt`): with `--source`, `Done`, `out` grew by exactly the text of the number. Without it that text is
@@ -44,8 +44,8 @@
 //!   write to them failed, they grew by less.
 //! - Each status comes where its cause stands, unless a count rose (`specs/Decisions.antt`): no command, a missing file, each refusal 1 to 7, each code and
 //!   offset of bytes that are no image, 15
-//!   unless the program passes a limit, and each end of an evaluation on an input that is told; of a run the end of the
-//!   meaning at some bound, where N is at least 100 × (1 + the work there), unless the program passes a limit, and else how it stands; `Done` of `list`,
+//!   unless the program passes a limit, and the end of an evaluation; of a run the end of the
+//!   meaning on what was taken and whatever may come behind it, at some bound, where N is at least 100 × (1 + the work there), unless the program passes a limit, and else how it stands; `Done` of `list`,
 //!   of `gen --source`, and of `build` unless the program passes a limit; of `exec` how its run stands; of `gen` an end, a trap, or that the steps are used up.
 //!   No program passes a limit that is within the counts over its source (`mv_count_limits`). Want of memory may come in place of each.
 //! - Asked is that each probe that tells its patience has some left.
