@@ -44,9 +44,18 @@ read left left' None t = (
 -- ---- one move
 
 pub moves_telling : (f : State → State) (x y : Seen) (stop : Stop) (Told : List Event → Type 0) (news : List Event) → y.left ≡ x.left → y.written ≡ x.written → Told news → ((input : List (Option ℕ)) (output : List ℕ) (log : List Event) → f (shown x Going input output log) ≡ shown y stop input output (log ++ news)) → Moves f x y stop Told
-moves_telling f x y stop Told news l w told e =
-    ([], news, w ∙ nothing_written x.written, told, ([], lost_same x.left y.left l, λ later may out log.
-    (tt, e (bytes_to_come later) out log ∙ ap (λ o. shown y stop (bytes_to_come later) o (log ++ news)) (sym (append-nil out)))))
+moves_telling f x y stop Told news l w told e = (
+  [],
+  news,
+  w ∙ nothing_written x.written,
+  told,
+  (
+    [],
+    lost_same x.left y.left l,
+    λ later may out log.
+        (tt, e (bytes_to_come later) out log ∙ ap (λ o. shown y stop (bytes_to_come later) o (log ++ news)) (sym (append-nil out))),
+  ),
+)
 
 pub moves_quietly : (f : State → State) (x y : Seen) (stop : Stop) (Told : List Event → Type 0) → y.left ≡ x.left → y.written ≡ x.written → Told [] → ((input : List (Option ℕ)) (output : List ℕ) (log : List Event) → f (shown x Going input output log) ≡ shown y stop input output log) → Moves f x y stop Told
 moves_quietly f x y stop Told l w quiet e =
@@ -72,9 +81,18 @@ moves_reading f x y byte Told takes w quiet e =
     )
 
 pub moves_writing : (f : State → State) (x y : Seen) (byte : ℕ) (Told : List Event → Type 0) → y.left ≡ x.left → y.written ≡ option_map (λ before. before ++ byte ∷ []) x.written → Told [] → ((input : List (Option ℕ)) (output : List ℕ) (log : List Event) → f (shown x Going input output log) ≡ shown y Going input (output ++ byte ∷ []) log) → Moves f x y Going Told
-moves_writing f x y byte Told l w quiet e =
-    (byte ∷ [], [], w, quiet, ([], lost_same x.left y.left l, λ later may out log.
-    (tt, e (bytes_to_come later) out log ∙ ap (λ all. shown y Going (bytes_to_come later) (out ++ byte ∷ []) all) (sym (append-nil log)))))
+moves_writing f x y byte Told l w quiet e = (
+  byte ∷ [],
+  [],
+  w,
+  quiet,
+  (
+    [],
+    lost_same x.left y.left l,
+    λ later may out log.
+        (tt, e (bytes_to_come later) out log ∙ ap (λ all. shown y Going (bytes_to_come later) (out ++ byte ∷ []) all) (sym (append-nil log))),
+  ),
+)
 
 -- the same of a function that does the same
 pub moves_as : (f g : State → State) (x y : Seen) (stop : Stop) (Told : List Event → Type 0) → ((input : List (Option ℕ)) (output : List ℕ) (log : List Event) → g (shown x Going input output log) ≡ f (shown x Going input output log)) → Moves f x y stop Told → Moves g x y stop Told
