@@ -1,7 +1,6 @@
 -- What one instruction of an engine is to the hart that its seat is.
 use Rattle.std.proofs.Common.{ℕ, ◌≡◌, ◌⊎◌, inl, inr, ◌+◌, ◌%◌, ◌<◌, Bool, true, false, ◌&&◌, ◌||◌, not, cond, nat_eq, List, [], ◌∷◌, ◌++◌, length, Option, Some, None, option_map, refl, sym, ap, ap₂, ◌∙◌, subst, arith, if◌then◌else◌}
-use Rattle.std.proofs.Math.Option.{some-injective}
-use Rattle.std.proofs.lemmas.Option.{none-some}
+use Rattle.std.proofs.lemmas.Option.{none-some, same_Some}
 use Rattle.mv_bindings.specs.declared.action.Action.{Action}
 use Rattle.mv_bindings.specs.declared.binding.Binding.{Binding}
 use Rattle.mv_bindings.specs.declared.binding.Event.{Event}
@@ -134,7 +133,7 @@ module _ (number : ℕ) (was : Seat) (o : Hart) (act : Action) (bytes : List ℕ
           let more = moves.0 in
           let news = moves.1 in
           let whole : bytes ≡ moves.4.0 ++ bs =
-          moves.4.1.1 ∙ ap (λ (z : List ℕ). moves.4.0 ++ z) (sym (some-injective bs moves.4.1.0 moves.4.1.2)) in
+          moves.4.1.1 ∙ ap (λ (z : List ℕ). moves.4.0 ++ z) (sym (same_Some bs moves.4.1.0 moves.4.1.2)) in
           let t : turn h 0 ≡ shown (y (Some bs)) stop (bytes_to_come bs) (o.state.output ++ more) (o.state.log ++ news) =
           ap (λ s. turn s 0) (handed_is written) ∙ ap (λ (i : List ℕ). turn (shown (x written) Going (bytes_to_come i) o.state.output o.state.log) 0) whole
           ∙ (moves.4.2 bs refl o.state.output o.state.log).1 in
