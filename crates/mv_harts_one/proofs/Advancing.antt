@@ -1,11 +1,10 @@
 -- What an instruction that just goes on is to the hart that its seat is.
 use Rattle.std.proofs.Common.{ℕ, ◌≡◌, ◌⊎◌, inl, inr, ◌+◌, ◌%◌, Bool, true, false, List, [], ◌∷◌, length, Option, Some, None, is_some, refl, sym, ap, ap₂, ◌∙◌, subst}
-use Rattle.std.specs.Prelude.{option_and_then, slice_get, if◌then◌else◌}
+use Rattle.std.specs.Prelude.{slice_get, if◌then◌else◌}
 use Rattle.mv_bindings.specs.declared.binding.Binding.{Binding}
 use Rattle.mv_bindings.specs.declared.binding.Event.{Event}
 use Rattle.mv_bindings.specs.Acts.{Act}
 use Rattle.mv_isa.specs.declared.instr.Instr.TheVariants.{Ecall}
-use Rattle.mv_isa.specs.Encoding.{decode}
 use Rattle.mv_isa.specs.Execution.{Goes, Calls, step}
 use Rattle.mv_fetch.specs.Held.{Room, choices, only}
 use Rattle.mv_rv32.specs.Stepping.{access, picked_step, Stays}
@@ -15,13 +14,13 @@ use Rattle.mv_rv32.specs.declared.hart.Stepped.TheVariants as stepped
 use Rattle.mv_machine.specs.declared.machine.Stopped.{Stopped}
 use Rattle.mv_machine.specs.Runs.{State, Going, choices_at, fetched_step, turn, is_going}
 use Rattle.mv_machine.specs.Commits.{fetched_instr, after_instr}
-use Rattle.mv_harts_runs.specs.Harts.{Hart, Store, shared, store_of, handed, Move, move}
+use Rattle.mv_harts_runs.specs.Harts.{Hart, Store, shared, told, handed, Move, move}
 use Rattle.mv_harts_runs.proofs.Acts.{IsNoCall, ecall_or, calls_where, turn_by, step_acts, instr_acts, place_elsewhere}
 use Rattle.mv_harts_one.specs.declared.seat.Seat.{Seat}
-use Rattle.mv_harts_one.specs.Seats.{stop_of, has_failed, IsHalt, mode_of, Sits}
+use Rattle.mv_harts_one.specs.Seats.{stop_of, has_failed, IsHalt, IsBefore, mode_of, Sits}
 use Rattle.mv_harts_one.specs.Executions.{is_into_text, HasAdvanced}
 use Rattle.mv_harts_one.proofs.Words.{only_word}
-use Rattle.mv_harts_one.proofs.Sitting.{sat, shared_same, shared_none, shared_outside, told_is}
+use Rattle.mv_harts_one.proofs.Sitting.{sat, none_failed, shared_same, shared_none, shared_outside}
 
 -- nothing comes to nothing, whether a run goes on or not
 none_stays : (going : Bool) (under : Option (List Binding)) → (if going then under else under) ≡ under
@@ -69,11 +68,11 @@ module _ (number : ℕ) (was is : Seat) (bytes : List ℕ) (o : Hart) (act : Act
       ∙ none_stays (is_going o.state.stop) None
 
   pub has_advanced : is.engine.number ≡ was.engine.number → is.mode ≡ was.mode → is.waited ≡ false → is.stop ≡ was.stop → is.instructions ≡ was.instructions + 1
-      → is_into_text (option_and_then (λ i. store_of i was.engine.hart.regs) (decode w)) ≡ false → HasAdvanced number o act m is bytes
+      → is_into_text (told o.state 0) ≡ false → HasAdvanced number o act m is bytes
   unfolding move
   has_advanced engine mode waited stop instructions outside = record {
     place = place_elsewhere o.state 0 no_call;
-    store = ap is_into_text (sym (told_is number was bytes o sits w word _ refl)) ∙ outside;
+    store = outside;
     sits = record {
       engine = engine ∙ sits.engine;
       state = state_is ∙ ap₂ (λ (l : List ℕ) (e : List Event). sat number is bytes l e) (sym (ap (λ (s : State). s.output) state_is)) (sym (ap (λ (s : State). s.log) state_is));
@@ -82,6 +81,7 @@ module _ (number : ℕ) (was is : Seat) (bytes : List ℕ) (o : Hart) (act : Act
       failed = sits.failed ∙ ap has_failed (sym stop);
       count = ap (λ k. k + 1) sits.count ∙ sym instructions;
       halts = subst (λ r. IsHalt r) (sym stop) sits.halts;
+      before = none_failed is.stop m.state (ap has_failed (stop ∙ on));
     };
     under = under_is;
     output = ap (λ (s : State). s.output) state_is;
@@ -115,6 +115,7 @@ stands number was is bytes o hart memory engine same mode waited stop instructio
   failed = sits.failed ∙ ap has_failed (sym stop);
   count = sits.count ∙ sym instructions;
   halts = subst (λ r. IsHalt r) (sym stop) sits.halts;
+  before = subst (λ r. IsBefore r o.state) (sym stop) sits.before;
 }
 
 -- ---- a store that isn't into text

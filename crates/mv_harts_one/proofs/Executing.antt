@@ -19,15 +19,15 @@ use Rattle.mv_machine.specs.declared.machine.Stopped.{Stopped}
 use Rattle.mv_machine.specs.declared.machine.Stopped.TheVariants as answer
 use Rattle.mv_machine.specs.Runs.{State, Stop, Going, Exit, Trap, Fault, Request, Reads, Writes, request_of, environment_call, bytes_to_come, choices_at, fetched_step, turn, is_going}
 use Rattle.mv_machine.specs.Commits.{fetched_instr, is_some_pair, opens, after_instr, commit_after}
-use Rattle.mv_machine.specs.Moves.{Seen, seen, shown, Moves, Outcomes, Called, Wanting, Turns}
+use Rattle.mv_machine.specs.Moves.{Seen, seen, shown, Moves, Outcomes, Called, Wanting, Turns, input_failed, output_failed}
 use Rattle.mv_harts_runs.specs.Harts.{Hart, Elsewhere, place_by, place_of, place, reads_or_writes, outside_of, is_outside, handed, Move, move}
 use Rattle.mv_harts_runs.proofs.Acts.{calls_where, where_calls, turn_by}
 use Rattle.mv_harts_runs.proofs.Calls.{no_pairs}
 use Rattle.mv_harts_one.specs.declared.seat.Seat.{Seat}
-use Rattle.mv_harts_one.specs.Seats.{stop_of, has_failed, IsHalt, Sits, is_under}
+use Rattle.mv_harts_one.specs.Seats.{stop_of, has_failed, IsHalt, IsBefore, Sits, is_under}
 use Rattle.mv_harts_one.specs.Executions.{is_fence_i, counted, wants_memory, IsFaultOf, HasExecuted, HasFailed}
 use Rattle.mv_harts_one.proofs.Words.{fetched_word}
-use Rattle.mv_harts_one.proofs.Sitting.{sat, sat_as, fetches, shown_by}
+use Rattle.mv_harts_one.proofs.Sitting.{sat, sat_as, none_failed, fetches, shown_by}
 
 -- ---- the oracle
 
@@ -158,6 +158,7 @@ module _ (number : ℕ) (was : Seat) (o : Hart) (act : Action) (bytes : List ℕ
               failed = sits.failed ∙ ap has_failed on ∙ sym well;
               count = ap (λ k. k + 1) sits.count ∙ ap (λ k. was.instructions + k) (sym counts);
               halts = halts;
+              before = none_failed r m.state well;
             };
             under = ap (λ b. e.opened || b) (stays_is f.0 f.1)
                 ∙ under_is h before e.opened f.0 e.bindings going (ap (λ (s : State). choices s.room.held s.pc) (handed_is None) ∙ f.1) (ap (λ (s : State). s.bindings) t) another;
@@ -179,10 +180,10 @@ module _ (number : ℕ) (was : Seat) (o : Hart) (act : Action) (bytes : List ℕ
         (where_calls o.state 0 step, ap (λ (t : State). request_of (reg t.regs 17)) s ∙ c.1)
 
     module _ (r : Option Stopped) (stop_is : stop_of r ≡ Going) (ill : has_failed r ≡ true) (halts : IsHalt r) (counts : counted r ≡ 0) (A B : Type 0) (fault : IsFaultOf r A B) where
-      failed : (left : Option (List ℕ)) (pick : ℕ) (request : Request) → pick ≡ 0 → y left ≡ x written → Called (x written) pick request → reads_or_writes request ≡ true → place_by request (is_known_order o.state.image (reg o.state.regs 10) (reg o.state.regs 11)) (nat_eq (reg o.state.regs 26) 0) ≡ Elsewhere
+      failed : (left : Option (List ℕ)) (pick : ℕ) (request : Request) → ((s : State) → fetched_instr s 0 ≡ Some Ecall → request_of (reg s.regs 17) ≡ request → IsBefore r s) → pick ≡ 0 → y left ≡ x written → Called (x written) pick request → reads_or_writes request ≡ true → place_by request (is_known_order o.state.image (reg o.state.regs 10) (reg o.state.regs 11)) (nat_eq (reg o.state.regs 26) 0) ≡ Elsewhere
           → HasFailed number o m (behind e r) (is_under before) (e.opened || stays) bytes left written written' A B
       unfolding move place is_outside
-      failed left pick request zero q c outside at =
+      failed left pick request stands zero q c outside at =
           let i = called pick request zero c in
           let n : e.number ≡ number = same ∙ sits.engine in
           let is : Seat = behind e r in
@@ -209,6 +210,7 @@ module _ (number : ℕ) (was : Seat) (o : Hart) (act : Action) (bytes : List ℕ
               failed = sym ill;
               count = omega (arith, sits.count, counts);
               halts = halts;
+              before = stands o.state i.0 i.1;
             };
             under = ap (λ b. b || stays) quiet ∙ stays_is f.0 f.1 ∙ ap (λ j. is_under before && not (is_fence_i j)) w ∙ sym (and_true (is_under before));
             wrote = ap (λ (z : Seen). z.written) q;
@@ -230,8 +232,8 @@ module _ (number : ℕ) (was : Seat) (o : Hart) (act : Action) (bytes : List ℕ
     answered (Some (answer.Ended status)) left A B n t = inl (executed (Some (answer.Ended status)) (Exit status) refl refl tt refl left t)
     answered (Some (answer.Trapped code)) left A B n t = inl (executed (Some (answer.Trapped code)) (Trap code) refl refl tt refl left t)
     answered (Some answer.Steps) left A B n t = absurd t
-    answered (Some answer.InputFault) left A B n t = inr (failed (Some answer.InputFault) refl refl tt refl A B t.3 left 0 Reads refl t.0 t.2 refl refl)
-    answered (Some answer.OutputFault) left A B n t = inr (failed (Some answer.OutputFault) refl refl tt refl A B t.3 left 0 Writes refl t.0 t.2 refl refl)
+    answered (Some answer.InputFault) left A B n t = inr (failed (Some answer.InputFault) refl refl tt refl A B t.3 left 0 Reads (λ s f e. (f, e)) refl t.0 t.2 refl refl)
+    answered (Some answer.OutputFault) left A B n t = inr (failed (Some answer.OutputFault) refl refl tt refl A B t.3 left 0 Writes (λ s f e. (f, e)) refl t.0 t.2 refl refl)
     answered (Some (answer.Fault pc why)) left A B n t = inl (executed (Some (answer.Fault pc why)) (Fault why) refl refl tt refl left t)
     answered (Some answer.Memory) left A B n t = absurd (n refl)
 
@@ -276,6 +278,27 @@ module _ (number : ℕ) (was : Seat) (o : Hart) (act : Action) (bytes : List ℕ
 
 pub no_want : (r : Option Stopped) → wants_memory r ≡ false → r ≡ Some answer.Memory → ⊥
 no_want r e q = let w : wants_memory r ≡ true = ap wants_memory q in cc
+
+-- want of memory is the fault of no device
+pub unread : (r : Option Stopped) → wants_memory r ≡ true → input_failed r ≡ false
+unread None e = refl
+unread (Some (answer.Ended status)) e = refl
+unread (Some (answer.Trapped code)) e = refl
+unread (Some answer.Steps) e = refl
+unread (Some answer.InputFault) e = absurd (cc)
+unread (Some answer.OutputFault) e = refl
+unread (Some (answer.Fault pc why)) e = refl
+unread (Some answer.Memory) e = refl
+
+pub unwritten : (r : Option Stopped) → wants_memory r ≡ true → output_failed r ≡ false
+unwritten None e = refl
+unwritten (Some (answer.Ended status)) e = refl
+unwritten (Some (answer.Trapped code)) e = refl
+unwritten (Some answer.Steps) e = refl
+unwritten (Some answer.InputFault) e = refl
+unwritten (Some answer.OutputFault) e = absurd (cc)
+unwritten (Some (answer.Fault pc why)) e = refl
+unwritten (Some answer.Memory) e = refl
 
 -- ---- one of two
 

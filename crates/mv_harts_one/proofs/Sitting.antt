@@ -1,5 +1,5 @@
 -- What follows of a hart whose seat is known, and which seats are which harts.
-use Rattle.std.proofs.Common.{ℕ, ◌≡◌, ◌+◌, Bool, true, false, if◌then◌else◌, nat_eq, List, [], ◌∷◌, ◌++◌, Option, Some, None, option_map, unwrap_or, Ok, Err, refl, sym, ap, ap₂, ◌∙◌, subst}
+use Rattle.std.proofs.Common.{ℕ, ◌≡◌, ◌+◌, Bool, true, false, not, ◌&&◌, if◌then◌else◌, nat_eq, List, [], ◌∷◌, ◌++◌, Option, Some, None, option_map, unwrap_or, Ok, Err, refl, sym, ap, ap₂, ◌∙◌, subst}
 use Rattle.std.specs.Prelude.{option_and_then}
 use Rattle.std.specs.Result.{result_ok}
 use Rattle.mv_bindings.specs.declared.binding.Binding.{Binding}
@@ -15,14 +15,15 @@ use Rattle.mv_rv32.specs.Stepping.{access, with_held}
 use Rattle.mv_patch.specs.Orders.{is_known_order}
 use Rattle.mv_machine.specs.declared.engine.Engine.{Engine}
 use Rattle.mv_machine.specs.declared.machine.Stopped.{Stopped}
+use Rattle.mv_machine.specs.declared.machine.Stopped.TheVariants as answer
 use Rattle.mv_machine.specs.Runs.{State, Going, request_of, bytes_to_come, choices_at, adopts}
 use Rattle.mv_machine.specs.Commits.{fetched_instr}
 use Rattle.mv_machine.specs.Moves.{seen, shown}
-use Rattle.mv_harts_runs.specs.Harts.{Hart, is_on, Place, place_by, place_of, place, Store, store_of, told, is_in_text, with_store, shared_room, shared}
+use Rattle.mv_harts_runs.specs.Harts.{Hart, is_going, is_on, Place, place_by, place_of, place, Store, store_of, told, is_in_text, with_store, shared_room, shared}
 use Rattle.mv_harts_one.specs.declared.seat.Mode.TheVariants as mode
 use Rattle.mv_harts_one.specs.declared.seat.Seat.{Seat}
 use Rattle.mv_harts_one.specs.declared.store.Store.{Store as SeenStore}
-use Rattle.mv_harts_one.specs.Seats.{stop_of, has_failed, IsHalt, mode_of, Sits, adopted, width_as, store_as}
+use Rattle.mv_harts_one.specs.Seats.{stop_of, has_failed, IsHalt, IsBefore, mode_of, Sits, adopted, width_as, store_as}
 use Rattle.mv_harts_one.proofs.Words.{one_word, fetched_word, only_word, no_only}
 
 -- the state of a seat
@@ -46,6 +47,17 @@ pub sat_as : (number : ℕ) (seat : Seat) (bytes : List ℕ) (s : State) (output
 sat_as number seat bytes s output log n p =
     p ∙ ap (λ k. sat k seat bytes output log) n
     ∙ ap₂ (λ (o : List ℕ) (l : List Event). sat number seat bytes o l) (sym (ap (λ (x : State). x.output) p)) (sym (ap (λ (x : State). x.log) p))
+
+-- a hart of which no device has failed stands before no call that did
+pub none_failed : (stop : Option Stopped) (s : State) → has_failed stop ≡ false → IsBefore stop s
+none_failed None s e = tt
+none_failed (Some (answer.Ended status)) s e = tt
+none_failed (Some (answer.Trapped code)) s e = tt
+none_failed (Some answer.Steps) s e = tt
+none_failed (Some answer.InputFault) s e = absurd (cc)
+none_failed (Some answer.OutputFault) s e = absurd (cc)
+none_failed (Some (answer.Fault pc why)) s e = tt
+none_failed (Some answer.Memory) s e = tt
 
 -- ---- what is fetched
 
@@ -108,9 +120,15 @@ adopts_sits was e bs on same h number bytes o taken sits =
       failed = sits.failed;
       count = ap (λ k. k + 1) sits.count;
       halts = sits.halts;
+      before = none_failed was.stop (adopts o.state bs) (ap has_failed on);
     }
 
 -- ---- another hart's store
+
+not_and : (b c : Bool) → (b && not c) ≡ true → c ≡ false
+not_and true true e = absurd (cc)
+not_and true false e = refl
+not_and false c e = absurd (cc)
 
 -- a hart whose memory stays
 pub shared_same : (o : Hart) (st : Option Store) → shared_room st o.state.room ≡ o.state.room → shared st o ≡ o
@@ -164,6 +182,7 @@ module _ (number : ℕ) (was : Seat) (bytes : List ℕ) (o : Hart) (sits : Sits 
         failed = sits.failed ∙ ap has_failed (sym stop);
         count = sits.count ∙ sym instructions;
         halts = subst (λ r. IsHalt r) (sym stop) sits.halts;
+        before = none_failed is.stop x.state (ap has_failed stop ∙ sym sits.failed ∙ not_and (is_going o.state.stop) o.failed on);
       })
 
 -- what a store leaves

@@ -2,9 +2,13 @@
 use Rattle.std.specs.Prelude.{ℕ, ◌+◌, ◌≡◌, Bool, true, false, List, [], slice_get, Option, Some, None}
 use Rattle.mv_bindings.specs.declared.binding.Binding.{Binding}
 use Rattle.mv_bindings.specs.Acts.{Act, Skip, Flip, Adopt}
+use Rattle.mv_isa.specs.declared.instr.Instr.TheVariants.{Ecall}
+use Rattle.mv_isa.specs.Execution.{reg}
+use Rattle.mv_isa.specs.Registers.{a7}
 use Rattle.mv_machine.specs.declared.machine.Stopped.{Stopped}
 use Rattle.mv_machine.specs.declared.machine.Stopped.TheVariants as answer
-use Rattle.mv_machine.specs.Runs.{Stop, Going, Exit, Trap, Fault, bytes_to_come, adopts}
+use Rattle.mv_machine.specs.Runs.{State, Stop, Going, Exit, Trap, Fault, Request, Reads, Writes, request_of, bytes_to_come, adopts}
+use Rattle.mv_machine.specs.Commits.{fetched_instr}
 use Rattle.mv_harts_runs.specs.Harts.{Mode, Runs, Parked, Freed, Place, AtOrder, AtPoll, Elsewhere, Store, Hart}
 use Rattle.mv_harts_one.specs.declared.seat.Mode.{Mode as SeatMode}
 use Rattle.mv_harts_one.specs.declared.seat.Mode.TheVariants as mode
@@ -52,6 +56,21 @@ IsHalt (Some answer.OutputFault) = Unit {0}
 IsHalt (Some (answer.Fault pc why)) = Unit {0}
 IsHalt (Some answer.Memory) = ⊥
 
+-- a hart stands before that call
+abbrev pub IsAt : State → Request → Type 0
+IsAt s request = (fetched_instr s 0 ≡ Some Ecall) × (request_of (reg s.regs a7) ≡ request)
+
+-- a hart whose device has failed stands before the call: a read where the source failed, a write where the sink did
+abbrev pub IsBefore : Option Stopped → State → Type 0
+IsBefore None s = Unit {0}
+IsBefore (Some (answer.Ended status)) s = Unit {0}
+IsBefore (Some (answer.Trapped code)) s = Unit {0}
+IsBefore (Some answer.Steps) s = Unit {0}
+IsBefore (Some answer.InputFault) s = IsAt s Reads
+IsBefore (Some answer.OutputFault) s = IsAt s Writes
+IsBefore (Some (answer.Fault pc why)) s = Unit {0}
+IsBefore (Some answer.Memory) s = Unit {0}
+
 -- ---- a seat
 
 abbrev pub mode_of : SeatMode → Mode
@@ -80,6 +99,7 @@ pub record Sits (number : ℕ) (seat : Seat) (bytes : List ℕ) (o : Hart) : Typ
   pub failed : o.failed ≡ has_failed seat.stop
   pub count : o.count ≡ seat.instructions
   pub halts : IsHalt seat.stop
+  pub before : IsBefore seat.stop o.state
 
 -- a hart that was freed takes on bindings
 abbrev pub adopted : Hart → List Binding → (taken : List Act) → Hart

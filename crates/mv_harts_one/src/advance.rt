@@ -1,15 +1,14 @@
 //! An instruction of a hart that concerns no other hart and no device.
 
-ghost use Rattle.std.specs.Prelude.{◌≡◌, ◌+◌, ◌<◌, ◌^◌, true, false, ℕ, List, None, option_map};
+ghost use Rattle.std.specs.Prelude.{◌≡◌, ◌+◌, ◌<◌, ◌≤◌, ◌^◌, true, false, ℕ, List, None, option_map};
 ghost use Rattle.mv_bindings.specs.Acts.{Act};
 ghost use Rattle.mv_probe.specs.Ways.{way_after, Follows};
 ghost use Rattle.mv_machine.specs.Runs.{choices_at};
-ghost use Rattle.mv_harts_runs.specs.Harts.{Hart, move};
+ghost use Rattle.mv_harts_runs.specs.Harts.{Hart, move, told};
 ghost use Rattle.mv_harts_one.specs.Seats.{Sits};
-ghost use Rattle.mv_harts_one.specs.Executions.{HasAdvanced};
+ghost use Rattle.mv_harts_one.specs.Executions.{HasAdvanced, is_into_text};
 
 use crate::seat::Seat;
-use crate::store::is_into_text;
 use mv_probe::FetchOracle;
 use mv_rv32::{Stepped, step_word};
 
@@ -22,16 +21,17 @@ fn picked(oracle: &mut Box<dyn FetchOracle>, address: u32) -> u64
 }
 
 impl Seat {
-    /// The instruction at pc of a hart that has not ended, where that just goes on and stores nothing into text; then the answer is yes. Else nothing
-    /// happens, and `execute` is to carry it out.
+    /// The instruction at pc of a hart that has not ended, where that just goes on; then the answer is yes. Else nothing happens, and `execute` is to
+    /// carry it out. No store into text is looked for, which is the caller's to know.
     #[inline(always)]
     pub fn advance(&mut self, oracle: &mut Box<dyn FetchOracle>) -> bool
         requires { self.old.instructions + 1 < 2 ^ 64 }
-        ensures advances { result ≡ true → (number : ℕ) (bytes : List ℕ) (o : Hart) (act : Act) → Sits number self.old bytes o → choices_at o.state ≡ 1 → HasAdvanced number o act (move o.state act None 0) self.new bytes }
+        ensures advances { result ≡ true → (number : ℕ) (bytes : List ℕ) (o : Hart) (act : Act) → Sits number self.old bytes o → choices_at o.state ≡ 1 → is_into_text (told o.state 0) ≡ false → HasAdvanced number o act (move o.state act None 0) self.new bytes }
         ensures asks { result ≡ true → way oracle.new ≡ option_map (λ w. way_after w 1) (way oracle.old) }
         ensures stays { result ≡ false → ((number : ℕ) (bytes : List ℕ) (o : Hart) → Sits number self.old bytes o → Sits number self.new bytes o) × (way oracle.new ≡ way oracle.old) }
         ensures stop { self.new.stop ≡ self.old.stop }
         ensures on { result ≡ true → self.old.stop ≡ None }
+        ensures instructions { self.new.instructions ≤ self.old.instructions + 1 }
         ensures taken { self.new.taken ≡ self.old.taken }
         ensures image { self.new.engine.image ≡ self.old.engine.image }
     {
@@ -42,9 +42,6 @@ impl Seat {
         let Some(word) = self.engine.memory.only_choice(pc) else {
             return false;
         };
-        if is_into_text(&self.engine.hart, word) {
-            return false;
-        }
         let Stepped::Next = step_word(&mut self.engine.hart, &mut self.engine.memory, word) else {
             return false;
         };

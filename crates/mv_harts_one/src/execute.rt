@@ -4,9 +4,10 @@ ghost use Rattle.std.specs.Prelude.{◌≡◌, ◌+◌, ◌<◌, ◌≤◌, ◌^
 ghost use Rattle.mv_bindings.specs.declared.binding.Binding.{Binding};
 ghost use Rattle.mv_bindings.specs.Acts.{act_of};
 ghost use Rattle.mv_fetch.specs.Held.{choices};
-ghost use Rattle.mv_io.specs.Outside.{Rose};
+ghost use Rattle.mv_io.specs.Outside.{CountAfter, Rose};
 ghost use Rattle.mv_isa.specs.Encoding.{decode};
 ghost use Rattle.mv_machine.specs.Runs.{choices_at};
+ghost use Rattle.mv_machine.specs.Moves.{input_failed, output_failed};
 ghost use Rattle.mv_harts_runs.specs.Harts.{Hart, move};
 ghost use Rattle.mv_harts_one.specs.Seats.{Sits, is_under};
 ghost use Rattle.mv_harts_one.specs.Executions.{is_fence_i, counted, wants_memory, Did};
@@ -72,7 +73,7 @@ impl Seat {
 
     /// One instruction of a hart that has not ended, whose poll would take `act`: `Skip` of another hart than 0, which takes a commit on by `adopt`.
     /// `under` says whether the commit of hart 0 is under way, and the answer says it of the time behind the instruction. Where a read or a write failed,
-    /// the hart has ended. An error is want of memory for a word that a store into text replaces.
+    /// the hart has ended, and the count of that device alone may have risen. An error is want of memory for a word that a store into text replaces.
     #[inline(always)]
     pub fn execute<I: Source, O: Sink>(
         &mut self,
@@ -92,6 +93,8 @@ impl Seat {
         ensures image { self.new.engine.image ≡ self.old.engine.image }
         ensures input { I.faults source.old ≤ I.faults source.new }
         ensures output { O.faults sink.old ≤ O.faults sink.new }
+        ensures reading { CountAfter (input_failed self.new.stop) (I.faults source.old) (I.faults source.new) }
+        ensures writing { CountAfter (output_failed self.new.stop) (O.faults sink.old) (O.faults sink.new) }
     {
         let remains = self.remains(under);
         let acts = [act];

@@ -8,7 +8,6 @@ ghost use Rattle.mv_num.specs.Words.{add, word_of};
 ghost use Rattle.mv_fetch.specs.Held.{IsWidth};
 ghost use Rattle.mv_harts_runs.specs.Harts.{is_in_text, store_of, with_store};
 ghost use Rattle.mv_harts_one.specs.Seats.{width_as, store_as};
-ghost use Rattle.mv_harts_one.specs.Executions.{is_into_text};
 
 use crate::fields::{funct3, imm_s, opcode, rs1, rs2};
 use mv_fetch::{Memory, StoreError};
@@ -94,17 +93,6 @@ pub(crate) fn lies_in_text(address: u32) -> bool
     ensures { result ≡ is_in_text address }
 {
     address >= TEXT_START && address < DATA_START
-}
-
-/// Whether the instruction of a word is a store into text.
-#[inline(always)]
-pub(crate) fn is_into_text(hart: &Hart, word: u32) -> bool
-    ensures { result ≡ is_into_text (option_and_then (λ i. store_of i hart.now.regs) (decode word)) }
-{
-    match store_at(hart, word) {
-        None => false,
-        Some(store) => lies_in_text(store.address),
-    }
 }
 
 /// Makes a store where there is memory at its address.

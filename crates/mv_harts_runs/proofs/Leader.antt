@@ -223,7 +223,7 @@ module _ (known : Known) (image : Fields) (input : ℕ → List (Option ℕ)) (F
       from old e = under_stays known.rooms image fitting.in_data s a 0 f.image_is going hs.under old same_b e
 
       -- where no commit is under way, nothing is stored into text
-      not_settled : (st : Store) → is_in_text st.address ≡ true → told s 0 ≡ Some st → hs.under ≡ None → ⊥
+      pub not_settled : (st : Store) → is_in_text st.address ≡ true → told s 0 ≡ Some st → hs.under ≡ None → ⊥
       not_settled st here e none =
           no_store st.address st.width st.value (texts_of image f'.old) (texts_of image t.bindings) s.room t.room here
           (stores known.rooms image fitting.in_data s a 0 f.image_is going st e f'.sane)

@@ -126,7 +126,7 @@ module _ (known : Known) (image : Fields) (input : ℕ → List (Option ℕ)) (F
       same_b = binds known.rooms image fitting.in_data s Skip 0 fo.image_is going (λ e. ne_eqb s.hart 0 (λ q. omega (arith, fo.hart_is, q))) (λ e. refl)
 
       -- it stores nothing into text
-      quiet : IsElsewhere (told s 0)
+      pub quiet : IsElsewhere (told s 0)
       quiet st e = by_text (is_in_text st.address) refl
         where
           by_text : (b : Bool) → is_in_text st.address ≡ b → is_in_text st.address ≡ false
@@ -235,7 +235,7 @@ module _ (known : Known) (image : Fields) (input : ℕ → List (Option ℕ)) (F
       pub freed_one : choices_at o.state ≡ 1
       freed_one = ap choices_at y.same ∙ same_count old o.state.room fetch_same ∙ fb.one old_going
 
-      at_poll_still : place o.state 0 ≡ AtPoll
+      pub at_poll_still : place o.state 0 ≡ AtPoll
       at_poll_still = ap (λ (x : State). place x 0) y.same ∙ same_place old o.state.room 0 fetch_same ∙ y.polls
 
       abbrev bs : List Binding

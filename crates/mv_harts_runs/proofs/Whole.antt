@@ -9,11 +9,12 @@ use Rattle.mv_refine_machine.specs.Stores.Between.{IsWhole}
 use Rattle.mv_bindings.specs.Acts.{Act}
 use Rattle.mv_machine.specs.Runs.{State, choices_at, first, runs_from}
 use Rattle.mv_machine.specs.Commits.{commit_from}
-use Rattle.mv_harts_runs.specs.Harts.{first_of, Mode, Runs, Parked, Freed, Hart, Harts, Turn, is_on, hart_from, others_from, first_harts, harts_after, turn_of, next_act}
+use Rattle.mv_harts_runs.specs.Harts.{first_of, Mode, Runs, Parked, Freed, AtPoll, Elsewhere, Store, Hart, Harts, Turn, is_on, is_in_text, told, place, hart_from, others_from, first_harts, harts_after, turn_of, next_act}
 use Rattle.mv_harts_runs.specs.Alone.{texts_of, alone, under_alone, Fitting, Known, adopts_of, IsAlone, StandsBy, Stands, IsOther, IsRight, IsOutside, IsWell}
 use Rattle.mv_harts_runs.proofs.Facts.{facts, facts_settled, facts_between, between_text, outside}
-use Rattle.mv_harts_runs.proofs.Leader.{on_going, other_room, store_no_commit}
-use Rattle.mv_harts_runs.proofs.Turns.{turn_right, freed_one}
+use Rattle.mv_harts_runs.proofs.Leader.{on_going, other_room, store_no_commit, not_settled, called_told, elsewhere_none}
+use Rattle.mv_harts_runs.proofs.Moves.{IsElsewhere}
+use Rattle.mv_harts_runs.proofs.Turns.{turn_right, freed_one, quiet, at_poll_still}
 
 module _ (known : Known) (image : Fields) (input : ℕ → List (Option ℕ)) (Fits : ℕ → Act → Type 0) (fitting : Fitting image input Fits) where
   -- ---- the start
@@ -104,6 +105,25 @@ module _ (known : Known) (image : Fields) (input : ℕ → List (Option ℕ)) (F
         by_mode Parked y = y.0.text
         by_mode Freed y = y.text
 
+    -- a hart that stands at a poll stores nothing
+    polled : (o : Hart) → place o.state 0 ≡ AtPoll → IsElsewhere (told o.state 0)
+    polled o at = elsewhere_none (told o.state 0) (called_told o.state (λ e. (let c : AtPoll ≡ Elsewhere = sym at ∙ e in cc)))
+
+    unstored : (n : ℕ) (o : Hart) → slice_get hs.others n ≡ Some o → is_on o ≡ true → IsElsewhere (told o.state 0)
+    unstored n o there on = by_mode o.mode refl (subst (λ g. Stands image input g (suc n) o lead hs.under hs.commits) on (right.others n o there).stands)
+      where
+        by_mode : (m : Mode) → o.mode ≡ m → StandsBy image input m (suc n) o lead hs.under hs.commits → IsElsewhere (told o.state 0)
+        by_mode Runs e y = quiet known image input Fits fitting hs right n o there on y e
+        by_mode Parked e y = polled o y.1
+        by_mode Freed e y = polled o (at_poll_still known image input Fits fitting hs right n o there on e y)
+
+    leader_unstored : hs.under ≡ None → is_on hs.leader ≡ true → IsElsewhere (told lead 0)
+    leader_unstored none on st e = by_text (is_in_text st.address) refl
+      where
+        by_text : (b : Bool) → is_in_text st.address ≡ b → is_in_text st.address ≡ false
+        by_text false out = out
+        by_text true here = absurd (not_settled known image input Fits fitting hs right (on_going hs.leader on) (store_no_commit lead (next_act hs.actions) st e) st here e none)
+
     adopts : (n : ℕ) (o : Hart) → slice_get hs.others n ≡ Some o → (missed : List (List Binding)) × (adopts_of o.taken ++ missed ≡ hs.commits)
     adopts n o there = by_going (is_on o) (right.others n o there).stands
       where
@@ -138,6 +158,8 @@ module _ (known : Known) (image : Fields) (input : ℕ → List (Option ℕ)) (F
       settled = λ e. between_text known.rooms (texts_of image lead.bindings) lead.room.held (facts_settled image input Fits fitting 0 lead hs.leader.taken hs.leader.count right.fits right.leader hs.under right.under e);
       between = facts_between image input Fits fitting 0 lead hs.leader.taken hs.leader.count right.fits right.leader hs.under right.under;
       shared = texts;
+      leader_stores = leader_unstored;
+      stores = unstored;
       roomy = λ on st e here n o there other_on.
           let s = hs.leader.state in
           other_room known image input Fits fitting hs right (on_going hs.leader on) (store_no_commit s (next_act hs.actions) st e) st (suc n) o here e (right.others n o there) other_on;

@@ -146,6 +146,9 @@ pub record IsWell (image : Fields) (input : ℕ → List (Option ℕ)) (hs : Har
   pub settled : hs.under ≡ None → hs.leader.state.room.held.text ≡ texts_of image hs.leader.state.bindings
   pub between : (old : List Binding) → hs.under ≡ Some old → IsBetween (texts_of image old) (texts_of image hs.leader.state.bindings) hs.leader.state.room.held
   pub shared : (n : ℕ) (o : Hart) → slice_get hs.others n ≡ Some o → is_on o ≡ true → o.state.room.held.text ≡ hs.leader.state.room.held.text
+  -- nobody stores into text but the leader, and it only while its commit is under way
+  pub leader_stores : hs.under ≡ None → is_on hs.leader ≡ true → (st : Store) → told hs.leader.state 0 ≡ Some st → is_in_text st.address ≡ false
+  pub stores : (n : ℕ) (o : Hart) → slice_get hs.others n ≡ Some o → is_on o ≡ true → (st : Store) → told o.state 0 ≡ Some st → is_in_text st.address ≡ false
   -- the leader's next store into text finds room in each memory
   pub roomy : is_on hs.leader ≡ true → (st : Store) → told hs.leader.state 0 ≡ Some st → is_in_text st.address ≡ true → (n : ℕ) (o : Hart) → slice_get hs.others n ≡ Some o → is_on o ≡ true → 1 ≤ o.state.room.spare
   pub adopts : (n : ℕ) (o : Hart) → slice_get hs.others n ≡ Some o → (missed : List (List Binding)) × (adopts_of o.taken ++ missed ≡ hs.commits)
