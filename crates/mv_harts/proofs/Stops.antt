@@ -6,15 +6,16 @@ use Rattle.mv_image.specs.Spelling.{Fields}
 use Rattle.mv_isa.specs.declared.instr.Cause.{Cause}
 use Rattle.mv_machine.specs.declared.machine.Stopped.{Stopped}
 use Rattle.mv_machine.specs.declared.machine.Stopped.TheVariants as answer
+use Rattle.mv_machine.specs.Moves.{input_failed, output_failed}
 use Rattle.mv_machine.specs.Runs.{State, Stop, Going, Exit, Trap, Fault, is_going}
 use Rattle.mv_harts_runs.specs.Harts.{Hart, is_on}
 use Rattle.mv_harts_one.specs.declared.seat.Seat.{Seat}
-use Rattle.mv_harts_one.specs.Seats.{IsHalt, has_failed}
+use Rattle.mv_harts_one.specs.Seats.{IsHalt, IsBefore, has_failed}
 use Rattle.mv_harts_one.specs.Seats as seats
 use Rattle.mv_harts_turns.specs.Groups.{IsSeat}
 use Rattle.mv_harts.specs.declared.ends.HartStop.{HartStop}
 use Rattle.mv_harts.specs.declared.ends.HartStop.TheVariants as told
-use Rattle.mv_harts.specs.Ends.{IsEnd, Stops, end_of, is_fault, stop_of, stop_text}
+use Rattle.mv_harts.specs.Ends.{IsEnd, Stops, end_of, is_fault, is_input_fault, is_output_fault, stop_of, stop_text}
 use Rattle.mv_harts.specs.Texts.{standing}
 
 on : (o : Hart) → o.state.stop ≡ Going → o.failed ≡ false → is_on o ≡ true
@@ -24,46 +25,51 @@ on o s f = ap₂ (λ (stop : Stop) (failed : Bool). is_going stop && not failed)
 abbrev pub NeverFaults : Hart → Type 0
 NeverFaults o = (why : Cause) → o.state.stop ≡ Fault why → ⊥
 
-pub stops_right : (o : Hart) (waited : Bool) (stop : Option Stopped) → o.state.stop ≡ seats.stop_of stop → o.failed ≡ has_failed stop → o.waited ≡ waited → IsHalt stop → NeverFaults o →
+pub stops_right : (o : Hart) (waited : Bool) (stop : Option Stopped) → o.state.stop ≡ seats.stop_of stop → o.failed ≡ has_failed stop → o.waited ≡ waited → IsHalt stop → IsBefore stop o.state → NeverFaults o →
     Stops o (stop_of waited stop)
-stops_right o true None s f w halts never = (on o s f, w)
-stops_right o false None s f w halts never = (on o s f, w)
-stops_right o waited (Some (answer.Ended status)) s f w halts never = (f, s)
-stops_right o waited (Some (answer.Trapped code)) s f w halts never = (f, s)
-stops_right o waited (Some answer.Steps) s f w halts never = absurd halts
-stops_right o waited (Some answer.InputFault) s f w halts never = f
-stops_right o waited (Some answer.OutputFault) s f w halts never = f
-stops_right o waited (Some (answer.Fault pc why)) s f w halts never = absurd (never why s)
-stops_right o waited (Some answer.Memory) s f w halts never = absurd halts
+stops_right o true None s f w halts before never = (on o s f, w)
+stops_right o false None s f w halts before never = (on o s f, w)
+stops_right o waited (Some (answer.Ended status)) s f w halts before never = (f, s)
+stops_right o waited (Some (answer.Trapped code)) s f w halts before never = (f, s)
+stops_right o waited (Some answer.Steps) s f w halts before never = absurd halts
+stops_right o waited (Some answer.InputFault) s f w halts before never = (f, before)
+stops_right o waited (Some answer.OutputFault) s f w halts before never = (f, before)
+stops_right o waited (Some (answer.Fault pc why)) s f w halts before never = absurd (never why s)
+stops_right o waited (Some answer.Memory) s f w halts before never = absurd halts
 
 pub end_right : (image : Fields) (commits : List (List Binding)) (number : ℕ) (bytes : List ℕ) (seat : Seat) (o : Hart) → IsSeat image commits number bytes seat o → NeverFaults o →
     IsEnd commits (end_of seat) o
 end_right image commits number bytes seat o is never = record {
   instructions = sym is.sits.count;
-  stop = stops_right o seat.waited seat.stop (ap (λ (s : State). s.stop) is.sits.state) is.sits.failed is.sits.waited is.sits.halts never;
+  stop = stops_right o seat.waited seat.stop (ap (λ (s : State). s.stop) is.sits.state) is.sits.failed is.sits.waited is.sits.halts is.sits.before never;
   taken = is.took;
 }
 
 -- ---- faults
 
-is_input : HartStop → Bool
-is_input told.Going = false
-is_input told.Waiting = false
-is_input (told.Ended status) = false
-is_input (told.Trapped code) = false
-is_input told.InputFault = true
-is_input told.OutputFault = false
+pub input_told : (waited : Bool) (stop : Option Stopped) → is_input_fault (stop_of waited stop) ≡ input_failed stop
+input_told true None = refl
+input_told false None = refl
+input_told waited (Some (answer.Ended status)) = refl
+input_told waited (Some (answer.Trapped code)) = refl
+input_told waited (Some answer.Steps) = refl
+input_told waited (Some answer.InputFault) = refl
+input_told waited (Some answer.OutputFault) = refl
+input_told waited (Some (answer.Fault pc why)) = refl
+input_told waited (Some answer.Memory) = refl
 
-is_output : HartStop → Bool
-is_output told.Going = false
-is_output told.Waiting = false
-is_output (told.Ended status) = false
-is_output (told.Trapped code) = false
-is_output told.InputFault = false
-is_output told.OutputFault = true
+pub output_told : (waited : Bool) (stop : Option Stopped) → is_output_fault (stop_of waited stop) ≡ output_failed stop
+output_told true None = refl
+output_told false None = refl
+output_told waited (Some (answer.Ended status)) = refl
+output_told waited (Some (answer.Trapped code)) = refl
+output_told waited (Some answer.Steps) = refl
+output_told waited (Some answer.InputFault) = refl
+output_told waited (Some answer.OutputFault) = refl
+output_told waited (Some (answer.Fault pc why)) = refl
+output_told waited (Some answer.Memory) = refl
 
-input_by : (waited : Bool) (stop : Option Stopped) → is_input (stop_of waited stop) ≡ true → stop ≡ Some answer.InputFault
-unfolding is_input
+input_by : (waited : Bool) (stop : Option Stopped) → is_input_fault (stop_of waited stop) ≡ true → stop ≡ Some answer.InputFault
 input_by true None e = absurd (false≢true e)
 input_by false None e = absurd (false≢true e)
 input_by waited (Some (answer.Ended status)) e = absurd (false≢true e)
@@ -75,11 +81,9 @@ input_by waited (Some (answer.Fault pc why)) e = absurd (false≢true e)
 input_by waited (Some answer.Memory) e = absurd (false≢true e)
 
 pub input_fault : (waited : Bool) (stop : Option Stopped) → stop_of waited stop ≡ told.InputFault → stop ≡ Some answer.InputFault
-unfolding is_input
-input_fault waited stop e = input_by waited stop (ap is_input e)
+input_fault waited stop e = input_by waited stop (ap is_input_fault e)
 
-output_by : (waited : Bool) (stop : Option Stopped) → is_output (stop_of waited stop) ≡ true → stop ≡ Some answer.OutputFault
-unfolding is_output
+output_by : (waited : Bool) (stop : Option Stopped) → is_output_fault (stop_of waited stop) ≡ true → stop ≡ Some answer.OutputFault
 output_by true None e = absurd (false≢true e)
 output_by false None e = absurd (false≢true e)
 output_by waited (Some (answer.Ended status)) e = absurd (false≢true e)
@@ -91,8 +95,7 @@ output_by waited (Some (answer.Fault pc why)) e = absurd (false≢true e)
 output_by waited (Some answer.Memory) e = absurd (false≢true e)
 
 pub output_fault : (waited : Bool) (stop : Option Stopped) → stop_of waited stop ≡ told.OutputFault → stop ≡ Some answer.OutputFault
-unfolding is_output
-output_fault waited stop e = output_by waited stop (ap is_output e)
+output_fault waited stop e = output_by waited stop (ap is_output_fault e)
 
 -- ---- texts
 

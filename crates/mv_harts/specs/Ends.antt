@@ -4,22 +4,23 @@ use Rattle.std.specs.Fmt.{decimal}
 use Rattle.mv_bindings.specs.declared.binding.Binding.{Binding}
 use Rattle.mv_machine.specs.declared.machine.Stopped.{Stopped}
 use Rattle.mv_machine.specs.declared.machine.Stopped.TheVariants as answer
-use Rattle.mv_machine.specs.Runs.{Exit, Trap}
+use Rattle.mv_machine.specs.Runs.{Exit, Trap, Reads, Writes}
 use Rattle.mv_harts_runs.specs.Harts.{Hart, is_on}
 use Rattle.mv_harts_one.specs.declared.seat.Seat.{Seat}
+use Rattle.mv_harts_one.specs.Seats.{IsAt}
 use Rattle.mv_harts_turns.specs.Groups.{AreTaken}
 use Rattle.mv_harts.specs.declared.ends.HartStop.{HartStop}
 use Rattle.mv_harts.specs.declared.ends.HartStop.TheVariants.{Going, Waiting, Ended, Trapped, InputFault, OutputFault}
 use Rattle.mv_harts.specs.declared.ends.HartEnd.{HartEnd}
 
--- the stop that tells how a hart stands
+-- the stop that tells how a hart stands; it stands before the read or write that failed
 abbrev pub Stops : Hart → HartStop → Type 0
 Stops o Going = (is_on o ≡ true) × (o.waited ≡ false)
 Stops o Waiting = (is_on o ≡ true) × (o.waited ≡ true)
 Stops o (Ended status) = (o.failed ≡ false) × (o.state.stop ≡ Exit status)
 Stops o (Trapped code) = (o.failed ≡ false) × (o.state.stop ≡ Trap code)
-Stops o InputFault = o.failed ≡ true
-Stops o OutputFault = o.failed ≡ true
+Stops o InputFault = (o.failed ≡ true) × IsAt o.state Reads
+Stops o OutputFault = (o.failed ≡ true) × IsAt o.state Writes
 
 -- what is told of a hart is so; an adoption is told by the number of its commit
 pub record IsEnd (commits : List (List Binding)) (end : HartEnd) (o : Hart) : Type 0 where
@@ -35,6 +36,24 @@ is_fault (Ended status) = false
 is_fault (Trapped code) = false
 is_fault InputFault = true
 is_fault OutputFault = true
+
+-- its read failed
+abbrev pub is_input_fault : HartStop → Bool
+is_input_fault Going = false
+is_input_fault Waiting = false
+is_input_fault (Ended status) = false
+is_input_fault (Trapped code) = false
+is_input_fault InputFault = true
+is_input_fault OutputFault = false
+
+-- its write failed
+abbrev pub is_output_fault : HartStop → Bool
+is_output_fault Going = false
+is_output_fault Waiting = false
+is_output_fault (Ended status) = false
+is_output_fault (Trapped code) = false
+is_output_fault InputFault = false
+is_output_fault OutputFault = true
 
 -- the words for a stop
 abbrev pub stop_text : HartStop → List ℕ

@@ -4,7 +4,7 @@ use Rattle.std.specs.List.{All}
 use Rattle.mv_ast.specs.declared.program.Program.{Program}
 use Rattle.mv_bindings.specs.declared.action.Action.{Action}
 use Rattle.mv_image.specs.Spelling.{Fields}
-use Rattle.mv_io.specs.Outside.{Rose}
+use Rattle.mv_io.specs.Outside.{CountAfter, Rose}
 use Rattle.mv_probe.specs.Ways.{way_after}
 use Rattle.mv_machine.specs.Runs.{bytes_to_come}
 use Rattle.mv_harts_runs.specs.Harts.{Hart, Harts}
@@ -16,7 +16,7 @@ use Rattle.mv_harts_turns.specs.Runs.{Outside, GotAll, bytes_of, harts_of}
 use Rattle.mv_harts.specs.declared.ends.HartEnd.{HartEnd}
 use Rattle.mv_harts.specs.declared.ends.HartsEnd.{HartsEnd}
 use Rattle.mv_harts.specs.declared.ends.HartStop.TheVariants.{InputFault, OutputFault}
-use Rattle.mv_harts.specs.Ends.{IsEnd}
+use Rattle.mv_harts.specs.Ends.{IsEnd, is_input_fault, is_output_fault}
 
 -- a source tells what is to come, and that is bytes
 abbrev pub TellsBytes : Option (List ℕ) → Type 0
@@ -36,10 +36,12 @@ pub record IsKept (p : Program) (image : Fields) (bytes : ℕ → List ℕ) (hs 
   -- has ended only as that does, and it has done all that is meant at each bound for which there was time.
   pub means : (h : ℕ) (o : Hart) → slice_get (all_of hs) h ≡ Some o → Means p h (bytes h) o
 
--- a device failed only where its count of faults rose
+-- The counts of faults of a hart's source and sink: that of the device at which it failed rose, by one at most, and the other is as it was.
 pub record Fails (h : ℕ) (was is : Outside) (end : HartEnd) : Type 0 where
   pub input : end.stop ≡ InputFault → Rose (was.inputs h) (is.inputs h)
   pub output : end.stop ≡ OutputFault → Rose (was.outputs h) (is.outputs h)
+  pub reading : CountAfter (is_input_fault end.stop) (was.inputs h) (is.inputs h)
+  pub writing : CountAfter (is_output_fault end.stop) (was.outputs h) (is.outputs h)
 
 -- What was done is one run of so many harts by a schedule, in which reads and writes failed in some turns; each fetch is by the first choice, as it has one alone.
 pub record HartsRan (p : Program) (image : Fields) (actions : List Action) (count : ℕ) (schedule : List ℕ) (was is : Outside) (end : HartsEnd) : Type 0 where
@@ -56,6 +58,7 @@ pub record HartsRan (p : Program) (image : Fields) (actions : List Action) (coun
   pub written : GotAll was is (harts_of image actions count was schedule failing)
   -- the oracle was asked for each instruction, and for each read or write that failed
   pub way_is : is.way ≡ option_map (λ w. way_after w (asked (harts_of image actions count was schedule failing))) was.way
+  -- a device that failed was asked nothing more
   pub failed : (h : ℕ) (hart : HartEnd) → slice_get end.harts h ≡ Some hart → Fails h was is hart
   pub later_inputs : (h : ℕ) → was.inputs h ≤ is.inputs h
   pub later_outputs : (h : ℕ) → was.outputs h ≤ is.outputs h

@@ -2,8 +2,9 @@
 //!
 //! - `run_harts(alloc, built, schedule, sources, sinks, oracle, actions)` runs the image of a `Built` in two to four harts. Its contract (`specs/HartsRan.antt`)
 //!   names one run of harts (`harts_after` of `mv_harts_runs`) that is what was done: each hart's instructions, its stop and what its polls took; the bindings that
-//!   each commit left; each sink grew by exactly what its hart wrote, and each source lost exactly what its hart took; a device failed only where its count
-//!   rose; the oracle was asked once for each instruction, and for each read or write that failed.
+//!   each commit left; each sink grew by exactly what its hart wrote, and each source lost exactly what its hart took; each count of faults is as before, but that of
+//!   the device at which a hart failed, which rose, by one at most, so that device was asked nothing more; a hart whose read failed stands before a read, and one
+//!   whose write failed before a write; the oracle was asked once for each instruction, and for each read or write that failed.
 //! - Of that run (`IsKept`): no hart fetches a stale word, in any turn; text is that of hart 0's bindings, or between two while a commit is under way; each
 //!   hart is its own run alone with what its polls took, and adopts the commits of hart 0 in order, none skipped; and what each hart does is what the
 //!   program means in it.

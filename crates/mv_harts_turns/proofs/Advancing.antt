@@ -1,5 +1,5 @@
 -- A turn that just goes on.
-use Rattle.std.proofs.Common.{◌≡◌, ◌≢◌, ◌⊎◌, inl, inr, ℕ, zero, suc, ◌+◌, true, false, List, map, drop, slice_get, Option, Some, None, option_map, refl, sym, ap, ◌∙◌, arith, subst}
+use Rattle.std.proofs.Common.{◌≡◌, ◌≢◌, ◌⊎◌, inl, inr, ℕ, zero, suc, ◌+◌, ◌≤◌, true, false, List, map, drop, slice_get, Option, Some, None, option_map, refl, sym, ap, ◌∙◌, arith, subst}
 use Rattle.std.specs.Prelude.{slice_set}
 use Rattle.std.proofs.lemmas.Bool.{cases_eq}
 use Rattle.mv_bindings.specs.declared.binding.Binding.{Binding}
@@ -15,7 +15,7 @@ use Rattle.mv_harts_one.specs.Executions.{HasAdvanced}
 use Rattle.mv_harts_one.proofs.Advancing.{unshared}
 use Rattle.mv_harts_turns.specs.Pairs.{Both}
 use Rattle.mv_harts_turns.specs.declared.group.Group.{Group}
-use Rattle.mv_harts_turns.specs.Groups.{AreTaken, IsSeat, Shows, Beside, Advanced, Stands, SameStops, Reaches, asked_by, seat_at, output, bindings_of}
+use Rattle.mv_harts_turns.specs.Groups.{AreTaken, IsSeat, Shows, HaveExecuted, Beside, Advanced, Stands, SameStops, Reaches, asked_by, seat_at, output, bindings_of}
 use Rattle.mv_harts_turns.proofs.Places.{both_same, both_right, both_moved, both_here, pairs_one}
 use Rattle.mv_harts_turns.proofs.Seats.{on_none}
 use Rattle.mv_harts_turns.proofs.Reaching.{map_same, reaches_quiet}
@@ -42,7 +42,7 @@ same_seats p = both_same (λ (s s' : Seat). s'.stop ≡ s.stop) (λ s. refl) p
 
 -- ---- hart 0
 
-not_under : (u : Option (List Binding)) → is_under u ≡ false → u ≡ None
+pub not_under : (u : Option (List Binding)) → is_under u ≡ false → u ≡ None
 not_under None e = refl
 not_under (Some old) e = absurd (cc)
 
@@ -81,11 +81,12 @@ module _ (image : Fields) (actions : List Action) (bytes : ℕ → List ℕ) (wa
 
   pub leads : (hart : ℕ) → hart ≡ 0 → (w w' : Option Way) → w' ≡ option_map (λ v. way_after v 1) w → seat.engine.image ≡ was.leader.engine.image → seat.taken ≡ was.leader.taken → seat.stop ≡ was.leader.stop
       → HasAdvanced 0 hs.leader act m seat (bytes 0) → Advanced image actions hart bytes w w' was led hs
-  leads hart first w w' asks same taken stops h = subst (λ k. Advanced image actions k bytes w w' was led hs) (sym first) (λ x left written old new.
+  leads hart first w w' asks same taken stops h = subst (λ k. Advanced image actions k bytes w w' was led hs) (sym first) (λ x left written old new counts.
       subst (λ hs'. Reaches image actions 0 bytes x was led hs hs') (sym (leader_is h)) (reaches_quiet image actions 0 bytes x was led hs goes 1 (record {
         few = omega arith;
         left_is = left;
         same_written = written;
+        same_counts = counts;
         way_is = way_once w w' x asks old new;
         counted = let one = asked_more hs.leader act m in omega (arith, one);
         same_output = same_output h;
@@ -132,11 +133,12 @@ module _ (image : Fields) (actions : List Action) (bytes : ℕ → List ℕ) (wa
 
   pub follows : (hart : ℕ) → hart ≡ suc n → (w w' : Option Way) → w' ≡ option_map (λ v. way_after v 1) w → seat.engine.image ≡ old.engine.image → seat.taken ≡ old.taken → seat.stop ≡ old.stop
       → HasAdvanced (suc n) o Skip moved seat (bytes (suc n)) → Advanced image actions hart bytes w w' was is hs
-  follows hart place w w' asks same taken stops h = subst (λ k. Advanced image actions k bytes w w' was is hs) (sym place) (λ x left written old_way new_way.
+  follows hart place w w' asks same taken stops h = subst (λ k. Advanced image actions k bytes w w' was is hs) (sym place) (λ x left written old_way new_way counts.
       subst (λ hs'. Reaches image actions (suc n) bytes x was is hs hs') (sym (other_is h)) (stayed image actions bytes x was is hs n o next 1 old seat (record {
         few = omega arith;
         left_is = left;
         same_written = written;
+        same_counts = counts;
         way_is = way_once w w' x asks old_way new_way;
         shown = shown;
         there = there;
@@ -209,3 +211,28 @@ other_stands was is n old seat b same taken stop sits = record { shows = shows; 
         by_eq : (k ≡ n) ⊎ (k ≢ n) → Both (λ (s s' : Seat). s'.stop ≡ s.stop) (slice_get was.others.items k) (slice_get is.others.items k)
         by_eq (inl e) = both_here (λ (s s' : Seat). s'.stop ≡ s.stop) (slice_get was.others.items k) (slice_get is.others.items k) old seat (ap (slice_get was.others.items) e ∙ b.at) (ap (slice_get is.others.items) e ∙ b.own) stop
         by_eq (inr ne) = subst (λ p. Both (λ (s s' : Seat). s'.stop ≡ s.stop) (slice_get was.others.items k) p) (sym (b.rest k ne)) (same_seats (slice_get was.others.items k))
+
+-- ---- how many instructions are executed
+
+pub executed_still : (was : Group) (most : ℕ) → HaveExecuted was most → HaveExecuted was (most + 1)
+executed_still was most h = record { leader = (let l = h.leader in omega (arith, l)); others = λ k s at. (let l = h.others k s at in omega (arith, l)) }
+
+pub executed_leader : (was : Group) (seat : Seat) (most : ℕ) → seat.instructions ≤ was.leader.instructions + 1 → HaveExecuted was most → HaveExecuted (record was { leader = seat }) (most + 1)
+executed_leader was seat most le h = record {
+  leader = (let l = h.leader in omega (arith, l, le));
+  others = λ k s at. (let l = h.others k s at in omega (arith, l));
+}
+
+pub executed_other : (was is : Group) (n most : ℕ) (old seat : Seat) → AreBut was is n old seat → seat.instructions ≤ old.instructions + 1 → HaveExecuted was most → HaveExecuted is (most + 1)
+executed_other was is n most old seat b le h = record {
+  leader = subst (λ (s : Seat). s.instructions ≤ most + 1) (sym b.leader) (let l = h.leader in omega (arith, l));
+  others = λ k s at. by_eq k s at (cases_eq k n);
+}
+  where
+    by_eq : (k : ℕ) (s : Seat) → slice_get is.others.items k ≡ Some s → (k ≡ n) ⊎ (k ≢ n) → s.instructions ≤ most + 1
+    by_eq k s at (inl e) =
+        let there : Some seat ≡ Some s = sym b.own ∙ ap (slice_get is.others.items) (sym e) ∙ at in
+        let same : seat ≡ s = cc in
+        let l = h.others n old b.at in
+        subst (λ (x : Seat). x.instructions ≤ most + 1) same (omega (arith, l, le))
+    by_eq k s at (inr ne) = let l = h.others k s (sym (b.rest k ne) ∙ at) in omega (arith, l)

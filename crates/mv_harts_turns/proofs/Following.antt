@@ -23,7 +23,7 @@ use Rattle.mv_harts_turns.specs.declared.group.Group.{Group}
 use Rattle.mv_harts_turns.specs.declared.group.Committed.{Committed}
 use Rattle.mv_harts_turns.specs.declared.poll.PollAnswer.TheVariants.{Waits, Adopts, Goes}
 use Rattle.mv_harts_turns.specs.Polls.{answer_at, answer_by}
-use Rattle.mv_harts_turns.specs.Groups.{IsSeat, IsGlance, Shared, Shows, Beside, WasAsked, IsDevice, TookStore, FailsBy, SameStops, Wrote, Stepped, StepRefused, Reaches, Refused, acted, asked, asked_by, seat_at, output_of, output, input_rose, output_rose, other_acts, held, adopts_last, bindings_of}
+use Rattle.mv_harts_turns.specs.Groups.{IsSeat, IsGlance, Shared, Shows, Beside, WasAsked, IsDevice, TookStore, SameStop, SameStops, SameCounts, Fares, IsOnAt, Wrote, Stepped, StepRefused, Reaches, Refused, acted, asked, asked_by, seat_at, output_of, output, other_acts, held, adopts_last, bindings_of}
 use Rattle.mv_harts_turns.proofs.Places.{both_weaker, both_moved, both_here, both_left, both_after, pairs_one, set_other, map_set_other, map_set_there, sum_same, sum_one}
 use Rattle.mv_harts_turns.proofs.Seats.{shared_asked, shared_output}
 use Rattle.mv_harts_turns.proofs.Reaching.{reaches_quiet, other_any, other_any_is, output_shared, seat_took, seat_bytes, move_store, outside_silent}
@@ -60,6 +60,7 @@ module _ (image : Fields) (actions : List Action) (bytes : ℕ → List ℕ) (x 
   pub record WentOn (seat : Seat) (b : Bool) : Type 0 where
     pub shown : Shows image actions bytes was hs
     pub there : slice_get hs.others n ≡ Some o
+    pub on : IsOnAt was.others.items n
     pub stepped : Stepped image hs.commits (suc n) o Skip m None x seat b
     pub silent : m.outside ≡ true → m.store ≡ None
     pub leads : TookStore m.store was.leader is.leader
@@ -115,13 +116,13 @@ module _ (image : Fields) (actions : List Action) (bytes : ℕ → List ℕ) (x 
       counted = on_asked;
       way_is = w.stepped.way_is;
       own = let was_there = both_left (IsSeat image hs.commits (suc n) (bytes (suc n))) (slice_get was.others.items n) (slice_get hs.others n) o w.there (w.shown.others n) in
-          both_here (FailsBy (input_rose x) (output_rose x)) (slice_get was.others.items n) (slice_get is.others.items n) was_there.0 seat was_there.1 w.own (record { input = λ e. inr (w.stepped.input e); output = λ e. inr (w.stepped.output e) });
+          both_here (Fares x) (slice_get was.others.items n) (slice_get is.others.items n) was_there.0 seat was_there.1 w.own (inr (w.on was_there.0 was_there.1, w.stepped.counts));
       others = others;
     }
       where
-        others : (h : ℕ) → h ≢ suc n → Both (FailsBy ⊥ ⊥) (seat_at h was) (seat_at h is)
-        others zero ne = record { input = λ e. inl (sym w.leads.stop ∙ e); output = λ e. inl (sym w.leads.stop ∙ e) }
-        others (suc k) ne = both_weaker (TookStore m.store) (FailsBy ⊥ ⊥) (λ s s' q. record { input = λ e. inl (sym q.stop ∙ e); output = λ e. inl (sym q.stop ∙ e) }) (slice_get was.others.items k) (slice_get is.others.items k) (w.rest k (λ e. ne (ap suc e)))
+        others : (h : ℕ) → h ≢ suc n → Both SameStop (seat_at h was) (seat_at h is)
+        others zero ne = w.leads.stop
+        others (suc k) ne = both_weaker (TookStore m.store) SameStop (λ s s' q. q.stop) (slice_get was.others.items k) (slice_get is.others.items k) (w.rest k (λ e. ne (ap suc e)))
 
     pub went_on : Reaches image actions (suc n) bytes x was is hs (other_acts hs n o m w.stepped.failing)
     went_on = subst (λ hs'. Reaches image actions (suc n) bytes x was is hs hs') (sym (other_any_is w.stepped.failing hs n o m w.stepped.outside w.silent)) on_any
@@ -132,11 +133,11 @@ module _ (image : Fields) (actions : List Action) (bytes : ℕ → List ℕ) (x 
   abbrev moved : Move
   moved = move o.state Skip None 0
 
-  pub on_ok : (mid : List Seat) (seat : Seat) (b : Bool) → Stepped image hs.commits (suc n) o Skip moved None x seat b → TookStore (option_map store_as glance.store) was.leader is.leader →
+  pub on_ok : (mid : List Seat) (seat : Seat) (b : Bool) → IsOnAt was.others.items n → Stepped image hs.commits (suc n) o Skip moved None x seat b → TookStore (option_map store_as glance.store) was.leader is.leader →
       slice_get mid n ≡ Some seat → ((k : ℕ) → k ≢ n → slice_get mid k ≡ slice_get was.others.items k) → Shared (option_map store_as glance.store) (suc n) mid is.others.items →
       is.played ≡ was.played → is.wanted ≡ was.wanted → is.under ≡ was.under → is.commits ≡ was.commits →
       (f : Bool) × IsDevice moved f × Reaches image actions (suc n) bytes x was is hs (other_acts hs n o moved f)
-  on_ok mid seat b s leads own rest shares played wanted under commits =
+  on_ok mid seat b on s leads own rest shares played wanted under commits =
       let st : option_map store_as glance.store ≡ moved.store = seen.store ∙ sym (move_store o.state Skip None) in
       let shares' : Shared moved.store (suc n) mid is.others.items = subst (λ st. Shared st (suc n) mid is.others.items) st shares in (
         s.failing,
@@ -144,6 +145,7 @@ module _ (image : Fields) (actions : List Action) (bytes : ℕ → List ℕ) (x 
         went_on image actions bytes x was is hs n o moved seat b (record {
           shown = shown;
           there = there;
+          on = on;
           stepped = s;
           silent = outside_silent o.state Skip None;
           leads = subst (λ st. TookStore st was.leader is.leader) st leads;
@@ -170,6 +172,7 @@ module _ (image : Fields) (actions : List Action) (bytes : ℕ → List ℕ) (x 
     pub few : steps ≤ 1
     pub left_is : x.left ≡ Some (bytes (suc n))
     pub same_written : x.new_written ≡ x.old_written
+    pub same_counts : SameCounts x
     pub way_is : WasAsked x steps
     pub shown : Shows image actions bytes was hs
     pub there : slice_get hs.others n ≡ Some o
@@ -226,6 +229,7 @@ module _ (image : Fields) (actions : List Action) (bytes : ℕ → List ℕ) (x 
       few = w.few;
       left_is = w.left_is;
       same_written = w.same_written;
+      same_counts = w.same_counts;
       way_is = w.way_is;
       counted = omega (arith, sum_one asked_by hs.others n steps o o' w.there w.counted);
       same_output = stayed_output;

@@ -19,7 +19,7 @@ use Rattle.mv_harts_turns.proofs.Seats.{taken_append}
 pub seat_held : (image : Fields) (commits : List (List Binding)) (n : ℕ) (bytes : List ℕ) (seat : Seat) (o : Hart) (md : Mode) → IsSeat image commits n bytes seat o → IsSeat image commits n bytes (record seat { mode = md; waited = true }) (held o (mode_of md))
 seat_held image commits n bytes seat o md h = record {
   same_image = h.same_image;
-  sits = let s = h.sits in record { engine = s.engine; state = s.state; mode = refl; waited = refl; failed = s.failed; count = s.count; halts = s.halts };
+  sits = let s = h.sits in record { engine = s.engine; state = s.state; mode = refl; waited = refl; failed = s.failed; count = s.count; halts = s.halts; before = s.before };
   took = h.took;
 }
 
@@ -40,7 +40,7 @@ seat_adopts image commits n bytes was seat o k c len there is image' taken' sits
     let now : AreTaken (bindings_of commits) ts acts = subst (λ l. AreTaken (bindings_of commits) l acts) (sym (more ∙ ap (λ l. l ++ taken.Adopt k ∷ []) taken')) (taken_append (bindings_of commits) was.taken o.taken (taken.Adopt k) (Adopt c.all) is.took (c.all, at, refl)) in
     subst (λ bs. IsSeat image (bindings_of commits) n bytes (record seat { taken = ts }) (adopts_last o bs)) (sym last) (record {
       same_image = image' ∙ is.same_image;
-      sits = let s = sits acts in record { engine = s.engine; state = s.state; mode = s.mode; waited = s.waited; failed = s.failed; count = s.count; halts = s.halts };
+      sits = let s = sits acts in record { engine = s.engine; state = s.state; mode = s.mode; waited = s.waited; failed = s.failed; count = s.count; halts = s.halts; before = s.before };
       took = now;
     })
 

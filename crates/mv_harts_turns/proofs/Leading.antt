@@ -16,7 +16,7 @@ use Rattle.mv_harts_one.specs.Seats.{place_as, store_as}
 use Rattle.mv_harts_turns.specs.Pairs.{Both, Pairs}
 use Rattle.mv_harts_turns.specs.declared.group.Group.{Group}
 use Rattle.mv_harts_turns.specs.declared.group.Committed.{Committed}
-use Rattle.mv_harts_turns.specs.Groups.{AreTaken, IsSeat, IsGlance, Shows, Beside, IsDevice, TookStore, Shared, IsFreed, FailsBy, SameStops, Wrote, Stepped, StepRefused, Reaches, Refused, Turned, MayFail, acted, asked, asked_by, seat_at, output_of, output, input_rose, output_rose, leader_acts, committed, bindings_of}
+use Rattle.mv_harts_turns.specs.Groups.{AreTaken, IsSeat, IsGlance, Shows, Beside, IsDevice, TookStore, Shared, IsFreed, SameStop, SameStops, SameCounts, Fares, Wrote, Stepped, StepRefused, Reaches, Refused, Turned, MayFail, acted, asked, asked_by, seat_at, output_of, output, leader_acts, committed, bindings_of}
 use Rattle.mv_harts_turns.proofs.Places.{both_after, both_weaker, both_moved, both_then, sum_same}
 use Rattle.mv_harts_turns.proofs.Seats.{shared_asked, seat_more}
 use Rattle.mv_harts_turns.proofs.Reaching.{leader_any, leader_any_is, output_shared, seat_took, seat_bytes, reaches_quiet, way_none, move_place, move_store, outside_silent}
@@ -56,6 +56,7 @@ module _ (image : Fields) (actions : List Action) (bytes : ℕ → List ℕ) (x 
   -- what the code has done
   pub record Went (b : Bool) : Type 0 where
     pub shown : Shows image actions bytes was hs
+    pub on : was.leader.stop ≡ None
     pub stepped : Stepped image hs.commits 0 hs.leader a m hs.under x is.leader b
     pub silent : m.outside ≡ true → m.store ≡ None
     pub shares : Shared m.store 0 was.others.items is.others.items
@@ -104,13 +105,13 @@ module _ (image : Fields) (actions : List Action) (bytes : ℕ → List ℕ) (x 
     few = omega arith;
     counted = went_asked b w;
     way_is = w.stepped.way_is;
-    own = record { input = λ e. inr (w.stepped.input e); output = λ e. inr (w.stepped.output e) };
+    own = inr (w.on, w.stepped.counts);
     others = others;
   }
     where
-      others : (h : ℕ) → h ≢ 0 → Both (FailsBy ⊥ ⊥) (seat_at h was) (seat_at h is)
+      others : (h : ℕ) → h ≢ 0 → Both SameStop (seat_at h was) (seat_at h is)
       others zero ne = absurd (ne refl)
-      others (suc n) ne = both_weaker (TookStore m.store) (FailsBy ⊥ ⊥) (λ s s' q. record { input = λ e. inl (sym q.stop ∙ e); output = λ e. inl (sym q.stop ∙ e) }) (slice_get was.others.items n) (slice_get is.others.items n) (w.shares.rest n ne)
+      others (suc n) ne = both_weaker (TookStore m.store) SameStop (λ s s' q. q.stop) (slice_get was.others.items n) (slice_get is.others.items n) (w.shares.rest n ne)
 
   pub went : (b : Bool) → (w : Went b) → Reaches image actions 0 bytes x was is hs (leader_acts hs a m w.stepped.failing)
   went b w = subst (λ hs'. Reaches image actions 0 bytes x was is hs hs') (sym (leader_any_is w.stepped.failing hs a m w.stepped.outside w.silent)) (went_any b w)
@@ -145,16 +146,17 @@ module _ (image : Fields) (actions : List Action) (bytes : ℕ → List ℕ) (x 
   stepped_as : (seat : Seat) (b : Bool) → Stepped image hs.commits 0 hs.leader act (move hs.leader.state act hs.under 0) hs.under x seat b → Stepped image hs.commits 0 hs.leader taken moved hs.under x seat b
   stepped_as seat b s = subst (λ (a : Act). Stepped image hs.commits 0 hs.leader a (move hs.leader.state a hs.under 0) hs.under x seat b) (sym handed) s
 
-  pub go_ok : (b : Bool) → Stepped image hs.commits 0 hs.leader act (move hs.leader.state act hs.under 0) hs.under x is.leader b → Shared (option_map store_as glance.store) 0 was.others.items is.others.items →
+  pub go_ok : (b : Bool) → was.leader.stop ≡ None → Stepped image hs.commits 0 hs.leader act (move hs.leader.state act hs.under 0) hs.under x is.leader b → Shared (option_map store_as glance.store) 0 was.others.items is.others.items →
       left_behind (place_as glance.place) (map act_of (drop was.played actions)) ≡ map act_of (drop is.played actions) → is.wanted ≡ was.wanted → is.under ≡ b → is.commits ≡ was.commits →
       (f : Bool) × IsDevice moved f × Reaches image actions 0 bytes x was is hs (leader_acts hs taken moved f)
-  go_ok b s shares played wanted under commits =
+  go_ok b on s shares played wanted under commits =
       let s' = stepped_as is.leader b s in
       let at : moved.place ≡ place_as glance.place = move_place hs.leader.state taken hs.under ∙ sym seen.place in (
         s'.failing,
         s'.outside,
         went image actions bytes x was is hs taken moved b (record {
           shown = shown;
+          on = on;
           stepped = s';
           silent = outside_silent hs.leader.state taken hs.under;
           shares = subst (λ st. Shared st 0 was.others.items is.others.items) (seen.store ∙ sym (move_store hs.leader.state taken hs.under)) shares;
@@ -234,13 +236,13 @@ reaches_committed image actions bytes x was mid is hs hs' r shows same frees = r
   few = r.few;
   counted = (let s = sum_same asked_by freed (λ o. refl) hs'.others in ap (λ k. asked_by hs'.leader + k) s) ∙ r.counted;
   way_is = r.way_is;
-  own = subst (λ seat. FailsBy (input_rose x) (output_rose x) was.leader seat) (sym same) r.own;
+  own = subst (λ seat. Fares x was.leader seat) (sym same) r.own;
   others = others;
 }
   where
-    others : (h : ℕ) → h ≢ 0 → Both (FailsBy ⊥ ⊥) (seat_at h was) (seat_at h is)
+    others : (h : ℕ) → h ≢ 0 → Both SameStop (seat_at h was) (seat_at h is)
     others zero ne = absurd (ne refl)
-    others (suc n) ne = both_then (FailsBy ⊥ ⊥) IsFreed (FailsBy ⊥ ⊥) (λ s t u p q. record { input = λ e. p.input (sym q.stop ∙ e); output = λ e. p.output (sym q.stop ∙ e) }) (slice_get was.others.items n) (slice_get mid.others.items n) (slice_get is.others.items n) (r.others (suc n) ne) (frees n)
+    others (suc n) ne = both_then SameStop IsFreed SameStop (λ s t u p q. q.stop ∙ p) (slice_get was.others.items n) (slice_get mid.others.items n) (slice_get is.others.items n) (r.others (suc n) ne) (frees n)
 
 pub note_refused : (image : Fields) (actions : List Action) (bytes : ℕ → List ℕ) (x : Beside) (was mid : Group) (hs hs' : Harts) → Reaches image actions 0 bytes x was mid hs hs' → Refused 0 x hs (committed hs')
 note_refused image actions bytes x was mid hs hs' r = record { more = r.more; written = r.written; either = inr (wrote_committed hs hs' r.more r.wrote) }
@@ -251,7 +253,7 @@ pub shows_waits : (image : Fields) (actions : List Action) (bytes : ℕ → List
 shows_waits image actions bytes group hs h = record {
   leader = record {
     same_image = h.leader.same_image;
-    sits = let s = h.leader.sits in record { engine = s.engine; state = s.state; mode = s.mode; waited = refl; failed = s.failed; count = s.count; halts = s.halts };
+    sits = let s = h.leader.sits in record { engine = s.engine; state = s.state; mode = s.mode; waited = refl; failed = s.failed; count = s.count; halts = s.halts; before = s.before };
     took = h.leader.took;
   };
   others = h.others;
@@ -265,12 +267,13 @@ output_waits : (h : ℕ) (hs : Harts) → output h (leader_waits hs) ≡ output 
 output_waits zero hs = refl
 output_waits (suc n) hs = refl
 
-pub reaches_waits : (image : Fields) (actions : List Action) (bytes : ℕ → List ℕ) (x : Beside) (was is : Group) (hs : Harts) → x.left ≡ Some (bytes 0) → x.new_written ≡ x.old_written → x.new_way ≡ x.old_way → Shows image actions bytes is (leader_waits hs) →
+pub reaches_waits : (image : Fields) (actions : List Action) (bytes : ℕ → List ℕ) (x : Beside) (was is : Group) (hs : Harts) → x.left ≡ Some (bytes 0) → x.new_written ≡ x.old_written → x.new_way ≡ x.old_way → SameCounts x → Shows image actions bytes is (leader_waits hs) →
     is.leader.stop ≡ was.leader.stop → is.others ≡ was.others → Reaches image actions 0 bytes x was is hs (leader_waits hs)
-reaches_waits image actions bytes x was is hs left written way shows stop others = reaches_quiet image actions 0 bytes x was is hs (leader_waits hs) 0 (record {
+reaches_waits image actions bytes x was is hs left written way counts shows stop others = reaches_quiet image actions 0 bytes x was is hs (leader_waits hs) 0 (record {
   few = omega arith;
   left_is = left;
   same_written = written;
+  same_counts = counts;
   way_is = way ∙ way_none x.old_way 0 refl;
   counted = omega arith;
   same_output = λ h. output_waits h hs;
@@ -324,7 +327,7 @@ lead_noted image actions bytes x was mid is hs a m go commits away (Err error) s
 pub lead_refused : (x : Beside) (hs : Harts) (a : Act) (m : Move) → ((f : Bool) × IsDevice m f × Refused 0 x hs (leader_acts hs a m f)) → is_commit m.place a ≡ true → all_away hs.others ≡ true → (f : Bool) × MayFail f × Refused 0 x hs (leader_by hs a m f)
 lead_refused x hs a m go commits away = (go.0, tt, subst (λ hs'. Refused 0 x hs hs') (sym (lead_commits hs a m go.0 commits away go.1)) (refused_committed x hs (leader_acts hs a m go.0) go.2))
 
-pub waits_ok : (image : Fields) (actions : List Action) (bytes : ℕ → List ℕ) (x : Beside) (was is : Group) (hs : Harts) (a : Act) (m : Move) → is_commit m.place a ≡ true → all_away hs.others ≡ false → x.left ≡ Some (bytes 0) → x.new_written ≡ x.old_written → x.new_way ≡ x.old_way → Shows image actions bytes is (leader_waits hs) →
+pub waits_ok : (image : Fields) (actions : List Action) (bytes : ℕ → List ℕ) (x : Beside) (was is : Group) (hs : Harts) (a : Act) (m : Move) → is_commit m.place a ≡ true → all_away hs.others ≡ false → x.left ≡ Some (bytes 0) → x.new_written ≡ x.old_written → x.new_way ≡ x.old_way → SameCounts x → Shows image actions bytes is (leader_waits hs) →
     is.leader.stop ≡ was.leader.stop → is.others ≡ was.others → (f : Bool) × MayFail f × Reaches image actions 0 bytes x was is hs (leader_by hs a m f)
-waits_ok image actions bytes x was is hs a m test away left written way shows stop others =
-    (false, tt, subst (λ hs'. Reaches image actions 0 bytes x was is hs hs') (sym (lead_waits hs a m false test away)) (reaches_waits image actions bytes x was is hs left written way shows stop others))
+waits_ok image actions bytes x was is hs a m test away left written way counts shows stop others =
+    (false, tt, subst (λ hs'. Reaches image actions 0 bytes x was is hs hs') (sym (lead_waits hs a m false test away)) (reaches_waits image actions bytes x was is hs left written way counts shows stop others))

@@ -14,7 +14,7 @@ use Rattle.mv_harts_one.specs.Seats.{Sits}
 use Rattle.std.proofs.lemmas.Bool.{cases_eq}
 use Rattle.std.specs.Prelude.{option_and_then, slice_set, IsErrAnd, MatchResult}
 use Rattle.mv_harts_turns.specs.declared.group.Group.{Group}
-use Rattle.mv_harts_turns.specs.Groups.{AreTaken, IsSeat, Shows, Beside, WasAsked, IsDevice, TookStore, FailsBy, SameStops, Reaches, Refused, Turned, acted, under_behind, asked, seat_at, output_of, output, input_rose, output_rose, leader_acts, other_acts}
+use Rattle.mv_harts_turns.specs.Groups.{AreTaken, IsSeat, Shows, Beside, WasAsked, IsDevice, TookStore, SameStop, SameStops, SameCounts, Fares, Reaches, Refused, Turned, acted, under_behind, asked, seat_at, output_of, output, leader_acts, other_acts}
 use Rattle.mv_harts_turns.proofs.Places.{both_weaker}
 use Rattle.mv_harts_turns.proofs.Seats.{shared_none, shared_taken, shared_output}
 
@@ -138,6 +138,7 @@ module _ (image : Fields) (actions : List Action) (hart : ℕ) (bytes : ℕ → 
     pub few : steps ≤ 1
     pub left_is : x.left ≡ Some (bytes hart)
     pub same_written : x.new_written ≡ x.old_written
+    pub same_counts : SameCounts x
     pub way_is : WasAsked x steps
     pub counted : asked hs' ≡ asked hs + steps
     pub same_output : (h : ℕ) → output h hs' ≡ output h hs
@@ -156,8 +157,8 @@ module _ (image : Fields) (actions : List Action) (hart : ℕ) (bytes : ℕ → 
     few = q.few;
     counted = q.counted;
     way_is = q.way_is;
-    own = both_weaker (λ s s'. s'.stop ≡ s.stop) (FailsBy (input_rose x) (output_rose x)) (λ s s' e. record { input = λ t. inl (sym e ∙ t); output = λ t. inl (sym e ∙ t) }) (seat_at hart was) (seat_at hart is) (q.stops hart);
-    others = λ h ne. both_weaker (λ s s'. s'.stop ≡ s.stop) (FailsBy ⊥ ⊥) (λ s s' e. record { input = λ t. inl (sym e ∙ t); output = λ t. inl (sym e ∙ t) }) (seat_at h was) (seat_at h is) (q.stops h);
+    own = both_weaker SameStop (Fares x) (λ s s' e. inl (e, q.same_counts)) (seat_at hart was) (seat_at hart is) (q.stops hart);
+    others = λ h ne. q.stops h;
   }
     where
       same : (after : ℕ → List ℕ) → after hart ≡ bytes hart → ((h : ℕ) → h ≢ hart → after h ≡ bytes h) → (h : ℕ) → after h ≡ bytes h

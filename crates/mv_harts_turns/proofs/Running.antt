@@ -9,9 +9,12 @@ use Rattle.mv_num.proofs.Lists.{set_there, there_at}
 use Rattle.mv_bindings.specs.declared.action.Action.{Action}
 use Rattle.mv_bindings.specs.Acts.{Act, act_of}
 use Rattle.mv_image.specs.Spelling.{Fields}
-use Rattle.mv_io.specs.Outside.{Rose}
+use Rattle.mv_io.specs.Outside.{Rose, CountAfter}
+use Rattle.mv_io.proofs.Common.{count_kept}
 use Rattle.mv_probe.specs.Ways.{Way, way_after, next_way}
+use Rattle.mv_machine.specs.declared.machine.Stopped.{Stopped}
 use Rattle.mv_machine.specs.declared.machine.Stopped.TheVariants as answer
+use Rattle.mv_machine.specs.Moves.{input_failed, output_failed}
 use Rattle.mv_machine.specs.Runs as runs
 use Rattle.mv_machine.specs.Runs.{State}
 use Rattle.mv_harts_runs.specs.Harts.{Hart, Harts, Turn, first_harts, others_from, first_of, hart_from, harts_after, turn_of}
@@ -20,8 +23,8 @@ use Rattle.mv_harts_one.specs.declared.seat.Seat.{Seat}
 use Rattle.mv_harts_one.specs.Seats.{has_failed}
 use Rattle.mv_harts_turns.specs.Pairs.{Both}
 use Rattle.mv_harts_turns.specs.declared.group.Group.{Group}
-use Rattle.mv_harts_turns.specs.Groups.{IsSeat, Shows, Stands, Beside, Reaches, Refused, Wrote, FailsBy, MayFail, asked, asked_by, hart_at, seat_at, output, output_of, input_rose, output_rose, beside}
-use Rattle.mv_harts_turns.specs.Runs.{turns_by, Outside, outside, bytes_of, inputs_of, harts_of, Failed, GotAll, Ran, Broken, IsReadyFor}
+use Rattle.mv_harts_turns.specs.Groups.{IsSeat, Shows, FetchesAre, SameStop, Counts, Fares, Stands, Beside, Advanced, Reaches, Refused, Wrote, MayFail, asked, asked_by, hart_at, seat_at, output, output_of, beside}
+use Rattle.mv_harts_turns.specs.Runs.{turns_by, Outside, outside, bytes_of, inputs_of, harts_of, CountsOf, AlwaysFetch, GotAll, Ran, Broken, IsReadyFor}
 use Rattle.mv_harts_turns.proofs.Places.{both_left, both_weaker, set_other}
 use Rattle.mv_harts_turns.proofs.Reaching.{grew_nothing, way_none}
 
@@ -73,8 +76,8 @@ reaches_seats : (image : Fields) (actions : List Action) (hart : ℕ) (bytes : �
 reaches_seats image actions hart bytes x was is hs hs' r = same_length (λ n (s s' : Seat). Unit {0}) was.others.items is.others.items (λ n. by_eq n (cases_eq (suc n) hart))
   where
     by_eq : (n : ℕ) → (suc n ≡ hart) ⊎ (suc n ≢ hart) → Both (λ (s s' : Seat). Unit {0}) (slice_get was.others.items n) (slice_get is.others.items n)
-    by_eq n (inl e) = subst (λ h. Both (λ (s s' : Seat). Unit {0}) (seat_at h was) (seat_at h is)) (sym e) (both_weaker (FailsBy (input_rose x) (output_rose x)) (λ s s'. Unit {0}) (λ s s' q. tt) (seat_at hart was) (seat_at hart is) r.own)
-    by_eq n (inr ne) = both_weaker (FailsBy ⊥ ⊥) (λ s s'. Unit {0}) (λ s s' q. tt) (seat_at (suc n) was) (seat_at (suc n) is) (r.others (suc n) ne)
+    by_eq n (inl e) = subst (λ h. Both (λ (s s' : Seat). Unit {0}) (seat_at h was) (seat_at h is)) (sym e) (both_weaker (Fares x) (λ s s'. Unit {0}) (λ s s' q. tt) (seat_at hart was) (seat_at hart is) r.own)
+    by_eq n (inr ne) = both_weaker SameStop (λ s s'. Unit {0}) (λ s s' q. tt) (seat_at (suc n) was) (seat_at (suc n) is) (r.others (suc n) ne)
 
 -- ---- what the outside tells behind a turn
 
@@ -118,20 +121,21 @@ next_of left written inputs outputs sources sinks w w' h s s' k k' es ek in' out
 }
 
 -- where nothing was read or written
-pub next_still : {S K : Type 0} (left : S → Option (List ℕ)) (written : K → Option (List ℕ)) (inputs : S → ℕ) (outputs : K → ℕ) (sources : List S) (sinks : List K) (w w' : Option Way) (h : ℕ) (s : S) (k : K) →
-    slice_get sources h ≡ Some s → slice_get sinks h ≡ Some k →
-    Next h (beside (left s) (written k) (written k) w w' (inputs s) (inputs s) (outputs k) (outputs k)) (outside left written inputs outputs sources sinks w) (outside left written inputs outputs sources sinks w')
-next_still left written inputs outputs sources sinks w w' h s k es ek = record {
-  left = ap (option_and_then left) es;
+abbrev pub quiet : Outside → (h : ℕ) → Option Way → Beside
+quiet is h w = beside (is.left h) (is.written h) (is.written h) is.way w (is.inputs h) (is.inputs h) (is.outputs h) (is.outputs h)
+
+next_quiet : (is : Outside) (h : ℕ) (w : Option Way) → Next h (quiet is h w) is (record is { way = w })
+next_quiet is h w = record {
+  left = refl;
   left_rest = λ j ne. refl;
-  old_written = ap (option_and_then written) ek;
-  new_written = ap (option_and_then written) ek;
+  old_written = refl;
+  new_written = refl;
   written_rest = λ j ne. refl;
-  old_inputs = ap (λ o. unwrap_or (option_map inputs o) 0) es;
-  new_inputs = ap (λ o. unwrap_or (option_map inputs o) 0) es;
+  old_inputs = refl;
+  new_inputs = refl;
   inputs_rest = λ j ne. refl;
-  old_outputs = ap (λ o. unwrap_or (option_map outputs o) 0) ek;
-  new_outputs = ap (λ o. unwrap_or (option_map outputs o) 0) ek;
+  old_outputs = refl;
+  new_outputs = refl;
   outputs_rest = λ j ne. refl;
   old_way = refl;
   new_way = refl;
@@ -144,6 +148,18 @@ told_some o v e = e ∙ sym (ap (λ p. Some (unwrap_or p [])) e)
 
 told_is : (o : Option (List ℕ)) (v : List ℕ) → o ≡ Some v → unwrap_or o [] ≡ v
 told_is o v e = ap (λ p. unwrap_or p []) e
+
+-- ---- counts of faults
+
+counts_since : (stop : Option Stopped) (a b c a' b' c' : ℕ) → b ≡ a → b' ≡ a' → Counts stop b c b' c' → Counts stop a c a' c'
+counts_since stop a b c a' b' c' e f h = subst (λ k. Counts stop k c a' c') e (subst (λ k. Counts stop b c k c') f h)
+
+counts_till : (stop : Option Stopped) (a b c a' b' c' : ℕ) → c ≡ b → c' ≡ b' → Counts stop a b a' b' → Counts stop a c a' c'
+counts_till stop a b c a' b' c' e f h = subst (λ k. Counts stop a k a' c') (sym e) (subst (λ k. Counts stop a b a' k) (sym f) h)
+
+-- while a hart goes on no device of it has failed
+counts_on : (stop : Option Stopped) (a b a' b' : ℕ) → stop ≡ None → Counts stop a b a' b' → (b ≡ a) × (b' ≡ a')
+counts_on stop a b a' b' on h = let none = subst (λ s. Counts s a b a' b') on h in (none.reading, none.writing)
 
 -- ---- one turn more
 
@@ -192,31 +208,27 @@ module _ (image : Fields) (actions : List Action) (count : ℕ) (was is is' : Ou
           by_eq (inl e) = subst (λ i. is.outputs i ≤ is'.outputs i) (sym e) (omega (arith, n.old_outputs, n.new_outputs, n.later_outputs))
           by_eq (inr ne) = omega (arith, n.outputs_rest j ne)
 
-      failed_by : (j : ℕ) (old seat : Seat) (A B : Type 0) → (A → Rose (is.inputs j) (is'.inputs j)) → (B → Rose (is.outputs j) (is'.outputs j)) → FailsBy A B old seat → Failed j was is old → Failed j was is' seat
-      failed_by j old seat A B a b q was_failed = record { input = λ e. by_in (q.input e); output = λ e. by_out (q.output e) }
-        where
-          by_in : (old.stop ≡ Some answer.InputFault) ⊎ A → Rose (was.inputs j) (is'.inputs j)
-          by_in (inl e) = omega (arith, was_failed.input e, later_in j)
-          by_in (inr p) = omega (arith, a p, r.later_inputs j)
+      counts_own : (old seat : Seat) → Fares x old seat → CountsOf h was is old → CountsOf h was is' seat
+      counts_own old seat (inl same) c =
+          counts_till seat.stop (was.inputs h) (is.inputs h) (is'.inputs h) (was.outputs h) (is.outputs h) (is'.outputs h) (n.new_inputs ∙ same.1.0 ∙ sym n.old_inputs) (n.new_outputs ∙ same.1.1 ∙ sym n.old_outputs)
+          (subst (λ s. Counts s (was.inputs h) (is.inputs h) (was.outputs h) (is.outputs h)) (sym same.0) c)
+      counts_own old seat (inr went) c =
+          let on = counts_on old.stop (was.inputs h) (is.inputs h) (was.outputs h) (is.outputs h) went.0 c in
+          counts_since seat.stop (was.inputs h) x.old_inputs (is'.inputs h) (was.outputs h) x.old_outputs (is'.outputs h) (sym n.old_inputs ∙ on.0) (sym n.old_outputs ∙ on.1)
+          (counts_till seat.stop x.old_inputs x.new_inputs (is'.inputs h) x.old_outputs x.new_outputs (is'.outputs h) n.new_inputs n.new_outputs went.1)
 
-          by_out : (old.stop ≡ Some answer.OutputFault) ⊎ B → Rose (was.outputs j) (is'.outputs j)
-          by_out (inl e) = omega (arith, was_failed.output e, later_out j)
-          by_out (inr p) = omega (arith, b p, r.later_outputs j)
-
-      failed_more : (j : ℕ) (seat : Seat) → seat_at j group' ≡ Some seat → Failed j was is' seat
-      failed_more j seat at = by_eq (cases_eq j h)
+      counts_more : (j : ℕ) (seat : Seat) → seat_at j group' ≡ Some seat → CountsOf j was is' seat
+      counts_more j seat at = by_eq (cases_eq j h)
         where
-          by_eq : (j ≡ h) ⊎ (j ≢ h) → Failed j was is' seat
-          by_eq (inl e) =
-              let own : Both (FailsBy (input_rose x) (output_rose x)) (seat_at j group) (seat_at j group') = subst (λ i. Both (FailsBy (input_rose x) (output_rose x)) (seat_at i group) (seat_at i group')) (sym e) reach.own in
-              let old = both_left (FailsBy (input_rose x) (output_rose x)) (seat_at j group) (seat_at j group') seat at own in
-              failed_by j old.0 seat (input_rose x) (output_rose x)
-              (λ p. subst (λ i. Rose (is.inputs i) (is'.inputs i)) (sym e) (subst (λ k. Rose (is.inputs h) k) (sym n.new_inputs) (subst (λ k. Rose k x.new_inputs) (sym n.old_inputs) p)))
-              (λ p. subst (λ i. Rose (is.outputs i) (is'.outputs i)) (sym e) (subst (λ k. Rose (is.outputs h) k) (sym n.new_outputs) (subst (λ k. Rose k x.new_outputs) (sym n.old_outputs) p)))
-              old.2 (r.failed j old.0 old.1)
+          at_own : seat_at h group' ≡ Some seat → CountsOf h was is' seat
+          at_own here = let old = both_left (Fares x) (seat_at h group) (seat_at h group') seat here reach.own in counts_own old.0 seat old.2 (r.counts h old.0 old.1)
+
+          by_eq : (j ≡ h) ⊎ (j ≢ h) → CountsOf j was is' seat
+          by_eq (inl e) = subst (λ i. CountsOf i was is' seat) (sym e) (at_own (subst (λ i. seat_at i group' ≡ Some seat) e at))
           by_eq (inr ne) =
-              let old = both_left (FailsBy ⊥ ⊥) (seat_at j group) (seat_at j group') seat at (reach.others j ne) in
-              failed_by j old.0 seat ⊥ ⊥ (λ p. absurd p) (λ p. absurd p) old.2 (r.failed j old.0 old.1)
+              let old = both_left SameStop (seat_at j group) (seat_at j group') seat at (reach.others j ne) in
+              counts_till seat.stop (was.inputs j) (is.inputs j) (is'.inputs j) (was.outputs j) (is.outputs j) (is'.outputs j) (n.inputs_rest j ne) (n.outputs_rest j ne)
+              (subst (λ s. Counts s (was.inputs j) (is.inputs j) (was.outputs j) (is.outputs j)) (sym old.2) (r.counts j old.0 old.1))
 
       -- the run with that turn
       pub ran_more : Ran image actions count (schedule ++ h ∷ []) was is' group'
@@ -231,7 +243,7 @@ module _ (image : Fields) (actions : List Action) (count : ℕ) (was is is' : Ou
             written = subst (λ hs. GotAll was is' hs) (sym e) (got_more reach.more reach.wrote reach.written);
             way_is = subst (λ hs. is'.way ≡ option_map (λ w. way_after w (asked hs)) was.way) (sym e) (way_joins was.way is.way is'.way (asked now) reach.steps (asked then') reach.counted r.way_is (n.new_way ∙ reach.way_is ∙ ap (option_map (λ w. way_after w reach.steps)) (sym n.old_way)));
             few = subst (λ hs. asked hs ≤ length (schedule ++ h ∷ [])) (sym e) (omega (arith, reach.counted, reach.few, r.few, length-append schedule (h ∷ [])));
-            failed = failed_more;
+            counts = counts_more;
             later_inputs = λ j. omega (arith, r.later_inputs j, later_in j);
             later_outputs = λ j. omega (arith, r.later_outputs j, later_out j);
           }
@@ -291,13 +303,34 @@ ran_stands image actions count was is is' schedule group group' s e r = subst (�
   written = r.written;
   way_is = r.way_is;
   few = r.few;
-  failed = λ j seat at.
-      let old = both_left (λ (x y : Seat). y.stop ≡ x.stop) (seat_at j group) (seat_at j group') seat at (s.stops j) in
-      let f = r.failed j old.0 old.1 in
-      record { input = λ t. f.input (sym old.2 ∙ t); output = λ t. f.output (sym old.2 ∙ t) };
+  counts = λ j seat at.
+      let old = both_left SameStop (seat_at j group) (seat_at j group') seat at (s.stops j) in
+      subst (λ t. Counts t (was.inputs j) (is.inputs j) (was.outputs j) (is.outputs j)) (sym old.2) (r.counts j old.0 old.1);
   later_inputs = r.later_inputs;
   later_outputs = r.later_outputs;
 })
+
+-- ---- turns that just go on
+
+-- one more
+pub advanced_next : (image : Fields) (actions : List Action) (count : ℕ) (was is : Outside) (schedule : List ℕ) (i h : ℕ) (w w' : Option Way) (group group' : Group) → AlwaysFetch image actions count was schedule →
+    (r : Ran image actions count (take i schedule) was (record is { way = w }) group) → i < length schedule → slice_get schedule i ≡ Some h → h ≤ length group.others.items →
+    ((bytes : ℕ → List ℕ) (hs : Harts) → Shows image actions bytes group hs → FetchesAre hs → Advanced image actions h bytes w w' group group' hs) →
+    Ran image actions count (take (i + 1) schedule) was (record is { way = w' }) group'
+advanced_next image actions count was is schedule i h w w' group group' fetch r lt at le goes =
+    let now : Outside = record is { way = w } in
+    ran_next image actions count was now (record is { way = w' }) schedule i h group group' (quiet now h w') r lt at (next_quiet now h w')
+    (false, tt, goes (bytes_of now) (harts_of image actions count was (take i schedule) r.failing) r.shows (fetch i r.failing) (quiet now h w') (r.told h (omega (arith, r.seats, le))) refl refl refl (refl, refl))
+
+-- a turn that doesn't changes nothing
+pub advanced_not : (image : Fields) (actions : List Action) (count : ℕ) (was is : Outside) (schedule : List ℕ) (w w' : Option Way) (group group' : Group) → Stands group group' → w' ≡ w →
+    Ran image actions count schedule was (record is { way = w }) group → Ran image actions count schedule was (record is { way = w' }) group'
+advanced_not image actions count was is schedule w w' group group' s e r = ran_stands image actions count was (record is { way = w }) (record is { way = w' }) schedule group group' s (ap (λ v. record is { way = v }) e) r
+
+-- all of them
+pub ran_all : (image : Fields) (actions : List Action) (count : ℕ) (was is : Outside) (schedule : List ℕ) (i j : ℕ) (group : Group) → length schedule ≤ i → length schedule ≤ j →
+    Ran image actions count (take i schedule) was is group → Ran image actions count (take j schedule) was is group
+ran_all image actions count was is schedule i j group le le' r = subst (λ l. Ran image actions count l was is group) (take_all i schedule le ∙ sym (take_all j schedule le')) r
 
 -- ---- what the premises say
 
@@ -318,6 +351,12 @@ few_by asks k i a b = omega arith
 -- a hart of a schedule is one that there is
 pub numbered_at : (schedule : List ℕ) (count i h : ℕ) → All (λ hart. hart < count) schedule → slice_get schedule i ≡ Some h → h < count
 numbered_at schedule count i h all at = subst (λ v. v < count) (get_or_from_slice_get schedule i h h at) (all i h (slice_get_within schedule i h at))
+
+pub at_most : (schedule : List ℕ) (most i h : ℕ) → All (λ hart. hart ≤ most) schedule → slice_get schedule i ≡ Some h → h ≤ most
+at_most schedule most i h all at = subst (λ v. v ≤ most) (get_or_from_slice_get schedule i h h at) (all i h (slice_get_within schedule i h at))
+
+pub numbered_below : (schedule : List ℕ) (count most : ℕ) → suc most ≡ count → All (λ hart. hart < count) schedule → All (λ hart. hart ≤ most) schedule
+numbered_below schedule count most e all i h within = (let lt = all i h within in omega (arith, e, lt))
 
 -- ---- each hart of it is right
 
@@ -373,8 +412,13 @@ module _ (image : Fields) (input : ℕ → List (Option ℕ)) (count : ℕ) (act
       both_at_left p None b e = absurd (subst (λ r. Both (IsSeat image first.commits (suc k) (bytes (suc k))) r None) e b)
       both_at_left p (Some o) b e = (o, refl, subst (λ r. Both (IsSeat image first.commits (suc k) (bytes (suc k))) r (Some o)) e b)
 
-not_fault : (j : ℕ) (was : Outside) (seat : Seat) → has_failed seat.stop ≡ false → Failed j was was seat
-not_fault j was seat e = record { input = λ s. absurd (let d : true ≡ false = ap has_failed (sym s) ∙ e in cc); output = λ s. absurd (let d : true ≡ false = ap has_failed (sym s) ∙ e in cc) }
+not_fault : (j : ℕ) (was : Outside) (seat : Seat) → has_failed seat.stop ≡ false → CountsOf j was was seat
+not_fault j was seat e = record {
+  input = λ s. absurd (let d : true ≡ false = ap has_failed (sym s) ∙ e in cc);
+  output = λ s. absurd (let d : true ≡ false = ap has_failed (sym s) ∙ e in cc);
+  reading = count_kept (input_failed seat.stop) (was.inputs j) (was.inputs j) refl;
+  writing = count_kept (output_failed seat.stop) (was.outputs j) (was.outputs j) refl;
+}
 
 pub first_length : (image : Fields) (actions : List Action) (bytes : ℕ → List ℕ) (group : Group) (input : ℕ → List (Option ℕ)) (count : ℕ) (acts : List Act) → Shows image actions bytes group (first_harts image input count acts) → length group.others.items ≡ count
 first_length image actions bytes group input count acts h = same_length (λ n. IsSeat image [] (suc n) (bytes (suc n))) group.others.items (others_from 1 image input count) h.others ∙ others_length 1 image input count
@@ -393,7 +437,7 @@ ran_none image actions count was group some told shows =
       written = λ h. grew_by (was.written h) (output h (first_harts image (inputs_of was) (count - 1) acts)) (fresh_output image (inputs_of was) (count - 1) acts h);
       way_is = way_none was.way (asked (first_harts image (inputs_of was) (count - 1) acts)) (omega (arith, fresh_sum 1 image (inputs_of was) (count - 1)));
       few = omega (arith, fresh_sum 1 image (inputs_of was) (count - 1));
-      failed = λ h seat e. not_fault h was seat (no_fault image (inputs_of was) (count - 1) acts actions (bytes_of was) group h seat shows e);
+      counts = λ h seat e. not_fault h was seat (no_fault image (inputs_of was) (count - 1) acts actions (bytes_of was) group h seat shows e);
       later_inputs = λ h. omega arith;
       later_outputs = λ h. omega arith;
     }

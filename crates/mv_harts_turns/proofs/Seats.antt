@@ -134,7 +134,7 @@ pub seat_noted : (image : Fields) (commits : List (List Binding)) (n : ℕ) (byt
     IsSeat image commits n bytes (record seat { taken = ts }) (record o { taken = acts })
 seat_noted image commits n bytes seat o ts acts h took = record {
   same_image = h.same_image;
-  sits = let s = h.sits in record { engine = s.engine; state = s.state; mode = s.mode; waited = s.waited; failed = s.failed; count = s.count; halts = s.halts };
+  sits = let s = h.sits in record { engine = s.engine; state = s.state; mode = s.mode; waited = s.waited; failed = s.failed; count = s.count; halts = s.halts; before = s.before };
   took = took;
 }
 

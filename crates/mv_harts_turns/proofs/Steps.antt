@@ -3,8 +3,10 @@ use Rattle.std.proofs.Common.{◌≡◌, ◌⊎◌, inl, inr, ℕ, ◌+◌, Bool
 use Rattle.mv_bindings.specs.declared.binding.Binding.{Binding}
 use Rattle.mv_bindings.specs.Acts.{Act}
 use Rattle.mv_image.specs.Spelling.{Fields}
+use Rattle.mv_io.specs.Outside.{CountAfter}
 use Rattle.mv_machine.specs.declared.machine.Stopped.{Stopped}
 use Rattle.mv_machine.specs.declared.machine.Stopped.TheVariants as answer
+use Rattle.mv_machine.specs.Moves.{input_failed, output_failed}
 use Rattle.mv_harts_runs.specs.Harts.{Hart, Move, AtPoll, Elsewhere, executes, fails, took}
 use Rattle.mv_harts_one.specs.declared.seat.Seat.{Seat}
 use Rattle.mv_harts_one.specs.declared.seat.Taken.{Taken}
@@ -34,6 +36,8 @@ module _ (image : Fields) (commits : List (List Binding)) (n : ℕ) (o : Hart) (
     pub same_taken : seat.taken ≡ was.taken
     pub same_under : is_under under ≡ ub
     pub asks : WasAsked x 1
+    pub reading : CountAfter (input_failed seat.stop) x.old_inputs x.new_inputs
+    pub writing : CountAfter (output_failed seat.stop) x.old_outputs x.new_outputs
     pub did : HasExecuted n o a m seat b x.left x.old_written x.new_written ⊎ HasFailed n o m seat ub b bytes x.left x.old_written x.new_written (input_rose x) (output_rose x)
 
   seat_by : (bytes rest : List ℕ) (was seat : Seat) (b : Bool) (o' : Hart) → Near bytes was seat b → Sits n seat rest o' → o'.taken ≡ o.taken → IsSeat image commits n rest seat o'
@@ -62,8 +66,12 @@ module _ (image : Fields) (commits : List (List Binding)) (n : ℕ) (o : Hart) (
     written = grew_nothing x.old_written x.new_written e.wrote;
     counted = quiet_count (not_failed n was bytes o h.was_is.sits h.on);
     way_is = h.asks;
-    input = λ s. subst (λ stop. IsFaultOf stop (input_rose x) (output_rose x)) s e.fault;
-    output = λ s. subst (λ stop. IsFaultOf stop (input_rose x) (output_rose x)) s e.fault;
+    counts = record {
+      input = λ s. subst (λ stop. IsFaultOf stop (input_rose x) (output_rose x)) s e.fault;
+      output = λ s. subst (λ stop. IsFaultOf stop (input_rose x) (output_rose x)) s e.fault;
+      reading = h.reading;
+      writing = h.writing;
+    };
   }
 
   -- with what the poll took
@@ -81,12 +89,11 @@ module _ (image : Fields) (commits : List (List Binding)) (n : ℕ) (o : Hart) (
     written = e.wrote;
     counted = omega arith;
     way_is = h.asks;
-    input = λ s. absurd (none.0 s);
-    output = λ s. absurd (none.1 s);
+    counts = record { input = λ s. absurd (none.0 s); output = λ s. absurd (none.1 s); reading = h.reading; writing = h.writing };
   }
     where
       moved : Sits n seat e.bytes (record (executes o a m) { taken = o.taken })
-      moved = let s = e.sits in record { engine = s.engine; state = s.state; mode = s.mode; waited = s.waited; failed = s.failed; count = s.count; halts = s.halts }
+      moved = let s = e.sits in record { engine = s.engine; state = s.state; mode = s.mode; waited = s.waited; failed = s.failed; count = s.count; halts = s.halts; before = s.before }
 
       none : (seat.stop ≡ Some answer.InputFault → ⊥) × (seat.stop ≡ Some answer.OutputFault → ⊥)
       none = fault_or seat.stop (sym e.sits.failed ∙ not_failed n was bytes o h.was_is.sits h.on)

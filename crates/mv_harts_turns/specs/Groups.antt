@@ -5,9 +5,11 @@ use Rattle.mv_bindings.specs.declared.binding.Binding.{Binding}
 use Rattle.mv_bindings.specs.declared.action.Action.{Action}
 use Rattle.mv_bindings.specs.Acts.{Act, Adopt, act_of}
 use Rattle.mv_image.specs.Spelling.{Fields}
-use Rattle.mv_io.specs.Outside.{Rose}
+use Rattle.mv_io.specs.Outside.{CountAfter, Rose}
 use Rattle.mv_probe.specs.Ways.{Way, way_after}
+use Rattle.mv_machine.specs.declared.machine.Stopped.{Stopped}
 use Rattle.mv_machine.specs.declared.machine.Stopped.TheVariants as answer
+use Rattle.mv_machine.specs.Moves.{input_failed, output_failed}
 use Rattle.mv_machine.specs.Runs.{choices_at, bytes_to_come}
 use Rattle.mv_harts_runs.specs.Harts as harts
 use Rattle.mv_harts_runs.specs.Harts.{Hart, Harts, Move, Elsewhere, is_on, told, executes, fails, leader_goes, other_goes, other_fails, others_from, shared, freed, turn_of}
@@ -17,6 +19,7 @@ use Rattle.mv_harts_one.specs.declared.seat.Mode.TheVariants as mode
 use Rattle.mv_harts_one.specs.declared.seat.Taken.{Taken}
 use Rattle.mv_harts_one.specs.declared.glance.Glance.{Glance}
 use Rattle.mv_harts_one.specs.Seats.{Sits, IsTaken, adopted, is_under, place_as, store_as}
+use Rattle.mv_harts_one.specs.Executions.{is_into_text}
 use Rattle.mv_harts_turns.specs.Pairs.{Both, Pairs}
 use Rattle.mv_harts_turns.specs.declared.group.Group.{Group}
 use Rattle.mv_harts_turns.specs.declared.group.Committed.{Committed}
@@ -52,14 +55,26 @@ AreFirst image bytes count seats = Pairs (λ n. IsSeat image [] (suc n) (bytes (
 
 -- ---- what a turn needs
 
--- each fetch of a hart that has not ended has one choice
+-- Each fetch of a hart that has not ended has one choice, and what it fetches stores nothing into text but in hart 0 while its commit is under way.
 pub record FetchesAre (hs : Harts) : Type 0 where
   pub leader : is_on hs.leader ≡ true → choices_at hs.leader.state ≡ 1
   pub others : (n : ℕ) (o : Hart) → slice_get hs.others n ≡ Some o → is_on o ≡ true → choices_at o.state ≡ 1
+  pub leader_stores : is_on hs.leader ≡ true → hs.under ≡ None → is_into_text (told hs.leader.state 0) ≡ false
+  pub stores : (n : ℕ) (o : Hart) → slice_get hs.others n ≡ Some o → is_on o ≡ true → is_into_text (told o.state 0) ≡ false
 
 -- a hart can execute one more instruction
 abbrev pub CanCount : Seat → Type 0
 CanCount seat = seat.instructions + 1 < 2 ^ 64
+
+-- each hart can
+pub record CanAllCount (group : Group) : Type 0 where
+  pub leader : CanCount group.leader
+  pub others : (n : ℕ) (seat : Seat) → slice_get group.others.items n ≡ Some seat → CanCount seat
+
+-- each hart has executed so many instructions at most
+pub record HaveExecuted (group : Group) (most : ℕ) : Type 0 where
+  pub leader : group.leader.instructions ≤ most
+  pub others : (n : ℕ) (seat : Seat) → slice_get group.others.items n ≡ Some seat → seat.instructions ≤ most
 
 -- there is a last commit, which has so many bindings
 pub record IsLast (commits : List Committed) (functions : ℕ) : Type 0 where
@@ -138,9 +153,13 @@ adopts_last o bs = adopted o bs (o.taken ++ Adopt bs ∷ [])
 abbrev pub committed : Harts → Harts
 committed hs = record hs { others = map freed hs.others; wanted = false; commits = hs.commits ++ hs.leader.state.bindings ∷ [] }
 
--- no seat stops or goes on
+-- a seat doesn't stop or go on
+abbrev pub SameStop : (was is : Seat) → Type 0
+SameStop was is = is.stop ≡ was.stop
+
+-- no seat does
 abbrev pub SameStops : (was is : Group) → Type 0
-SameStops was is = (h : ℕ) → Both (λ s s'. s'.stop ≡ s.stop) (seat_at h was) (seat_at h is)
+SameStops was is = (h : ℕ) → Both SameStop (seat_at h was) (seat_at h is)
 
 -- ---- what a turn has done
 
@@ -164,11 +183,6 @@ asked hs = asked_by hs.leader + sum_by asked_by hs.others
 pub record Wrote (hart : ℕ) (was is : Harts) (more : List ℕ) : Type 0 where
   pub own : output hart is ≡ output hart was ++ more
   pub rest : (h : ℕ) → h ≢ hart → output h is ≡ output h was
-
--- a device has failed only where it had, or where its count of faults rose
-pub record FailsBy (input_rose output_rose : Type 0) (was is : Seat) : Type 0 where
-  pub input : is.stop ≡ Some answer.InputFault → (was.stop ≡ Some answer.InputFault) ⊎ input_rose
-  pub output : is.stop ≡ Some answer.OutputFault → (was.stop ≡ Some answer.OutputFault) ⊎ output_rose
 
 -- What the source, the sink and the oracle of a turn tell: what the source has left behind it, what the sink got before and behind it, the ways, and
 -- the counts of faults.
@@ -205,6 +219,26 @@ input_rose x = Rose x.old_inputs x.new_inputs
 abbrev pub output_rose : Beside → Type 0
 output_rose x = Rose x.old_outputs x.new_outputs
 
+-- no device failed
+abbrev pub SameCounts : Beside → Type 0
+SameCounts x = (x.new_inputs ≡ x.old_inputs) × (x.new_outputs ≡ x.old_outputs)
+
+-- The counts of faults of a hart's source and sink before, while it went on, and behind: that of the device at which it failed rose, by one at most, and the
+-- other stands.
+pub record Counts (stop : Option Stopped) (inputs inputs' outputs outputs' : ℕ) : Type 0 where
+  pub input : stop ≡ Some answer.InputFault → Rose inputs inputs'
+  pub output : stop ≡ Some answer.OutputFault → Rose outputs outputs'
+  pub reading : CountAfter (input_failed stop) inputs inputs'
+  pub writing : CountAfter (output_failed stop) outputs outputs'
+
+-- those of a turn
+abbrev pub Counted : Beside → Option Stopped → Type 0
+Counted x stop = Counts stop x.old_inputs x.new_inputs x.old_outputs x.new_outputs
+
+-- the hart whose turn it is stands as before and no device failed, or it went on before and its devices' counts are by how it stands
+abbrev pub Fares : Beside → (was is : Seat) → Type 0
+Fares x was is = (SameStop was is × SameCounts x) ⊎ ((was.stop ≡ None) × Counted x is.stop)
+
 -- these bytes were written
 abbrev pub Grew : Beside → List ℕ → Type 0
 Grew x more = x.new_written ≡ option_map (λ before. before ++ more) x.old_written
@@ -240,8 +274,7 @@ pub record Stepped (image : Fields) (commits : List (List Binding)) (number : �
   pub written : Grew x more
   pub counted : asked_by (acted failing o a m) ≡ asked_by o + 1
   pub way_is : WasAsked x 1
-  pub input : seat.stop ≡ Some answer.InputFault → input_rose x
-  pub output : seat.stop ≡ Some answer.OutputFault → output_rose x
+  pub counts : Counted x seat.stop
 
 -- without memory for the step: nothing is written, or what the instruction writes
 pub record StepRefused (o : Hart) (a : Act) (m : Move) (x : Beside) : Type 0 where
@@ -262,8 +295,8 @@ pub record Reaches (image : Fields) (actions : List Action) (hart : ℕ) (bytes 
   pub few : steps ≤ 1
   pub counted : asked hs' ≡ asked hs + steps
   pub way_is : WasAsked x steps
-  pub own : Both (FailsBy (input_rose x) (output_rose x)) (seat_at hart was) (seat_at hart is)
-  pub others : (h : ℕ) → h ≢ hart → Both (FailsBy ⊥ ⊥) (seat_at h was) (seat_at h is)
+  pub own : Both (Fares x) (seat_at hart was) (seat_at hart is)
+  pub others : (h : ℕ) → h ≢ hart → Both SameStop (seat_at h was) (seat_at h is)
 
 -- without memory for a turn: nothing is written, or what the turn to those harts writes
 pub record Refused (hart : ℕ) (x : Beside) (hs hs' : Harts) : Type 0 where
@@ -279,7 +312,7 @@ Turned image actions hart bytes x was is hs Fits turned (Err error) = (failing :
 -- A turn that just went on: the oracle was asked once, and nothing was read or written, whatever the source and the sink tell.
 abbrev pub Advanced : (image : Fields) (actions : List Action) (hart : ℕ) (bytes : ℕ → List ℕ) (way way' : Option Way) (was is : Group) (hs : Harts) → Type 0
 Advanced image actions hart bytes way way' was is hs =
-    (x : Beside) → x.left ≡ Some (bytes hart) → x.new_written ≡ x.old_written → x.old_way ≡ way → x.new_way ≡ way' → Reaches image actions hart bytes x was is hs (turn_of hs hart 0 false)
+    (x : Beside) → x.left ≡ Some (bytes hart) → x.new_written ≡ x.old_written → x.old_way ≡ way → x.new_way ≡ way' → SameCounts x → Reaches image actions hart bytes x was is hs (turn_of hs hart 0 false)
 
 -- a group that is as it was
 pub record Stands (was is : Group) : Type 0 where

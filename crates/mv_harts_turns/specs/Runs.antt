@@ -4,15 +4,13 @@ use Rattle.std.specs.List.{All}
 use Rattle.mv_bindings.specs.declared.action.Action.{Action}
 use Rattle.mv_bindings.specs.Acts.{Act, act_of}
 use Rattle.mv_image.specs.Spelling.{Fields}
-use Rattle.mv_io.specs.Outside.{Rose}
 use Rattle.mv_probe.specs.Ways.{Way, way_after}
-use Rattle.mv_machine.specs.declared.machine.Stopped.TheVariants as answer
 use Rattle.mv_machine.specs.Runs.{bytes_to_come}
 use Rattle.mv_harts_runs.specs.Harts.{Harts, Turn, first_harts, harts_after}
 use Rattle.mv_harts_runs.specs.Alone.{Fitting, Passes}
 use Rattle.mv_harts_one.specs.declared.seat.Seat.{Seat}
 use Rattle.mv_harts_turns.specs.declared.group.Group.{Group}
-use Rattle.mv_harts_turns.specs.Groups.{Shows, seat_at, output, asked}
+use Rattle.mv_harts_turns.specs.Groups.{Shows, FetchesAre, Counts, seat_at, output, asked}
 
 -- the turns of a schedule, of which some reads and writes fail; each fetch is by the pick 0
 abbrev pub turns_by : (schedule : List ℕ) → (failing : List Bool) → List Turn
@@ -58,17 +56,20 @@ inputs_of x h = bytes_to_come (bytes_of x h)
 abbrev pub harts_of : Fields → List Action → (count : ℕ) → Outside → (schedule : List ℕ) → (failing : List Bool) → Harts
 harts_of image actions count x schedule failing = harts_after (first_harts image (inputs_of x) (count - 1) (map act_of actions)) (turns_by schedule failing)
 
--- a device failed only where its count of faults rose
-pub record Failed (h : ℕ) (was is : Outside) (seat : Seat) : Type 0 where
-  pub input : seat.stop ≡ Some answer.InputFault → Rose (was.inputs h) (is.inputs h)
-  pub output : seat.stop ≡ Some answer.OutputFault → Rose (was.outputs h) (is.outputs h)
+-- the counts of faults of a hart's source and sink, by how it stands
+abbrev pub CountsOf : (h : ℕ) (was is : Outside) → Seat → Type 0
+CountsOf h was is seat = Counts seat.stop (was.inputs h) (is.inputs h) (was.outputs h) (is.outputs h)
+
+-- the harts of each time of a schedule fetch so, whatever failed by then
+abbrev pub AlwaysFetch : Fields → List Action → (count : ℕ) → Outside → (schedule : List ℕ) → Type 0
+AlwaysFetch image actions count was schedule = (time : ℕ) (failing : List Bool) → FetchesAre (harts_of image actions count was (take time schedule) failing)
 
 -- each sink got what its hart has written
 abbrev pub GotAll : (was is : Outside) → Harts → Type 0
 GotAll was is hs = (h : ℕ) → is.written h ≡ option_map (λ before. before ++ output h hs) (was.written h)
 
 -- The turns of a schedule as code did them: the group is the harts of the run, each source lost what its hart has read, each sink got what it has
--- written, and the oracle was asked for each instruction and each read or write that failed.
+-- written, the oracle was asked for each instruction and each read or write that failed, and a device that failed was asked nothing more.
 pub record Ran (image : Fields) (actions : List Action) (count : ℕ) (schedule : List ℕ) (was is : Outside) (group : Group) : Type 0 where
   pub failing : List Bool
   pub paired : length failing ≡ length schedule
@@ -78,7 +79,7 @@ pub record Ran (image : Fields) (actions : List Action) (count : ℕ) (schedule 
   pub written : GotAll was is (harts_of image actions count was schedule failing)
   pub way_is : is.way ≡ option_map (λ w. way_after w (asked (harts_of image actions count was schedule failing))) was.way
   pub few : asked (harts_of image actions count was schedule failing) ≤ length schedule
-  pub failed : (h : ℕ) (seat : Seat) → seat_at h group ≡ Some seat → Failed h was is seat
+  pub counts : (h : ℕ) (seat : Seat) → seat_at h group ≡ Some seat → CountsOf h was is seat
   pub later_inputs : (h : ℕ) → was.inputs h ≤ is.inputs h
   pub later_outputs : (h : ℕ) → was.outputs h ≤ is.outputs h
 

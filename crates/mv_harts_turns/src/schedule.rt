@@ -49,8 +49,8 @@ impl Group {
     }
 }
 
-// How many turns a schedule has: no more than a hart can count instructions.
-fn turns_of(schedule: &[u8]) -> usize
+/// How many turns a schedule has: no more than a hart can count instructions.
+pub(crate) fn turns_of(schedule: &[u8]) -> usize
     ensures count { result ≡ length schedule.now }
     ensures few { result < 2 ^ 64 }
 {
@@ -81,11 +81,9 @@ pub fn run<I: Source, O: Sink>(
     harts_are_right();
     let mut group = Group::start(alloc, image, sources.len() as u32 - 1)?;
     let turns = turns_of(schedule);
-    for time in 0..turns {
+    let mut time = 0;
+    while time < turns {
         let hart = usize::from(schedule[time]);
-        if group.advance(hart, oracle) {
-            continue;
-        }
         group.turn(
             alloc,
             hart,
@@ -94,6 +92,7 @@ pub fn run<I: Source, O: Sink>(
             &mut sinks[hart],
             oracle,
         )?;
+        time = group.go_on(schedule, time + 1, oracle);
     }
     Ok(group)
 }

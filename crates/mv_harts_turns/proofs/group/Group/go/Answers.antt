@@ -23,4 +23,4 @@ pub returns-clause-goes : goal.returns-clause-goes
 returns-clause-goes g c = λ image bytes hs shown glance left.
     let act = act_of c.next_action-action.result in
     let handed = ap next_act shown.actions_are ∙ sym c.next_action-action.ensures in
-    go_ok image c.args.actions.now bytes _ c.args.self.now _ hs act c.args.glance shown glance handed _ (c.in_ok-self.ensures.steps image hs.commits 0 (bytes 0) hs.leader hs.under shown.leader glance left shown.under) c.in_ok-share.ensures c.played_behind-self.ensures refl refl refl
+    go_ok image c.args.actions.now bytes _ c.args.self.now _ hs act c.args.glance shown glance handed _ c.requires.on (c.in_ok-self.ensures.steps image hs.commits 0 (bytes 0) hs.leader hs.under shown.leader glance left shown.under) c.in_ok-share.ensures c.played_behind-self.ensures refl refl refl

@@ -29,7 +29,7 @@ returns-then-not-all_away-clause-leads g c = λ image bytes hs shown one left.
     let test = commit_is c.glance-glance.result.place c.next_action-action.result c.args.actions.now s.played hs true (sym c.commits.ensures ∙ is_commit') at c.next_action-action.ensures shown.actions_are in
     let not_away : c.all_away.result ≡ false = first_of (cc, search rules, grind (arith, common_steps)) in
     let away : all_away hs.others ≡ false = sym (all_away_is image hs.commits suc (λ n. bytes (suc n)) s.others.items hs.others shown.others) ∙ sym (c.all_away.ensures ∙ ap (list_all is_seat_away) c.as_slice.ensures.value) ∙ not_away in
-    waits_ok image c.args.actions.now bytes _ s c.wait.new.self hs a m test away left refl refl (c.wait.ensures.shows image c.args.actions.now bytes hs shown) c.wait.ensures.stop c.wait.ensures.others
+    waits_ok image c.args.actions.now bytes _ s c.wait.new.self hs a m test away left refl refl (refl, refl) (c.wait.ensures.shows image c.args.actions.now bytes hs shown) c.wait.ensures.stop c.wait.ensures.others
 
 pub returns-in_err-go-clause-leads : goal.returns-in_err-go-clause-leads
 returns-in_err-go-clause-leads g c = λ image bytes hs shown one left.

@@ -62,6 +62,6 @@ returns-clause-goes g c = λ image actions bytes hs o shown there glance left.
     let is = both_at (IsSeat image hs.commits (suc n) (bytes (suc n))) (slice_get items n) (slice_get hs.others n) old o at there (shown.others n) in
     let one : n + 1 ≡ suc n = omega arith in
     let stores = c.in_ok-take_store.ensures in
-    on_ok image actions bytes _ s _ hs n o c.args.glance shown there glance (set items n new) new _ (c.in_ok-step.ensures.steps image hs.commits (suc n) (bytes (suc n)) o None is glance left refl)
+    on_ok image actions bytes _ s _ hs n o c.args.glance shown there glance (set items n new) new _ c.requires.on (c.in_ok-step.ensures.steps image hs.commits (suc n) (bytes (suc n)) o None is glance left refl)
     (record { sits = stores.sits; image = stores.image; taken = stores.taken; stop = stores.stop }) (set_there items n old new at) (λ k ne. set_other items n k new ne)
     (subst (λ from. Shared (option_map store_as c.args.glance.store) from (set items n new) c.share.new.others.items) one c.in_ok-share.ensures) refl refl refl refl

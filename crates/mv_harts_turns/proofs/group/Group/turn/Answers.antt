@@ -9,7 +9,7 @@ lead-requires-clause-on g c = stop_none c.args.self.now.leader c.is_some.result 
 
 pub returns-then-is_some-clause-turns : goal.returns-then-is_some-clause-turns
 returns-then-is_some-clause-turns g c = λ image bytes hs shown fetches left.
-    off_zero image c.args.actions.now bytes _ c.args.self.now hs c.args.hart shown c.if-hart-eq0.true left refl refl (sym c.is_some.ensures ∙ c.if-is_some.true)
+    off_zero image c.args.actions.now bytes _ c.args.self.now hs c.args.hart shown c.if-hart-eq0.true left refl refl (refl, refl) (sym c.is_some.ensures ∙ c.if-is_some.true)
 
 pub returns-then-hart-eq0-clause-turns : goal.returns-then-hart-eq0-clause-turns
 returns-then-hart-eq0-clause-turns g c = λ image bytes hs shown fetches left.
@@ -24,7 +24,7 @@ returns-then-is_some-2-clause-turns g c = λ image bytes hs shown fetches left.
     let seat = c.index.result.now in
     let is_hart : c.args.hart ≡ suc n = omega (arith, c.if-hart-eq0.false) in
     let at : slice_get items n ≡ Some seat = slice_get_read items (length items) n seat refl (omega (arith, s.others.ok.0, c.requires.there, c.if-hart-eq0.false)) c.index.ensures in
-    off_suc image c.args.actions.now bytes _ s hs c.args.hart shown n seat is_hart at left refl refl (sym c.is_some-2.ensures ∙ c.if-is_some-2.true)
+    off_suc image c.args.actions.now bytes _ s hs c.args.hart shown n seat is_hart at left refl refl (refl, refl) (sym c.is_some-2.ensures ∙ c.if-is_some-2.true)
 
 pub follow-requires-clause-on : goal.follow-requires-clause-on
 follow-requires-clause-on g c = λ seat there.
