@@ -271,4 +271,3 @@ pub returns : goal.returns
 returns g c =
     let l = c.loop-time in
     ran_whole c.args.image.now c.args.actions.now (vec_len c.args.sources.now) _ _ c.args.schedule.now l.time l.group (omega (arith, c.loop-time-test.false, c.turns_of-turns.ensures.count)) l.invariant.ran
-
