@@ -8,7 +8,6 @@ use Rattle.mv_ast.specs.declared.program.Program.{Program}
 use Rattle.mv_bindings.specs.declared.action.Action.{Action}
 use Rattle.mv_bindings.specs.Acts.{Act, IsOfWord, act_of}
 use Rattle.mv_image.specs.Spelling.{Fields}
-use Rattle.mv_io.specs.Outside.{CountAfter}
 use Rattle.mv_isa.specs.declared.instr.Cause.{Cause}
 use Rattle.mv_machine.specs.Actions.{fits}
 use Rattle.mv_machine.specs.Runs.{State, Stop, Fault, bytes_to_come}
@@ -23,11 +22,11 @@ use Rattle.mv_harts_turns.specs.Groups.{IsSeat, Shows, bindings_of, seat_at}
 use Rattle.mv_harts_turns.specs.Runs.{Broken, Outside, GotAll, Ran, IsReadyFor, bytes_of, harts_of, inputs_of, turns_by}
 use Rattle.mv_harts.specs.declared.ends.HartEnd.{HartEnd}
 use Rattle.mv_harts.specs.declared.ends.HartsEnd.{HartsEnd}
-use Rattle.mv_harts.specs.Ends.{IsEnd, end_of, is_input_fault, is_output_fault}
+use Rattle.mv_harts.specs.Ends.{IsEnd, end_of}
 use Rattle.mv_harts.specs.HartsRan.{Fails, HartsRan, IsKept, TellsBytes, all_of}
 use Rattle.mv_harts.proofs.Counts.{many}
 use Rattle.mv_harts.proofs.Pairing.{beside_right, both_in_map, map_there, same_length}
-use Rattle.mv_harts.proofs.Stops.{NeverFaults, end_right, input_fault, input_told, output_fault, output_told}
+use Rattle.mv_harts.proofs.Stops.{NeverFaults, end_right, fails_of}
 
 -- ---- the sources
 
@@ -118,14 +117,7 @@ module _ (p : Program) (image : Fields) (actions : List Action) (count : ℕ) (s
     failed_at : (h : ℕ) (hart : HartEnd) → slice_get end.harts h ≡ Some hart → Fails h was is hart
     failed_at h hart there =
         let from = map_there end_of (group.leader ∷ group.others.items) h hart (ap (λ (xs : List HartEnd). slice_get xs h) (sym ends) ∙ there) in
-        let seat = from.0 in
-        let counts = ran.counts h seat (seat_there h seat from.1) in
-        record {
-          input = λ stop. counts.input (input_fault seat.waited seat.stop (ap (λ (x : HartEnd). x.stop) (sym from.2) ∙ stop));
-          output = λ stop. counts.output (output_fault seat.waited seat.stop (ap (λ (x : HartEnd). x.stop) (sym from.2) ∙ stop));
-          reading = subst (λ b. CountAfter b (was.inputs h) (is.inputs h)) (sym (input_told seat.waited seat.stop) ∙ ap (λ (x : HartEnd). is_input_fault x.stop) (sym from.2)) counts.reading;
-          writing = subst (λ b. CountAfter b (was.outputs h) (is.outputs h)) (sym (output_told seat.waited seat.stop) ∙ ap (λ (x : HartEnd). is_output_fault x.stop) (sym from.2)) counts.writing;
-        }
+        fails_of h was is hart from.0 (sym from.2) (ran.counts h from.0 (seat_there h from.0 from.1))
 
     pub harts_ran : HartsRan p image actions count schedule was is end
     harts_ran = record {

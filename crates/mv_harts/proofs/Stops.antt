@@ -3,6 +3,7 @@ use Rattle.std.proofs.Common.{◌≡◌, ℕ, Bool, true, false, not, ◌&&◌, 
 use Rattle.std.proofs.lemmas.Bool.{false≢true, true≢false}
 use Rattle.mv_bindings.specs.declared.binding.Binding.{Binding}
 use Rattle.mv_image.specs.Spelling.{Fields}
+use Rattle.mv_io.specs.Outside.{CountAfter}
 use Rattle.mv_isa.specs.declared.instr.Cause.{Cause}
 use Rattle.mv_machine.specs.declared.machine.Stopped.{Stopped}
 use Rattle.mv_machine.specs.declared.machine.Stopped.TheVariants as answer
@@ -12,10 +13,13 @@ use Rattle.mv_harts_runs.specs.Harts.{Hart, is_on}
 use Rattle.mv_harts_one.specs.declared.seat.Seat.{Seat}
 use Rattle.mv_harts_one.specs.Seats.{IsHalt, IsBefore, has_failed}
 use Rattle.mv_harts_one.specs.Seats as seats
-use Rattle.mv_harts_turns.specs.Groups.{IsSeat}
+use Rattle.mv_harts_turns.specs.Groups.{Counts, IsSeat}
+use Rattle.mv_harts_turns.specs.Runs.{CountsOf, Outside}
 use Rattle.mv_harts.specs.declared.ends.HartStop.{HartStop}
 use Rattle.mv_harts.specs.declared.ends.HartStop.TheVariants as told
+use Rattle.mv_harts.specs.declared.ends.HartEnd.{HartEnd}
 use Rattle.mv_harts.specs.Ends.{IsEnd, Stops, end_of, is_fault, is_input_fault, is_output_fault, stop_of, stop_text}
+use Rattle.mv_harts.specs.HartsRan.{Fails}
 use Rattle.mv_harts.specs.Texts.{standing}
 
 on : (o : Hart) → o.state.stop ≡ Going → o.failed ≡ false → is_on o ≡ true
@@ -47,7 +51,7 @@ end_right image commits number bytes seat o is never = record {
 
 -- ---- faults
 
-pub input_told : (waited : Bool) (stop : Option Stopped) → is_input_fault (stop_of waited stop) ≡ input_failed stop
+input_told : (waited : Bool) (stop : Option Stopped) → is_input_fault (stop_of waited stop) ≡ input_failed stop
 input_told true None = refl
 input_told false None = refl
 input_told waited (Some (answer.Ended status)) = refl
@@ -58,7 +62,7 @@ input_told waited (Some answer.OutputFault) = refl
 input_told waited (Some (answer.Fault pc why)) = refl
 input_told waited (Some answer.Memory) = refl
 
-pub output_told : (waited : Bool) (stop : Option Stopped) → is_output_fault (stop_of waited stop) ≡ output_failed stop
+output_told : (waited : Bool) (stop : Option Stopped) → is_output_fault (stop_of waited stop) ≡ output_failed stop
 output_told true None = refl
 output_told false None = refl
 output_told waited (Some (answer.Ended status)) = refl
@@ -80,7 +84,7 @@ input_by waited (Some answer.OutputFault) e = absurd (false≢true e)
 input_by waited (Some (answer.Fault pc why)) e = absurd (false≢true e)
 input_by waited (Some answer.Memory) e = absurd (false≢true e)
 
-pub input_fault : (waited : Bool) (stop : Option Stopped) → stop_of waited stop ≡ told.InputFault → stop ≡ Some answer.InputFault
+input_fault : (waited : Bool) (stop : Option Stopped) → stop_of waited stop ≡ told.InputFault → stop ≡ Some answer.InputFault
 input_fault waited stop e = input_by waited stop (ap is_input_fault e)
 
 output_by : (waited : Bool) (stop : Option Stopped) → is_output_fault (stop_of waited stop) ≡ true → stop ≡ Some answer.OutputFault
@@ -94,8 +98,24 @@ output_by waited (Some answer.OutputFault) e = refl
 output_by waited (Some (answer.Fault pc why)) e = absurd (false≢true e)
 output_by waited (Some answer.Memory) e = absurd (false≢true e)
 
-pub output_fault : (waited : Bool) (stop : Option Stopped) → stop_of waited stop ≡ told.OutputFault → stop ≡ Some answer.OutputFault
+output_fault : (waited : Bool) (stop : Option Stopped) → stop_of waited stop ≡ told.OutputFault → stop ≡ Some answer.OutputFault
 output_fault waited stop e = output_by waited stop (ap is_output_fault e)
+
+count_same : (a b : Bool) (before now : ℕ) → a ≡ b → CountAfter a before now → CountAfter b before now
+count_same a b before now same count = subst (λ (x : Bool). CountAfter x before now) same count
+
+fails_by : (h : ℕ) (was is : Outside) (end : HartEnd) (waited : Bool) (stop : Option Stopped) → stop_of waited stop ≡ end.stop → Counts stop (was.inputs h) (is.inputs h) (was.outputs h) (is.outputs h) →
+    Fails h was is end
+fails_by h was is end waited stop same counts = record {
+  input = λ fault. counts.input (input_fault waited stop (same ∙ fault));
+  output = λ fault. counts.output (output_fault waited stop (same ∙ fault));
+  reading = count_same (input_failed stop) (is_input_fault end.stop) (was.inputs h) (is.inputs h) (sym (input_told waited stop) ∙ ap is_input_fault same) counts.reading;
+  writing = count_same (output_failed stop) (is_output_fault end.stop) (was.outputs h) (is.outputs h) (sym (output_told waited stop) ∙ ap is_output_fault same) counts.writing;
+}
+
+-- the counts of faults, by what is told of a seat
+pub fails_of : (h : ℕ) (was is : Outside) (end : HartEnd) (seat : Seat) → end_of seat ≡ end → CountsOf h was is seat → Fails h was is end
+fails_of h was is end seat same counts = fails_by h was is end seat.waited seat.stop (ap (λ (e : HartEnd). e.stop) same) counts
 
 -- ---- texts
 
