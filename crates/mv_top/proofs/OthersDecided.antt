@@ -181,13 +181,13 @@ module _ (before after : Environment) (no_output_fault : WriteFailed before afte
     stop_summed : (image : Fields) (actions : List Action) (machine : Snapshot) (picks taken later : List ℕ) (s : Stopped) →
         Runs image (polls_of actions) (environment no_input before.output before.way) (environment no_input between after.way) Heard machine picks taken later DEFAULT_STEPS s →
         IsTrue (is_cut_short (status_of_stop s)) → IsSummedUp (status_of_stop s)
-    stop_summed image actions machine (stop.Ended s) runs short = inl refl
-    stop_summed image actions machine (stop.Trapped c) runs short = inl refl
-    stop_summed image actions machine stop.Steps runs short = inl refl
-    stop_summed image actions machine stop.InputFault runs short = cc
-    stop_summed image actions machine stop.OutputFault runs short = absurd (no_fault_before between latest runs.1)
-    stop_summed image actions machine (stop.Fault pc why) runs short = cc
-    stop_summed image actions machine stop.Memory runs short = inr refl
+    stop_summed image actions machine picks taken later (stop.Ended s) runs short = inl refl
+    stop_summed image actions machine picks taken later (stop.Trapped c) runs short = inl refl
+    stop_summed image actions machine picks taken later stop.Steps runs short = inl refl
+    stop_summed image actions machine picks taken later stop.InputFault runs short = cc
+    stop_summed image actions machine picks taken later stop.OutputFault runs short = absurd (no_fault_before between latest runs.1)
+    stop_summed image actions machine picks taken later (stop.Fault pc why) runs short = cc
+    stop_summed image actions machine picks taken later stop.Memory runs short = inr refl
 
     cut_summed : {lines : List ℕ} {ran : Status} → RunDoes (environment no_input before.output before.way) (environment no_input between after.way) Heard plain (generated number) lines ran →
         IsTrue (is_cut_short ran) → IsSummedUp ran
