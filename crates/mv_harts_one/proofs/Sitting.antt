@@ -16,10 +16,10 @@ use Rattle.mv_patch.specs.Orders.{is_known_order}
 use Rattle.mv_machine.specs.declared.engine.Engine.{Engine}
 use Rattle.mv_machine.specs.declared.machine.Stopped.{Stopped}
 use Rattle.mv_machine.specs.declared.machine.Stopped.TheVariants as answer
-use Rattle.mv_machine.specs.Runs.{State, Going, request_of, bytes_to_come, choices_at, adopts}
+use Rattle.mv_machine.specs.Runs.{State, Going, is_going, request_of, bytes_to_come, choices_at, adopts}
 use Rattle.mv_machine.specs.Commits.{fetched_instr}
 use Rattle.mv_machine.specs.Moves.{seen, shown}
-use Rattle.mv_harts_runs.specs.Harts.{Hart, is_going, is_on, Place, place_by, place_of, place, Store, store_of, told, is_in_text, with_store, shared_room, shared}
+use Rattle.mv_harts_runs.specs.Harts.{Hart, is_on, Place, place_by, place_of, place, Store, store_of, told, is_in_text, with_store, shared_room, shared}
 use Rattle.mv_harts_one.specs.declared.seat.Mode.TheVariants as mode
 use Rattle.mv_harts_one.specs.declared.seat.Seat.{Seat}
 use Rattle.mv_harts_one.specs.declared.store.Store.{Store as SeenStore}
