@@ -6,7 +6,7 @@
 Looked up are: in README.md and docs/*.md each row of a table of commands, with its output and its last line, and each command of a block
 `console`; the examples of docs/refusals.ini; and each `examples/NAME.out`, which is the output of what has the input NAME.in, or of NAME.c. A program
 in a block `c` is a file of `examples/`, and what the rows have beside them of `examples/` is the same there. The tables of docs/refusals.md are those of docs/refusals.ini. Of what `list` writes the rows have ADDRESS in
-place of each address.
+place of each address. And no line of prose in README.md and docs/*.md is above 160 columns.
 """
 import filecmp
 import glob
@@ -23,6 +23,10 @@ ROWS = os.path.join(TOP, "crates", "mv_test_top")
 HARTS = os.path.join(TOP, "crates", "mv_harts_cli")
 TITLE = re.compile(r"^# .*\n", re.M)
 BLOCK = re.compile(r"^```(\w+)\n(.*?)^```$", re.M | re.S)
+# What is no prose: blocks, and the lists that tools/definitions.py writes.
+LISTED = re.compile(r"^```.*?^```$|^<!-- definitions -->$.*?^<!-- end of definitions -->$", re.M | re.S)
+# The columns that a line of prose may have; a row of a table can't be broken.
+COLUMNS = 160
 COMMANDS = "| Command | Output | Last line |\n|---|---|---|\n"
 SYNOPSES = "| Command | What it does |\n|---|---|\n"
 SESSION = re.compile(r"^\$ \./(multiverse|mvharts) ", re.M)
@@ -111,6 +115,14 @@ def wrong_in(document, known):
                 yield f"`{command}` is no line of the synopsis"
 
 
+def too_long_in(document):
+    """Returns the lines of a document's prose that are too long."""
+    prose = LISTED.sub(lambda it: "\n" * it[0].count("\n"), text_of(document))
+    for number, line in enumerate(prose.splitlines(), 1):
+        if len(line) > COLUMNS and not line.startswith("|"):
+            yield f"line {number} has {len(line)} columns, above {COLUMNS}"
+
+
 def wrong_refusals(known):
     """Returns the examples of refusals of which the rows have something else."""
     for name, section in refusals.all_refusals().items():
@@ -146,7 +158,7 @@ def wrong_copies():
 def main():
     known = rows()
     documents = [os.path.join(TOP, "README.md"), *sorted(glob.glob(os.path.join(TOP, "docs", "*.md")))]
-    wrong = [f"{os.path.relpath(it, TOP)}: {what}" for it in documents for what in wrong_in(it, known)]
+    wrong = [f"{os.path.relpath(it, TOP)}: {what}" for it in documents for what in [*wrong_in(it, known), *too_long_in(it)]]
     wrong += [*wrong_refusals(known), *wrong_outputs(known), *wrong_copies()]
     print(*wrong, sep="\n", end="\n" * bool(wrong))
     return 1 if wrong else 0
