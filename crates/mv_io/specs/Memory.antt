@@ -1,5 +1,5 @@
 -- What the objects in memory hold.
-use Rattle.std.specs.Prelude.{ℕ, ◌-◌, ◌&&◌, Bool, List, length, nat_lt, ◌==◌}
+use Rattle.std.specs.Prelude.{ℕ, ◌-◌, List, length}
 use Rattle.std.specs.Prelude.{map, Vec, string_bytes, String}
 use Rattle.std.specs.declared.alloc.Global.{Global}
 use Rattle.std.specs.Map.{lookup}
@@ -20,10 +20,6 @@ pub record SinkInMemory : Type 0 where
 
 abbrev pub room_left : SinkInMemory → ℕ
 room_left s = s.room - length s.written
-
--- there are bytes, and no room for any
-abbrev pub overflows : SinkInMemory → List ℕ → Bool
-overflows s bytes = nat_lt 0 (length bytes) && (room_left s == 0)
 
 -- files are names with their bytes
 pub record ShelfInMemory : Type 0 where

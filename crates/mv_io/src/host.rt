@@ -83,7 +83,7 @@ impl<R: Read + Drop> Source for StdSource<R> {
 }
 
 /// A sink over a writer, as standard output or standard error. Each piece is handed on at once and flushed.
-/// Each error of the writer is a fault, and so is a nonempty piece of which it takes nothing.
+/// Each error of the writer is a fault, and so is a piece of which it takes nothing.
 #[derive(Drop)]
 pub struct StdSink<W: Write + Drop> {
     writer: W,
@@ -113,9 +113,6 @@ impl<W: Write + Drop> Sink for StdSink<W> {
     ghost faults = { λ s. s };
 
     fn write(&mut self, bytes: &[u8]) -> Result<usize, Failed> {
-        if bytes.is_empty() {
-            return Ok(0);
-        }
         match write_flushed(&mut self.writer, bytes) {
             Ok(count) if count > 0 => Ok(count),
             _ => Err(count_fault(&mut self.faults)),
