@@ -1,19 +1,12 @@
 #!/usr/bin/env python3
-"""What `build` takes for sources that are made to be slow: build.py [KIND..]
-
-Each kind of source is made with 64 KiB, 256 KiB and 1 MiB and given to `build`. Printed are seconds of the processor and megabytes, and how each grows for a
-byte. Needs the program that .ci/run leaves (or PROGRAM).
-"""
+"""What `build` takes for sources that are made to be slow (taking.py): build.py [KIND..]"""
 import itertools
-import os
-import resource
-import subprocess
 import sys
-import tempfile
 
-HERE = os.path.dirname(os.path.realpath(__file__))
-PROGRAM = os.environ.get("PROGRAM", os.path.join(HERE, "..", "..", "crates", "mv_cli", "out", "mv_cli"))
-SIZES = (1 << 16, 1 << 18, 1 << 20)
+# Leaves no compiled file beside the scripts.
+sys.dont_write_bytecode = True
+from taking import filled, report
+
 MARK = "__attribute__((multiverse))"
 SWITCHES = f"{MARK} int a,b,c,d,e,f;int x,y;"
 # Reads each of the switches, and is nothing once they are bound.
@@ -23,17 +16,6 @@ DIFFERS = "y=a+2*b+4*c+8*d+16*e+32*f;"
 CALL = "int main(void){v();}"
 # What a source may take before it is given up.
 SECONDS, BYTES = 120, 12 << 30
-
-
-def filled(size, head, parts, tail):
-    """Returns a text of at most so many bytes, with as many of the parts as there is room for."""
-    room, chosen = size - len(head) - len(tail), []
-    for part in parts:
-        room -= len(part)
-        if room < 0:
-            break
-        chosen.append(part)
-    return head + "".join(chosen) + tail
 
 
 def one(size, first, part, last=""):
@@ -68,37 +50,9 @@ KINDS = {
 }
 
 
-def limit():
-    """Keeps a run from taking the whole machine."""
-    resource.setrlimit(resource.RLIMIT_CPU, (SECONDS, SECONDS))
-    resource.setrlimit(resource.RLIMIT_AS, (BYTES, BYTES))
-
-
-def taken(source, image):
-    """Returns the seconds and the megabytes of a build of a source, and its answer."""
-    with tempfile.TemporaryFile() as notes:
-        ran = subprocess.Popen([PROGRAM, "build", source, image], stdin=subprocess.DEVNULL, stdout=subprocess.DEVNULL, stderr=notes, preexec_fn=limit)
-        status, usage = os.wait4(ran.pid, 0)[1:]
-        notes.seek(0)
-        answer = notes.read().decode().splitlines()
-    return usage.ru_utime + usage.ru_stime, usage.ru_maxrss / 1024, answer[-1] if answer else f"none, status {status}"
-
-
-def main(kinds):
-    if not os.access(PROGRAM, os.X_OK):
-        sys.exit(f"no {PROGRAM}: .ci/run makes it")
-    with tempfile.TemporaryDirectory() as room:
-        file, image = os.path.join(room, "source.c"), os.path.join(room, "image")
-        for name in (kind for kind in KINDS if not kinds or kind in kinds):
-            before = None
-            for size in SIZES:
-                with open(file, "w", encoding="ascii") as it:
-                    it.write(KINDS[name](size))
-                bytes_ = os.path.getsize(file)
-                seconds, megabytes, answer = taken(file, image)
-                growth = f"; a byte, growth {seconds / bytes_ / before[0]:.2f}, {megabytes / bytes_ / before[1]:.2f}" if before else ""
-                print(f"{name}, {bytes_} bytes ({answer}): {seconds:.2f} s, {megabytes:.0f} MB{growth}", flush=True)
-                before = (max(seconds, 0.001) / bytes_, megabytes / bytes_)
+def main(chosen):
+    kinds = [(name, text) for name, text in KINDS.items() if not chosen or name in chosen]
+    report(kinds, lambda source, image: ["build", source, image], SECONDS, BYTES)
 
 
 if __name__ == "__main__":
