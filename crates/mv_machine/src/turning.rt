@@ -44,14 +44,19 @@ fn fetched(memory: &Memory, address: u32, oracle: &mut Box<dyn FetchOracle>) -> 
     Some(memory.fetch(address, pick))
 }
 
+// The callers of `step`.
+struct ByGoOn;
+
+struct ByTurn;
+
 // The instruction at pc, up to what the environment has to do of it.
 #[inline(always)]
-fn step(hart: &mut Hart, memory: &mut Memory, oracle: &mut Box<dyn FetchOracle>) -> Stepped
+fn step<Caller>(hart: &mut Hart, memory: &mut Memory, oracle: &mut Box<dyn FetchOracle>) -> Stepped
     ensures { Steps result hart.old hart.new memory.old memory.new (way oracle.old) (way oracle.new) }
 {
     match fetched(memory, hart.pc, oracle) {
         None => Stepped::Fault(Cause::Fetch),
-        Some(word) => step_word(hart, memory, word),
+        Some(word) => step_word::<Caller>(hart, memory, word),
     }
 }
 
@@ -76,7 +81,7 @@ fn go_on(
     let mut left = steps;
     while left > 0 {
         left -= 1;
-        let stepped = step(hart, memory, oracle);
+        let stepped = step::<ByGoOn>(hart, memory, oracle);
         match stepped {
             Stepped::Next => {}
             _ => return Stride { stepped, left },
@@ -145,7 +150,7 @@ pub fn turn<I: Source, O: Sink>(
     ensures writing { CountAfter (output_failed result) (O.faults sink.old) (O.faults sink.new) }
 {
     engine.opened = false;
-    let stepped = step(&mut engine.hart, &mut engine.memory, oracle);
+    let stepped = step::<ByTurn>(&mut engine.hart, &mut engine.memory, oracle);
     settle(stepped, engine, operator, source, sink, probes)
 }
 

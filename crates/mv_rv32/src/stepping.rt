@@ -198,9 +198,12 @@ fn system(word: u32) -> Stepped
 ///
 /// `Call` stops before an ECALL, `Fault` and `Memory` change nothing, and `Memory` comes only at a store into text with `spare`
 /// 0, so that all other steps take no memory.
+///
+/// `Caller` names who calls, and nothing else: a program has one copy of the function for each, which the compiler inlines where it is called
+/// by that one alone. A function as long as this that two call is inlined in neither.
 #[inline(always)]
 #[tactic(auto, unfolding(mv_isa::specs::Encoding::decode, mv_isa::specs::Execution::execute, crate::specs::Stepping::word_target))]
-pub fn step_word(hart: &mut Hart, memory: &mut Memory, word: u32) -> Stepped
+pub fn step_word<Caller>(hart: &mut Hart, memory: &mut Memory, word: u32) -> Stepped
     ensures gives { Gives (step access (Some word) hart.old.regs hart.old.pc memory.old) result hart.new memory.new }
     ensures stays { Stays result hart.old hart.new memory.old memory.new }
     ensures wants { Wants result (word_target word hart.old.regs) memory.old }
@@ -221,6 +224,9 @@ pub fn step_word(hart: &mut Hart, memory: &mut Memory, word: u32) -> Stepped
     }
 }
 
+// `step`, as a caller of `step_word`.
+struct ByStep;
+
 /// One step with the word that stands at pc in the picked choice, as `step_word` does it. Where pc has no choice, `pick` is any
 /// number and the step faults.
 #[tactic(auto, unfolding(crate::specs::Stepping::picked_step, crate::specs::Stepping::picked_target))]
@@ -234,5 +240,5 @@ pub fn step(hart: &mut Hart, memory: &mut Memory, pick: u64) -> Stepped
         return Stepped::Fault(Cause::Fetch);
     }
     let word = memory.fetch(hart.pc, pick);
-    step_word(hart, memory, word)
+    step_word::<ByStep>(hart, memory, word)
 }
