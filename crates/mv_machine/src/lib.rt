@@ -16,7 +16,8 @@
 //!   says.
 //! - For several harts the engine of one is exported: `Engine::start` gives the first state of any hart, `turn` is one instruction of the
 //!   definition or a failed read or write, and tells whether it left bindings with another text, and `adopt` takes on the bindings of a commit that hart 0
-//!   has made, which `Machine` never does. `Operator` holds what polls take; `is_known` and `registers` tell what stands before a call.
+//!   has made, which `Machine` never does. `refuse` answers a call that changes nothing. `Operator` holds what polls take; `is_known` and `registers` tell what
+//!   stands before a call.
 //! - `specs/Commits.antt` says which commit is under way in a run. It is a definition for the laws above.
 //! - Only tested: that each pick is told the address of its instruction; two images that store over their own words under
 //!   three oracles, seven faults with their places, and an echo whose read or write fails (`mv_test_top`).
@@ -35,5 +36,5 @@ mod turning;
 pub use engine::Engine;
 pub use machine::{Machine, Stopped};
 pub use operator::Operator;
-pub use patching::{adopt, is_known};
+pub use patching::{adopt, is_known, refuse};
 pub use turning::turn;

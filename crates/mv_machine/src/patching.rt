@@ -31,8 +31,8 @@ use mv_patch::{Order, plan};
 use mv_probe::Probe;
 use mv_rv32::Cause;
 
-// The answer to a call that changes nothing.
-fn refuse(engine: &mut Engine, value: u32)
+/// The answer to a call that changes nothing, as a poll that takes nothing is answered 0; the plan area has no pairs then.
+pub fn refuse(engine: &mut Engine, value: u32)
     ensures does { (actions : List Action) → Does (λ s. refused s value) engine.old actions engine.new actions Going [] }
     ensures image { engine.new.image ≡ engine.old.image }
     ensures number { engine.new.number ≡ engine.old.number }
