@@ -7,8 +7,8 @@ use Rattle.mv_notes.specs.declared.status.Status.{Status}
 use Rattle.mv_notes.specs.declared.status.Status.TheVariants.{OutputFault}
 
 module _ (lines : List ℕ) (due : Status) (was is : Option (List ℕ)) (faults faults' : ℕ) (text : List ℕ) (same : text ≡ owed lines due) where
-  pub all_written : Grew was is text → Noted lines due was is faults faults' due
-  all_written grew = written (subst (λ (t : List ℕ). Grew was is t) same grew)
+  pub all_written : Grew was is text → faults' ≡ faults → Noted lines due was is faults faults' due
+  all_written grew kept = written (subst (λ (t : List ℕ). Grew was is t) same grew) kept
 
   pub part_written : GrewLess was is text → Rose faults faults' → Noted lines due was is faults faults' OutputFault
   part_written less rose = cut (subst (λ (t : List ℕ). GrewLess was is t) same less) rose

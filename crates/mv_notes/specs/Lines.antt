@@ -71,9 +71,9 @@ abbrev pub owed : (lines : List ℕ) → Status → List ℕ
 owed lines status = if is_silent status then [] else lines ++ last_line status
 
 -- What became of the notes, of these lines and the status that was due, by what they tell as written and their count of faults: they grew by what they are owed,
--- and that is the status; or there was no memory for it, and they are as they were; or a write failed, and they grew by less.
+-- no write failed, and that is the status; or there was no memory for it, and they are as they were; or a write failed, and they grew by less.
 pub data Noted (lines : List ℕ) (due : Status) (was is : Option (List ℕ)) (faults faults' : ℕ) : Status → Type 0 where
-  written : Grew was is (owed lines due) → Noted lines due was is faults faults' due
+  written : Grew was is (owed lines due) → faults' ≡ faults → Noted lines due was is faults faults' due
   unmade : is ≡ was → faults' ≡ faults → Noted lines due was is faults faults' Memory
   cut : GrewLess was is (owed lines due) → Rose faults faults' → Noted lines due was is faults faults' OutputFault
 

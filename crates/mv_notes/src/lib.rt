@@ -6,7 +6,8 @@
 //! - `report`: the notes grew by exactly the lines that were asked for and the last line, and the status is the one that was
 //!   due. With `Memory` and `OutputFault` nothing is written. Where there was no memory to make the lines, the notes are as
 //!   before and the status is `Memory`; where a write failed, they grew by less and the status is `OutputFault`,
-//!   and nothing more was written: the count of faults is one more at most, and as before with each other status.
+//!   and nothing more was written: the count of faults is one more at most. Else it is as before, also where `OutputFault` was due,
+//!   and so nothing was owed.
 //! - Tested through the programs of `mv_test_top`.
 #![tactic(auto)]
 

@@ -196,7 +196,7 @@ module _ (counted : CountedPassNone) (before after : Outside) (Heard : List Even
 
     noted : (lines : List ℕ) (due status : Status) → Came lines due → Noted lines due was.written is.written was.faults is.faults status →
         Decides words before.shelf.files before.environment.input.left after.environment.input.left status
-    noted lines due status came (written grew) = decided lines due came
+    noted lines due status came (written grew kept) = decided lines due came
     noted lines due status came (unmade same count) = memory_decided
     noted lines due status came (cut less rose) = absurd (quiet.notes rose)
 
