@@ -100,7 +100,5 @@ fn linked(alloc: Global, parts: &Parts) -> Result<Image, BuildError>
     ensures err { IfErr result (λ e. OnRefusal e (IsLinkRefusal parts.now)) }
 {
     let image = link(alloc, parts)?;
-    // An image keeps the rules of images, as each reading of its entry says.
-    let _entry = image.entry();
     Ok(image)
 }
