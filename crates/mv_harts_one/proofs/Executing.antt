@@ -39,7 +39,7 @@ asked_once (Some w) way' pick f = f.1
 
 -- ---- whether a commit is under way behind an instruction
 
-and_true : (b : Bool) → b ≡ (b && true)
+pub and_true : (b : Bool) → b ≡ (b && true)
 and_true true = refl
 and_true false = refl
 
@@ -71,7 +71,7 @@ bindings_stay s going n = by_outcome (fetched_step s 0) refl
     by_outcome (Faults why) e = ap (λ (t : State). t.bindings) (turn_by s 0 (Faults why) going e)
 
 -- the answer of an engine, whether the text of its bindings is another
-under_is : (s : State) (u : Option (List Binding)) (b : Bool) (w : ℕ) (bs : List Binding) → s.stop ≡ Going → choices s.room.held s.pc ≡ w ∷ [] → (turn s 0).bindings ≡ bs
+pub under_is : (s : State) (u : Option (List Binding)) (b : Bool) (w : ℕ) (bs : List Binding) → s.stop ≡ Going → choices s.room.held s.pc ≡ w ∷ [] → (turn s 0).bindings ≡ bs
     → b ≡ is_some_pair (plan_between s.image s.bindings bs) → (b || (is_under u && not (is_fence_i (decode w)))) ≡ is_under (commit_after s 0 u)
 under_is s u b w bs going one e opened =
     let i : fetched_instr s 0 ≡ decode w = fetched_word s w one in

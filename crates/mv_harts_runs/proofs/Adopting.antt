@@ -14,7 +14,7 @@ use Rattle.mv_refine_machine.specs.Stores.Stores.{AreTexts}
 use Rattle.mv_refine_machine.specs.Stores.Between.{IsWhole, IsSettled, IsWordBetween, IsBetween, count_older}
 use Rattle.mv_patch.specs.Orders.{is_known_order}
 use Rattle.mv_patch.specs.Plans.{plan_between}
-use Rattle.mv_bindings.specs.Acts.{Adopt}
+use Rattle.mv_bindings.specs.Acts.{Skip, Adopt}
 use Rattle.mv_machine.specs.Runs.{State, Going, Request, Exits, Reads, Writes, Traps, Plans, Polls, Unknown, request_of, argument, answered, live_frames, acted, refused, polled, adopts, adopted, environment_call, choices_at, turn}
 use Rattle.mv_machine.specs.Commits.{fetched_instr}
 use Rattle.mv_harts_runs.specs.Harts.{AtPoll, place_by, place_of, called_place, place, handed}
@@ -116,7 +116,7 @@ polls_told Polls false false e = absurd (cc)
 polls_told Unknown known idle e = absurd (cc)
 
 module _ (s : State) (polls : place s 0 ≡ AtPoll) (going : s.stop ≡ Going) where
-  at_call : fetched_instr s 0 ≡ Some Ecall
+  pub at_call : fetched_instr s 0 ≡ Some Ecall
   at_call = by_call (ecall_or (fetched_instr s 0))
     where
       by_call : (fetched_instr s 0 ≡ Some Ecall) ⊎ IsNoCall (fetched_instr s 0) → fetched_instr s 0 ≡ Some Ecall
@@ -132,6 +132,14 @@ module _ (s : State) (polls : place s 0 ≡ AtPoll) (going : s.stop ≡ Going) w
       turn_by (handed s (Adopt bs)) 0 Calls going (step_acts s (Adopt bs ∷ []) 0 ∙ calls_where s 0 at_call)
       ∙ ap (λ r. environment_call r (handed s (Adopt bs))) told.0
       ∙ ap (λ (b : Bool). if b then acted (handed s (Adopt bs)) (Adopt bs ∷ []) else refused (handed s (Adopt bs)) 0) told.1
+
+  -- a poll that takes nothing
+  pub skipping : turn (handed s Skip) 0 ≡ refused (with_acts s []) 0
+  unfolding polled
+  skipping =
+      turn_by (handed s Skip) 0 Calls going (step_acts s (Skip ∷ []) 0 ∙ calls_where s 0 at_call)
+      ∙ ap (λ r. environment_call r (handed s Skip)) told.0
+      ∙ ap (λ (b : Bool). if b then acted (handed s Skip) (Skip ∷ []) else refused (handed s Skip) 0) told.1
 
 -- behind it, with the words there already
 pub adopts_same : (before s : State) (bs : List Binding) → s ≡ record before { room = s.room } → s.room ≡ stored_all before.room (plan_between before.image before.bindings bs)

@@ -6,6 +6,8 @@ use Rattle.std.proofs.lemmas.Option.{slice_get_past}
 use Rattle.mv_num.proofs.Lists.{set_there}
 use Rattle.mv_harts_runs.specs.Harts.{Store}
 use Rattle.mv_harts_one.specs.declared.seat.Seat.{Seat}
+use Rattle.mv_harts_one.specs.Seats.{Sits}
+use Rattle.mv_harts_one.proofs.Advancing.{unshared}
 use Rattle.mv_harts_turns.specs.Pairs.{Both}
 use Rattle.mv_harts_turns.specs.Groups.{TookStore, Shared}
 use Rattle.mv_harts_turns.proofs.Places.{both_here, both_same, both_moved, both_weaker, set_other}
@@ -58,3 +60,10 @@ shared_all st from k was is len h = record {
   own = λ n e. same_by (TakesFrom st from n) (λ x y r. r.0 e) (slice_get was n) (slice_get is n) (changed_all (TakesFrom st from) k was is len h n);
   rest = λ n ne. both_weaker (TakesFrom st from n) (TookStore st) (λ x y r. r.1 ne) (slice_get was n) (slice_get is n) (changed_all (TakesFrom st from) k was is len h n);
 }
+
+-- without a store nothing changes
+took_nothing : (seat : Seat) → TookStore None seat seat
+took_nothing seat = record { sits = λ number bytes o h. subst (λ p. Sits number seat bytes p) (sym (unshared None refl o)) h; image = refl; taken = refl; stop = refl }
+
+pub shared_nothing : (from : ℕ) (seats : List Seat) → Shared None from seats seats
+shared_nothing from seats = record { own = λ n e. refl; rest = λ n ne. both_same (TookStore None) took_nothing (slice_get seats n) }

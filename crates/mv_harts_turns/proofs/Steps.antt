@@ -1,13 +1,13 @@
 -- One instruction of a seat is one of its hart.
 use Rattle.std.proofs.Common.{◌≡◌, ◌⊎◌, inl, inr, ℕ, ◌+◌, Bool, true, false, if◌then◌else◌, List, [], ◌∷◌, ◌++◌, Option, Some, None, refl, sym, ap, ◌∙◌, arith, subst}
 use Rattle.mv_bindings.specs.declared.binding.Binding.{Binding}
-use Rattle.mv_bindings.specs.Acts.{Act}
+use Rattle.mv_bindings.specs.Acts.{Act, Skip}
 use Rattle.mv_image.specs.Spelling.{Fields}
 use Rattle.mv_io.specs.Outside.{CountAfter}
 use Rattle.mv_machine.specs.declared.machine.Stopped.{Stopped}
 use Rattle.mv_machine.specs.declared.machine.Stopped.TheVariants as answer
 use Rattle.mv_machine.specs.Moves.{input_failed, output_failed}
-use Rattle.mv_harts_runs.specs.Harts.{Hart, Move, AtPoll, Elsewhere, executes, fails, took}
+use Rattle.mv_harts_runs.specs.Harts.{Hart, Move, AtPoll, Elsewhere, executes, fails, took, move}
 use Rattle.mv_harts_one.specs.declared.seat.Seat.{Seat}
 use Rattle.mv_harts_one.specs.declared.seat.Taken.{Taken}
 use Rattle.mv_harts_one.specs.declared.glance.Place.{Place}
@@ -139,3 +139,23 @@ module _ (image : Fields) (commits : List (List Binding)) (n : ℕ) (o : Hart) (
 
   pub refused_step : x.new_written ≡ x.old_written → StepRefused o a m x
   refused_step e = record { more = []; written = grew_nothing x.old_written x.new_written e; either = inl refl }
+
+-- a poll that takes nothing
+pub skipped : (image : Fields) (commits : List (List Binding)) (n : ℕ) (o : Hart) (under : Option (List Binding)) (ub : Bool) (x : Beside) (bytes : List ℕ) (was seat : Seat) → IsSeat image commits n bytes was o → was.stop ≡ None → seat.stop ≡ None
+    → seat.engine.image ≡ was.engine.image → seat.taken ≡ was.taken → is_under under ≡ ub → WasAsked x 1 → x.new_inputs ≡ x.old_inputs → x.new_outputs ≡ x.old_outputs → x.new_written ≡ x.old_written → x.left ≡ Some bytes
+    → HasExecuted n o Skip (move o.state Skip under 0) seat (is_under under) (Some bytes) x.old_written x.old_written → Near image commits n o Skip (move o.state Skip under 0) under ub x bytes was seat ub
+skipped image commits n o under ub x bytes was seat is on still same taken flag asks inputs outputs silent left did =
+    let m : Move = move o.state Skip under 0 in
+    let by_left = subst (λ l. HasExecuted n o Skip m seat (is_under under) l x.old_written x.old_written) (sym left) did in
+    let by_written = subst (λ w. HasExecuted n o Skip m seat (is_under under) x.left x.old_written w) (sym silent) by_left in
+    record {
+      was_is = is;
+      on = on;
+      same_image = same;
+      same_taken = taken;
+      same_under = flag;
+      asks = asks;
+      reading = subst (λ stop. CountAfter (input_failed stop) x.old_inputs x.new_inputs) (sym still) inputs;
+      writing = subst (λ stop. CountAfter (output_failed stop) x.old_outputs x.new_outputs) (sym still) outputs;
+      did = inl (subst (λ b. HasExecuted n o Skip m seat b x.left x.old_written x.new_written) flag by_written);
+    }

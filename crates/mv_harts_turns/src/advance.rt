@@ -12,6 +12,11 @@ use crate::group::Group;
 use crate::schedule::turns_of;
 use mv_probe::FetchOracle;
 
+// The callers of `Seat::advance`: the turns of hart 0, and of the others.
+struct ByLeader;
+
+struct ByOther;
+
 impl Group {
     // A turn of a hart whose instruction just goes on and concerns no other hart, as nearly each does; then the answer is yes. Else nothing happens. While a
     // commit is under way hart 0 has no such turn.
@@ -30,9 +35,9 @@ impl Group {
             if self.under {
                 return false;
             }
-            return self.leader.advance(oracle);
+            return self.leader.advance::<ByLeader>(oracle);
         }
-        self.others[hart - 1].advance(oracle)
+        self.others[hart - 1].advance::<ByOther>(oracle)
     }
 
     /// The turns of a schedule from the one at `first` on that just go on: the place of the first that doesn't, or how many there are. It isn't generic, so

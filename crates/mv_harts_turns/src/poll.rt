@@ -1,9 +1,10 @@
 //! What a hart does at a poll, and which acts of hart 0 are commits.
 
-ghost use Rattle.std.specs.Prelude.{◌≡◌, map, drop};
-ghost use Rattle.mv_bindings.specs.Acts.{act_of};
+ghost use Rattle.std.specs.Prelude.{◌≡◌, true, map, drop};
+ghost use Rattle.mv_bindings.specs.Acts.{Skip, act_of};
 ghost use Rattle.mv_harts_runs.specs.Harts.{is_commit, next_act, left_behind};
 ghost use Rattle.mv_harts_one.specs.Seats.{place_as};
+ghost use Rattle.mv_harts_one.specs.declared.glance.Place.TheVariants as seen;
 ghost use Rattle.mv_harts_turns.specs.Polls.{answer_at, answer_by, IsNoted};
 
 use mv_bindings::action::Action;
@@ -72,6 +73,17 @@ pub(crate) fn commits(place: Place, action: Action) -> bool
         Place::AtOrder => true,
         Place::AtPoll => action != Action::Skip,
         Place::Elsewhere => false,
+    }
+}
+
+/// Whether a hart stands at a poll that takes nothing.
+pub(crate) fn skips(place: Place, action: Action) -> bool
+    ensures poll { result ≡ true → place ≡ seen.AtPoll }
+    ensures skip { result ≡ true → act_of action ≡ Skip }
+{
+    match place {
+        Place::AtPoll => action == Action::Skip,
+        Place::AtOrder | Place::Elsewhere => false,
     }
 }
 

@@ -17,6 +17,9 @@ pub(crate) fn share(
 ) -> Result<(), AllocError>
     ensures { OnOk result (Shared (option_map store_as store) from others.old.items others.new.items) }
 {
+    let Some(_) = store else {
+        return Ok(());
+    };
     for place in 0..others.len() {
         if place + 1 == from {
             continue;

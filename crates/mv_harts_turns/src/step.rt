@@ -10,7 +10,7 @@ ghost use Rattle.mv_harts_one.specs.Seats.{is_under, mode_of};
 ghost use Rattle.mv_harts_turns.specs.Groups.{IsSeat, IsGlance, CanCount, IsLast, Stepped, StepRefused, beside, held, adopts_last, bindings_of};
 
 use crate::group::Committed;
-use crate::poll::taken_of;
+use crate::poll::{skips, taken_of};
 use mv_bindings::action::Action;
 use mv_harts_one::{Glance, Mode, Place, Seat, Taken};
 use mv_io::{Sink, Source};
@@ -39,6 +39,11 @@ pub(crate) fn step<I: Source, O: Sink>(
     ensures input { I.faults source.old ≤ I.faults source.new }
     ensures output { O.faults sink.old ≤ O.faults sink.new }
 {
+    if skips(glance.place, action) {
+        seat.skip(oracle);
+        seat.taken.push(Taken::Skip)?;
+        return Ok(under);
+    }
     let behind = seat.execute(alloc, action, under, source, sink, oracle)?;
     let Place::AtPoll = glance.place else {
         return Ok(behind);

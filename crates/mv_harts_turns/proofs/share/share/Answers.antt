@@ -1,7 +1,9 @@
-use Rattle.std.proofs.Common.{option_map, length, refl, arith}
+use Rattle.std.proofs.Common.{Option, option_map, length, sym, refl, subst, arith}
 use Rattle.std.proofs.lemmas.Option.{slice_get_read}
+use Rattle.mv_harts_one.specs.declared.store.Store.{Store}
 use Rattle.mv_harts_one.specs.Seats.{store_as}
-use Rattle.mv_harts_turns.proofs.Changing.{TakesFrom, changed_more, shared_all}
+use Rattle.mv_harts_turns.specs.Groups.{Shared}
+use Rattle.mv_harts_turns.proofs.Changing.{TakesFrom, changed_more, shared_all, shared_nothing}
 use Rattle.mv_harts_turns.proofs.share.share.Goals as goal
 
 pub loop-place-preserved : goal.loop-place-preserved
@@ -18,3 +20,8 @@ loop-place-preserved c =
 
 pub returns : goal.returns
 returns c = shared_all (option_map store_as c.args.store) c.args.from c.loop-place.place c.args.others.now.items c.loop-place.others.items (omega (arith, c.args.others.now.ok.0, c.len-place-end.ensures, c.loop-place-test.false)) c.loop-place.invariant.changed
+
+pub returns-in_default : goal.returns-in_default
+returns-in_default c =
+    let seats = c.args.others.now.items in
+    subst (λ (st : Option Store). Shared (option_map store_as st) c.args.from seats seats) (sym c.in_default.is) (shared_nothing c.args.from seats)
