@@ -12,10 +12,11 @@ use crate::group::Group;
 use crate::schedule::turns_of;
 use mv_probe::FetchOracle;
 
-// The callers of `Seat::advance`: the turns of hart 0, and of the others.
-struct ByLeader;
+/// The turns of hart 0, as a caller of `Seat::advance`.
+pub struct ByLeader;
 
-struct ByOther;
+/// Those of another hart.
+pub struct ByOther;
 
 impl Group {
     // A turn of a hart whose instruction just goes on and concerns no other hart, as nearly each does; then the answer is yes. Else nothing happens. While a
