@@ -17,7 +17,7 @@
 //!   A device that failed is asked nothing more: the counts of `shelf` and `out` are as before, but for that of the device that the status due names, which is one
 //!   more at most. A shelf that tells which names it was asked to load was asked for FILE, once, and for nothing else; of words that are no command for nothing.
 //!   The count of `notes` is as before, and one more at most with `OutputFault`.
-//! - Tested by one run of `mv_harts_cli` alone.
+//! - Tested by the rows of `mv_test_harts` and one run of `mv_harts_cli`.
 #![tactic(auto)]
 
 mod devices;

@@ -3,7 +3,7 @@
 //! - `options` has the table of operands, and the least and greatest values. `command_of` gives what the words ask for exactly where they are right:
 //!   `clap` finds no fault with them by that table, and the texts of numbers are decimal numerals within their bounds (`specs/Asked.antt`).
 //! - `schedule_of`: exactly the schedule of a number (`specs/Schedules.antt`), each turn of which is of one of the harts.
-//! - Tested by one run of `mv_harts_cli` alone.
+//! - Tested by the rows of `mv_test_harts` and one run of `mv_harts_cli`.
 #![tactic(auto)]
 
 mod command;
