@@ -141,13 +141,14 @@ module _ (image : Fields) (commits : List (List Binding)) (n : ℕ) (o : Hart) (
   refused_step e = record { more = []; written = grew_nothing x.old_written x.new_written e; either = inl refl }
 
 -- a poll that takes nothing
-pub skipped : (image : Fields) (commits : List (List Binding)) (n : ℕ) (o : Hart) (under : Option (List Binding)) (ub : Bool) (x : Beside) (bytes : List ℕ) (was seat : Seat) → IsSeat image commits n bytes was o → was.stop ≡ None → seat.stop ≡ None
+pub skipped : (image : Fields) (commits : List (List Binding)) (n : ℕ) (o : Hart) (a : Act) (under : Option (List Binding)) (ub : Bool) (x : Beside) (bytes : List ℕ) (was seat : Seat) → IsSeat image commits n bytes was o → was.stop ≡ None → seat.stop ≡ None
     → seat.engine.image ≡ was.engine.image → seat.taken ≡ was.taken → is_under under ≡ ub → WasAsked x 1 → x.new_inputs ≡ x.old_inputs → x.new_outputs ≡ x.old_outputs → x.new_written ≡ x.old_written → x.left ≡ Some bytes
-    → HasExecuted n o Skip (move o.state Skip under 0) seat (is_under under) (Some bytes) x.old_written x.old_written → Near image commits n o Skip (move o.state Skip under 0) under ub x bytes was seat ub
-skipped image commits n o under ub x bytes was seat is on still same taken flag asks inputs outputs silent left did =
-    let m : Move = move o.state Skip under 0 in
-    let by_left = subst (λ l. HasExecuted n o Skip m seat (is_under under) l x.old_written x.old_written) (sym left) did in
-    let by_written = subst (λ w. HasExecuted n o Skip m seat (is_under under) x.left x.old_written w) (sym silent) by_left in
+    → a ≡ Skip → HasExecuted n o Skip (move o.state Skip under 0) seat (is_under under) (Some bytes) x.old_written x.old_written → Near image commits n o a (move o.state a under 0) under ub x bytes was seat ub
+skipped image commits n o a under ub x bytes was seat is on still same taken flag asks inputs outputs silent left skip did =
+    let m : Move = move o.state a under 0 in
+    let own = subst (λ b. HasExecuted n o b (move o.state b under 0) seat (is_under under) (Some bytes) x.old_written x.old_written) (sym skip) did in
+    let by_left = subst (λ l. HasExecuted n o a m seat (is_under under) l x.old_written x.old_written) (sym left) own in
+    let by_written = subst (λ w. HasExecuted n o a m seat (is_under under) x.left x.old_written w) (sym silent) by_left in
     record {
       was_is = is;
       on = on;
@@ -157,5 +158,5 @@ skipped image commits n o under ub x bytes was seat is on still same taken flag 
       asks = asks;
       reading = subst (λ stop. CountAfter (input_failed stop) x.old_inputs x.new_inputs) (sym still) inputs;
       writing = subst (λ stop. CountAfter (output_failed stop) x.old_outputs x.new_outputs) (sym still) outputs;
-      did = inl (subst (λ b. HasExecuted n o Skip m seat b x.left x.old_written x.new_written) flag by_written);
+      did = inl (subst (λ b. HasExecuted n o a m seat b x.left x.old_written x.new_written) flag by_written);
     }
