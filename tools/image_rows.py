@@ -68,10 +68,21 @@ def value_of(kind, word):
     return value if KINDS[kind][0] <= value <= KINDS[kind][1] else None
 
 
-def jal_ra(offset):
-    """The word of `jal ra` over a distance (RISC-V unprivileged ISA, 2.5: the J format)."""
+def jal(register, offset):
+    """The word of `jal` to a register over a distance (RISC-V unprivileged ISA, 2.5: the J format)."""
     bits = offset % 2**21
-    return (bits >> 20 & 1) << 31 | (bits >> 1 & 0x3FF) << 21 | (bits >> 11 & 1) << 20 | (bits >> 12 & 0xFF) << 12 | 1 << 7 | 0x6F
+    return (bits >> 20 & 1) << 31 | (bits >> 1 & 0x3FF) << 21 | (bits >> 11 & 1) << 20 | (bits >> 12 & 0xFF) << 12 | register << 7 | 0x6F
+
+
+def jal_ra(offset):
+    return jal(1, offset)
+
+
+def slot(address, pointer, check):
+    """The words of a call through the pointer at an address of data: `lui t0`, `lw t0, (t0)`, `jal t1` to the check, `jalr ra, 0(t0)`."""
+    low = pointer % 4_096
+    high = (pointer - (low - 4_096 if low >= 2_048 else low)) % 2**32
+    return [high | 5 << 7 | 0x37, low << 20 | 5 << 15 | 2 << 12 | 5 << 7 | 0x03, jal(6, check - (address + 8)), 5 << 15 | 1 << 7 | 0x67]
 
 
 class Image:
@@ -82,7 +93,7 @@ class Image:
         self.header()
         self.text = [self.reader.word() for _ in range(self.words)]
         self.data = [self.reader.word() for _ in range(self.data_words)]
-        self.switches, self.functions, self.variants = [], [], []
+        self.switches, self.functions, self.variants, self.sites, self.pointers, self.targets = [], [], [], [], [], []
         for _ in range(self.switch_count):
             self.switch()
         for _ in range(self.function_count):
@@ -94,6 +105,14 @@ class Image:
         last = None
         for _ in range(self.site_count):
             last = self.site(last)
+            self.sites.append(last)
+        for _ in range(self.pointer_count):
+            self.pointer()
+        last = None
+        for _ in range(self.point_count):
+            last = self.point(last)
+        for _ in range(self.target_count):
+            self.target()
         self.names()
         if self.reader.at < len(content):
             raise Refused(12, self.reader.at)
@@ -101,7 +120,8 @@ class Image:
     def header(self):
         word, must = self.reader.word, self.reader.must
         must(word() == MAGIC)
-        must(word() == 1)
+        version = word()
+        must(version in (1, 2))
         entry = word()
         must(entry % 4 == 0)
         self.words = word()
@@ -119,8 +139,23 @@ class Image:
         self.site_count = word()
         must(self.site_count <= 16_384)
         self.name_bytes = word()
-        must(self.switch_count + self.function_count > 0 or self.name_bytes == 0)
+        must(version == 2 or self.switch_count + self.function_count > 0 or self.name_bytes == 0)
         must(word() == 0)
+        self.pointer_count = self.point_count = self.target_count = self.check = 0
+        if version == 2:
+            self.later()
+
+    def later(self):
+        """The words of the header that version 2 alone has."""
+        word, must = self.reader.word, self.reader.must
+        self.pointer_count = word()
+        must(self.pointer_count <= 64)
+        self.point_count = word()
+        must(self.point_count <= 8_192 and self.site_count + 2 * self.point_count <= 16_384)
+        self.target_count = word()
+        must(self.target_count <= 1_000 and (self.switch_count + self.function_count + self.pointer_count + self.target_count > 0 or self.name_bytes == 0))
+        self.check = word()
+        must(self.is_place(self.check) and self.is_in_text(self.check + 8) if self.point_count > 0 else self.check == 0)
 
     def is_in_text(self, address):
         return TEXT <= address < TEXT + 4 * self.words
@@ -128,16 +163,25 @@ class Image:
     def is_place(self, address):
         return address % 4 == 0 and self.is_in_text(address)
 
+    def is_datum(self, address):
+        return address % 4 == 0 and DATA <= address < DATA + 4 * self.data_words
+
     def lengths(self):
-        return [length for length, _ in self.switches] + [length for length, _, _, _ in self.functions]
+        rows = [*self.switches, *self.functions, *self.pointers, *self.targets]
+        return [row[0] for row in rows]
+
+    def adds_up(self, length):
+        """Whether a name may be so long that is one of a table's: the last of all makes the sum."""
+        counts = [self.switch_count, self.function_count, self.pointer_count, self.target_count]
+        is_last = len(self.lengths()) + 1 == sum(counts)
+        return 1 <= length <= 63 and (not is_last or sum(self.lengths()) + length == self.name_bytes)
 
     def switch(self):
         word, must = self.reader.word, self.reader.must
         length = word()
-        is_last = self.function_count == 0 and len(self.switches) + 1 == self.switch_count
-        must(1 <= length <= 63 and (not is_last or sum(self.lengths()) + length == self.name_bytes))
+        must(self.adds_up(length))
         address = word()
-        must(address % 4 == 0 and DATA <= address < DATA + 4 * self.data_words)
+        must(self.is_datum(address))
         kind = word()
         must(kind <= 6)
         count = word()
@@ -151,7 +195,7 @@ class Image:
         word, must = self.reader.word, self.reader.must
         is_last = len(self.functions) + 1 == self.function_count
         length = word()
-        must(1 <= length <= 63 and (not is_last or sum(self.lengths()) + length == self.name_bytes))
+        must(self.adds_up(length))
         entry = word()
         must(self.is_place(entry) and (not self.functions or self.functions[-1][1] < entry))
         count = word()
@@ -212,6 +256,34 @@ class Image:
         index = (address - TEXT) // 4
         must(self.text[index : index + 2] == [jal_ra(self.functions[function][1] - address), NOP])
         return address
+
+    def pointer(self):
+        word, must = self.reader.word, self.reader.must
+        length = word()
+        must(self.adds_up(length))
+        address = word()
+        must(self.is_datum(address))
+        self.pointers.append((length, address))
+
+    def point(self, last):
+        word, must = self.reader.word, self.reader.must
+        address = word()
+        must(self.is_place(address) and self.is_in_text(address + 12) and (last is None or last + 16 <= address))
+        others = [entry for _, entry, _, _ in self.functions] + self.sites
+        must(not any(address <= other < address + 16 for other in others))
+        pointer = word()
+        must(pointer < self.pointer_count)
+        index = (address - TEXT) // 4
+        must(self.text[index : index + 4] == slot(address, self.pointers[pointer][1], self.check))
+        return address
+
+    def target(self):
+        word, must = self.reader.word, self.reader.must
+        length = word()
+        must(self.adds_up(length))
+        entry = word()
+        must(self.is_place(entry) and (not self.targets or self.targets[-1][1] < entry))
+        self.targets.append((length, entry))
 
     def names(self):
         for length in self.lengths():
@@ -308,6 +380,37 @@ def lone_image():
     return [Part("header", header), Part("text", [NOP]), Part("data", [0]), Part("switch", row_of([3, DATA, 6, 1, [9]], 16))], b"one"
 
 
+def second_image():
+    """An image of version 2: a switch and a function with a site, two pointer switches with three calls through them, and two targets."""
+    check, entry = 0x1068, 0x1008
+    text = [NOP] * 32
+    text[(0x1010 - TEXT) // 4] = jal_ra(entry - 0x1010)
+    points = [[0x1018, 1], [0x1028, 0], [0x1040, 1]]
+    pointers = [[4, DATA + 4], [2, DATA + 0x800]]
+    for address, pointer in points:
+        at = (address - TEXT) // 4
+        text[at : at + 4] = slot(address, pointers[pointer][1], check)
+    switches = [row_of([1, DATA, 5, 1, [7]], 16)]
+    functions = [row_of([2, entry, 1, [0], 1], 6)]
+    variants = [[0x1060, 0, 0, 0, 1]]
+    guards = [row_of([[7], [7]], 6, 6)]
+    sites = [[0x1010, 0]]
+    targets = [[3, entry], [4, 0x1050]]
+    names = [b"s", b"dp", b"pick", b"to", b"one", b"main"]
+    counts = [len(switches), len(functions), len(variants), len(guards), len(sites), sum(map(len, names)), 0]
+    header = [MAGIC, 2, 0x1000, len(text), 0x201, *counts, len(pointers), len(points), len(targets), check]
+    parts = [Part("header", header), Part("text", text), Part("data", [0] * 0x201)]
+    tables = [("switch", switches), ("function", functions), ("variant", variants), ("guard", guards), ("site", sites)]
+    for title, rows in tables + [("pointer", pointers), ("point", points), ("target", targets)]:
+        parts += [Part(title, row) for row in rows]
+    return parts, b"".join(names)
+
+
+def bare_image():
+    """The smallest image of version 2."""
+    return [Part("header", [MAGIC, 2, TEXT, 1, 0, 0, 0, 0, 0, 0, 0, 0, 0, 0, 0, 0]), Part("text", [0x00100073])], b""
+
+
 def kept_image(name):
     """An image that the crate has as a file, which stays as it is."""
     parts = []
@@ -322,8 +425,8 @@ def kept_image(name):
     return parts, names[: parts[0].words[10]]
 
 
-IMAGES = {"whole": whole_image(), "small": small_image(), "lone": lone_image(), "lock": kept_image("lock")}
-WRITTEN = ["whole", "small", "lone"]
+IMAGES = {"whole": whole_image(), "small": small_image(), "lone": lone_image(), "lock": kept_image("lock"), "second": second_image(), "bare": bare_image()}
+WRITTEN = ["whole", "small", "lone", "second", "bare"]
 
 
 def bytes_of(name):
@@ -377,7 +480,7 @@ class Row(NamedTuple):
 
 def near(word):
     """Words that may be wrong in the place of a word."""
-    values = [0, 1, 2, 3, 4, 7, word - 4, word - 2, word - 1, word + 1, word + 2, word + 4, word + 8, 17, 64, 65, 128, 256, 1_001, 16_385, 64_001, 131_073, 262_145]
+    values = [0, 1, 2, 3, 4, 7, word - 4, word - 2, word - 1, word + 1, word + 2, word + 4, word + 8, 17, 64, 65, 128, 256, 1_001, 8_193, 16_385, 64_001, 131_073, 262_145]
     return [value % 2**32 for value in values + [2**31 - 1, 2**31, 2**32 - 128, 2**32 - 129, 2**32 - 1] if value % 2**32 != word]
 
 
@@ -410,12 +513,19 @@ HAND = [
     Row("whole", ["104=00000013"]),
     Row("whole", ["64=00000013"]),
     Row("whole", ["68=00000093"]),
-    Row("whole", ["4=00000002", "<7"]),
-    Row("whole", ["4=00000002", "<8"]),
+    Row("whole", ["4=00000003", "<7"]),
+    Row("whole", ["4=00000003", "<8"]),
     Row("whole", ["12=00000011", "16=00040001"]),
     Row("small", ["8=00001004"]),
     Row("small", ["12=00000002", "+13", "+00", "+00", "+00"]),
 ]
+
+
+def cuts(name):
+    """Behind which bytes an image is cut off: behind each, but for those of data behind its first words, of which one is as another."""
+    header = IMAGES[name][0][0].words
+    data = 4 * (len(header) + header[3])
+    return [count for count in range(len(bytes_of(name))) if not data + 64 < count < data + 4 * header[4]]
 
 
 def all_rows():
@@ -424,7 +534,7 @@ def all_rows():
         rows += [Row(name, []), *word_rows(name), *byte_rows(name), Row(name, ["+00"])]
     rows += HAND
     for name in IMAGES:
-        rows += [Row(name, [f"<{count}"]) for count in range(len(bytes_of(name)))]
+        rows += [Row(name, [f"<{count}"]) for count in cuts(name)]
     return rows
 
 
@@ -457,7 +567,7 @@ def random_edit(content):
 
 
 def random_row():
-    name = random.choice(["whole", "whole", "whole", "lock", "lone", "small"])
+    name = random.choice(["whole", "whole", "whole", "lock", "lone", "small", "second", "second", "second", "bare"])
     content = bytes_of(name)
     edits = [random_edit(content) for _ in range(random.randint(1, 3))]
     ends = [[], [], [], [], [f"<{random.randrange(len(content))}"], [f"+{random.randrange(256):02x}"]]

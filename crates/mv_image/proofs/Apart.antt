@@ -5,12 +5,14 @@ use Rattle.mv_descriptors.specs.Guards.{each_below}
 use Rattle.mv_descriptors.proofs.Below.{each_of}
 use Rattle.mv_descriptors.specs.declared.rows.FunctionRow.{FunctionRow}
 use Rattle.mv_descriptors.specs.declared.rows.SiteRow.{SiteRow}
-use Rattle.mv_image.specs.Places.{function_rows, site_rows, site_field, entry_of}
-use Rattle.mv_image.specs.Rules.{function_fits, site_fits, is_outside}
+use Rattle.mv_descriptors.specs.declared.rows.PointRow.{PointRow}
+use Rattle.mv_descriptors.specs.declared.rows.TargetRow.{TargetRow}
+use Rattle.mv_image.specs.Places.{function_rows, site_rows, point_rows, target_rows, site_field, point_field, target_field, entry_of}
+use Rattle.mv_image.specs.Rules.{function_fits, site_fits, point_fits, target_fits, is_outside, is_outside_four, stands_free}
 use Rattle.mv_image.specs.Spelling.{Fields}
 use Rattle.mv_image.specs.Faults.{Rules, image_words}
-use Rattle.mv_image.proofs.RowReads.{function_rule, site_rule}
-use Rattle.mv_image.proofs.RowsStand.{counts_of, function_is, site_is, image_fits}
+use Rattle.mv_image.proofs.RowReads.{function_rule, site_rule, point_rule, target_rule}
+use Rattle.mv_image.proofs.RowsStand.{counts_of, function_is, site_is, point_is, target_is, image_fits}
 use Rattle.mv_num.proofs.Booleans.{and_right, and_left, or_cases}
 
 not_first : (k : ℕ) (b : Bool) → 0 < k → (eqb k 0 || b) ≡ true → b ≡ true
@@ -66,3 +68,65 @@ entry_outside a r f k d e hf hk =
       | inl before ↦ inl (omega (arith, ltb-true (entry_of ws f) (site_field ws k 0) before, here, there))
       | inr behind ↦ inr (omega (arith, leb-true (site_field ws k 0 + 8) (entry_of ws f) behind, here, there))
     ]
+
+-- ---- pointer sites and targets
+
+point_next : (ws : List ℕ) (k : ℕ) → 0 < k → point_fits ws k 0 ≡ true → point_field ws (k - 1) 0 + 16 ≤ point_field ws k 0
+unfolding point_fits
+point_next ws k pos h = leb-true _ _ (not_first k _ pos (and_right _ _ (and_left _ _ h)))
+
+point_free : (ws : List ℕ) (k : ℕ) → point_fits ws k 0 ≡ true → stands_free ws (point_field ws k 0) ≡ true
+unfolding point_fits
+point_free ws k h = and_right _ _ h
+
+no_entry_within : (ws : List ℕ) (point : ℕ) → stands_free ws point ≡ true → each_below (λ f. is_outside_four point (entry_of ws f)) (function_rows ws) ≡ true
+unfolding stands_free
+no_entry_within ws point h = and_left _ _ h
+
+no_site_within : (ws : List ℕ) (point : ℕ) → stands_free ws point ≡ true → each_below (λ k. is_outside_four point (site_field ws k 0)) (site_rows ws) ≡ true
+unfolding stands_free
+no_site_within ws point h = and_right _ _ h
+
+target_next : (ws : List ℕ) (k : ℕ) → 0 < k → target_fits ws k 1 ≡ true → target_field ws (k - 1) 1 < target_field ws k 1
+unfolding target_fits
+target_next ws k pos h = ltb-true _ _ (not_first k _ pos (and_right _ _ h))
+
+pub points_apart : (a : Fields) → Rules a → (j k : ℕ) (d : PointRow) → j < k → k < length a.points → (get_or a.points j d).address + 16 ≤ (get_or a.points k d).address
+points_apart a r j k d lt hk =
+    let ws : List ℕ = image_words a in
+    let n = counts_of a r in
+    let up : point_field ws j 0 + 16 ≤ point_field ws k 0 = steps (λ i. point_field ws i 0) 16 (point_rows ws) (λ i pos hi. point_next ws i pos (point_rule ws i 0 (image_fits a r) hi (omega arith))) j k lt (omega (arith, n.points, hk)) in
+    omega (arith, up, point_is a r j 0 d (omega (arith, lt, hk)) (omega arith), point_is a r k 0 d hk (omega arith))
+
+pub targets_ascend : (a : Fields) → Rules a → (j k : ℕ) (d : TargetRow) → j < k → k < length a.targets → (get_or a.targets j d).entry < (get_or a.targets k d).entry
+targets_ascend a r j k d lt hk =
+    let ws : List ℕ = image_words a in
+    let n = counts_of a r in
+    let up : target_field ws j 1 + 1 ≤ target_field ws k 1 = steps (λ i. target_field ws i 1) 1 (target_rows ws) (λ i pos hi. omega (arith, target_next ws i pos (target_rule ws i 1 (image_fits a r) hi (omega arith)))) j k lt (omega (arith, n.targets, hk)) in
+    omega (arith, up, target_is a r j 1 d (omega (arith, lt, hk)) (omega arith), target_is a r k 1 d hk (omega arith))
+
+-- an address outside of the four words from another on, of two numbers that are these
+outside_four : (point address p x : ℕ) → point ≡ p → address ≡ x → is_outside_four point address ≡ true → (x < p) ⊎ (p + 16 ≤ x)
+outside_four point address p x here there out =
+    elim (or_cases (ltb address point) (leb (point + 16) address) out) [
+      | inl before ↦ inl (omega (arith, ltb-true address point before, here, there))
+      | inr behind ↦ inr (omega (arith, leb-true (point + 16) address behind, here, there))
+    ]
+
+pub entry_outside_point : (a : Fields) → Rules a → (f k : ℕ) (d : FunctionRow) (e : PointRow) → f < length a.functions → k < length a.points
+    → ((get_or a.functions f d).entry < (get_or a.points k e).address) ⊎ ((get_or a.points k e).address + 16 ≤ (get_or a.functions f d).entry)
+entry_outside_point a r f k d e hf hk =
+    let ws : List ℕ = image_words a in
+    let n = counts_of a r in
+    let free = point_free ws k (point_rule ws k 0 (image_fits a r) (omega (arith, n.points, hk)) (omega arith)) in
+    outside_four (point_field ws k 0) (entry_of ws f) _ _ (point_is a r k 0 e hk (omega arith)) (function_is a r f 1 d hf (omega arith))
+    (each_of (λ i. is_outside_four (point_field ws k 0) (entry_of ws i)) (function_rows ws) f (omega (arith, n.functions, hf)) (no_entry_within ws (point_field ws k 0) free))
+
+pub site_outside_point : (a : Fields) → Rules a → (j k : ℕ) (d : SiteRow) (e : PointRow) → j < length a.sites → k < length a.points
+    → ((get_or a.sites j d).address < (get_or a.points k e).address) ⊎ ((get_or a.points k e).address + 16 ≤ (get_or a.sites j d).address)
+site_outside_point a r j k d e hj hk =
+    let ws : List ℕ = image_words a in
+    let n = counts_of a r in
+    let free = point_free ws k (point_rule ws k 0 (image_fits a r) (omega (arith, n.points, hk)) (omega arith)) in
+    outside_four (point_field ws k 0) (site_field ws j 0) _ _ (point_is a r k 0 e hk (omega arith)) (site_is a r j 0 d hj (omega arith))
+    (each_of (λ i. is_outside_four (point_field ws k 0) (site_field ws i 0)) (site_rows ws) j (omega (arith, n.sites, hj)) (no_site_within ws (point_field ws k 0) free))

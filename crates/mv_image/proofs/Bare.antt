@@ -1,11 +1,14 @@
 -- A program without tables fits the format.
-use Rattle.std.proofs.Common.{◌≡◌, ℕ, ◌+◌, ◌*◌, ◌%◌, ◌<◌, ◌≤◌, List, [], length, refl, ap, ◌∙◌, arith}
+use Rattle.std.proofs.Common.{◌≡◌, ℕ, ◌+◌, ◌*◌, ◌%◌, ◌<◌, ◌≤◌, List, [], length, inr, refl, arith}
 use Rattle.mv_descriptors.specs.declared.rows.SwitchRow.{SwitchRow}
 use Rattle.mv_descriptors.specs.declared.rows.FunctionRow.{FunctionRow}
 use Rattle.mv_descriptors.specs.declared.rows.VariantRow.{VariantRow}
 use Rattle.mv_descriptors.specs.declared.rows.GuardRow.{GuardRow}
 use Rattle.mv_descriptors.specs.declared.rows.SiteRow.{SiteRow}
-use Rattle.mv_image.specs.Spelling.{Fields, bare}
+use Rattle.mv_descriptors.specs.declared.rows.PointerRow.{PointerRow}
+use Rattle.mv_descriptors.specs.declared.rows.PointRow.{PointRow}
+use Rattle.mv_descriptors.specs.declared.rows.TargetRow.{TargetRow}
+use Rattle.mv_image.specs.Spelling.{bare}
 use Rattle.mv_image.specs.Format.{FitsFormat}
 
 -- what is asked of a program without tables
@@ -18,6 +21,7 @@ pub record IsBare (e : ℕ) (t g : List ℕ) : Type 0 where
 
 pub bare_fits : (e : ℕ) (t g : List ℕ) → IsBare e t g → FitsFormat (bare e t g)
 bare_fits e t g b = record {
+  version = record { known = inr refl; first = λ e. record { pointers = refl; points = refl; targets = refl; check = refl } };
   limits = record {
     some_text = omega (arith, b.not_before, b.within);
     text = b.text;
@@ -27,14 +31,22 @@ bare_fits e t g b = record {
     variants = omega arith;
     guards = omega arith;
     sites = omega arith;
+    pointers = omega arith;
+    points = omega arith;
+    places = omega arith;
+    targets = omega arith;
     entry = record { aligned = b.aligned; not_before = b.not_before; within = b.within };
   };
+  check = record { none = λ none. refl; check = λ some. absurd (omega (arith, some)); depth = λ some. absurd (omega (arith, some)) };
   fit = record {
     switches = λ k d lt. absurd (omega (arith, lt));
     functions = λ k d lt. absurd (omega (arith, lt));
     variants = λ k d lt. absurd (omega (arith, lt));
     guards = λ f v k d x own. absurd (omega (arith, own.guard_there));
     sites = λ k d lt. absurd (omega (arith, lt));
+    pointers = λ k d lt. absurd (omega (arith, lt));
+    points = λ k d lt. absurd (omega (arith, lt));
+    targets = λ k d lt. absurd (omega (arith, lt));
   };
   unused = record {
     switches = λ k d lt. absurd (omega (arith, lt));
@@ -46,15 +58,16 @@ bare_fits e t g b = record {
     entries = λ k d lt. absurd (omega (arith, lt));
     sites = λ k d lt. absurd (omega (arith, lt));
     outside = λ f k d x hf hk. absurd (omega (arith, hf));
+    points = λ k d lt. absurd (omega (arith, lt));
+    outside_points = λ f k d x hf hk. absurd (omega (arith, hf));
+    beside_points = λ j k d x hj hk. absurd (omega (arith, hj));
+    targets = λ k d lt. absurd (omega (arith, lt));
   };
   names = record { identifiers = λ k d lt. absurd (omega (arith, lt)); lengths = refl };
 }
 
 -- what is made of lists that are empty
-pub bare_is : (e : ℕ) (t g : List ℕ) (s : List SwitchRow) (f : List FunctionRow) (v : List VariantRow) (u : List GuardRow) (i : List SiteRow) (n : List (List ℕ)) → s ≡ [] → f ≡ [] → v ≡ [] → u ≡ [] → i ≡ [] → n ≡ []
-    → record { entry = e; text = t; globals = g; switches = s; functions = f; variants = v; guards = u; sites = i; names = n } ≡ bare e t g
-bare_is e t g s f v u i n es ef ev eu ei en =
-    let made : List SwitchRow → List FunctionRow → List VariantRow → List GuardRow → List SiteRow → List (List ℕ) → Fields =
-    λ a b c d k m. record { entry = e; text = t; globals = g; switches = a; functions = b; variants = c; guards = d; sites = k; names = m } in
-    ap (λ (x : List SwitchRow). made x f v u i n) es ∙ ap (λ (x : List FunctionRow). made [] x v u i n) ef ∙ ap (λ (x : List VariantRow). made [] [] x u i n) ev
-    ∙ ap (λ (x : List GuardRow). made [] [] [] x i n) eu ∙ ap (λ (x : List SiteRow). made [] [] [] [] x n) ei ∙ ap (λ (x : List (List ℕ)). made [] [] [] [] [] x) en
+pub bare_is : (e : ℕ) (t g : List ℕ) (s : List SwitchRow) (f : List FunctionRow) (v : List VariantRow) (u : List GuardRow) (i : List SiteRow) (p : List PointerRow) (q : List PointRow) (o : List TargetRow) (n : List (List ℕ))
+    → s ≡ [] → f ≡ [] → v ≡ [] → u ≡ [] → i ≡ [] → p ≡ [] → q ≡ [] → o ≡ [] → n ≡ []
+    → record { version = 2; entry = e; text = t; globals = g; switches = s; functions = f; variants = v; guards = u; sites = i; pointers = p; points = q; targets = o; check = 0; names = n } ≡ bare e t g
+bare_is e t g s f v u i p q o n es ef ev eu ei ep eq eo en = rw (es, ef, ev, eu, ei, ep, eq, eo, en) refl

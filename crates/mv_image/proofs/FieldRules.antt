@@ -1,11 +1,12 @@
 -- The rule of each field of a row, and of each word of the header, from what is plainly asked of it.
-use Rattle.std.proofs.Common.{◌≡◌, ℕ, zero, suc, ◌+◌, ◌-◌, ◌%◌, ◌<◌, ◌≤◌, ◌⊎◌, Bool, true, false, ltb, eqb, ◌||◌, List, length, slice_index, sym, ap, subst, ◌∙◌, arith, inl, inr, eq-eqb}
+use Rattle.std.proofs.Common.{◌≡◌, ℕ, zero, suc, ◌+◌, ◌-◌, ◌*◌, ◌%◌, ◌<◌, ◌≤◌, ◌⊎◌, Bool, true, false, ltb, eqb, ◌||◌, List, length, slice_index, sym, ap, subst, ◌∙◌, arith, inl, inr, eq-eqb}
 use Rattle.std.proofs.lemmas.Bool.{lt-ltb, le-ltb, le-leb, cases_lt, ne_eqb, or_right, or_left, and_from}
 use Rattle.mv_num.specs.Kinds.{is_value, is_at_most}
+use Rattle.mv_num.specs.Limits.{function_limit, pointer_limit, site_limit}
 use Rattle.mv_descriptors.specs.Guards.{each_below}
-use Rattle.mv_image.specs.Places.{switch_row_words, function_row_words, variant_row_words, guard_row_words, site_row_words, magic_place, version_place, entry_place, text_place, data_place, switches_place, functions_place, variants_place, guards_place, sites_place, names_place, last_place, entry_address, header_words, text_words, data_words, switch_rows, function_rows, variant_rows, guard_rows, site_rows, name_bytes, switch_field, function_field, variant_field, guard_field, site_field, entry_of, variants_of, guards_of, text_word, sum_below, guard_function, name_length, names}
-use Rattle.mv_image.specs.Rules.{is_text_address, is_data_address, sums_to, sums_to_none, header_fits, switch_fits, function_fits, variant_fits, guard_fits, site_fits, kind_at, is_outside}
-use Rattle.mv_image.specs.Jumps.{nop, jump}
+use Rattle.mv_image.specs.Places.{switch_row_words, function_row_words, variant_row_words, guard_row_words, magic_place, version_place, entry_place, text_place, data_place, switches_place, functions_place, variants_place, guards_place, sites_place, names_place, last_place, pointers_place, points_place, targets_place, check_place, magic, point_limit, entry_address, text_words, data_words, switch_rows, function_rows, variant_rows, guard_rows, site_rows, pointer_rows, point_rows, check_of, name_bytes, switch_field, function_field, variant_field, guard_field, site_field, pointer_field, point_field, target_field, entry_of, variants_of, guards_of, text_word, sum_below, guard_function, name_length, names}
+use Rattle.mv_image.specs.Rules.{is_text_address, is_data_address, sums_to, sums_to_none, header_fits, switch_fits, function_fits, variant_fits, guard_fits, site_fits, pointer_fits, point_fits, target_fits, kind_at, is_outside, is_outside_four, stands_free}
+use Rattle.mv_image.specs.Jumps.{nop, jump, slot_words}
 use Rattle.mv_image.specs.Spelling.{Fields}
 use Rattle.mv_image.specs.WellFormed.{IsInText, IsInData}
 use Rattle.mv_image.proofs.PlaceLaws.{sum_below-none}
@@ -48,29 +49,41 @@ none_holds count n total e =
 
 -- ---- the header
 
--- what holds of each number below twelve
-pub of_twelve : (P : ℕ → Type 0) → P 0 → P 1 → P 2 → P 3 → P 4 → P 5 → P 6 → P 7 → P 8 → P 9 → P 10 → P 11 → (i : ℕ) → i < header_words → P i
-of_twelve P a b c d e f g h k l m n zero lt = a
-of_twelve P a b c d e f g h k l m n (suc zero) lt = b
-of_twelve P a b c d e f g h k l m n (suc (suc zero)) lt = c
-of_twelve P a b c d e f g h k l m n (suc (suc (suc zero))) lt = d
-of_twelve P a b c d e f g h k l m n (suc (suc (suc (suc zero)))) lt = e
-of_twelve P a b c d e f g h k l m n (suc (suc (suc (suc (suc zero))))) lt = f
-of_twelve P a b c d e f g h k l m n (suc (suc (suc (suc (suc (suc zero)))))) lt = g
-of_twelve P a b c d e f g h k l m n (suc (suc (suc (suc (suc (suc (suc zero))))))) lt = h
-of_twelve P a b c d e f g h k l m n (suc (suc (suc (suc (suc (suc (suc (suc zero)))))))) lt = k
-of_twelve P a b c d e f g h k l m n (suc (suc (suc (suc (suc (suc (suc (suc (suc zero))))))))) lt = l
-of_twelve P a b c d e f g h k l m n (suc (suc (suc (suc (suc (suc (suc (suc (suc (suc zero)))))))))) lt = m
-of_twelve P a b c d e f g h k l m n (suc (suc (suc (suc (suc (suc (suc (suc (suc (suc (suc zero))))))))))) lt = n
-of_twelve P a b c d e f g h k l m n (suc (suc (suc (suc (suc (suc (suc (suc (suc (suc (suc (suc i)))))))))))) lt = absurd (omega arith)
+-- what holds of each word of the header, of those that both versions have and of those behind
+pub of_header : (P : ℕ → Type 0) → P 0 → P 1 → P 2 → P 3 → P 4 → P 5 → P 6 → P 7 → P 8 → P 9 → P 10 → P 11 → (i : ℕ) → (12 ≤ i → P i) → P i
+of_header P a b c d e f g h k l m n zero more = a
+of_header P a b c d e f g h k l m n (suc zero) more = b
+of_header P a b c d e f g h k l m n (suc (suc zero)) more = c
+of_header P a b c d e f g h k l m n (suc (suc (suc zero))) more = d
+of_header P a b c d e f g h k l m n (suc (suc (suc (suc zero)))) more = e
+of_header P a b c d e f g h k l m n (suc (suc (suc (suc (suc zero))))) more = f
+of_header P a b c d e f g h k l m n (suc (suc (suc (suc (suc (suc zero)))))) more = g
+of_header P a b c d e f g h k l m n (suc (suc (suc (suc (suc (suc (suc zero))))))) more = h
+of_header P a b c d e f g h k l m n (suc (suc (suc (suc (suc (suc (suc (suc zero)))))))) more = k
+of_header P a b c d e f g h k l m n (suc (suc (suc (suc (suc (suc (suc (suc (suc zero))))))))) more = l
+of_header P a b c d e f g h k l m n (suc (suc (suc (suc (suc (suc (suc (suc (suc (suc zero)))))))))) more = m
+of_header P a b c d e f g h k l m n (suc (suc (suc (suc (suc (suc (suc (suc (suc (suc (suc zero))))))))))) more = n
+of_header P a b c d e f g h k l m n (suc (suc (suc (suc (suc (suc (suc (suc (suc (suc (suc (suc i)))))))))))) more = more (omega arith)
 
-pub header_magic : (ws : List ℕ) → slice_index ws magic_place ≡ 0x3149564D → header_fits ws magic_place ≡ true
+four : (P : ℕ → Type 0) → P 0 → P 1 → P 2 → P 3 → (i : ℕ) → i < 4 → P i
+four P a b c d zero lt = a
+four P a b c d (suc zero) lt = b
+four P a b c d (suc (suc zero)) lt = c
+four P a b c d (suc (suc (suc zero))) lt = d
+four P a b c d (suc (suc (suc (suc i)))) lt = absurd (omega arith)
+
+-- and of the four that version 2 alone has
+pub of_later : (P : ℕ → Type 0) → P 12 → P 13 → P 14 → P 15 → (i : ℕ) → 12 ≤ i → i < 16 → P i
+of_later P a b c d i from to = let e : 12 + (i - 12) ≡ i = omega arith in subst P e (four (λ k. P (12 + k)) a b c d (i - 12) (omega arith))
+
+pub header_magic : (ws : List ℕ) → slice_index ws magic_place ≡ magic → header_fits ws magic_place ≡ true
 unfolding header_fits
 header_magic ws e = eq-eqb _ _ e
 
-pub header_version : (ws : List ℕ) → slice_index ws version_place ≡ 1 → header_fits ws version_place ≡ true
+pub header_version : (ws : List ℕ) → (slice_index ws version_place ≡ 1) ⊎ (slice_index ws version_place ≡ 2) → header_fits ws version_place ≡ true
 unfolding header_fits
-header_version ws e = eq-eqb _ _ e
+header_version ws (inl e) = or_left _ _ (eq-eqb _ _ e)
+header_version ws (inr e) = or_right _ _ (eq-eqb _ _ e)
 
 pub header_entry : (ws : List ℕ) → entry_address ws % 4 ≡ 0 → header_fits ws entry_place ≡ true
 unfolding header_fits
@@ -106,11 +119,32 @@ header_sites ws few = le-leb _ _ few
 
 pub header_names : (ws : List ℕ) → SumsHold ws → header_fits ws names_place ≡ true
 unfolding header_fits
-header_names ws sums = none_holds _ _ _ sums.names
+header_names ws sums = or_right _ _ (none_holds _ _ _ sums.names)
 
 pub header_last : (ws : List ℕ) → slice_index ws last_place ≡ 0 → header_fits ws last_place ≡ true
 unfolding header_fits
 header_last ws e = eq-eqb _ _ e
+
+pub header_pointers : (ws : List ℕ) → slice_index ws pointers_place ≤ pointer_limit → header_fits ws pointers_place ≡ true
+unfolding header_fits
+header_pointers ws few = le-leb _ _ few
+
+pub header_points : (ws : List ℕ) → slice_index ws points_place ≤ point_limit → site_rows ws + 2 * slice_index ws points_place ≤ site_limit → header_fits ws points_place ≡ true
+unfolding header_fits
+header_points ws few places = and_from _ _ (le-leb _ _ few) (le-leb _ _ places)
+
+pub header_targets : (ws : List ℕ) → SumsHold ws → slice_index ws targets_place ≤ function_limit → header_fits ws targets_place ≡ true
+unfolding header_fits
+header_targets ws sums few = and_from _ _ (le-leb _ _ few) (none_holds _ _ _ sums.names)
+
+pub header_check : (ws : List ℕ) → (point_rows ws ≡ 0 → slice_index ws check_place ≡ 0)
+    → (0 < point_rows ws → (is_text_address ws (slice_index ws check_place) ≡ true) × (is_text_address ws (slice_index ws check_place + 8) ≡ true)) → header_fits ws check_place ≡ true
+unfolding header_fits
+header_check ws none some =
+    elim (cases_lt 0 (point_rows ws)) [
+      | inl pos ↦ let t : eqb (point_rows ws) 0 ≡ false = ne_eqb _ _ (λ e. omega (arith, e, pos)) in rw t (and_from _ _ (some pos).0 (some pos).1)
+      | inr neither ↦ let t : eqb (point_rows ws) 0 ≡ true = eq-eqb _ _ (omega arith) in rw t (eq-eqb _ _ (none (omega arith)))
+    ]
 
 -- ---- switches
 
@@ -244,6 +278,48 @@ pub is_out : (site address : ℕ) → (address < site) ⊎ (site + 8 ≤ address
 is_out site address (inl before) = or_left _ _ (lt-ltb _ _ before)
 is_out site address (inr behind) = or_right _ _ (le-leb _ _ behind)
 
+-- ---- pointer switches
+
+pub pointer_named : (ws : List ℕ) (k : ℕ) → SumsHold ws → 1 ≤ pointer_field ws k 0 → pointer_field ws k 0 ≤ 63 → pointer_fits ws k 0 ≡ true
+unfolding pointer_fits
+pointer_named ws k sums some few = and_from _ _ (and_from _ _ (le-leb _ _ some) (le-leb _ _ few)) (sum_holds _ _ _ _ sums.names)
+
+pub pointer_addressed : (ws : List ℕ) (k : ℕ) → is_data_address ws (pointer_field ws k 1) ≡ true → pointer_fits ws k 1 ≡ true
+unfolding pointer_fits
+pointer_addressed ws k e = e
+
+-- ---- pointer sites
+
+pub is_out_of_four : (point address : ℕ) → (address < point) ⊎ (point + 16 ≤ address) → is_outside_four point address ≡ true
+is_out_of_four point address (inl before) = or_left _ _ (lt-ltb _ _ before)
+is_out_of_four point address (inr behind) = or_right _ _ (le-leb _ _ behind)
+
+pub nothing_within : (ws : List ℕ) (point : ℕ) → each_below (λ f. is_outside_four point (entry_of ws f)) (function_rows ws) ≡ true → each_below (λ k. is_outside_four point (site_field ws k 0)) (site_rows ws) ≡ true → stands_free ws point ≡ true
+unfolding stands_free
+nothing_within ws point entries sites = and_from _ _ entries sites
+
+pub point_addressed : (ws : List ℕ) (k : ℕ) → is_text_address ws (point_field ws k 0) ≡ true → is_text_address ws (point_field ws k 0 + 12) ≡ true → (0 < k → point_field ws (k - 1) 0 + 16 ≤ point_field ws k 0)
+    → stands_free ws (point_field ws k 0) ≡ true → point_fits ws k 0 ≡ true
+unfolding point_fits
+point_addressed ws k first last more free = and_from _ _ (and_from _ _ (and_from _ _ first last) (behind_first k _ (λ pos. le-leb _ _ (more pos)))) free
+
+pub point_called : (ws : List ℕ) (k : ℕ) → point_field ws k 1 < pointer_rows ws
+    → ((j : ℕ) → j < 4 → text_word ws (point_field ws k 0 + 4 * j) ≡ slice_index (slot_words (check_of ws) (point_field ws k 0) (pointer_field ws (point_field ws k 1) 1)) j) → point_fits ws k 1 ≡ true
+unfolding point_fits
+point_called ws k below slot =
+    let zero_behind : point_field ws k 0 + 4 * 0 ≡ point_field ws k 0 = omega arith in
+    and_from _ _ (and_from _ _ (and_from _ _ (and_from _ _ (lt-ltb _ _ below) (eq-eqb _ _ (ap (text_word ws) (sym zero_behind) ∙ slot 0 (omega arith)))) (eq-eqb _ _ (slot 1 (omega arith)))) (eq-eqb _ _ (slot 2 (omega arith)))) (eq-eqb _ _ (slot 3 (omega arith)))
+
+-- ---- targets
+
+pub target_named : (ws : List ℕ) (k : ℕ) → SumsHold ws → 1 ≤ target_field ws k 0 → target_field ws k 0 ≤ 63 → target_fits ws k 0 ≡ true
+unfolding target_fits
+target_named ws k sums some few = and_from _ _ (and_from _ _ (le-leb _ _ some) (le-leb _ _ few)) (sum_holds _ _ _ _ sums.names)
+
+pub target_entered : (ws : List ℕ) (k : ℕ) → is_text_address ws (target_field ws k 1) ≡ true → (0 < k → target_field ws (k - 1) 1 < target_field ws k 1) → target_fits ws k 1 ≡ true
+unfolding target_fits
+target_entered ws k e more = and_from _ _ e (behind_first k _ (λ pos. lt-ltb _ _ (more pos)))
+
 -- ---- the fields of a row, one after the other
 
 pub switch_fields : (P : ℕ → Type 0) → P 0 → P 1 → P 2 → P 3 → ((i : ℕ) → i < 16 → P (4 + i)) → (f : ℕ) → f < switch_row_words → P f
@@ -279,7 +355,7 @@ guard_fields P low high f lt =
       | inr le ↦ let e : 6 + (f - 6) ≡ f = omega arith in subst P e (high (f - 6) (omega arith))
     ]
 
-pub site_fields : (P : ℕ → Type 0) → P 0 → P 1 → (f : ℕ) → f < site_row_words → P f
-site_fields P a b zero lt = a
-site_fields P a b (suc zero) lt = b
-site_fields P a b (suc (suc i)) lt = absurd (omega arith)
+pub two_fields : (P : ℕ → Type 0) → P 0 → P 1 → (f : ℕ) → f < 2 → P f
+two_fields P a b zero lt = a
+two_fields P a b (suc zero) lt = b
+two_fields P a b (suc (suc i)) lt = absurd (omega arith)

@@ -1,25 +1,29 @@
 -- The numbers of fields that fit the format are words of 32 bits.
-use Rattle.std.proofs.Common.{ℕ, zero, suc, ◌*◌, ◌^◌, ◌<◌, ◌≤◌, List, [], ◌∷◌, ◌++◌, length, slice_index, get_or, All, sym, subst, arith, inl, inr}
+use Rattle.std.proofs.Common.{ℕ, zero, suc, ◌*◌, ◌^◌, ◌<◌, ◌≤◌, eqb, false, List, [], ◌∷◌, ◌++◌, length, slice_index, get_or, All, refl, ◌≡◌, sym, subst, arith, inl, inr}
 use Rattle.std.specs.List.{flat_map}
 use Rattle.std.specs.Prelude.{sum_by}
-use Rattle.std.proofs.lemmas.Bool.{cases_lt}
+use Rattle.std.proofs.lemmas.Bool.{cases_Bool, cases_lt}
 use Rattle.std.proofs.lemmas.List.{get_or_past}
 use Rattle.std.proofs.lemmas.List.Concat.{flat_map-cons}
 use Rattle.std.proofs.lemmas.List.Sums.{sum_by-le}
 use Rattle.mv_num.specs.Bytes.{AreWords}
 use Rattle.mv_num.specs.Kinds.{kind_number}
-use Rattle.mv_descriptors.specs.Widths.{switch_words, function_words, variant_words, guard_words, site_words}
+use Rattle.mv_descriptors.specs.Widths.{switch_words, function_words, variant_words, guard_words, site_words, pointer_words, point_words, target_words}
 use Rattle.mv_descriptors.specs.WidthLaws.{kind_small}
 use Rattle.mv_descriptors.specs.declared.rows.SwitchRow.{SwitchRow}
 use Rattle.mv_descriptors.specs.declared.rows.FunctionRow.{FunctionRow}
 use Rattle.mv_descriptors.specs.declared.rows.VariantRow.{VariantRow}
 use Rattle.mv_descriptors.specs.declared.rows.GuardRow.{GuardRow}
 use Rattle.mv_descriptors.specs.declared.rows.SiteRow.{SiteRow}
-use Rattle.mv_image.specs.Places.{header_words}
-use Rattle.mv_image.specs.Spelling.{Fields, joined, header_of, words_in}
+use Rattle.mv_descriptors.specs.declared.rows.PointerRow.{PointerRow}
+use Rattle.mv_descriptors.specs.declared.rows.PointRow.{PointRow}
+use Rattle.mv_descriptors.specs.declared.rows.TargetRow.{TargetRow}
+use Rattle.mv_image.specs.Places.{magic}
+use Rattle.mv_image.specs.Spelling.{Fields, joined, later_of, header_of, words_in}
 use Rattle.mv_image.specs.Format.{IsTyped, FitsFormat}
-use Rattle.mv_image.proofs.FieldRules.{of_twelve}
-use Rattle.mv_image.proofs.NameRules.{names_count, joined_length, lengths_keep}
+use Rattle.mv_image.proofs.FieldRules.{of_header}
+use Rattle.mv_image.proofs.ImageRules.{later_words}
+use Rattle.mv_image.proofs.NameRules.{LengthsKeep, names_count, joined_length, lengths_keep}
 use Rattle.mv_num.proofs.Lists.{all_tail, all_head}
 
 no_words : AreWords []
@@ -96,22 +100,81 @@ sites_small a h k d lt =
     let limits = h.limits in
     two_words row.address row.function (omega (arith, fits.address.within, limits.text)) (omega (arith, fits.function, limits.functions))
 
+pointers_small : (a : Fields) → FitsFormat a → All (λ (row : PointerRow). AreWords (pointer_words row)) a.pointers
+pointers_small a h k d lt =
+    let row : PointerRow = get_or a.pointers k d in
+    let fits = h.fit.pointers k d lt in
+    let limits = h.limits in
+    two_words row.length row.address (omega (arith, fits.name)) (omega (arith, fits.address.within, limits.globals))
+
+points_small : (a : Fields) → FitsFormat a → All (λ (row : PointRow). AreWords (point_words row)) a.points
+points_small a h k d lt =
+    let row : PointRow = get_or a.points k d in
+    let fits = h.fit.points k d lt in
+    let limits = h.limits in
+    two_words row.address row.pointer (omega (arith, fits.address.within, limits.text)) (omega (arith, fits.pointer, limits.pointers))
+
+targets_small : (a : Fields) → FitsFormat a → All (λ (row : TargetRow). AreWords (target_words row)) a.targets
+targets_small a h k d lt =
+    let row : TargetRow = get_or a.targets k d in
+    let fits = h.fit.targets k d lt in
+    let limits = h.limits in
+    two_words row.length row.entry (omega (arith, fits.name)) (omega (arith, fits.entry.within, limits.text))
+
 names_small : (a : Fields) → FitsFormat a → length (joined a.names) < 2 ^ 32
 names_small a h =
-    let most : sum_by length a.names ≤ length a.names * 63 = sum_by-le length 63 a.names (lengths_keep a (λ (n : ℕ). n ≤ 63) h.names.lengths (λ k d lt. (h.fit.switches k d lt).name) (λ k d lt. (h.fit.functions k d lt).name)) in
+    let few : LengthsKeep a (λ (n : ℕ). n ≤ 63) = record {
+      switches = λ k d lt. (h.fit.switches k d lt).name;
+      functions = λ k d lt. (h.fit.functions k d lt).name;
+      pointers = λ k d lt. (h.fit.pointers k d lt).name;
+      targets = λ k d lt. (h.fit.targets k d lt).name;
+    } in
+    let most : sum_by length a.names ≤ length a.names * 63 = sum_by-le length 63 a.names (lengths_keep a (λ (n : ℕ). n ≤ 63) h.names.lengths few) in
     let limits = h.limits in
-    omega (arith, most, joined_length a.names, names_count a h.names.lengths, limits.switches, limits.functions)
+    omega (arith, most, joined_length a.names, names_count a h.names.lengths, limits.switches, limits.functions, limits.pointers, limits.targets)
+
+-- the words of the header that both versions have
+first_words : Fields → List ℕ
+first_words a = magic ∷ a.version ∷ a.entry ∷ length a.text ∷ length a.globals ∷ length a.switches ∷ length a.functions ∷ length a.variants ∷ length a.guards ∷ length a.sites ∷ length (joined a.names) ∷ 0 ∷ []
+
+version_small : (a : Fields) → FitsFormat a → a.version < 2 ^ 32
+version_small a h =
+    elim h.version.known [
+      | inl e ↦ omega (arith, e)
+      | inr e ↦ omega (arith, e)
+    ]
+
+first_small : (a : Fields) → FitsFormat a → AreWords (first_words a)
+unfolding first_words
+first_small a h i =
+    let limits = h.limits in
+    of_header (λ (k : ℕ). slice_index (first_words a) k < 2 ^ 32)
+    (omega arith) (version_small a h) (omega (arith, limits.entry.within, limits.text)) (omega (arith, limits.text)) (omega (arith, limits.globals)) (omega (arith, limits.switches)) (omega (arith, limits.functions))
+    (omega (arith, limits.variants)) (omega (arith, limits.guards)) (omega (arith, limits.sites)) (names_small a h) (omega arith) i
+    (λ high. rw (get_or_past (first_words a) i 0 high) (omega arith))
+
+check_small : (a : Fields) → FitsFormat a → a.check < 2 ^ 32
+check_small a h =
+    elim (cases_lt 0 (length a.points)) [
+      | inl some ↦ omega (arith, (h.check.check some).within, h.limits.text)
+      | inr none ↦ omega (arith, h.check.none (omega arith))
+    ]
+
+no_later : (a : Fields) → eqb a.version 2 ≡ false → later_of a ≡ []
+unfolding later_of
+no_later a e = rw e refl
+
+later_small : (a : Fields) → FitsFormat a → AreWords (later_of a)
+later_small a h =
+    let limits = h.limits in
+    elim (cases_Bool (eqb a.version 2)) [
+      | inl e ↦ subst AreWords (sym (later_words a e)) (four_words _ _ _ _ (omega (arith, limits.pointers)) (omega (arith, limits.points)) (omega (arith, limits.targets)) (check_small a h))
+      | inr e ↦ subst AreWords (sym (no_later a e)) no_words
+    ]
 
 header_small : (a : Fields) → FitsFormat a → AreWords (header_of a)
-unfolding header_of
-header_small a h i =
-    let limits = h.limits in
-    elim (cases_lt i header_words) [
-      | inl low ↦ of_twelve (λ (k : ℕ). slice_index (header_of a) k < 2 ^ 32)
-          (omega arith) (omega arith) (omega (arith, limits.entry.within, limits.text)) (omega (arith, limits.text)) (omega (arith, limits.globals)) (omega (arith, limits.switches)) (omega (arith, limits.functions))
-          (omega (arith, limits.variants)) (omega (arith, limits.guards)) (omega (arith, limits.sites)) (names_small a h) (omega arith) i low
-      | inr high ↦ rw (get_or_past (header_of a) i 0 high) (omega arith)
-    ]
+unfolding header_of first_words
+header_small a h = words_append (first_words a) (later_of a) (first_small a h) (later_small a h)
 
 pub are_words : (a : Fields) → IsTyped a → FitsFormat a → AreWords (words_in a)
 unfolding words_in
@@ -122,4 +185,7 @@ are_words a t h =
     let functions = words_append _ (flat_map function_words a.functions) switches (words_flat function_words a.functions (functions_small a h)) in
     let variants = words_append _ (flat_map variant_words a.variants) functions (words_flat variant_words a.variants (variants_small a t h)) in
     let guards = words_append _ (flat_map guard_words a.guards) variants (words_flat guard_words a.guards (guards_small a t)) in
-    words_append _ (flat_map site_words a.sites) guards (words_flat site_words a.sites (sites_small a h))
+    let sites = words_append _ (flat_map site_words a.sites) guards (words_flat site_words a.sites (sites_small a h)) in
+    let pointers = words_append _ (flat_map pointer_words a.pointers) sites (words_flat pointer_words a.pointers (pointers_small a h)) in
+    let points = words_append _ (flat_map point_words a.points) pointers (words_flat point_words a.points (points_small a h)) in
+    words_append _ (flat_map target_words a.targets) points (words_flat target_words a.targets (targets_small a h))

@@ -1,23 +1,56 @@
 -- What follows from the rules of an image.
-use Rattle.std.proofs.Common.{◌≡◌, ℕ, ◌-◌, ◌%◌, List, [], ◌++◌, length, ap, ◌∙◌, arith, append_assoc}
+use Rattle.std.proofs.Common.{◌≡◌, ℕ, ◌-◌, ◌%◌, ◌<◌, ◌^◌, true, false, eqb, inl, inr, ◌+◌, slice_index, subst, refl, List, [], ◌∷◌, ◌++◌, length, ap, ◌∙◌, arith, append_assoc}
+use Rattle.std.proofs.lemmas.Bool.{cases_Bool, ne_eqb}
 use Rattle.std.specs.Prelude.{replicate}
+use Rattle.std.specs.List.{flat_map}
+use Rattle.mv_descriptors.specs.Widths.{switch_words, function_words, variant_words, guard_words, site_words, pointer_words, point_words, target_words}
 use Rattle.mv_num.specs.Bytes.{AreWords, bytes_of}
-use Rattle.mv_image.specs.Spelling.{Fields, joined, filled, header_of, words_in, spelling}
-use Rattle.mv_image.specs.Faults.{CountsFit}
+use Rattle.mv_image.specs.Spelling.{Fields, joined, filled, later_of, header_of, words_in, spelling}
+use Rattle.mv_image.specs.Faults.{CountsFit, Rules}
 use Rattle.mv_image.specs.Places.{text_place, data_place, switches_place, functions_place, variants_place, guards_place, sites_place, names_place}
 
-pub counts_fit : (image : Fields) → AreWords (words_in image) → CountsFit image
+pub later_words : (image : Fields) → eqb image.version 2 ≡ true → later_of image ≡ length image.pointers ∷ length image.points ∷ length image.targets ∷ image.check ∷ []
+unfolding later_of
+later_words image e = rw e refl
+
+later_fit : (image : Fields) → AreWords (words_in image) → eqb image.version 2 ≡ true → (length image.pointers < 2 ^ 32) × ((length image.points < 2 ^ 32) × (length image.targets < 2 ^ 32))
 unfolding words_in header_of
-counts_fit image fits = record {
-  text = fits text_place;
-  globals = fits data_place;
-  switches = fits switches_place;
-  functions = fits functions_place;
-  variants = fits variants_place;
-  guards = fits guards_place;
-  sites = fits sites_place;
-  names = fits names_place;
-}
+later_fit image fits e =
+    let all : List ℕ → List ℕ = λ l. l ++ image.text ++ image.globals ++ flat_map switch_words image.switches ++ flat_map function_words image.functions ++ flat_map variant_words image.variants
+    ++ flat_map guard_words image.guards ++ flat_map site_words image.sites ++ flat_map pointer_words image.pointers ++ flat_map point_words image.points ++ flat_map target_words image.targets in
+    let same : (i : ℕ) → slice_index (all (later_of image)) i < 2 ^ 32 → slice_index (all (length image.pointers ∷ length image.points ∷ length image.targets ∷ image.check ∷ [])) i < 2 ^ 32 =
+    λ i. subst (λ (l : List ℕ). slice_index (all l) i < 2 ^ 32) (later_words image e) in
+    (same 0 (fits 12), (same 1 (fits 13), same 2 (fits 14)))
+
+pub header_short : (image : Fields) → (image.version ≡ 2 → ⊥) → header_of image ≡ 0x3149564D ∷ image.version ∷ image.entry ∷ length image.text ∷ length image.globals ∷ length image.switches ∷ length image.functions
+    ∷ length image.variants ∷ length image.guards ∷ length image.sites ∷ length (joined image.names) ∷ 0 ∷ []
+unfolding header_of later_of
+header_short image other = let e : eqb image.version 2 ≡ false = ne_eqb _ _ other in rw e refl
+
+pub counts_fit : (image : Fields) → Rules image → CountsFit image
+unfolding words_in header_of
+counts_fit image rules =
+    let fits = rules.words in
+    let later : (length image.pointers < 2 ^ 32) × ((length image.points < 2 ^ 32) × (length image.targets < 2 ^ 32)) =
+    elim (cases_Bool (eqb image.version 2)) [
+      | inl e ↦ later_fit image fits e
+      | inr e ↦
+          let none = rules.first e in
+          (omega (arith, ap length none.pointers), (omega (arith, ap length none.points), omega (arith, ap length none.targets)))
+    ] in
+    record {
+      text = fits text_place;
+      globals = fits data_place;
+      switches = fits switches_place;
+      functions = fits functions_place;
+      variants = fits variants_place;
+      guards = fits guards_place;
+      sites = fits sites_place;
+      pointers = later.0;
+      points = later.1.0;
+      targets = later.1.1;
+      names = fits names_place;
+    }
 
 pub fill_is : (n : ℕ) → (4 - n % 4) % 4 ≡ filled n - n
 fill_is n = omega arith

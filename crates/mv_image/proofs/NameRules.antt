@@ -1,5 +1,5 @@
 -- The names of an image, one after the other.
-use Rattle.std.proofs.Common.{◌≡◌, ℕ, ◌+◌, ◌-◌, ◌*◌, ◌<◌, ◌≤◌, Bool, true, false, ltb, eqb, ◌||◌, ◌&&◌, not, List, [], ◌∷◌, ◌++◌, length, take, drop, map, slice_index, slice_range, get_or, All, refl, sym, ap, subst, ◌∙◌, arith, inl, inr, eq-eqb}
+use Rattle.std.proofs.Common.{◌≡◌, ℕ, ◌+◌, ◌-◌, ◌*◌, ◌<◌, ◌≤◌, ◌⊎◌, Bool, true, false, ltb, eqb, ◌||◌, ◌&&◌, not, List, [], ◌∷◌, ◌++◌, length, take, drop, map, slice_index, slice_range, get_or, All, refl, sym, ap, subst, ◌∙◌, arith, inl, inr, eq-eqb, append_assoc}
 use Rattle.std.specs.Prelude.{sum_by}
 use Rattle.std.proofs.lemmas.Bool.{lt-ltb, le-ltb, cases_lt, ne_eqb, not-true, or_right, or_left, and_from}
 use Rattle.std.proofs.lemmas.List.{take-append-drop, drop_more, length-append, length-map, get_or-map}
@@ -8,7 +8,9 @@ use Rattle.std.proofs.lemmas.Grind.{flat_map-append}
 use Rattle.std.proofs.Math.Seq.{take-length}
 use Rattle.mv_descriptors.specs.declared.rows.SwitchRow.{SwitchRow}
 use Rattle.mv_descriptors.specs.declared.rows.FunctionRow.{FunctionRow}
-use Rattle.mv_image.specs.Places.{switch_rows, name_bytes, words_end, switch_field, function_field, sum_below, owner, name_length, names}
+use Rattle.mv_descriptors.specs.declared.rows.PointerRow.{PointerRow}
+use Rattle.mv_descriptors.specs.declared.rows.TargetRow.{TargetRow}
+use Rattle.mv_image.specs.Places.{switch_rows, function_rows, pointer_rows, name_bytes, words_end, switch_field, function_field, pointer_field, target_field, sum_below, owner, name_length, pointer_names_at, target_names_at, names}
 use Rattle.mv_image.specs.Rules.{name_fits}
 use Rattle.mv_image.specs.Names.{is_letter, is_digit, is_keyword}
 use Rattle.mv_image.specs.Spelling.{Fields, joined}
@@ -22,61 +24,182 @@ use Rattle.mv_num.proofs.Lists.{index_left}
 
 -- ---- how long the names are
 
-pub names_count : (a : Fields) → map length a.names ≡ lengths_in a → length a.names ≡ length a.switches + length a.functions
+-- the lengths that each table gives
+
+abbrev switch_lengths : Fields → List ℕ
+switch_lengths a = map (λ (row : SwitchRow). row.length) a.switches
+
+abbrev function_lengths : Fields → List ℕ
+function_lengths a = map (λ (row : FunctionRow). row.length) a.functions
+
+abbrev pointer_lengths : Fields → List ℕ
+pointer_lengths a = map (λ (row : PointerRow). row.length) a.pointers
+
+abbrev target_lengths : Fields → List ℕ
+target_lengths a = map (λ (row : TargetRow). row.length) a.targets
+
+-- how many names stand before those of the pointer switches, and before those of the targets
+
+abbrev before_pointer_names : Fields → ℕ
+before_pointer_names a = length a.switches + length a.functions
+
+abbrev before_target_names : Fields → ℕ
+before_target_names a = before_pointer_names a + length a.pointers
+
+-- the lengths of all, one table after the other
+in_parts : (a : Fields) → lengths_in a ≡ switch_lengths a ++ (function_lengths a ++ (pointer_lengths a ++ target_lengths a))
+in_parts a = simp append_assoc
+
+pub names_count : (a : Fields) → map length a.names ≡ lengths_in a → length a.names ≡ length a.switches + length a.functions + length a.pointers + length a.targets
 names_count a n =
-    sym (length-map a.names length) ∙ ap length n ∙ length-append (map (λ (row : SwitchRow). row.length) a.switches) (map (λ (row : FunctionRow). row.length) a.functions)
-    ∙ omega (arith, length-map a.switches (λ (row : SwitchRow). row.length), length-map a.functions (λ (row : FunctionRow). row.length))
+    sym (length-map a.names length) ∙ ap length (n ∙ in_parts a)
+    ∙ omega (
+      arith,
+      length-append (switch_lengths a) (function_lengths a ++ (pointer_lengths a ++ target_lengths a)),
+      length-append (function_lengths a) (pointer_lengths a ++ target_lengths a),
+      length-append (pointer_lengths a) (target_lengths a),
+      length-map a.switches (λ (row : SwitchRow). row.length),
+      length-map a.functions (λ (row : FunctionRow). row.length),
+      length-map a.pointers (λ (row : PointerRow). row.length),
+      length-map a.targets (λ (row : TargetRow). row.length),
+    )
 
 switch_length : (a : Fields) (k : ℕ) (d : SwitchRow) → k < length a.switches → slice_index (lengths_in a) k ≡ (get_or a.switches k d).length
 switch_length a k d lt =
     let f : SwitchRow → ℕ = λ row. row.length in
-    index_left (map f a.switches) (map (λ (row : FunctionRow). row.length) a.functions) k (omega (arith, lt, length-map a.switches f)) ∙ get_or-map f a.switches k d 0 lt
+    ap (λ (xs : List ℕ). slice_index xs k) (in_parts a)
+    ∙ index_left (switch_lengths a) (function_lengths a ++ (pointer_lengths a ++ target_lengths a)) k (omega (arith, lt, length-map a.switches f)) ∙ get_or-map f a.switches k d 0 lt
+
+-- those behind the switches' names
+behind_switches : (a : Fields) (i k : ℕ) → i ≡ length a.switches + k → slice_index (lengths_in a) i ≡ slice_index (function_lengths a ++ (pointer_lengths a ++ target_lengths a)) k
+behind_switches a i k e =
+    let f : SwitchRow → ℕ = λ row. row.length in
+    ap (λ (xs : List ℕ). slice_index xs i) (in_parts a) ∙ behind (switch_lengths a) (function_lengths a ++ (pointer_lengths a ++ target_lengths a)) i k (omega (arith, e, length-map a.switches f))
 
 function_length : (a : Fields) (k : ℕ) (d : FunctionRow) → k < length a.functions → slice_index (lengths_in a) (length a.switches + k) ≡ (get_or a.functions k d).length
 function_length a k d lt =
-    let f : SwitchRow → ℕ = λ row. row.length in
-    let g : FunctionRow → ℕ = λ row. row.length in
-    behind (map f a.switches) (map g a.functions) (length a.switches + k) k (omega (arith, length-map a.switches f)) ∙ get_or-map g a.functions k d 0 lt
+    let f : FunctionRow → ℕ = λ row. row.length in
+    behind_switches a (length a.switches + k) k refl ∙ index_left (function_lengths a) (pointer_lengths a ++ target_lengths a) k (omega (arith, lt, length-map a.functions f)) ∙ get_or-map f a.functions k d 0 lt
+
+-- and behind the functions' names
+behind_functions : (a : Fields) (i k : ℕ) → i ≡ before_pointer_names a + k → slice_index (lengths_in a) i ≡ slice_index (pointer_lengths a ++ target_lengths a) k
+behind_functions a i k e =
+    let f : FunctionRow → ℕ = λ row. row.length in
+    behind_switches a i (length a.functions + k) (omega (arith, e)) ∙ behind (function_lengths a) (pointer_lengths a ++ target_lengths a) (length a.functions + k) k (omega (arith, length-map a.functions f))
+
+pointer_length : (a : Fields) (k : ℕ) (d : PointerRow) → k < length a.pointers → slice_index (lengths_in a) (before_pointer_names a + k) ≡ (get_or a.pointers k d).length
+pointer_length a k d lt =
+    let f : PointerRow → ℕ = λ row. row.length in
+    behind_functions a (before_pointer_names a + k) k refl ∙ index_left (pointer_lengths a) (target_lengths a) k (omega (arith, lt, length-map a.pointers f)) ∙ get_or-map f a.pointers k d 0 lt
+
+target_length : (a : Fields) (k : ℕ) (d : TargetRow) → k < length a.targets → slice_index (lengths_in a) (before_target_names a + k) ≡ (get_or a.targets k d).length
+target_length a k d lt =
+    let f : PointerRow → ℕ = λ row. row.length in
+    let g : TargetRow → ℕ = λ row. row.length in
+    behind_functions a (before_target_names a + k) (length a.pointers + k) (omega arith) ∙ behind (pointer_lengths a) (target_lengths a) (length a.pointers + k) k (omega (arith, length-map a.pointers f))
+    ∙ get_or-map g a.targets k d 0 lt
+
+pub any_pointer : PointerRow
+any_pointer = record { length = 0; address = 0 }
+
+pub any_target : TargetRow
+any_target = record { length = 0; entry = 0 }
+
+-- Of which table a name is, and of which row there.
+abbrev NameOf : Fields → ℕ → Type 0
+NameOf a k = (k < length a.switches)
+    ⊎ (((j : ℕ) × (j < length a.functions) × (k ≡ length a.switches + j))
+    ⊎ (((j : ℕ) × (j < length a.pointers) × (k ≡ before_pointer_names a + j))
+    ⊎ ((j : ℕ) × (j < length a.targets) × (k ≡ before_target_names a + j))))
+
+name_of : (a : Fields) (k : ℕ) → map length a.names ≡ lengths_in a → k < length a.names → NameOf a k
+name_of a k n lt =
+    elim (cases_lt k (length a.switches)) [
+      | inl few ↦ inl few
+      | inr first ↦ elim (cases_lt k (before_pointer_names a)) [
+        | inl here ↦ inr (inl (k - length a.switches, omega arith, omega arith))
+        | inr second ↦ elim (cases_lt k (before_target_names a)) [
+          | inl here ↦ inr (inr (inl (k - before_pointer_names a, omega arith, omega arith)))
+          | inr third ↦ inr (inr (inr (k - before_target_names a, omega (arith, names_count a n, lt), omega arith)))
+        ]
+      ]
+    ]
 
 -- the lengths of the names, by their rows
 pub length_in : (a : Fields) → map length a.names ≡ lengths_in a → (k : ℕ) (d : List ℕ) → k < length a.names → length (get_or a.names k d) ≡ slice_index (lengths_in a) k
 length_in a n k d lt = sym (get_or-map length a.names k d 0 lt) ∙ ap (λ (xs : List ℕ). slice_index xs k) n
 
+-- Of the lengths in the rows.
+pub record LengthsKeep (a : Fields) (P : ℕ → Type 0) : Type 0 where
+  pub switches : All (λ (row : SwitchRow). P row.length) a.switches
+  pub functions : All (λ (row : FunctionRow). P row.length) a.functions
+  pub pointers : All (λ (row : PointerRow). P row.length) a.pointers
+  pub targets : All (λ (row : TargetRow). P row.length) a.targets
+
 -- what the lengths in the rows keep, the lengths of the names keep
-pub lengths_keep : (a : Fields) (P : ℕ → Type 0) → map length a.names ≡ lengths_in a → All (λ (row : SwitchRow). P row.length) a.switches → All (λ (row : FunctionRow). P row.length) a.functions → All (λ (name : List ℕ). P (length name)) a.names
-lengths_keep a P n switches functions k d lt =
-    elim (cases_lt k (length a.switches)) [
-      | inl few ↦ subst P (sym (length_in a n k d lt ∙ switch_length a k any_switch few)) (switches k any_switch few)
-      | inr more ↦
-          let j : ℕ = k - length a.switches in
-          let e : length a.switches + j ≡ k = omega arith in
-          let here : j < length a.functions = omega (arith, names_count a n, lt, more) in
-          let same : (get_or a.functions j any_function).length ≡ slice_index (lengths_in a) k = sym (function_length a j any_function here) ∙ ap (slice_index (lengths_in a)) e in
-          subst P (same ∙ sym (length_in a n k d lt)) (functions j any_function here)
+pub lengths_keep : (a : Fields) (P : ℕ → Type 0) → map length a.names ≡ lengths_in a → LengthsKeep a P → All (λ (name : List ℕ). P (length name)) a.names
+lengths_keep a P n keep k d lt =
+    let it = length_in a n k d lt in
+    elim (name_of a k n lt) [
+      | inl few ↦ subst P (sym (it ∙ switch_length a k any_switch few)) (keep.switches k any_switch few)
+      | inr other ↦ elim other [
+        | inl one ↦ subst P (sym (it ∙ ap (slice_index (lengths_in a)) one.2 ∙ function_length a one.0 any_function one.1)) (keep.functions one.0 any_function one.1)
+        | inr later ↦ elim later [
+          | inl one ↦ subst P (sym (it ∙ ap (slice_index (lengths_in a)) one.2 ∙ pointer_length a one.0 any_pointer one.1)) (keep.pointers one.0 any_pointer one.1)
+          | inr one ↦ subst P (sym (it ∙ ap (slice_index (lengths_in a)) one.2 ∙ target_length a one.0 any_target one.1)) (keep.targets one.0 any_target one.1)
+        ]
+      ]
     ]
 
 length_of_switch : (ws : List ℕ) (k : ℕ) → k < switch_rows ws → name_length ws k ≡ switch_field ws k 0
 unfolding name_length
 length_of_switch ws k lt = let t : ltb k (switch_rows ws) ≡ true = lt-ltb _ _ lt in rw t refl
 
-length_of_function : (ws : List ℕ) (k : ℕ) → name_length ws (switch_rows ws + k) ≡ function_field ws k 0
+length_of_function : (ws : List ℕ) (k i : ℕ) → k < function_rows ws → i ≡ switch_rows ws + k → name_length ws i ≡ function_field ws k 0
 unfolding name_length
-length_of_function ws k =
-    let t : ltb (switch_rows ws + k) (switch_rows ws) ≡ false = le-ltb _ _ (omega arith) in
-    let m : switch_rows ws + k - switch_rows ws ≡ k = omega arith in
-    rw (t, m) refl
+length_of_function ws k i lt e =
+    let t : ltb i (switch_rows ws) ≡ false = le-ltb _ _ (omega (arith, e)) in
+    let u : ltb i (pointer_names_at ws) ≡ true = lt-ltb _ _ (omega (arith, e, lt)) in
+    let m : i - switch_rows ws ≡ k = omega (arith, e) in
+    rw (t, u, m) refl
+
+length_of_pointer : (ws : List ℕ) (k i : ℕ) → k < pointer_rows ws → i ≡ pointer_names_at ws + k → name_length ws i ≡ pointer_field ws k 0
+unfolding name_length
+length_of_pointer ws k i lt e =
+    let t : ltb i (switch_rows ws) ≡ false = le-ltb _ _ (omega (arith, e)) in
+    let u : ltb i (pointer_names_at ws) ≡ false = le-ltb _ _ (omega (arith, e)) in
+    let v : ltb i (target_names_at ws) ≡ true = lt-ltb _ _ (omega (arith, e, lt)) in
+    let m : i - pointer_names_at ws ≡ k = omega (arith, e) in
+    rw (t, u, v, m) refl
+
+length_of_target : (ws : List ℕ) (k i : ℕ) → i ≡ target_names_at ws + k → name_length ws i ≡ target_field ws k 0
+unfolding name_length
+length_of_target ws k i e =
+    let t : ltb i (switch_rows ws) ≡ false = le-ltb _ _ (omega (arith, e)) in
+    let u : ltb i (pointer_names_at ws) ≡ false = le-ltb _ _ (omega (arith, e)) in
+    let v : ltb i (target_names_at ws) ≡ false = le-ltb _ _ (omega (arith, e)) in
+    let m : i - target_names_at ws ≡ k = omega (arith, e) in
+    rw (t, u, v, m) refl
 
 pub length_stands : (ws : List ℕ) (a : Fields) → StandIn ws a → map length a.names ≡ lengths_in a → (k : ℕ) (d : List ℕ) → k < length a.names → name_length ws k ≡ length (get_or a.names k d)
 length_stands ws a s n k d lt =
     let c = s.counts in
-    elim (cases_lt k (length a.switches)) [
-      | inl few ↦ length_of_switch ws k (omega (arith, c.switches, few)) ∙ s.switch k 0 any_switch few (omega arith) ∙ sym (switch_length a k any_switch few) ∙ sym (length_in a n k d lt)
-      | inr more ↦
-          let j : ℕ = k - length a.switches in
-          let e : length a.switches + j ≡ k = omega arith in
-          let here : j < length a.functions = omega (arith, names_count a n, lt, more) in
-          ap (name_length ws) (sym e ∙ ap (λ (m : ℕ). m + j) (sym c.switches)) ∙ length_of_function ws j ∙ s.function j 0 any_function here (omega arith) ∙ sym (function_length a j any_function here)
-          ∙ ap (slice_index (lengths_in a)) e ∙ sym (length_in a n k d lt)
+    let it = sym (length_in a n k d lt) in
+    elim (name_of a k n lt) [
+      | inl few ↦ length_of_switch ws k (omega (arith, c.switches, few)) ∙ s.switch k 0 any_switch few (omega arith) ∙ sym (switch_length a k any_switch few) ∙ it
+      | inr other ↦ elim other [
+        | inl one ↦
+            length_of_function ws one.0 k (omega (arith, c.functions, one.1)) (omega (arith, one.2, c.switches)) ∙ s.function one.0 0 any_function one.1 (omega arith)
+            ∙ sym (function_length a one.0 any_function one.1) ∙ ap (slice_index (lengths_in a)) (sym one.2) ∙ it
+        | inr later ↦ elim later [
+          | inl one ↦
+              length_of_pointer ws one.0 k (omega (arith, c.pointers, one.1)) (omega (arith, one.2, c.switches, c.functions)) ∙ s.pointer one.0 0 any_pointer one.1 (omega arith)
+              ∙ sym (pointer_length a one.0 any_pointer one.1) ∙ ap (slice_index (lengths_in a)) (sym one.2) ∙ it
+          | inr one ↦
+              length_of_target ws one.0 k (omega (arith, one.2, c.switches, c.functions, c.pointers)) ∙ s.target one.0 0 any_target one.1 (omega arith)
+              ∙ sym (target_length a one.0 any_target one.1) ∙ ap (slice_index (lengths_in a)) (sym one.2) ∙ it
+        ]
+      ]
     ]
 
 -- ---- where the names are among their bytes
@@ -90,7 +213,7 @@ starts_are ws a s n k le = sums_are (name_length ws) length a.names (λ j d lt. 
 pub names_add_up : (ws : List ℕ) (a : Fields) → StandIn ws a → map length a.names ≡ lengths_in a → sum_below (name_length ws) (names ws) ≡ name_bytes ws
 names_add_up ws a s n =
     let c = s.counts in
-    let all : names ws ≡ length a.names = omega (arith, c.switches, c.functions, names_count a n) in
+    let all : names ws ≡ length a.names = omega (arith, c.switches, c.functions, c.pointers, c.targets, names_count a n) in
     ap (sum_below (name_length ws)) all ∙ starts_are ws a s n (length a.names) (omega arith) ∙ ap (λ (x : List (List ℕ)). length (joined x)) (take-length a.names) ∙ sym c.names
 
 -- a name between those before it and those behind it

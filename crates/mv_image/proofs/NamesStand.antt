@@ -10,15 +10,15 @@ use Rattle.mv_image.specs.Places.{words_end, name_bytes, sum_below, owner, name_
 use Rattle.mv_image.specs.Rules.{name_fits}
 use Rattle.mv_image.specs.Spelling.{Fields, joined, filled, words_in, names_in, spelling}
 use Rattle.mv_image.specs.Faults.{image_words, lengths_in}
-use Rattle.mv_image.specs.Format.{HasWidths, AreNamed, IsIdentifier}
+use Rattle.mv_image.specs.Format.{AreNamed, IsIdentifier}
 use Rattle.mv_image.proofs.PlaceLaws.{sum_below-more, sum_below-grows, owner-is, IsOwner, has_owner}
 use Rattle.mv_image.proofs.WhatIsRead.{filled_from}
-use Rattle.mv_image.proofs.RowsStand.{StandIn, behind, part_is, words_length, image_words_are}
+use Rattle.mv_image.proofs.RowsStand.{IsWhole, StandIn, behind, part_is, words_length, image_words_are}
 use Rattle.mv_image.proofs.NameRules.{StandsInName, names_count, length_stands, starts_are, names_add_up, joined_split, name_byte_fits, fill_byte_fits, name_says, is_identifier}
 use Rattle.mv_num.proofs.Lists.{index_left}
 
 -- the names begin behind the words
-names_from : (a : Fields) → AreWords (words_in a) → HasWidths a → 4 * words_end (image_words a) ≡ length (bytes_of (words_in a))
+names_from : (a : Fields) → AreWords (words_in a) → IsWhole a → 4 * words_end (image_words a) ≡ length (bytes_of (words_in a))
 names_from a words w =
     let size : words_end (image_words a) ≡ length (words_in a) = ap words_end (image_words_are a words) ∙ words_length a (words_of (names_in a)) w in
     omega (arith, size, length-bytes_of (words_in a))
@@ -27,7 +27,7 @@ names_from a words w =
 abbrev fill : Fields → ℕ
 fill a = filled (length (joined a.names)) - length (joined a.names)
 
-pub spelling_length : (a : Fields) → AreWords (words_in a) → HasWidths a → name_bytes (image_words a) ≡ length (joined a.names) → length (spelling a) ≡ 4 * words_end (image_words a) + filled (name_bytes (image_words a))
+pub spelling_length : (a : Fields) → AreWords (words_in a) → IsWhole a → name_bytes (image_words a) ≡ length (joined a.names) → length (spelling a) ≡ 4 * words_end (image_words a) + filled (name_bytes (image_words a))
 unfolding spelling
 spelling_length a words w n =
     let whole : filled (name_bytes (image_words a)) ≡ filled (length (joined a.names)) = ap filled n in
@@ -73,7 +73,7 @@ name_stands a words n s j k d there from to =
     let count : ℕ → ℕ = name_length ws in
     let c = s.counts in
     let size = length_stands ws a s n k d there in
-    let all : names ws ≡ length a.names = omega (arith, c.switches, c.functions, names_count a n) in
+    let all : names ws ≡ length a.names = omega (arith, c.switches, c.functions, c.pointers, c.targets, names_count a n) in
     let next = sum_below-more count k in
     let sum = names_add_up ws a s n in
     let grows = sum_below-grows count (k + 1) (names ws) (omega (arith, all, there)) in
@@ -100,7 +100,7 @@ names_keep a words named s j lt =
       | inl within ↦
           let k : ℕ = owner (name_length ws) (names ws) j in
           let own : IsOwner (name_length ws) (names ws) k j = has_owner (name_length ws) (names ws) j (omega (arith, sum, within)) in
-          let there : k < length a.names = omega (arith, own.there, c.switches, c.functions, names_count a n) in
+          let there : k < length a.names = omega (arith, own.there, c.switches, c.functions, c.pointers, c.targets, names_count a n) in
           let next : j < sum_below (name_length ws) k + length (get_or a.names k []) = omega (arith, own.next, sum_below-more (name_length ws) k, length_stands ws a s n k [] there) in
           name_byte_fits ws (spelling a) j k (get_or a.names k []) (name_stands a words n s j k [] there own.start next) (named.identifiers k [] there)
       | inr past ↦

@@ -1,19 +1,22 @@
 -- What rows keep by their own fields.
-use Rattle.std.proofs.Common.{◌≡◌, ℕ, ◌+◌, ◌-◌, ◌<◌, ◌≤◌, true, false, ltb, eqb, ◌||◌, ◌&&◌, List, [], ◌∷◌, length, slice_index, get_or, All, refl, sym, ap, subst, ◌∙◌, arith}
+use Rattle.std.proofs.Common.{◌≡◌, ℕ, zero, suc, ◌+◌, ◌-◌, ◌*◌, ◌<◌, ◌≤◌, true, false, ltb, eqb, ◌||◌, ◌&&◌, List, [], ◌∷◌, length, slice_index, get_or, All, refl, sym, ap, subst, ◌∙◌, arith}
 use Rattle.std.proofs.lemmas.Bool.{lt-ltb, ne_eqb, eqb-true, leb-true, ltb-true}
 use Rattle.mv_num.specs.Kinds.{kind_number, is_value}
 use Rattle.mv_descriptors.specs.declared.rows.SwitchRow.{SwitchRow}
 use Rattle.mv_descriptors.specs.declared.rows.FunctionRow.{FunctionRow}
 use Rattle.mv_descriptors.specs.declared.rows.VariantRow.{VariantRow}
 use Rattle.mv_descriptors.specs.declared.rows.SiteRow.{SiteRow}
-use Rattle.mv_image.specs.Places.{switch_rows, function_rows, variant_rows, switch_field, function_field, variant_field, site_field, entry_of, text_word}
-use Rattle.mv_image.specs.Rules.{is_text_address, is_data_address, switch_fits, function_fits, variant_fits, site_fits}
-use Rattle.mv_image.specs.Jumps.{nop, jump}
+use Rattle.mv_descriptors.specs.declared.rows.PointerRow.{PointerRow}
+use Rattle.mv_descriptors.specs.declared.rows.PointRow.{PointRow}
+use Rattle.mv_descriptors.specs.declared.rows.TargetRow.{TargetRow}
+use Rattle.mv_image.specs.Places.{switch_rows, function_rows, variant_rows, pointer_rows, point_rows, target_rows, check_of, switch_field, function_field, variant_field, site_field, pointer_field, point_field, target_field, entry_of, text_word}
+use Rattle.mv_image.specs.Rules.{is_text_address, is_data_address, switch_fits, function_fits, variant_fits, site_fits, pointer_fits, point_fits, target_fits}
+use Rattle.mv_image.specs.Jumps.{nop, jump, slot_words}
 use Rattle.mv_image.specs.Spelling.{Fields}
 use Rattle.mv_image.specs.Faults.{Rules, image_words}
-use Rattle.mv_image.specs.WellFormed.{IsInText, IsInData, FitsSwitch, FitsFunction, FitsVariant, FitsSite}
-use Rattle.mv_image.proofs.RowReads.{switch_rule, function_rule, variant_rule, site_rule}
-use Rattle.mv_image.proofs.RowsStand.{counts_of, image_fits, image_stands, behind, text_word_stands, switch_is, function_is, variant_is, site_is, function_variants, variant_guards, function_switch_is}
+use Rattle.mv_image.specs.WellFormed.{IsInText, IsInData, FitsSwitch, FitsFunction, FitsVariant, FitsSite, FitsPointer, FitsPoint, FitsTarget}
+use Rattle.mv_image.proofs.RowReads.{switch_rule, function_rule, variant_rule, site_rule, pointer_rule, point_rule, target_rule}
+use Rattle.mv_image.proofs.RowsStand.{counts_of, image_fits, image_stands, behind, text_word_stands, switch_is, function_is, variant_is, site_is, pointer_is, point_is, target_is, function_variants, variant_guards, function_switch_is}
 use Rattle.mv_image.proofs.Limits.{in_text, in_data}
 use Rattle.mv_num.proofs.Booleans.{and_right, and_left}
 
@@ -215,4 +218,132 @@ sites_fit a r k d lt =
           ∙ ap (λ (x : ℕ). jump 1 x (entry_of ws (site_field ws k 1))) f0 ∙ ap (λ (f : ℕ). jump 1 row.address (entry_of ws f)) f1
           ∙ ap (jump 1 row.address) (function_is a r row.function 1 e below (omega arith));
       pad = sym (text_word_stands ws a (image_stands a r) (row.address + 4) second) ∙ ap (λ (x : ℕ). text_word ws (x + 4)) (sym f0) ∙ says.pad;
+    }
+
+-- ---- pointer switches
+
+record PointerSays (ws : List ℕ) (k : ℕ) : Type 0 where
+  named : 1 ≤ pointer_field ws k 0
+  name : pointer_field ws k 0 ≤ 63
+  address : is_data_address ws (pointer_field ws k 1) ≡ true
+
+pointer_says : (ws : List ℕ) (k : ℕ) → pointer_fits ws k 0 ≡ true → pointer_fits ws k 1 ≡ true → PointerSays ws k
+unfolding pointer_fits
+pointer_says ws k h0 h1 = record {
+  named = leb-true _ _ (and_left _ _ (and_left _ _ h0));
+  name = leb-true _ _ (and_right _ _ (and_left _ _ h0));
+  address = h1;
+}
+
+pub pointers_fit : (a : Fields) → Rules a → All (FitsPointer a) a.pointers
+pointers_fit a r k d lt =
+    let ws : List ℕ = image_words a in
+    let n = counts_of a r in
+    let fit = image_fits a r in
+    let here : k < pointer_rows ws = omega (arith, n.pointers, lt) in
+    let says = pointer_says ws k (pointer_rule ws k 0 fit here (omega arith)) (pointer_rule ws k 1 fit here (omega arith)) in
+    let row : PointerRow = get_or a.pointers k d in
+    let f0 : pointer_field ws k 0 ≡ row.length = pointer_is a r k 0 d lt (omega arith) in
+    let f1 : pointer_field ws k 1 ≡ row.address = pointer_is a r k 1 d lt (omega arith) in
+    record {
+      named = omega (arith, says.named, f0);
+      name = omega (arith, says.name, f0);
+      address = subst (λ (x : ℕ). IsInData a x) f1 (in_data a ws (pointer_field ws k 1) n.globals says.address);
+    }
+
+-- ---- pointer sites
+
+point_places : (ws : List ℕ) (k : ℕ) → point_fits ws k 0 ≡ true → (is_text_address ws (point_field ws k 0) ≡ true) × (is_text_address ws (point_field ws k 0 + 12) ≡ true)
+unfolding point_fits
+point_places ws k h = (and_left _ _ (and_left _ _ (and_left _ _ h)), and_right _ _ (and_left _ _ (and_left _ _ h)))
+
+-- the slot that the words at a pointer site's address have to be
+abbrev slot_at : List ℕ → ℕ → List ℕ
+slot_at ws k = slot_words (check_of ws) (point_field ws k 0) (pointer_field ws (point_field ws k 1) 1)
+
+record PointSays (ws : List ℕ) (k : ℕ) : Type 0 where
+  pointer : point_field ws k 1 < pointer_rows ws
+  first : text_word ws (point_field ws k 0) ≡ slice_index (slot_at ws k) 0
+  second : text_word ws (point_field ws k 0 + 4) ≡ slice_index (slot_at ws k) 1
+  third : text_word ws (point_field ws k 0 + 8) ≡ slice_index (slot_at ws k) 2
+  fourth : text_word ws (point_field ws k 0 + 12) ≡ slice_index (slot_at ws k) 3
+
+point_says : (ws : List ℕ) (k : ℕ) → point_fits ws k 1 ≡ true → PointSays ws k
+unfolding point_fits
+point_says ws k h = record {
+  pointer = ltb-true _ _ (and_left _ _ (and_left _ _ (and_left _ _ (and_left _ _ h))));
+  first = eqb-true _ _ (and_right _ _ (and_left _ _ (and_left _ _ (and_left _ _ h))));
+  second = eqb-true _ _ (and_right _ _ (and_left _ _ (and_left _ _ h)));
+  third = eqb-true _ _ (and_right _ _ (and_left _ _ h));
+  fourth = eqb-true _ _ (and_right _ _ h);
+}
+
+-- the four words, by their number
+slot_says : (ws : List ℕ) (k j : ℕ) → PointSays ws k → j < 4 → text_word ws (point_field ws k 0 + 4 * j) ≡ slice_index (slot_at ws k) j
+slot_says ws k zero s lt = let e : point_field ws k 0 + 4 * zero ≡ point_field ws k 0 = omega arith in ap (text_word ws) e ∙ s.first
+slot_says ws k (suc zero) s lt = let e : point_field ws k 0 + 4 * suc zero ≡ point_field ws k 0 + 4 = omega arith in ap (text_word ws) e ∙ s.second
+slot_says ws k (suc (suc zero)) s lt = let e : point_field ws k 0 + 4 * suc (suc zero) ≡ point_field ws k 0 + 8 = omega arith in ap (text_word ws) e ∙ s.third
+slot_says ws k (suc (suc (suc zero))) s lt = let e : point_field ws k 0 + 4 * suc (suc (suc zero)) ≡ point_field ws k 0 + 12 = omega arith in ap (text_word ws) e ∙ s.fourth
+slot_says ws k (suc (suc (suc (suc j)))) s lt = absurd (omega arith)
+
+-- an address of a word of text, of those that a pointer site has
+pub slot_address : (a : Fields) (x j : ℕ) → IsInText a x → IsInText a (x + 12) → j < 4 → IsInText a (x + 4 * j)
+slot_address a x j first last lt =
+    record { aligned = omega (arith, first.aligned); not_before = omega (arith, first.not_before); within = omega (arith, last.within, lt) }
+
+pub points_fit : (a : Fields) → Rules a → All (FitsPoint a) a.points
+points_fit a r k d lt =
+    let ws : List ℕ = image_words a in
+    let n = counts_of a r in
+    let fit = image_fits a r in
+    let here : k < point_rows ws = omega (arith, n.points, lt) in
+    let places = point_places ws k (point_rule ws k 0 fit here (omega arith)) in
+    let says = point_says ws k (point_rule ws k 1 fit here (omega arith)) in
+    let row : PointRow = get_or a.points k d in
+    let f0 : point_field ws k 0 ≡ row.address = point_is a r k 0 d lt (omega arith) in
+    let f1 : point_field ws k 1 ≡ row.pointer = point_is a r k 1 d lt (omega arith) in
+    let first : IsInText a row.address = subst (λ (x : ℕ). IsInText a x) f0 (in_text a ws (point_field ws k 0) n.text places.0) in
+    let last : IsInText a (row.address + 12) = subst (λ (x : ℕ). IsInText a (x + 12)) f0 (in_text a ws (point_field ws k 0 + 12) n.text places.1) in
+    let below : row.pointer < length a.pointers = omega (arith, says.pointer, f1, n.pointers) in
+    record {
+      address = first;
+      last = last;
+      pointer = below;
+      slot = λ j e hj. (
+          let pointed : pointer_field ws (point_field ws k 1) 1 ≡ (get_or a.pointers row.pointer e).address = ap (λ (q : ℕ). pointer_field ws q 1) f1 ∙ pointer_is a r row.pointer 1 e below (omega arith) in
+          sym (text_word_stands ws a (image_stands a r) (row.address + 4 * j) (slot_address a row.address j first last hj)) ∙ ap (λ (x : ℕ). text_word ws (x + 4 * j)) (sym f0) ∙ slot_says ws k j says hj
+          ∙ ap (λ (c : ℕ). slice_index (slot_words c (point_field ws k 0) (pointer_field ws (point_field ws k 1) 1)) j) n.check
+          ∙ ap (λ (x : ℕ). slice_index (slot_words a.check x (pointer_field ws (point_field ws k 1) 1)) j) f0
+          ∙ ap (λ (p : ℕ). slice_index (slot_words a.check row.address p) j) pointed);
+    }
+
+-- ---- targets
+
+record TargetSays (ws : List ℕ) (k : ℕ) : Type 0 where
+  named : 1 ≤ target_field ws k 0
+  name : target_field ws k 0 ≤ 63
+  entry : is_text_address ws (target_field ws k 1) ≡ true
+
+target_says : (ws : List ℕ) (k : ℕ) → target_fits ws k 0 ≡ true → target_fits ws k 1 ≡ true → TargetSays ws k
+unfolding target_fits
+target_says ws k h0 h1 = record {
+  named = leb-true _ _ (and_left _ _ (and_left _ _ h0));
+  name = leb-true _ _ (and_right _ _ (and_left _ _ h0));
+  entry = and_left _ _ h1;
+}
+
+pub targets_fit : (a : Fields) → Rules a → All (FitsTarget a) a.targets
+targets_fit a r k d lt =
+    let ws : List ℕ = image_words a in
+    let n = counts_of a r in
+    let fit = image_fits a r in
+    let here : k < target_rows ws = omega (arith, n.targets, lt) in
+    let says = target_says ws k (target_rule ws k 0 fit here (omega arith)) (target_rule ws k 1 fit here (omega arith)) in
+    let row : TargetRow = get_or a.targets k d in
+    let f0 : target_field ws k 0 ≡ row.length = target_is a r k 0 d lt (omega arith) in
+    let f1 : target_field ws k 1 ≡ row.entry = target_is a r k 1 d lt (omega arith) in
+    record {
+      named = omega (arith, says.named, f0);
+      name = omega (arith, says.name, f0);
+      entry = subst (λ (x : ℕ). IsInText a x) f1 (in_text a ws (target_field ws k 1) n.text says.entry);
     }

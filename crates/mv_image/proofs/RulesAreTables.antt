@@ -4,7 +4,7 @@ use Rattle.std.specs.List.{flat_map}
 use Rattle.std.proofs.lemmas.List.Concat.{flat_map-cons}
 use Rattle.mv_num.specs.Bytes.{AreWords}
 use Rattle.mv_num.specs.Kinds.{kind_number}
-use Rattle.mv_descriptors.specs.Widths.{switch_words, function_words, variant_words, guard_words, site_words}
+use Rattle.mv_descriptors.specs.Widths.{switch_words, function_words, variant_words, guard_words, site_words, pointer_words, point_words, target_words}
 use Rattle.mv_descriptors.specs.declared.rows.SwitchRow.{SwitchRow}
 use Rattle.mv_descriptors.specs.declared.rows.VariantRow.{VariantRow}
 use Rattle.mv_descriptors.specs.declared.rows.GuardRow.{GuardRow}
@@ -13,10 +13,10 @@ use Rattle.mv_image.specs.Faults.{Rules}
 use Rattle.mv_image.specs.Format.{IsTyped, FitsFormat, HasWords, AreNamed, RulesAreTables}
 use Rattle.mv_image.proofs.WhatIsRead.{names_keep, filled_from}
 use Rattle.mv_image.proofs.RowsStand.{widths, image_stands}
-use Rattle.mv_image.proofs.Limits.{is_within}
-use Rattle.mv_image.proofs.RowsFit.{switches_fit, functions_fit, variants_fit, sites_fit}
+use Rattle.mv_image.proofs.Limits.{has_version, has_check, is_within}
+use Rattle.mv_image.proofs.RowsFit.{switches_fit, functions_fit, variants_fit, sites_fit, pointers_fit, points_fit, targets_fit}
 use Rattle.mv_image.proofs.Sums.{variants_sum, guards_sum, guards_fit}
-use Rattle.mv_image.proofs.Apart.{entries_ascend, sites_apart, entry_outside}
+use Rattle.mv_image.proofs.Apart.{entries_ascend, sites_apart, entry_outside, points_apart, entry_outside_point, site_outside_point, targets_ascend}
 use Rattle.mv_image.proofs.NameRules.{lengths_keep}
 use Rattle.mv_image.proofs.NamesStand.{names_are}
 
@@ -39,7 +39,10 @@ words_of_rows f (x ∷ rows) all (suc k) d lt = words_of_rows f rows (words_behi
 has_words : (a : Fields) → AreWords (words_in a) → HasWords a
 unfolding words_in
 has_words a all =
-    let guards = words_before _ (flat_map site_words a.sites) all in
+    let points = words_before _ (flat_map target_words a.targets) all in
+    let pointers = words_before _ (flat_map point_words a.points) points in
+    let sites = words_before _ (flat_map pointer_words a.pointers) pointers in
+    let guards = words_before _ (flat_map site_words a.sites) sites in
     let variants = words_before _ (flat_map guard_words a.guards) guards in
     let functions = words_before _ (flat_map variant_words a.variants) variants in
     let switches = words_before _ (flat_map function_words a.functions) functions in
@@ -65,7 +68,12 @@ has_words a all =
 
 named : (a : Fields) → Rules a → AreNamed a
 named a r =
-    let some = lengths_keep a (λ (n : ℕ). 1 ≤ n) r.name_lengths (λ k d lt. (switches_fit a r k d lt).named) (λ k d lt. (functions_fit a r k d lt).named) in
+    let some = lengths_keep a (λ (n : ℕ). 1 ≤ n) r.name_lengths (record {
+      switches = λ k d lt. (switches_fit a r k d lt).named;
+      functions = λ k d lt. (functions_fit a r k d lt).named;
+      pointers = λ k d lt. (pointers_fit a r k d lt).named;
+      targets = λ k d lt. (targets_fit a r k d lt).named;
+    }) in
     record {
       identifiers = names_are a r.words r.name_lengths (image_stands a r) some (λ j lt. names_keep (spelling a) r.spelled j (omega (arith, lt, filled_from)));
       lengths = r.name_lengths;
@@ -76,13 +84,18 @@ typed a r = record { widths = widths a r; words = has_words a r.words }
 
 pub fits_format : (a : Fields) → Rules a → FitsFormat a
 fits_format a r = record {
+  version = has_version a r;
   limits = is_within a r;
+  check = has_check a r;
   fit = record {
     switches = switches_fit a r;
     functions = functions_fit a r;
     variants = variants_fit a r;
     guards = λ f v g d e own. guards_fit a r f v g d e own.function_there own.first_variant own.last_variant own.first_guard own.last_guard own.variant_there own.guard_there;
     sites = sites_fit a r;
+    pointers = pointers_fit a r;
+    points = points_fit a r;
+    targets = targets_fit a r;
   };
   unused = record {
     switches = λ k d lt. (r.switches k d lt).1;
@@ -94,6 +107,10 @@ fits_format a r = record {
     entries = λ k d lt. entries_ascend a r k (k + 1) d (omega arith) lt;
     sites = λ k d lt. sites_apart a r k (k + 1) d (omega arith) lt;
     outside = λ f k d e hf hk. entry_outside a r f k d e hf hk;
+    points = λ k d lt. points_apart a r k (k + 1) d (omega arith) lt;
+    outside_points = λ f k d e hf hk. entry_outside_point a r f k d e hf hk;
+    beside_points = λ j k d e hj hk. site_outside_point a r j k d e hj hk;
+    targets = λ k d lt. targets_ascend a r k (k + 1) d (omega arith) lt;
   };
   names = named a r;
 }

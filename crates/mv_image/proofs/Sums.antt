@@ -17,7 +17,7 @@ use Rattle.mv_image.specs.Faults.{AllFit, Rules, image_words}
 use Rattle.mv_image.specs.Patched.{variants_before, guards_before, kind_of, kind_in}
 use Rattle.mv_image.specs.WellFormed.{FitsFunction, FitsGuard}
 use Rattle.mv_image.proofs.PlaceLaws.{sum_below-none, sum_below-more, owner-is}
-use Rattle.mv_image.proofs.WhatIsRead.{header_rule, not_last}
+use Rattle.mv_image.proofs.WhatIsRead.{header_from, header_rule, not_last}
 use Rattle.mv_image.proofs.RowReads.{function_rule, variant_rule, guard_rule}
 use Rattle.mv_image.proofs.RowsStand.{StandIn, image_stands, counts_of, image_fits, variants_stand, guards_stand, function_switch_stands, lowest_stands, highest_stands}
 use Rattle.mv_image.proofs.RowsFit.{functions_fit}
@@ -51,7 +51,7 @@ variants_add_up ws fit =
       | inl some ↦ variants_at_last ws (function_rows ws - 1) (function_rule ws (function_rows ws - 1) 9 fit (omega arith) (omega arith)) (omega arith)
       | inr none ↦
           let z : function_rows ws ≡ 0 = omega arith in
-          ap (sum_below (variants_of ws)) z ∙ sum_below-none (variants_of ws) ∙ sym (no_variants ws (header_rule ws variants_place fit (omega arith)) z)
+          ap (sum_below (variants_of ws)) z ∙ sum_below-none (variants_of ws) ∙ sym (no_variants ws (header_rule ws variants_place fit (omega (arith, header_from ws))) z)
     ]
 
 guards_add_up : (ws : List ℕ) → AllFit ws → sum_below (guards_of ws) (variant_rows ws) ≡ guard_rows ws
@@ -60,7 +60,7 @@ guards_add_up ws fit =
       | inl some ↦ guards_at_last ws (variant_rows ws - 1) (variant_rule ws (variant_rows ws - 1) 4 fit (omega arith) (omega arith)) (omega arith)
       | inr none ↦
           let z : variant_rows ws ≡ 0 = omega arith in
-          ap (sum_below (guards_of ws)) z ∙ sum_below-none (guards_of ws) ∙ sym (no_guards ws (header_rule ws guards_place fit (omega arith)) z)
+          ap (sum_below (guards_of ws)) z ∙ sum_below-none (guards_of ws) ∙ sym (no_guards ws (header_rule ws guards_place fit (omega (arith, header_from ws))) z)
     ]
 
 -- sums over words are sums over rows

@@ -1,28 +1,30 @@
 -- What the reader makes of bytes that spell an image is that image.
-use Rattle.std.proofs.Common.{◌≡◌, ℕ, zero, suc, ◌+◌, ◌-◌, ◌*◌, ◌/◌, ◌<◌, ◌≤◌, Bool, true, false, ltb, eqb, ◌||◌, not, List, [], ◌∷◌, ◌++◌, length, take, drop, map, slice_index, slice_range, refl, sym, ap, subst, ◌∙◌, arith, inl, inr, All, get_or}
+use Rattle.std.proofs.Common.{◌≡◌, ℕ, zero, suc, ◌+◌, ◌-◌, ◌*◌, ◌/◌, ◌<◌, ◌≤◌, Bool, true, false, ltb, eqb, ◌||◌, not, List, [], ◌∷◌, ◌++◌, length, take, drop, map, slice_index, slice_range, refl, sym, ap, subst, ◌∙◌, arith, inl, inr, All, get_or, ◌⊎◌, append_assoc}
 use Rattle.std.specs.Prelude.{replicate}
 use Rattle.std.specs.List.{flat_map}
 use Rattle.std.proofs.Math.Seq.{take-length}
 use Rattle.std.proofs.Common.{eq-eqb}
-use Rattle.std.proofs.lemmas.Bool.{lt-ltb, le-ltb, cases_lt, eqb-true}
-use Rattle.std.proofs.lemmas.List.{get_or-take, get_or_past, length-take, length-drop, take-append-drop}
+use Rattle.std.proofs.lemmas.Bool.{lt-ltb, le-ltb, cases_lt, eqb-true, cases_Bool, or_cases}
+use Rattle.std.proofs.lemmas.List.{get_or-take, get_or-drop, get_or_past, length-take, length-drop, take-append-drop}
 use Rattle.byteorder.specs.Endian.{little_number}
 use Rattle.mv_num.specs.Bytes.{words_of, bytes_of, AreBytes, AreWords}
 use Rattle.mv_num.proofs.ByteLaws.{number-bytes, length-words_of}
-use Rattle.mv_descriptors.specs.Widths.{switch_words, function_words, variant_words, guard_words, site_words, SwitchWhole, FunctionWhole, VariantWhole, GuardWhole, SwitchClean, FunctionClean, VariantClean}
+use Rattle.mv_descriptors.specs.Widths.{switch_words, function_words, variant_words, guard_words, site_words, pointer_words, point_words, target_words, SwitchWhole, FunctionWhole, VariantWhole, GuardWhole, SwitchClean, FunctionClean, VariantClean}
 use Rattle.mv_descriptors.specs.WidthLaws.{switch_width, function_width, parted}
 use Rattle.std.proofs.lemmas.List.Concat.{flat_map-cons}
 use Rattle.mv_descriptors.specs.declared.rows.SwitchRow.{SwitchRow}
 use Rattle.mv_descriptors.specs.declared.rows.FunctionRow.{FunctionRow}
-use Rattle.mv_image.specs.Places.{switch_row_words, function_row_words, magic_place, version_place, names_place, last_place, entry_address, header_words, text_words, data_words, switch_rows, function_rows, variant_rows, guard_rows, site_rows, name_bytes, data_at, switches_at, functions_at, variants_at, guards_at, sites_at, words_end, switch_field, function_field, name_length, names, sum_below, first_of}
-use Rattle.mv_image.specs.Rules.{header_fits, switch_fits, function_fits, name_fits}
-use Rattle.mv_image.specs.Spelling.{Fields, joined, filled, header_of, words_in, names_in, spelling}
-use Rattle.mv_image.specs.Faults.{AllFit, Spelled, Spells, lengths_in}
+use Rattle.mv_descriptors.specs.declared.rows.PointerRow.{PointerRow}
+use Rattle.mv_descriptors.specs.declared.rows.TargetRow.{TargetRow}
+use Rattle.mv_image.specs.Places.{switch_row_words, function_row_words, pointer_row_words, target_row_words, is_second, later_word, pointer_rows, point_rows, target_rows, check_of, pointers_at, points_at, targets_at, pointer_field, target_field, pointer_names_at, target_names_at, magic_place, version_place, names_place, last_place, pointers_place, points_place, targets_place, check_place, entry_address, header_words, text_words, data_words, switch_rows, function_rows, variant_rows, guard_rows, site_rows, name_bytes, data_at, switches_at, functions_at, variants_at, guards_at, sites_at, words_end, switch_field, function_field, name_length, names, sum_below, first_of}
+use Rattle.mv_image.specs.Rules.{sums_to_none, header_fits, switch_fits, function_fits, pointer_fits, target_fits, name_fits}
+use Rattle.mv_image.specs.Spelling.{Fields, joined, filled, later_of, header_of, words_in, names_in, spelling}
+use Rattle.mv_image.specs.Faults.{AllFit, Spelled, Spells, HasNoPointers, lengths_in}
 use Rattle.mv_image.specs.Tables.{AreTables}
 use Rattle.mv_image.specs.declared.reading.Tables.{Tables}
 use Rattle.mv_image.proofs.Judged.{end_of, fits-word, fits-name, end_is}
-use Rattle.mv_image.proofs.RowRules.{switches_from, functions_from, variants_from, guards_from, sites_from, end_from, header_word}
-use Rattle.mv_image.proofs.RowReads.{index_range, switch_rule, function_rule}
+use Rattle.mv_image.proofs.RowRules.{switches_from, functions_from, variants_from, guards_from, sites_from, pointers_from, points_from, targets_from, end_from, header_word}
+use Rattle.mv_image.proofs.RowReads.{index_range, switch_rule, function_rule, pointer_rule, target_rule}
 use Rattle.mv_image.proofs.Parts.{range_join, front_join, range_length}
 use Rattle.mv_image.proofs.PlaceLaws.{sum_below-none}
 use Rattle.mv_num.proofs.Booleans.{and_right}
@@ -68,7 +70,7 @@ zeros_list (x ∷ xs) (suc n) len zeros =
 
 -- ---- the header
 
-first_twelve : (xs : List ℕ) → header_words ≤ length xs → take header_words xs ≡ slice_index xs 0 ∷ slice_index xs 1 ∷ slice_index xs 2 ∷ slice_index xs 3 ∷ slice_index xs 4 ∷ slice_index xs 5 ∷ slice_index xs 6 ∷ slice_index xs 7 ∷ slice_index xs 8 ∷ slice_index xs 9 ∷ slice_index xs 10 ∷ slice_index xs 11 ∷ []
+first_twelve : (xs : List ℕ) → 12 ≤ length xs → take 12 xs ≡ slice_index xs 0 ∷ slice_index xs 1 ∷ slice_index xs 2 ∷ slice_index xs 3 ∷ slice_index xs 4 ∷ slice_index xs 5 ∷ slice_index xs 6 ∷ slice_index xs 7 ∷ slice_index xs 8 ∷ slice_index xs 9 ∷ slice_index xs 10 ∷ slice_index xs 11 ∷ []
 first_twelve [] room = absurd (omega arith)
 first_twelve (a ∷ []) room = absurd (omega arith)
 first_twelve (a ∷ b ∷ []) room = absurd (omega arith)
@@ -83,7 +85,28 @@ first_twelve (a ∷ b ∷ c ∷ d ∷ e ∷ f ∷ g ∷ h ∷ i ∷ j ∷ []) ro
 first_twelve (a ∷ b ∷ c ∷ d ∷ e ∷ f ∷ g ∷ h ∷ i ∷ j ∷ k ∷ []) room = absurd (omega arith)
 first_twelve (a ∷ b ∷ c ∷ d ∷ e ∷ f ∷ g ∷ h ∷ i ∷ j ∷ k ∷ l ∷ rest) room = refl
 
-pub data_from : (ws : List ℕ) → data_at ws ≡ header_words + text_words ws
+first_four : (xs : List ℕ) → 4 ≤ length xs → take 4 xs ≡ slice_index xs 0 ∷ slice_index xs 1 ∷ slice_index xs 2 ∷ slice_index xs 3 ∷ []
+first_four [] room = absurd (omega arith)
+first_four (a ∷ []) room = absurd (omega arith)
+first_four (a ∷ b ∷ []) room = absurd (omega arith)
+first_four (a ∷ b ∷ c ∷ []) room = absurd (omega arith)
+first_four (a ∷ b ∷ c ∷ d ∷ rest) room = refl
+
+four_behind : (ws : List ℕ) → slice_index (drop 12 ws) 0 ∷ slice_index (drop 12 ws) 1 ∷ slice_index (drop 12 ws) 2 ∷ slice_index (drop 12 ws) 3 ∷ []
+    ≡ slice_index ws 12 ∷ slice_index ws 13 ∷ slice_index ws 14 ∷ slice_index ws 15 ∷ []
+four_behind ws = rw (get_or-drop 12 ws 0 0, get_or-drop 12 ws 1 0, get_or-drop 12 ws 2 0, get_or-drop 12 ws 3 0) refl
+
+-- the four words of the header that version 2 alone has
+later_is : (b : Bool) (ws : List ℕ) (image : Fields) → is_second ws ≡ b → image.version ≡ slice_index ws version_place → header_words ws ≤ length ws
+    → length image.pointers ≡ pointer_rows ws → length image.points ≡ point_rows ws → length image.targets ≡ target_rows ws → image.check ≡ check_of ws
+    → later_of image ≡ slice_range ws 12 (header_words ws)
+unfolding later_of header_words later_word
+later_is true ws image e v room p q t c =
+    let r : 16 ≤ length ws = rw e at room in
+    rw (v, p, q, t, c, e) (sym (first_four (drop 12 ws) (omega (arith, r, length-drop 12 ws)) ∙ four_behind ws))
+later_is false ws image e v room p q t c = rw (v, e) refl
+
+pub data_from : (ws : List ℕ) → data_at ws ≡ header_words ws + text_words ws
 unfolding data_at
 data_from ws = refl
 
@@ -91,17 +114,36 @@ pub switches_after : (ws : List ℕ) → switches_at ws ≡ data_at ws + data_wo
 unfolding switches_at
 switches_after ws = refl
 
-pub header_rule : (ws : List ℕ) (i : ℕ) → AllFit ws → i < header_words → header_fits ws i ≡ true
+pub header_from : (ws : List ℕ) → 12 ≤ header_words ws
+unfolding header_words
+header_from ws = elim (cases_Bool (is_second ws)) [
+  | inl e ↦ rw e (omega arith)
+  | inr e ↦ rw e (omega arith)
+]
+
+pub header_second : (ws : List ℕ) → is_second ws ≡ true → header_words ws ≡ 16
+unfolding header_words
+header_second ws e = rw e refl
+
+pub later_none : (ws : List ℕ) (i : ℕ) → is_second ws ≡ false → later_word ws i ≡ 0
+unfolding later_word
+later_none ws i e = rw e refl
+
+pub header_rule : (ws : List ℕ) (i : ℕ) → AllFit ws → i < header_words ws → header_fits ws i ≡ true
 header_rule ws i fit lt =
-    sym (header_word ws i lt) ∙ fit i (omega (arith, switches_from ws, functions_from ws, variants_from ws, guards_from ws, sites_from ws, end_from ws))
+    sym (header_word ws i lt) ∙ fit i (omega (arith, switches_from ws, functions_from ws, variants_from ws, guards_from ws, sites_from ws, pointers_from ws, points_from ws, targets_from ws, end_from ws))
 
 magic_is : (ws : List ℕ) → header_fits ws magic_place ≡ true → slice_index ws magic_place ≡ 0x3149564D
 unfolding header_fits
 magic_is ws h = eqb-true _ _ h
 
-version_is : (ws : List ℕ) → header_fits ws version_place ≡ true → slice_index ws version_place ≡ 1
+pub version_is : (ws : List ℕ) → header_fits ws version_place ≡ true → (slice_index ws version_place ≡ 1) ⊎ (slice_index ws version_place ≡ 2)
 unfolding header_fits
-version_is ws h = eqb-true _ _ h
+version_is ws h =
+    elim (or_cases _ _ h) [
+      | inl e ↦ inl (eqb-true _ _ e)
+      | inr e ↦ inr (eqb-true _ _ e)
+    ]
 
 last_is : (ws : List ℕ) → header_fits ws last_place ≡ true → slice_index ws last_place ≡ 0
 unfolding header_fits
@@ -123,50 +165,91 @@ switch_sum ws k h none last =
     let t : ltb 0 (function_rows ws) ≡ false = le-ltb _ _ (omega (arith, none)) in
     eqb-true _ _ (not_last _ _ _ last (rw t at g))
 
-no_names : (ws : List ℕ) → header_fits ws names_place ≡ true → names ws ≡ 0 → name_bytes ws ≡ 0
+pointer_sum : (ws : List ℕ) (k : ℕ) → pointer_fits ws k 0 ≡ true → pointer_names_at ws + k + 1 ≡ names ws → sum_below (name_length ws) (names ws) ≡ name_bytes ws
+unfolding pointer_fits
+pointer_sum ws k h last = eqb-true _ _ (not_last _ _ _ last (and_right _ _ h))
+
+target_sum : (ws : List ℕ) (k : ℕ) → target_fits ws k 0 ≡ true → target_names_at ws + k + 1 ≡ names ws → sum_below (name_length ws) (names ws) ≡ name_bytes ws
+unfolding target_fits
+target_sum ws k h last = eqb-true _ _ (not_last _ _ _ last (and_right _ _ h))
+
+none_add : (n total : ℕ) → sums_to_none n total ≡ true → n ≡ 0 → total ≡ 0
+none_add n total h none = let t : ltb 0 n ≡ false = le-ltb _ _ (omega (arith, none)) in eqb-true _ _ (rw t at h)
+
+-- in version 1 it is judged at its own word
+first_names : (ws : List ℕ) → is_second ws ≡ false → header_fits ws names_place ≡ true → names ws ≡ 0 → name_bytes ws ≡ 0
 unfolding header_fits
-no_names ws h none = let t : ltb 0 (names ws) ≡ false = le-ltb _ _ (omega (arith, none)) in eqb-true _ _ (rw t at h)
+first_names ws e h none = none_add _ _ (rw e at h) none
+
+-- and in version 2 at that of the targets
+second_names : (ws : List ℕ) → header_fits ws targets_place ≡ true → names ws ≡ 0 → name_bytes ws ≡ 0
+unfolding header_fits
+second_names ws h none = none_add _ _ (and_right _ _ h) none
+
+no_names : (ws : List ℕ) → AllFit ws → names ws ≡ 0 → name_bytes ws ≡ 0
+no_names ws fit none =
+    elim (cases_Bool (is_second ws)) [
+      | inl e ↦ second_names ws (header_rule ws targets_place fit (omega (arith, header_second ws e))) none
+      | inr e ↦ first_names ws e (header_rule ws names_place fit (omega (arith, header_from ws))) none
+    ]
 
 pub names_sum : (ws : List ℕ) → AllFit ws → sum_below (name_length ws) (names ws) ≡ name_bytes ws
 names_sum ws fit =
-    elim (cases_lt 0 (function_rows ws)) [
-      | inl some ↦ function_sum ws (function_rows ws - 1) (function_rule ws (function_rows ws - 1) 0 fit (omega arith) (omega arith)) (omega arith)
-      | inr none ↦ elim (cases_lt 0 (switch_rows ws)) [
-        | inl few ↦ switch_sum ws (switch_rows ws - 1) (switch_rule ws (switch_rows ws - 1) 0 fit (omega arith) (omega arith)) (omega arith) (omega arith)
-        | inr neither ↦
-            let z : names ws ≡ 0 = omega arith in
-            ap (λ (n : ℕ). sum_below (name_length ws) n) z ∙ sum_below-none (name_length ws) ∙ sym (no_names ws (header_rule ws names_place fit (omega arith)) z)
+    elim (cases_lt 0 (target_rows ws)) [
+      | inl some ↦ target_sum ws (target_rows ws - 1) (target_rule ws (target_rows ws - 1) 0 fit (omega arith) (omega arith)) (omega arith)
+      | inr no_target ↦ elim (cases_lt 0 (pointer_rows ws)) [
+        | inl some ↦ pointer_sum ws (pointer_rows ws - 1) (pointer_rule ws (pointer_rows ws - 1) 0 fit (omega arith) (omega arith)) (omega arith)
+        | inr no_pointer ↦ elim (cases_lt 0 (function_rows ws)) [
+          | inl some ↦ function_sum ws (function_rows ws - 1) (function_rule ws (function_rows ws - 1) 0 fit (omega arith) (omega arith)) (omega arith)
+          | inr none ↦ elim (cases_lt 0 (switch_rows ws)) [
+            | inl few ↦ switch_sum ws (switch_rows ws - 1) (switch_rule ws (switch_rows ws - 1) 0 fit (omega arith) (omega arith)) (omega arith) (omega arith)
+            | inr neither ↦
+                let z : names ws ≡ 0 = omega arith in
+                ap (λ (n : ℕ). sum_below (name_length ws) n) z ∙ sum_below-none (name_length ws) ∙ sym (no_names ws fit z)
+          ]
+        ]
       ]
     ]
 
 -- ---- what the reader has made
 
 pub record IsRead (ws bytes : List ℕ) (image : Fields) : Type 0 where
+  pub version : image.version ≡ slice_index ws version_place
   pub entry : image.entry ≡ entry_address ws
-  pub text : image.text ≡ slice_range ws header_words (data_at ws)
+  pub text : image.text ≡ slice_range ws (header_words ws) (data_at ws)
   pub globals : image.globals ≡ slice_range ws (data_at ws) (switches_at ws)
   pub switches : flat_map switch_words image.switches ≡ slice_range ws (switches_at ws) (functions_at ws)
   pub functions : flat_map function_words image.functions ≡ slice_range ws (functions_at ws) (variants_at ws)
   pub variants : flat_map variant_words image.variants ≡ slice_range ws (variants_at ws) (guards_at ws)
   pub guards : flat_map guard_words image.guards ≡ slice_range ws (guards_at ws) (sites_at ws)
-  pub sites : flat_map site_words image.sites ≡ slice_range ws (sites_at ws) (words_end ws)
+  pub sites : flat_map site_words image.sites ≡ slice_range ws (sites_at ws) (pointers_at ws)
+  pub pointers : flat_map pointer_words image.pointers ≡ slice_range ws (pointers_at ws) (points_at ws)
+  pub points : flat_map point_words image.points ≡ slice_range ws (points_at ws) (targets_at ws)
+  pub targets : flat_map target_words image.targets ≡ slice_range ws (targets_at ws) (words_end ws)
   pub switches_count : length image.switches ≡ switch_rows ws
   pub functions_count : length image.functions ≡ function_rows ws
   pub variants_count : length image.variants ≡ variant_rows ws
   pub guards_count : length image.guards ≡ guard_rows ws
   pub sites_count : length image.sites ≡ site_rows ws
+  pub pointers_count : length image.pointers ≡ pointer_rows ws
+  pub points_count : length image.points ≡ point_rows ws
+  pub targets_count : length image.targets ≡ target_rows ws
+  pub check : image.check ≡ check_of ws
   pub named : joined image.names ≡ slice_range bytes (4 * words_end ws) (4 * words_end ws + sum_below (name_length ws) (names ws))
   pub lengths : map length image.names ≡ first_of (name_length ws) (names ws)
 
 -- the parts stand one after the other
 pub record InOrder (ws : List ℕ) : Type 0 where
-  pub first : header_words ≤ data_at ws
+  pub first : header_words ws ≤ data_at ws
   pub switches : data_at ws ≤ switches_at ws
   pub functions : switches_at ws ≤ functions_at ws
   pub variants : functions_at ws ≤ variants_at ws
   pub guards : variants_at ws ≤ guards_at ws
   pub sites : guards_at ws ≤ sites_at ws
-  pub end : sites_at ws ≤ words_end ws
+  pub pointers : sites_at ws ≤ pointers_at ws
+  pub points : pointers_at ws ≤ points_at ws
+  pub targets : points_at ws ≤ targets_at ws
+  pub end : targets_at ws ≤ words_end ws
 
 pub in_order : (ws : List ℕ) → InOrder ws
 in_order ws = record {
@@ -176,18 +259,22 @@ in_order ws = record {
   variants = omega (arith, variants_from ws);
   guards = omega (arith, guards_from ws);
   sites = omega (arith, sites_from ws);
+  pointers = omega (arith, pointers_from ws);
+  points = omega (arith, points_from ws);
+  targets = omega (arith, targets_from ws);
   end = omega (arith, end_from ws);
 }
 
-header_is : (ws bytes : List ℕ) (image : Fields) → AllFit ws → words_end ws ≤ length ws → 4 * words_end ws + name_bytes ws ≤ length bytes → IsRead ws bytes image → header_of image ≡ take header_words ws
+header_is : (ws bytes : List ℕ) (image : Fields) → AllFit ws → words_end ws ≤ length ws → 4 * words_end ws + name_bytes ws ≤ length bytes → IsRead ws bytes image → header_of image ≡ take (header_words ws) ws
 unfolding header_of
 header_is ws bytes image fit room more r =
     let o = in_order ws in
-    let e0 = magic_is ws (header_rule ws magic_place fit (omega arith)) in
-    let e1 = version_is ws (header_rule ws version_place fit (omega arith)) in
+    let at12 = header_from ws in
+    let e0 = magic_is ws (header_rule ws magic_place fit (omega (arith, at12))) in
+    let e1 = r.version in
     let e2 = r.entry in
-    let e3 : length image.text ≡ text_words ws = ap length r.text ∙ range_length ws header_words (data_at ws) o.first (omega (arith, o.switches, o.functions, o.variants, o.guards, o.sites, o.end)) ∙ omega (arith, data_from ws) in
-    let e4 : length image.globals ≡ data_words ws = ap length r.globals ∙ range_length ws (data_at ws) (switches_at ws) o.switches (omega (arith, o.functions, o.variants, o.guards, o.sites, o.end)) ∙ omega (arith, switches_after ws) in
+    let e3 : length image.text ≡ text_words ws = ap length r.text ∙ range_length ws (header_words ws) (data_at ws) o.first (omega (arith, o.switches, o.functions, o.variants, o.guards, o.sites, o.pointers, o.points, o.targets, o.end)) ∙ omega (arith, data_from ws) in
+    let e4 : length image.globals ≡ data_words ws = ap length r.globals ∙ range_length ws (data_at ws) (switches_at ws) o.switches (omega (arith, o.functions, o.variants, o.guards, o.sites, o.pointers, o.points, o.targets, o.end)) ∙ omega (arith, switches_after ws) in
     let e5 = r.switches_count in
     let e6 = r.functions_count in
     let e7 = r.variants_count in
@@ -195,17 +282,20 @@ header_is ws bytes image fit room more r =
     let e9 = r.sites_count in
     let s = names_sum ws fit in
     let e10 : length (joined image.names) ≡ name_bytes ws = ap length r.named ∙ range_length bytes (4 * words_end ws) (4 * words_end ws + sum_below (name_length ws) (names ws)) (omega arith) (omega (arith, s, more)) ∙ omega (arith, s) in
-    let e11 = last_is ws (header_rule ws last_place fit (omega arith)) in
-    let all = first_twelve ws (omega (arith, room, o.first, o.switches, o.functions, o.variants, o.guards, o.sites, o.end)) in
-    let made : ℕ → ℕ → ℕ → List ℕ = λ m v z. m ∷ v ∷ slice_index ws 2 ∷ slice_index ws 3 ∷ slice_index ws 4 ∷ slice_index ws 5 ∷ slice_index ws 6 ∷ slice_index ws 7 ∷ slice_index ws 8 ∷ slice_index ws 9 ∷ slice_index ws 10 ∷ z ∷ [] in
-    rw (e2, e3, e4, e5, e6, e7, e8, e9, e10)
-    (ap (λ (m : ℕ). made m 1 0) (sym e0) ∙ ap (λ (v : ℕ). made (slice_index ws 0) v 0) (sym e1) ∙ ap (λ (z : ℕ). made (slice_index ws 0) (slice_index ws 1) z) (sym e11) ∙ sym all)
+    let e11 = last_is ws (header_rule ws last_place fit (omega (arith, at12))) in
+    let enough : header_words ws ≤ length ws = omega (arith, room, o.first, o.switches, o.functions, o.variants, o.guards, o.sites, o.pointers, o.points, o.targets, o.end) in
+    let all = first_twelve ws (omega (arith, at12, enough)) in
+    let later = later_is (is_second ws) ws image refl r.version enough r.pointers_count r.points_count r.targets_count r.check in
+    let made : ℕ → ℕ → List ℕ → List ℕ = λ m z l. m ∷ slice_index ws 1 ∷ slice_index ws 2 ∷ slice_index ws 3 ∷ slice_index ws 4 ∷ slice_index ws 5 ∷ slice_index ws 6 ∷ slice_index ws 7 ∷ slice_index ws 8 ∷ slice_index ws 9 ∷ slice_index ws 10 ∷ z ∷ l in
+    let start : header_of image ≡ made 0x3149564D 0 (later_of image) = cc (e1, e2, e3, e4, e5, e6, e7, e8, e9, e10) in
+    (start ∙ ap (λ (m : ℕ). made m 0 (later_of image)) (sym e0) ∙ ap (λ (z : ℕ). made (slice_index ws 0) z (later_of image)) (sym e11) ∙ ap (made (slice_index ws 0) (slice_index ws 11)) later
+    ∙ ap (λ (x : List ℕ). x ++ slice_range ws 12 (header_words ws)) (sym all) ∙ front_join ws 12 (header_words ws) at12)
 
-joined_words : (ws bytes : List ℕ) (image : Fields) → header_of image ≡ take header_words ws → IsRead ws bytes image → words_in image ≡ take (words_end ws) ws
+joined_words : (ws bytes : List ℕ) (image : Fields) → header_of image ≡ take (header_words ws) ws → IsRead ws bytes image → words_in image ≡ take (words_end ws) ws
 unfolding words_in
 joined_words ws bytes image header r =
     let o = in_order ws in
-    let s1 : header_of image ++ image.text ≡ take (data_at ws) ws = ap (λ (x : List ℕ). x ++ image.text) header ∙ ap (λ (x : List ℕ). take header_words ws ++ x) r.text ∙ front_join ws header_words (data_at ws) o.first in
+    let s1 : header_of image ++ image.text ≡ take (data_at ws) ws = ap (λ (x : List ℕ). x ++ image.text) header ∙ ap (λ (x : List ℕ). take (header_words ws) ws ++ x) r.text ∙ front_join ws (header_words ws) (data_at ws) o.first in
     let s2 : (header_of image ++ image.text) ++ image.globals ≡ take (switches_at ws) ws = ap (λ (x : List ℕ). x ++ image.globals) s1 ∙ ap (λ (x : List ℕ). take (data_at ws) ws ++ x) r.globals ∙ front_join ws (data_at ws) (switches_at ws) o.switches in
     let s3 : ((header_of image ++ image.text) ++ image.globals) ++ flat_map switch_words image.switches ≡ take (functions_at ws) ws =
     ap (λ (x : List ℕ). x ++ flat_map switch_words image.switches) s2 ∙ ap (λ (x : List ℕ). take (switches_at ws) ws ++ x) r.switches ∙ front_join ws (switches_at ws) (functions_at ws) o.functions in
@@ -215,7 +305,13 @@ joined_words ws bytes image header r =
     ap (λ (x : List ℕ). x ++ flat_map variant_words image.variants) s4 ∙ ap (λ (x : List ℕ). take (variants_at ws) ws ++ x) r.variants ∙ front_join ws (variants_at ws) (guards_at ws) o.guards in
     let s6 : (((((header_of image ++ image.text) ++ image.globals) ++ flat_map switch_words image.switches) ++ flat_map function_words image.functions) ++ flat_map variant_words image.variants) ++ flat_map guard_words image.guards ≡ take (sites_at ws) ws =
     ap (λ (x : List ℕ). x ++ flat_map guard_words image.guards) s5 ∙ ap (λ (x : List ℕ). take (guards_at ws) ws ++ x) r.guards ∙ front_join ws (guards_at ws) (sites_at ws) o.sites in
-    ap (λ (x : List ℕ). x ++ flat_map site_words image.sites) s6 ∙ ap (λ (x : List ℕ). take (sites_at ws) ws ++ x) r.sites ∙ front_join ws (sites_at ws) (words_end ws) o.end
+    let s7 : ((((((header_of image ++ image.text) ++ image.globals) ++ flat_map switch_words image.switches) ++ flat_map function_words image.functions) ++ flat_map variant_words image.variants) ++ flat_map guard_words image.guards) ++ flat_map site_words image.sites ≡ take (pointers_at ws) ws =
+    ap (λ (x : List ℕ). x ++ flat_map site_words image.sites) s6 ∙ ap (λ (x : List ℕ). take (sites_at ws) ws ++ x) r.sites ∙ front_join ws (sites_at ws) (pointers_at ws) o.pointers in
+    let s8 : (((((((header_of image ++ image.text) ++ image.globals) ++ flat_map switch_words image.switches) ++ flat_map function_words image.functions) ++ flat_map variant_words image.variants) ++ flat_map guard_words image.guards) ++ flat_map site_words image.sites) ++ flat_map pointer_words image.pointers ≡ take (points_at ws) ws =
+    ap (λ (x : List ℕ). x ++ flat_map pointer_words image.pointers) s7 ∙ ap (λ (x : List ℕ). take (pointers_at ws) ws ++ x) r.pointers ∙ front_join ws (pointers_at ws) (points_at ws) o.points in
+    let s9 : ((((((((header_of image ++ image.text) ++ image.globals) ++ flat_map switch_words image.switches) ++ flat_map function_words image.functions) ++ flat_map variant_words image.variants) ++ flat_map guard_words image.guards) ++ flat_map site_words image.sites) ++ flat_map pointer_words image.pointers) ++ flat_map point_words image.points ≡ take (targets_at ws) ws =
+    ap (λ (x : List ℕ). x ++ flat_map point_words image.points) s8 ∙ ap (λ (x : List ℕ). take (points_at ws) ws ++ x) r.points ∙ front_join ws (points_at ws) (targets_at ws) o.targets in
+    ap (λ (x : List ℕ). x ++ flat_map target_words image.targets) s9 ∙ ap (λ (x : List ℕ). take (targets_at ws) ws ++ x) r.targets ∙ front_join ws (targets_at ws) (words_end ws) o.end
 
 -- ---- the names
 
@@ -318,35 +414,81 @@ switch_length ws i lt =
     let z : switches_at ws + switch_row_words * i + 0 ≡ switches_at ws + switch_row_words * i = omega arith in
     rw t (ap (slice_index ws) z)
 
-function_length : (ws : List ℕ) (i : ℕ) → name_length ws (switch_rows ws + i) ≡ slice_index ws (functions_at ws + function_row_words * i)
+function_length : (ws : List ℕ) (i : ℕ) → i < function_rows ws → name_length ws (switch_rows ws + i) ≡ slice_index ws (functions_at ws + function_row_words * i)
 unfolding name_length function_field
-function_length ws i =
-    let t : ltb (switch_rows ws + i) (switch_rows ws) ≡ false = le-ltb _ _ (omega arith) in
+function_length ws i lt =
+    let t0 : ltb (switch_rows ws + i) (switch_rows ws) ≡ false = le-ltb _ _ (omega arith) in
+    let t1 : ltb (switch_rows ws + i) (pointer_names_at ws) ≡ true = lt-ltb _ _ (omega arith) in
     let m : switch_rows ws + i - switch_rows ws ≡ i = omega arith in
     let z : functions_at ws + function_row_words * i + 0 ≡ functions_at ws + function_row_words * i = omega arith in
-    rw (t, m) (ap (slice_index ws) z)
+    rw (t0, t1, m) (ap (slice_index ws) z)
+
+pointer_length : (ws : List ℕ) (i : ℕ) → i < pointer_rows ws → name_length ws (pointer_names_at ws + i) ≡ slice_index ws (pointers_at ws + pointer_row_words * i)
+unfolding name_length pointer_field
+pointer_length ws i lt =
+    let t0 : ltb (pointer_names_at ws + i) (switch_rows ws) ≡ false = le-ltb _ _ (omega arith) in
+    let t1 : ltb (pointer_names_at ws + i) (pointer_names_at ws) ≡ false = le-ltb _ _ (omega arith) in
+    let t2 : ltb (pointer_names_at ws + i) (target_names_at ws) ≡ true = lt-ltb _ _ (omega arith) in
+    let m : pointer_names_at ws + i - pointer_names_at ws ≡ i = omega arith in
+    let z : pointers_at ws + pointer_row_words * i + 0 ≡ pointers_at ws + pointer_row_words * i = omega arith in
+    rw (t0, t1, t2, m) (ap (slice_index ws) z)
+
+target_length : (ws : List ℕ) (i : ℕ) → name_length ws (target_names_at ws + i) ≡ slice_index ws (targets_at ws + target_row_words * i)
+unfolding name_length target_field
+target_length ws i =
+    let t0 : ltb (target_names_at ws + i) (switch_rows ws) ≡ false = le-ltb _ _ (omega arith) in
+    let t1 : ltb (target_names_at ws + i) (pointer_names_at ws) ≡ false = le-ltb _ _ (omega arith) in
+    let t2 : ltb (target_names_at ws + i) (target_names_at ws) ≡ false = le-ltb _ _ (omega arith) in
+    let m : target_names_at ws + i - target_names_at ws ≡ i = omega arith in
+    let z : targets_at ws + target_row_words * i + 0 ≡ targets_at ws + target_row_words * i = omega arith in
+    rw (t0, t1, t2, m) (ap (slice_index ws) z)
 
 lengths_are : (ws bytes : List ℕ) (image : Fields) → words_end ws ≤ length ws → All SwitchWhole image.switches → All FunctionWhole image.functions → IsRead ws bytes image → map length image.names ≡ lengths_in image
 lengths_are ws bytes image room whole_switches whole_functions r =
     let o = in_order ws in
-    let zs : switches_at ws + switch_row_words * 0 ≡ switches_at ws = omega arith in
-    let ns : switches_at ws + switch_row_words * (0 + length image.switches) ≡ functions_at ws = omega (arith, r.switches_count, functions_from ws) in
-    let zf : functions_at ws + function_row_words * 0 ≡ functions_at ws = omega arith in
-    let nf : functions_at ws + function_row_words * (0 + length image.functions) ≡ variants_at ws = omega (arith, r.functions_count, variants_from ws) in
-    let fs : map (λ (row : SwitchRow). row.length) image.switches ≡ first_from (λ i. slice_index ws (switches_at ws + switch_row_words * i)) 0 (length image.switches) =
+    let zswitch : switches_at ws + switch_row_words * 0 ≡ switches_at ws = omega arith in
+    let nswitch : switches_at ws + switch_row_words * (0 + length image.switches) ≡ functions_at ws = omega (arith, r.switches_count, functions_from ws) in
+    let fswitch : map (λ (row : SwitchRow). row.length) image.switches ≡ first_from (λ i. slice_index ws (switches_at ws + switch_row_words * i)) 0 (length image.switches) =
     firsts switch_words (λ row. row.length) switch_row_words (omega arith) (λ row. refl) image.switches (λ k d lt. switch_width (get_or image.switches k d) (whole_switches k d lt)) ws (switches_at ws) 0
-    (omega (arith, ns, room, o.variants, o.guards, o.sites, o.end)) (r.switches ∙ ap (λ (x : ℕ). slice_range ws x (functions_at ws)) (sym zs) ∙ ap (λ (x : ℕ). slice_range ws (switches_at ws + switch_row_words * 0) x) (sym ns)) in
-    let ff : map (λ (row : FunctionRow). row.length) image.functions ≡ first_from (λ i. slice_index ws (functions_at ws + function_row_words * i)) 0 (length image.functions) =
+    (omega (arith, nswitch, room, o.variants, o.guards, o.sites, o.pointers, o.points, o.targets, o.end)) (r.switches ∙ ap (λ (x : ℕ). slice_range ws x (functions_at ws)) (sym zswitch) ∙ ap (λ (x : ℕ). slice_range ws (switches_at ws + switch_row_words * 0) x) (sym nswitch)) in
+    let gswitch : first_from (name_length ws) 0 (switch_rows ws) ≡ first_from (λ i. slice_index ws (switches_at ws + switch_row_words * i)) 0 (switch_rows ws) =
+    first_from-same (name_length ws) (λ i. slice_index ws (switches_at ws + switch_row_words * i)) 0 0 (switch_rows ws)
+    (λ i lt. (let m : 0 + i ≡ i = omega arith in let z : 0 + i ≡ i = omega arith in ap (name_length ws) m ∙ switch_length ws i lt ∙ ap (λ (x : ℕ). slice_index ws (switches_at ws + switch_row_words * x)) (sym z))) in
+    let zfunction : functions_at ws + function_row_words * 0 ≡ functions_at ws = omega arith in
+    let nfunction : functions_at ws + function_row_words * (0 + length image.functions) ≡ variants_at ws = omega (arith, r.functions_count, variants_from ws) in
+    let ffunction : map (λ (row : FunctionRow). row.length) image.functions ≡ first_from (λ i. slice_index ws (functions_at ws + function_row_words * i)) 0 (length image.functions) =
     firsts function_words (λ row. row.length) function_row_words (omega arith) (λ row. refl) image.functions (λ k d lt. function_width (get_or image.functions k d) (whole_functions k d lt)) ws (functions_at ws) 0
-    (omega (arith, nf, room, o.guards, o.sites, o.end)) (r.functions ∙ ap (λ (x : ℕ). slice_range ws x (variants_at ws)) (sym zf) ∙ ap (λ (x : ℕ). slice_range ws (functions_at ws + function_row_words * 0) x) (sym nf)) in
-    let gs : first_from (name_length ws) 0 (switch_rows ws) ≡ first_from (λ i. slice_index ws (switches_at ws + switch_row_words * i)) 0 (switch_rows ws) =
-    first_from-same (name_length ws) (λ i. slice_index ws (switches_at ws + switch_row_words * i)) 0 0 (switch_rows ws) (λ i lt. switch_length ws (0 + i) (omega (arith, lt))) in
-    let gf : first_from (name_length ws) (0 + switch_rows ws) (function_rows ws) ≡ first_from (λ i. slice_index ws (functions_at ws + function_row_words * i)) 0 (function_rows ws) =
+    (omega (arith, nfunction, room, o.guards, o.sites, o.pointers, o.points, o.targets, o.end)) (r.functions ∙ ap (λ (x : ℕ). slice_range ws x (variants_at ws)) (sym zfunction) ∙ ap (λ (x : ℕ). slice_range ws (functions_at ws + function_row_words * 0) x) (sym nfunction)) in
+    let gfunction : first_from (name_length ws) (0 + switch_rows ws) (function_rows ws) ≡ first_from (λ i. slice_index ws (functions_at ws + function_row_words * i)) 0 (function_rows ws) =
     first_from-same (name_length ws) (λ i. slice_index ws (functions_at ws + function_row_words * i)) (0 + switch_rows ws) 0 (function_rows ws)
-    (λ i lt. (let m : 0 + switch_rows ws + i ≡ switch_rows ws + i = omega arith in let z : 0 + i ≡ i = omega arith in ap (name_length ws) m ∙ function_length ws i ∙ ap (λ (x : ℕ). slice_index ws (functions_at ws + function_row_words * x)) (sym z))) in
-    r.lengths ∙ first_of-from (name_length ws) (names ws) ∙ first_from-split (name_length ws) 0 (switch_rows ws) (function_rows ws)
-    ∙ ap (λ (x : List ℕ). x ++ first_from (name_length ws) (0 + switch_rows ws) (function_rows ws)) (gs ∙ ap (first_from (λ i. slice_index ws (switches_at ws + switch_row_words * i)) 0) (sym r.switches_count) ∙ sym fs)
-    ∙ ap (λ (x : List ℕ). map (λ (row : SwitchRow). row.length) image.switches ++ x) (gf ∙ ap (first_from (λ i. slice_index ws (functions_at ws + function_row_words * i)) 0) (sym r.functions_count) ∙ sym ff)
+    (λ i lt. (let m : (0 + switch_rows ws) + i ≡ switch_rows ws + i = omega arith in let z : 0 + i ≡ i = omega arith in ap (name_length ws) m ∙ function_length ws i lt ∙ ap (λ (x : ℕ). slice_index ws (functions_at ws + function_row_words * x)) (sym z))) in
+    let zpointer : pointers_at ws + pointer_row_words * 0 ≡ pointers_at ws = omega arith in
+    let npointer : pointers_at ws + pointer_row_words * (0 + length image.pointers) ≡ points_at ws = omega (arith, r.pointers_count, points_from ws) in
+    let fpointer : map (λ (row : PointerRow). row.length) image.pointers ≡ first_from (λ i. slice_index ws (pointers_at ws + pointer_row_words * i)) 0 (length image.pointers) =
+    firsts pointer_words (λ row. row.length) pointer_row_words (omega arith) (λ row. refl) image.pointers (λ k d lt. refl) ws (pointers_at ws) 0
+    (omega (arith, npointer, room, o.targets, o.end)) (r.pointers ∙ ap (λ (x : ℕ). slice_range ws x (points_at ws)) (sym zpointer) ∙ ap (λ (x : ℕ). slice_range ws (pointers_at ws + pointer_row_words * 0) x) (sym npointer)) in
+    let gpointer : first_from (name_length ws) (0 + pointer_names_at ws) (pointer_rows ws) ≡ first_from (λ i. slice_index ws (pointers_at ws + pointer_row_words * i)) 0 (pointer_rows ws) =
+    first_from-same (name_length ws) (λ i. slice_index ws (pointers_at ws + pointer_row_words * i)) (0 + pointer_names_at ws) 0 (pointer_rows ws)
+    (λ i lt. (let m : (0 + pointer_names_at ws) + i ≡ pointer_names_at ws + i = omega arith in let z : 0 + i ≡ i = omega arith in ap (name_length ws) m ∙ pointer_length ws i lt ∙ ap (λ (x : ℕ). slice_index ws (pointers_at ws + pointer_row_words * x)) (sym z))) in
+    let ztarget : targets_at ws + target_row_words * 0 ≡ targets_at ws = omega arith in
+    let ntarget : targets_at ws + target_row_words * (0 + length image.targets) ≡ words_end ws = omega (arith, r.targets_count, end_from ws) in
+    let ftarget : map (λ (row : TargetRow). row.length) image.targets ≡ first_from (λ i. slice_index ws (targets_at ws + target_row_words * i)) 0 (length image.targets) =
+    firsts target_words (λ row. row.length) target_row_words (omega arith) (λ row. refl) image.targets (λ k d lt. refl) ws (targets_at ws) 0
+    (omega (arith, ntarget, room, o.end)) (r.targets ∙ ap (λ (x : ℕ). slice_range ws x (words_end ws)) (sym ztarget) ∙ ap (λ (x : ℕ). slice_range ws (targets_at ws + target_row_words * 0) x) (sym ntarget)) in
+    let gtarget : first_from (name_length ws) (0 + target_names_at ws) (target_rows ws) ≡ first_from (λ i. slice_index ws (targets_at ws + target_row_words * i)) 0 (target_rows ws) =
+    first_from-same (name_length ws) (λ i. slice_index ws (targets_at ws + target_row_words * i)) (0 + target_names_at ws) 0 (target_rows ws)
+    (λ i lt. (let m : (0 + target_names_at ws) + i ≡ target_names_at ws + i = omega arith in let z : 0 + i ≡ i = omega arith in ap (name_length ws) m ∙ target_length ws i ∙ ap (λ (x : ℕ). slice_index ws (targets_at ws + target_row_words * x)) (sym z))) in
+    let switches : first_from (name_length ws) 0 (switch_rows ws) ≡ map (λ (row : SwitchRow). row.length) image.switches = gswitch ∙ ap (first_from (λ i. slice_index ws (switches_at ws + switch_row_words * i)) 0) (sym r.switches_count) ∙ sym fswitch in
+    let functions : first_from (name_length ws) (0 + switch_rows ws) (function_rows ws) ≡ map (λ (row : FunctionRow). row.length) image.functions = gfunction ∙ ap (first_from (λ i. slice_index ws (functions_at ws + function_row_words * i)) 0) (sym r.functions_count) ∙ sym ffunction in
+    let pointers : first_from (name_length ws) (0 + pointer_names_at ws) (pointer_rows ws) ≡ map (λ (row : PointerRow). row.length) image.pointers = gpointer ∙ ap (first_from (λ i. slice_index ws (pointers_at ws + pointer_row_words * i)) 0) (sym r.pointers_count) ∙ sym fpointer in
+    let targets : first_from (name_length ws) (0 + target_names_at ws) (target_rows ws) ≡ map (λ (row : TargetRow). row.length) image.targets = gtarget ∙ ap (first_from (λ i. slice_index ws (targets_at ws + target_row_words * i)) 0) (sym r.targets_count) ∙ sym ftarget in
+    let split : first_from (name_length ws) 0 (names ws) ≡ ((first_from (name_length ws) 0 (switch_rows ws) ++ first_from (name_length ws) (0 + switch_rows ws) (function_rows ws)) ++ first_from (name_length ws) (0 + pointer_names_at ws) (pointer_rows ws)) ++ first_from (name_length ws) (0 + target_names_at ws) (target_rows ws) =
+    first_from-split (name_length ws) 0 (target_names_at ws) (target_rows ws)
+    ∙ ap (λ (x : List ℕ). x ++ first_from (name_length ws) (0 + target_names_at ws) (target_rows ws)) (first_from-split (name_length ws) 0 (pointer_names_at ws) (pointer_rows ws)
+    ∙ ap (λ (x : List ℕ). x ++ first_from (name_length ws) (0 + pointer_names_at ws) (pointer_rows ws)) (first_from-split (name_length ws) 0 (switch_rows ws) (function_rows ws))) in
+    let all : first_from (name_length ws) 0 (names ws) ≡ ((map (λ (row : SwitchRow). row.length) image.switches ++ map (λ (row : FunctionRow). row.length) image.functions) ++ map (λ (row : PointerRow). row.length) image.pointers) ++ map (λ (row : TargetRow). row.length) image.targets =
+    split ∙ rw (switches, functions, pointers, targets) refl in
+    r.lengths ∙ first_of-from (name_length ws) (names ws) ∙ all ∙ (simp append_assoc)
 
 -- ---- the whole
 
@@ -384,6 +526,21 @@ is_spelling bytes image fits sp r =
     let back = names_are_read (words_of bytes) bytes image fit len (names_keep bytes sp) r in
     sym (ap (λ (x : List ℕ). x ++ names_in image) front ∙ ap (λ (x : List ℕ). take (4 * end_of bytes) bytes ++ x) back ∙ take-append-drop (4 * end_of bytes) bytes)
 
+no_items : {T : Type 0} (xs : List T) → length xs ≡ 0 → xs ≡ []
+no_items [] e = refl
+no_items (x ∷ xs) e = absurd (omega (arith, e))
+
+-- only version 2 has anything of pointers
+first_has_none : (ws bytes : List ℕ) (image : Fields) → IsRead ws bytes image → eqb image.version 2 ≡ false → HasNoPointers image
+first_has_none ws bytes image r e =
+    let no : is_second ws ≡ false = ap (λ (n : ℕ). eqb n 2) (sym r.version) ∙ e in
+    record {
+      pointers = no_items _ (r.pointers_count ∙ later_none ws pointers_place no);
+      points = no_items _ (r.points_count ∙ later_none ws points_place no);
+      targets = no_items _ (r.targets_count ∙ later_none ws targets_place no);
+      check = r.check ∙ later_none ws check_place no;
+    }
+
 pub what_is_read : (bytes : List ℕ) (image : Fields) → AreBytes bytes → Spelled bytes → IsRead (words_of bytes) bytes image → AreWhole image → Spells bytes image
 what_is_read bytes image fits sp r whole =
     let e = is_spelling bytes image fits sp r in
@@ -402,6 +559,7 @@ what_is_read bytes image fits sp r whole =
         variants = λ k d lt. (whole.variants k d lt, whole.variants_clean k d lt);
         guards = whole.guards;
         name_lengths = lengths_are (words_of bytes) bytes image room whole.switches whole.functions r;
+        first = first_has_none (words_of bytes) bytes image r;
       };
       bytes_are = e;
     }
@@ -420,8 +578,9 @@ words_of-take (a ∷ b ∷ c ∷ d ∷ rest) n e =
 pub words_of-whole : (bytes : List ℕ) → words_of (take (length bytes / 4 * 4) bytes) ≡ words_of bytes
 words_of-whole bytes = words_of-take bytes (length bytes / 4 * 4) refl
 
-abbrev pub image_of : ℕ → List ℕ → List ℕ → Tables → List (List ℕ) → Fields
-image_of entry text globals tables names = record {
+abbrev pub image_of : ℕ → ℕ → List ℕ → List ℕ → Tables → ℕ → List (List ℕ) → Fields
+image_of version entry text globals tables check names = record {
+  version = version;
   entry = entry;
   text = text;
   globals = globals;
@@ -430,39 +589,52 @@ image_of entry text globals tables names = record {
   variants = tables.variants;
   guards = tables.guards;
   sites = tables.sites;
+  pointers = tables.pointers;
+  points = tables.points;
+  targets = tables.targets;
+  check = check;
   names = names;
 }
 
-pub made_image : (bytes ws s text globals : List ℕ) (n d m k entry : ℕ) (tables : Tables) (named : List (List ℕ)) → AreBytes bytes → Spelled bytes → ws ≡ words_of bytes → s ≡ ws
-    → n ≡ text_words s → text ≡ slice_range ws header_words (header_words + n) → d ≡ data_at s → m ≡ data_words s → globals ≡ slice_range ws d (d + m) → AreTables ws tables
+pub made_image : (bytes ws s text globals : List ℕ) (p n d m k version entry check : ℕ) (tables : Tables) (named : List (List ℕ)) → AreBytes bytes → Spelled bytes → ws ≡ words_of bytes → s ≡ ws
+    → n ≡ text_words s → p ≡ header_words s → text ≡ slice_range ws p (p + n) → d ≡ data_at s → m ≡ data_words s → globals ≡ slice_range ws d (d + m) → AreTables ws tables
     → k ≡ names s → joined named ≡ slice_range bytes (4 * words_end s) (4 * words_end s + sum_below (name_length s) k) → map length named ≡ first_of (name_length s) k
-    → entry ≡ entry_address s → Spells bytes (image_of entry text globals tables named)
-made_image bytes ws s text globals n d m k entry tables named fits sp ew es en et ed em eg t ek ej el ee =
+    → version ≡ slice_index s version_place → entry ≡ entry_address s → check ≡ check_of s → Spells bytes (image_of version entry text globals tables check named)
+made_image bytes ws s text globals p n d m k version entry check tables named fits sp ew es en ep et ed em eg t ek ej el ev ee ec =
     let n2 : n ≡ text_words ws = en ∙ ap text_words es in
     let d2 : d ≡ data_at ws = ed ∙ ap data_at es in
     let m2 : m ≡ data_words ws = em ∙ ap data_words es in
-    let text_end : header_words + n ≡ data_at ws = omega (arith, n2, data_from ws) in
+    let p2 : p ≡ header_words ws = ep ∙ ap header_words es in
+    let text_end : header_words ws + n ≡ data_at ws = omega (arith, n2, data_from ws) in
     let data_end : data_at ws + m ≡ switches_at ws = omega (arith, m2, switches_after ws) in
     let joined2 : joined named ≡ slice_range bytes (4 * words_end s) (4 * words_end s + sum_below (name_length s) (names s)) = ej ∙ ap (λ (j : ℕ). slice_range bytes (4 * words_end s) (4 * words_end s + sum_below (name_length s) j)) ek in
     let lengths2 : map length named ≡ first_of (name_length s) (names s) = el ∙ ap (λ (j : ℕ). first_of (name_length s) j) ek in
-    let r : IsRead ws bytes (image_of entry text globals tables named) = record {
+    let r : IsRead ws bytes (image_of version entry text globals tables check named) = record {
+      version = ev ∙ ap (λ (x : List ℕ). slice_index x version_place) es;
       entry = ee ∙ ap entry_address es;
-      text = et ∙ ap (λ (x : ℕ). slice_range ws header_words x) text_end;
+      check = ec ∙ ap check_of es;
+      text = et ∙ ap (λ (x : ℕ). slice_range ws x (x + n)) p2 ∙ ap (λ (x : ℕ). slice_range ws (header_words ws) x) text_end;
       globals = eg ∙ ap (λ (x : ℕ). slice_range ws x (x + m)) d2 ∙ ap (λ (x : ℕ). slice_range ws (data_at ws) x) data_end;
       switches = t.switches;
       functions = t.functions;
       variants = t.variants;
       guards = t.guards;
       sites = t.sites;
+      pointers = t.pointers;
+      points = t.points;
+      targets = t.targets;
       switches_count = t.switches_count;
       functions_count = t.functions_count;
       variants_count = t.variants_count;
       guards_count = t.guards_count;
       sites_count = t.sites_count;
+      pointers_count = t.pointers_count;
+      points_count = t.points_count;
+      targets_count = t.targets_count;
       named = subst (λ (x : List ℕ). joined named ≡ slice_range bytes (4 * words_end x) (4 * words_end x + sum_below (name_length x) (names x))) es joined2;
       lengths = subst (λ (x : List ℕ). map length named ≡ first_of (name_length x) (names x)) es lengths2;
     } in
-    what_is_read bytes (image_of entry text globals tables named) fits sp (subst (λ (x : List ℕ). IsRead x bytes (image_of entry text globals tables named)) ew r) (record {
+    what_is_read bytes (image_of version entry text globals tables check named) fits sp (subst (λ (x : List ℕ). IsRead x bytes (image_of version entry text globals tables check named)) ew r) (record {
       switches = t.switches_whole;
       switches_clean = t.switches_clean;
       functions = t.functions_whole;

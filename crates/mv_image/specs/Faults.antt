@@ -1,14 +1,16 @@
 -- The first place at which bytes are no image, and what an image and its spelling are to each other.
-use Rattle.std.specs.Prelude.{ℕ, ◌≡◌, ◌+◌, ◌-◌, ◌*◌, ◌<◌, ◌≤◌, ◌^◌, List, length, map, ◌++◌, Bool, true, false, nat_lt, if◌then◌else◌}
+use Rattle.std.specs.Prelude.{ℕ, ◌≡◌, ◌+◌, ◌-◌, ◌*◌, ◌<◌, ◌≤◌, ◌^◌, List, [], length, map, ◌++◌, slice_index, ◌==◌, Bool, true, false, nat_lt, if◌then◌else◌}
 use Rattle.std.specs.Prelude.{All}
 use Rattle.mv_num.specs.Bytes.{words_of, AreWords}
 use Rattle.mv_descriptors.specs.declared.rows.SwitchRow.{SwitchRow}
 use Rattle.mv_descriptors.specs.declared.rows.FunctionRow.{FunctionRow}
 use Rattle.mv_descriptors.specs.declared.rows.VariantRow.{VariantRow}
+use Rattle.mv_descriptors.specs.declared.rows.PointerRow.{PointerRow}
+use Rattle.mv_descriptors.specs.declared.rows.TargetRow.{TargetRow}
 use Rattle.mv_descriptors.specs.Widths.{SwitchWhole, FunctionWhole, VariantWhole, GuardWhole, SwitchClean, FunctionClean, VariantClean}
 use Rattle.mv_image.specs.declared.fault.ImageError.{ImageError}
 use Rattle.mv_image.specs.declared.fault.ImageError.TheVariants.{Memory, Truncated, BadField, Trailing}
-use Rattle.mv_image.specs.Places.{entry_address, words_end, text_words, data_words, switch_rows, function_rows, variant_rows, guard_rows, site_rows, name_bytes}
+use Rattle.mv_image.specs.Places.{version_place, entry_address, words_end, text_words, data_words, switch_rows, function_rows, variant_rows, guard_rows, site_rows, pointer_rows, point_rows, target_rows, check_of, name_bytes}
 use Rattle.mv_image.specs.Rules.{word_fits, name_fits}
 use Rattle.mv_image.specs.Spelling.{Fields, joined, filled, words_in, spelling}
 
@@ -86,6 +88,9 @@ pub record CountsFit (image : Fields) : Type 0 where
   pub variants : length image.variants < 2 ^ 32
   pub guards : length image.guards < 2 ^ 32
   pub sites : length image.sites < 2 ^ 32
+  pub pointers : length image.pointers < 2 ^ 32
+  pub points : length image.points < 2 ^ 32
+  pub targets : length image.targets < 2 ^ 32
   pub names : length (joined image.names) < 2 ^ 32
 
 -- the words of an image as a reader of its bytes sees them
@@ -94,6 +99,7 @@ image_words image = words_of (spelling image)
 
 -- The numbers of the header are those of the lists.
 pub record Counts (ws : List ℕ) (image : Fields) : Type 0 where
+  pub version : slice_index ws version_place ≡ image.version
   pub entry : entry_address ws ≡ image.entry
   pub text : text_words ws ≡ length image.text
   pub globals : data_words ws ≡ length image.globals
@@ -102,6 +108,10 @@ pub record Counts (ws : List ℕ) (image : Fields) : Type 0 where
   pub variants : variant_rows ws ≡ length image.variants
   pub guards : guard_rows ws ≡ length image.guards
   pub sites : site_rows ws ≡ length image.sites
+  pub pointers : pointer_rows ws ≡ length image.pointers
+  pub points : point_rows ws ≡ length image.points
+  pub targets : target_rows ws ≡ length image.targets
+  pub check : check_of ws ≡ image.check
   pub names : name_bytes ws ≡ length (joined image.names)
 
 abbrev pub IsSwitch : SwitchRow → Type 0
@@ -115,9 +125,18 @@ IsVariant row = VariantWhole row × VariantClean row
 
 -- the lengths that the rows give for the names
 abbrev pub lengths_in : Fields → List ℕ
-lengths_in image = map (λ (row : SwitchRow). row.length) image.switches ++ map (λ (row : FunctionRow). row.length) image.functions
+lengths_in image =
+    map (λ (row : SwitchRow). row.length) image.switches ++ map (λ (row : FunctionRow). row.length) image.functions
+    ++ map (λ (row : PointerRow). row.length) image.pointers ++ map (λ (row : TargetRow). row.length) image.targets
 
--- What an image keeps: its spelling breaks no rule, its rows are whole and their unused words 0, its fields are words, and its names have the lengths that the rows give.
+-- What version 2 alone has isn't there.
+pub record HasNoPointers (image : Fields) : Type 0 where
+  pub pointers : image.pointers ≡ []
+  pub points : image.points ≡ []
+  pub targets : image.targets ≡ []
+  pub check : image.check ≡ 0
+
+-- What an image keeps: its spelling breaks no rule, its rows are whole and their unused words 0, its fields are words, its names have the lengths that the rows give, and only version 2 has anything of pointers.
 pub record Rules (image : Fields) : Type 0 where
   pub spelled : Spelled (spelling image)
   pub words : AreWords (words_in image)
@@ -126,6 +145,7 @@ pub record Rules (image : Fields) : Type 0 where
   pub variants : All IsVariant image.variants
   pub guards : All GuardWhole image.guards
   pub name_lengths : map length image.names ≡ lengths_in image
+  pub first : (image.version == 2) ≡ false → HasNoPointers image
 
 pub record Spells (bytes : List ℕ) (image : Fields) : Type 0 where
   pub rules : Rules image

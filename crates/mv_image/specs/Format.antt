@@ -1,20 +1,23 @@
 -- What fields keep to be an image, said of the fields alone: nothing of their spelling, or of where a word stands in it.
-use Rattle.std.specs.Prelude.{ℕ, ◌≡◌, ◌+◌, ◌<◌, ◌≤◌, ◌⊎◌, ◌||◌, true, false, List, length, map, slice_index, slice_index_or, sum_by}
+use Rattle.std.specs.Prelude.{ℕ, ◌≡◌, ◌+◌, ◌*◌, ◌<◌, ◌≤◌, ◌⊎◌, ◌||◌, ◌==◌, true, false, List, length, map, slice_index, slice_index_or, sum_by}
 use Rattle.std.specs.Prelude.{All}
 use Rattle.mv_num.specs.Bytes.{AreWords}
 use Rattle.mv_num.specs.Regions.{text_limit, data_limit}
-use Rattle.mv_num.specs.Limits.{function_limit, switch_limit, row_limit, site_limit}
+use Rattle.mv_num.specs.Limits.{function_limit, switch_limit, pointer_limit, row_limit, site_limit}
 use Rattle.mv_descriptors.specs.declared.rows.SwitchRow.{SwitchRow}
 use Rattle.mv_descriptors.specs.declared.rows.FunctionRow.{FunctionRow}
 use Rattle.mv_descriptors.specs.declared.rows.VariantRow.{VariantRow}
 use Rattle.mv_descriptors.specs.declared.rows.GuardRow.{GuardRow}
 use Rattle.mv_descriptors.specs.declared.rows.SiteRow.{SiteRow}
+use Rattle.mv_descriptors.specs.declared.rows.PointRow.{PointRow}
+use Rattle.mv_descriptors.specs.declared.rows.TargetRow.{TargetRow}
 use Rattle.mv_descriptors.specs.Widths.{SwitchWhole, FunctionWhole, VariantWhole, GuardWhole, SwitchClean, FunctionClean, VariantClean}
 use Rattle.mv_image.specs.Spelling.{Fields}
+use Rattle.mv_image.specs.Places.{point_limit}
 use Rattle.mv_image.specs.Names.{is_letter, is_digit, is_keyword}
 use Rattle.mv_image.specs.Patched.{variants_before, guards_before}
-use Rattle.mv_image.specs.WellFormed.{IsInText, FitsSwitch, FitsFunction, FitsVariant, FitsSite, FitsGuard}
-use Rattle.mv_image.specs.Faults.{Rules, lengths_in}
+use Rattle.mv_image.specs.WellFormed.{IsInText, FitsSwitch, FitsFunction, FitsVariant, FitsSite, FitsGuard, FitsPointer, FitsPoint, FitsTarget}
+use Rattle.mv_image.specs.Faults.{Rules, HasNoPointers, lengths_in}
 
 -- Text has a word at least, a run begins in it, and no list is longer than the format allows.
 pub record IsWithin (image : Fields) : Type 0 where
@@ -26,7 +29,22 @@ pub record IsWithin (image : Fields) : Type 0 where
   pub variants : length image.variants ≤ row_limit
   pub guards : length image.guards ≤ row_limit
   pub sites : length image.sites ≤ site_limit
+  pub pointers : length image.pointers ≤ pointer_limit
+  pub points : length image.points ≤ point_limit
+  pub places : length image.sites + 2 * length image.points ≤ site_limit
+  pub targets : length image.targets ≤ function_limit
   pub entry : IsInText image image.entry
+
+-- The version is 1 or 2, and only version 2 has anything of pointers.
+pub record HasVersion (image : Fields) : Type 0 where
+  pub known : (image.version ≡ 1) ⊎ (image.version ≡ 2)
+  pub first : (image.version == 2) ≡ false → HasNoPointers image
+
+-- The check stub has its place where there are pointer sites, and else there is none.
+pub record HasCheck (image : Fields) : Type 0 where
+  pub none : length image.points ≡ 0 → image.check ≡ 0
+  pub check : 0 < length image.points → IsInText image image.check
+  pub depth : 0 < length image.points → IsInText image (image.check + 8)
 
 -- Each row has as many words as its kind has.
 pub record HasWidths (image : Fields) : Type 0 where
@@ -76,18 +94,27 @@ pub record RowsFit (image : Fields) : Type 0 where
   pub variants : All (FitsVariant image) image.variants
   pub guards : GuardsFit image
   pub sites : All (FitsSite image) image.sites
+  pub pointers : All (FitsPointer image) image.pointers
+  pub points : All (FitsPoint image) image.points
+  pub targets : All (FitsTarget image) image.targets
 
 -- The variants of the functions are all variants, and the guard rows of the variants all guard rows.
 pub record CountsAddUp (image : Fields) : Type 0 where
   pub variants : sum_by (λ (row : FunctionRow). row.variants) image.functions ≡ length image.variants
   pub guards : sum_by (λ (row : VariantRow). row.guards) image.variants ≡ length image.guards
 
--- Entries ascend, sites ascend by their two words, and no entry stands in a site.
+-- Entries ascend, sites ascend by their two words and pointer sites by their four, no entry stands in a site or a pointer site, and no site in a pointer site.
 pub record AreApart (image : Fields) : Type 0 where
   pub entries : (k : ℕ) (d : FunctionRow) → k + 1 < length image.functions → (slice_index_or image.functions k d).entry < (slice_index_or image.functions (k + 1) d).entry
   pub sites : (k : ℕ) (d : SiteRow) → k + 1 < length image.sites → (slice_index_or image.sites k d).address + 8 ≤ (slice_index_or image.sites (k + 1) d).address
   pub outside : (f k : ℕ) (d : FunctionRow) (e : SiteRow) → f < length image.functions → k < length image.sites
       → ((slice_index_or image.functions f d).entry < (slice_index_or image.sites k e).address) ⊎ ((slice_index_or image.sites k e).address + 8 ≤ (slice_index_or image.functions f d).entry)
+  pub points : (k : ℕ) (d : PointRow) → k + 1 < length image.points → (slice_index_or image.points k d).address + 16 ≤ (slice_index_or image.points (k + 1) d).address
+  pub outside_points : (f k : ℕ) (d : FunctionRow) (e : PointRow) → f < length image.functions → k < length image.points
+      → ((slice_index_or image.functions f d).entry < (slice_index_or image.points k e).address) ⊎ ((slice_index_or image.points k e).address + 16 ≤ (slice_index_or image.functions f d).entry)
+  pub beside_points : (j k : ℕ) (d : SiteRow) (e : PointRow) → j < length image.sites → k < length image.points
+      → ((slice_index_or image.sites j d).address < (slice_index_or image.points k e).address) ⊎ ((slice_index_or image.points k e).address + 16 ≤ (slice_index_or image.sites j d).address)
+  pub targets : (k : ℕ) (d : TargetRow) → k + 1 < length image.targets → (slice_index_or image.targets k d).entry < (slice_index_or image.targets (k + 1) d).entry
 
 -- A name begins with a letter, goes on with letters and digits, and is no keyword.
 pub record IsIdentifier (name : List ℕ) : Type 0 where
@@ -102,7 +129,9 @@ pub record AreNamed (image : Fields) : Type 0 where
 
 -- What is asked of typed fields.
 pub record FitsFormat (image : Fields) : Type 0 where
+  pub version : HasVersion image
   pub limits : IsWithin image
+  pub check : HasCheck image
   pub fit : RowsFit image
   pub unused : LeavesZeros image
   pub sums : CountsAddUp image

@@ -9,8 +9,11 @@ use Rattle.mv_descriptors.specs.declared.rows.FunctionRow.{FunctionRow}
 use Rattle.mv_descriptors.specs.declared.rows.VariantRow.{VariantRow}
 use Rattle.mv_descriptors.specs.declared.rows.GuardRow.{GuardRow}
 use Rattle.mv_descriptors.specs.declared.rows.SiteRow.{SiteRow}
+use Rattle.mv_descriptors.specs.declared.rows.PointerRow.{PointerRow}
+use Rattle.mv_descriptors.specs.declared.rows.PointRow.{PointRow}
+use Rattle.mv_descriptors.specs.declared.rows.TargetRow.{TargetRow}
 use Rattle.mv_image.specs.Spelling.{Fields}
-use Rattle.mv_image.specs.Jumps.{nop, jump}
+use Rattle.mv_image.specs.Jumps.{nop, jump, slot_words}
 use Rattle.mv_image.specs.Patched.{kind_of}
 
 -- an address of a word of text
@@ -56,6 +59,23 @@ pub record FitsSite (image : Fields) (row : SiteRow) : Type 0 where
   pub function : row.function < length image.functions
   pub call : (d : FunctionRow) → slice_index image.text ((row.address - text_start) / 4) ≡ jump ra row.address (slice_index_or image.functions row.function d).entry
   pub pad : slice_index image.text ((row.address + 4 - text_start) / 4) ≡ nop
+
+pub record FitsPointer (image : Fields) (row : PointerRow) : Type 0 where
+  pub named : 1 ≤ row.length
+  pub name : row.length ≤ name_limit
+  pub address : IsInData image row.address
+
+-- A pointer site holds the four words of a call through its pointer switch.
+pub record FitsPoint (image : Fields) (row : PointRow) : Type 0 where
+  pub address : IsInText image row.address
+  pub last : IsInText image (row.address + 12)
+  pub pointer : row.pointer < length image.pointers
+  pub slot : (j : ℕ) (d : PointerRow) → j < 4 → slice_index image.text ((row.address + 4 * j - text_start) / 4) ≡ slice_index (slot_words image.check row.address (slice_index_or image.pointers row.pointer d).address) j
+
+pub record FitsTarget (image : Fields) (row : TargetRow) : Type 0 where
+  pub named : 1 ≤ row.length
+  pub name : row.length ≤ name_limit
+  pub entry : IsInText image row.entry
 
 -- A guard row of a function gives a range of values for each of the function's switches, and zeros for no switch.
 pub record FitsGuard (image : Fields) (function : FunctionRow) (row : GuardRow) : Type 0 where

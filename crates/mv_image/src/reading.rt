@@ -3,8 +3,8 @@
 ghost use Rattle.std.specs.Prelude.{◌≡◌, ◌≤◌, ◌<◌, ◌+◌, ◌-◌, ◌*◌, ◌/◌, ◌^◌, ◌++◌, ℕ, All, length, take, drop, map, slice_range, IfOk, IfErr, OnOk, MatchResult};
 ghost use Rattle.std.specs.List.{flat_map};
 ghost use Rattle.mv_num.specs.Bytes.{words_of};
-ghost use Rattle.mv_image.specs.Places.{words_end, name_length, sum_below, first_of, switches_at, functions_at, variants_at, guards_at, sites_at, switch_rows, function_rows, variant_rows, guard_rows, site_rows};
-ghost use Rattle.mv_descriptors.specs.Widths.{switch_words, function_words, variant_words, guard_words, site_words, SwitchWhole, FunctionWhole, VariantWhole, GuardWhole, SwitchClean, FunctionClean, VariantClean};
+ghost use Rattle.mv_image.specs.Places.{words_end, name_length, sum_below, first_of, switches_at, functions_at, variants_at, guards_at, sites_at, pointers_at, points_at, targets_at, switch_rows, function_rows, variant_rows, guard_rows, site_rows, pointer_rows, point_rows, target_rows};
+ghost use Rattle.mv_descriptors.specs.Widths.{switch_words, function_words, variant_words, guard_words, site_words, pointer_words, point_words, target_words, SwitchWhole, FunctionWhole, VariantWhole, GuardWhole, SwitchClean, FunctionClean, VariantClean};
 ghost use Rattle.mv_image.specs.Faults.{AllFit, Spelled, Spells, FirstFault, IsMemory};
 ghost use Rattle.mv_image.specs.Tables.{AreTables};
 ghost use Rattle.mv_image.specs.Spelling.{Fields, joined};
@@ -13,10 +13,12 @@ use crate::fault::ImageError;
 use crate::image::Image;
 use crate::judging::first_fault;
 use crate::places::{
-    data_at, functions_at, guards_at, name_length, sites_at, switches_at, variants_at, word,
-    words_end,
+    data_at, functions_at, guards_at, header_words, later_word, name_length, names, pointers_at,
+    points_at, sites_at, switches_at, targets_at, variants_at, word, words_end,
 };
-use mv_descriptors::{FunctionRow, GuardRow, Row, SiteRow, SwitchRow, VariantRow};
+use mv_descriptors::{
+    FunctionRow, GuardRow, PointRow, PointerRow, Row, SiteRow, SwitchRow, TargetRow, VariantRow,
+};
 use mv_num::bytes::words_of_bytes;
 use mv_num::list::List;
 use mv_num::text::Text;
@@ -91,6 +93,9 @@ struct Tables {
     variants: List<VariantRow>,
     guards: List<GuardRow>,
     sites: List<SiteRow>,
+    pointers: List<PointerRow>,
+    points: List<PointRow>,
+    targets: List<TargetRow>,
 }
 
 fn switches_part(alloc: Global, words: &List<u32>) -> Result<List<SwitchRow>, AllocError>
@@ -145,12 +150,42 @@ fn guards_part(alloc: Global, words: &List<u32>) -> Result<List<GuardRow>, Alloc
 
 fn sites_part(alloc: Global, words: &List<u32>) -> Result<List<SiteRow>, AllocError>
     requires { words_end words.now ≤ length words.now }
-    ensures words { IfOk result (λ rows. flat_map site_words rows ≡ slice_range words.now (sites_at words.now) (words_end words.now)) }
+    ensures words { IfOk result (λ rows. flat_map site_words rows ≡ slice_range words.now (sites_at words.now) (pointers_at words.now)) }
     ensures count { IfOk result (λ rows. length rows ≡ site_rows words.now) }
 {
     let slice = words.as_slice();
     let at = sites_at(slice);
     rows_part(alloc, words, at, word(slice, 9) as usize)
+}
+
+fn pointers_part(alloc: Global, words: &List<u32>) -> Result<List<PointerRow>, AllocError>
+    requires { words_end words.now ≤ length words.now }
+    ensures words { IfOk result (λ rows. flat_map pointer_words rows ≡ slice_range words.now (pointers_at words.now) (points_at words.now)) }
+    ensures count { IfOk result (λ rows. length rows ≡ pointer_rows words.now) }
+{
+    let slice = words.as_slice();
+    let at = pointers_at(slice);
+    rows_part(alloc, words, at, later_word(slice, 12) as usize)
+}
+
+fn points_part(alloc: Global, words: &List<u32>) -> Result<List<PointRow>, AllocError>
+    requires { words_end words.now ≤ length words.now }
+    ensures words { IfOk result (λ rows. flat_map point_words rows ≡ slice_range words.now (points_at words.now) (targets_at words.now)) }
+    ensures count { IfOk result (λ rows. length rows ≡ point_rows words.now) }
+{
+    let slice = words.as_slice();
+    let at = points_at(slice);
+    rows_part(alloc, words, at, later_word(slice, 13) as usize)
+}
+
+fn targets_part(alloc: Global, words: &List<u32>) -> Result<List<TargetRow>, AllocError>
+    requires { words_end words.now ≤ length words.now }
+    ensures words { IfOk result (λ rows. flat_map target_words rows ≡ slice_range words.now (targets_at words.now) (words_end words.now)) }
+    ensures count { IfOk result (λ rows. length rows ≡ target_rows words.now) }
+{
+    let slice = words.as_slice();
+    let at = targets_at(slice);
+    rows_part(alloc, words, at, later_word(slice, 14) as usize)
 }
 
 fn tables_part(alloc: Global, words: &List<u32>) -> Result<Tables, AllocError>
@@ -163,12 +198,18 @@ fn tables_part(alloc: Global, words: &List<u32>) -> Result<Tables, AllocError>
     let variants = variants_part(alloc, words)?;
     let guards = guards_part(alloc, words)?;
     let sites = sites_part(alloc, words)?;
+    let pointers = pointers_part(alloc, words)?;
+    let points = points_part(alloc, words)?;
+    let targets = targets_part(alloc, words)?;
     Ok(Tables {
         switches,
         functions,
         variants,
         guards,
         sites,
+        pointers,
+        points,
+        targets,
     })
 }
 
@@ -179,21 +220,26 @@ fn image_part(alloc: Global, words: &List<u32>, bytes: &[u8]) -> Result<Image, A
     ensures { IfOk result (λ image. Spells bytes.now image) }
 {
     let slice = words.as_slice();
-    let text = words_part(alloc, words, 12, word(slice, 3) as usize)?;
+    let text = words_part(alloc, words, header_words(slice), word(slice, 3) as usize)?;
     let globals = words_part(alloc, words, data_at(slice), word(slice, 4) as usize)?;
     let tables = tables_part(alloc, words)?;
-    let count = word(slice, 5) as usize + word(slice, 6) as usize;
-    let names = names_part(alloc, slice, bytes, count)?;
+    let names = names_part(alloc, slice, bytes, names(slice))?;
+    let version = word(slice, 1);
     let entry = word(slice, 2);
+    let check = later_word(slice, 15);
     let Tables {
         switches,
         functions,
         variants,
         guards,
         sites,
+        pointers,
+        points,
+        targets,
     } = tables;
     Ok(Image::new(
-        entry, text, globals, switches, functions, variants, guards, sites, names,
+        version, entry, text, globals, switches, functions, variants, guards, sites, pointers,
+        points, targets, check, names,
     ))
 }
 

@@ -3,8 +3,8 @@
 ghost use Rattle.std.specs.Prelude.{◌≡◌, ◌≤◌, ◌<◌, ◌+◌, ◌-◌, ◌*◌, ◌^◌, ◌++◌, ℕ, All, length, replicate, OnOk, IfOk};
 ghost use Rattle.std.specs.List.{flat_map};
 ghost use Rattle.mv_num.specs.Bytes.{bytes_of};
-ghost use Rattle.mv_image.specs.Spelling.{Fields, joined, header_of, words_in, names_in, spelling};
-ghost use Rattle.mv_descriptors.specs.Widths.{switch_words, function_words, variant_words, guard_words, site_words};
+ghost use Rattle.mv_image.specs.Spelling.{Fields, joined, header_of, later_of, words_in, names_in, spelling};
+ghost use Rattle.mv_descriptors.specs.Widths.{switch_words, function_words, variant_words, guard_words, site_words, pointer_words, point_words, target_words};
 ghost use Rattle.mv_image.specs.Faults.{Rules, Spells, CountsFit};
 
 use crate::image::Image;
@@ -42,16 +42,16 @@ fn push_zeros(to: &mut Vec<u8>, count: usize) -> Result<(), AllocError>
     Ok(())
 }
 
-/// The header of an image whose names have so many bytes.
-#[tactic(auto, unfolding(crate::specs::Spelling::header_of))]
-fn header(image: &Image, names: usize) -> [u32; 12]
+/// Puts the header of an image whose names have so many bytes.
+#[tactic(auto, unfolding(crate::specs::Spelling::header_of, crate::specs::Spelling::later_of))]
+fn push_header(to: &mut List<u32>, image: &Image, names: usize) -> Result<(), AllocError>
     requires counts { CountsFit image.now }
     requires names { names ≡ length (joined image.now.names) }
-    ensures { result ≡ header_of image.now }
+    ensures { OnOk result (to.new ≡ to.old ++ header_of image.now) }
 {
-    [
+    let front = [
         0x3149564D,
-        1,
+        image.version(),
         image.entry(),
         image.text().len() as u32,
         image.globals().len() as u32,
@@ -62,20 +62,34 @@ fn header(image: &Image, names: usize) -> [u32; 12]
         image.sites().len() as u32,
         names as u32,
         0,
-    ]
+    ];
+    push_all(to, &front)?;
+    if image.version() == 2 {
+        let later = [
+            image.pointers().len() as u32,
+            image.points().len() as u32,
+            image.targets().len() as u32,
+            image.check(),
+        ];
+        push_all(to, &later)?;
+    }
+    Ok(())
 }
 
 fn push_tables(to: &mut List<u32>, image: &Image) -> Result<(), AllocError>
     requires switches { All ⟦<SwitchRow as Row>⟧.is_clean image.now.switches }
     requires functions { All ⟦<FunctionRow as Row>⟧.is_clean image.now.functions }
     requires variants { All ⟦<VariantRow as Row>⟧.is_clean image.now.variants }
-    ensures { OnOk result (to.new ≡ to.old ++ flat_map switch_words image.now.switches ++ flat_map function_words image.now.functions ++ flat_map variant_words image.now.variants ++ flat_map guard_words image.now.guards ++ flat_map site_words image.now.sites) }
+    ensures { OnOk result (to.new ≡ to.old ++ flat_map switch_words image.now.switches ++ flat_map function_words image.now.functions ++ flat_map variant_words image.now.variants ++ flat_map guard_words image.now.guards ++ flat_map site_words image.now.sites ++ flat_map pointer_words image.now.pointers ++ flat_map point_words image.now.points ++ flat_map target_words image.now.targets) }
 {
     push_rows(to, image.switches().as_slice())?;
     push_rows(to, image.functions().as_slice())?;
     push_rows(to, image.variants().as_slice())?;
     push_rows(to, image.guards().as_slice())?;
-    push_rows(to, image.sites().as_slice())
+    push_rows(to, image.sites().as_slice())?;
+    push_rows(to, image.pointers().as_slice())?;
+    push_rows(to, image.points().as_slice())?;
+    push_rows(to, image.targets().as_slice())
 }
 
 /// The words of an image whose names have so many bytes.
@@ -86,7 +100,7 @@ fn words_of_image(alloc: Global, image: &Image, names: usize) -> Result<List<u32
     ensures { IfOk result (λ words. words ≡ words_in image.now) }
 {
     let mut words = List::new(alloc);
-    push_all(&mut words, &header(image, names))?;
+    push_header(&mut words, image, names)?;
     push_all(&mut words, image.text().as_slice())?;
     push_all(&mut words, image.globals().as_slice())?;
     push_tables(&mut words, image)?;

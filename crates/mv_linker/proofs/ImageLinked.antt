@@ -1,5 +1,5 @@
 -- What the linker asks of the rows and of the image that it makes.
-use Rattle.std.proofs.Common.{◌≡◌, ℕ, ◌+◌, ◌≤◌, ◌++◌, List, length, map, slice_index, All, refl, ap, sym, subst, ◌∙◌, arith}
+use Rattle.std.proofs.Common.{◌≡◌, ℕ, ◌+◌, ◌≤◌, ◌++◌, List, [], length, map, slice_index, All, refl, ap, sym, subst, ◌∙◌, arith}
 use Rattle.std.proofs.lemmas.List.{length-append, length-map}
 use Rattle.std.proofs.lemmas.List.Elements.{All-weaker}
 use Rattle.mv_asm.specs.Outcome.{ArePlaced}
@@ -8,6 +8,9 @@ use Rattle.mv_descriptors.specs.declared.rows.FunctionRow.{FunctionRow}
 use Rattle.mv_descriptors.specs.declared.rows.VariantRow.{VariantRow}
 use Rattle.mv_descriptors.specs.declared.rows.GuardRow.{GuardRow}
 use Rattle.mv_descriptors.specs.declared.rows.SiteRow.{SiteRow}
+use Rattle.mv_descriptors.specs.declared.rows.PointerRow.{PointerRow}
+use Rattle.mv_descriptors.specs.declared.rows.PointRow.{PointRow}
+use Rattle.mv_descriptors.specs.declared.rows.TargetRow.{TargetRow}
 use Rattle.mv_isa.specs.declared.labelled.Line.{Line}
 use Rattle.mv_isa.specs.Code.{address, label_address, text_start}
 use Rattle.mv_image.specs.Spelling.{Fields}
@@ -80,7 +83,7 @@ image_linked groups parts are tables sites few joined is words addresses placed 
 -- The image of the lists that the linker makes, given what it has read of the parts and of where lines and codes stand.
 pub made_linked : GroupsAreRows → (parts : Parts) (are : AreParts parts) (tables : FitTables parts) → HasFewSites parts → WithinLimit parts →
     (joined : Joined) (is : IsJoined parts joined) (words addresses : List ℕ) (placed : ArePlaced text_start joined.code.items words addresses) →
-    (starts globals : List ℕ) (switches : List SwitchRow) (functions : List FunctionRow) (variants : List VariantRow) (guards : List GuardRow) (sites : List SiteRow) (names : List (List ℕ)) →
+    (starts globals : List ℕ) (switches : List SwitchRow) (functions : List FunctionRow) (variants : List VariantRow) (guards : List GuardRow) (sites : List SiteRow) (pointers : List PointerRow) (points : List PointRow) (targets : List TargetRow) (names : List (List ℕ)) →
     (at entries from : List ℕ) (words_read : List Datum) (of_switches : List PartSwitch) (attributed : List PartFunction) (lines : List Line) (count : ℕ) →
     at ≡ addresses → entries ≡ joined.entries → from ≡ starts → words_read ≡ parts.globals → of_switches ≡ parts.switches → attributed ≡ parts.attributed → lines ≡ joined.code.items →
     count ≡ length parts.functions →
@@ -91,15 +94,16 @@ pub made_linked : GroupsAreRows → (parts : Parts) (are : AreParts parts) (tabl
     variants ≡ variant_rows (slice_index from) count (function_variants attributed) →
     guards ≡ guards_of (function_variants attributed) →
     sites ≡ sites_from (slice_index at) (attributed_numbers attributed) 0 lines →
+    pointers ≡ [] → points ≡ [] → targets ≡ [] →
     names ≡ map (λ (s : PartSwitch). s.name) of_switches ++ map (λ (a : PartFunction). a.name) attributed →
-    FitsFormat (record { entry = text_start; text = words; globals = globals; switches = switches; functions = functions; variants = variants; guards = guards; sites = sites; names = names })
-    × IsLinked parts (record { entry = text_start; text = words; globals = globals; switches = switches; functions = functions; variants = variants; guards = guards; sites = sites; names = names })
-made_linked groups parts are tables few_sites few_words joined is words addresses placed starts globals switches functions variants guards sites names
+    FitsFormat (record { version = 2; entry = text_start; text = words; globals = globals; switches = switches; functions = functions; variants = variants; guards = guards; sites = sites; pointers = pointers; points = points; targets = targets; check = 0; names = names })
+    × IsLinked parts (record { version = 2; entry = text_start; text = words; globals = globals; switches = switches; functions = functions; variants = variants; guards = guards; sites = sites; pointers = pointers; points = points; targets = targets; check = 0; names = names })
+made_linked groups parts are tables few_sites few_words joined is words addresses placed starts globals switches functions variants guards sites pointers points targets names
     at entries from words_read of_switches attributed lines count at_is entries_are from_is data_are of_switches_are attributed_are lines_are count_is
-    starts_made globals_made switches_made functions_made variants_made guards_made sites_made names_made =
+    starts_made globals_made switches_made functions_made variants_made guards_made sites_made pointers_made points_made targets_made names_made =
     let all_lines : lines ≡ linked_lines parts = lines_are ∙ is.lines in
     image_linked groups parts are tables few_sites few_words joined is words addresses placed starts (rw (← at_is, ← entries_are) starts_made) _
-    (rw (globals_made, switches_made, functions_made, variants_made, guards_made, sites_made, names_made, at_is, from_is, data_are, of_switches_are, attributed_are, all_lines, count_is) refl)
+    (rw (globals_made, switches_made, functions_made, variants_made, guards_made, sites_made, pointers_made, points_made, targets_made, names_made, at_is, from_is, data_are, of_switches_are, attributed_are, all_lines, count_is) refl)
 
 -- the slots of the joined code are those of the codes
 pub sites_counted : (parts : Parts) (joined : Joined) → IsJoined parts joined → (lines : List Line) (count : ℕ) → lines ≡ joined.code.items → count ≡ slot_count lines → count ≡ site_count parts

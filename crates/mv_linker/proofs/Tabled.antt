@@ -1,6 +1,6 @@
 -- The tables of linked parts fit the format of images.
-use Rattle.std.proofs.Common.{◌≡◌, ℕ, suc, ◌+◌, ◌<◌, ◌≤◌, ◌⊎◌, ◌++◌, List, [], ◌∷◌, Some, length, map, get_or, slice_get, slice_index, All, refl, ap, sym, subst, ◌∙◌, arith}
-use Rattle.std.proofs.lemmas.List.{length-map, map-append, get_or-map}
+use Rattle.std.proofs.Common.{◌≡◌, ℕ, suc, ◌+◌, ◌<◌, ◌≤◌, ◌⊎◌, ◌++◌, List, [], ◌∷◌, Some, length, map, get_or, slice_get, slice_index, All, inr, refl, ap, sym, subst, ◌∙◌, arith}
+use Rattle.std.proofs.lemmas.List.{append-nil, length-map, map-append, get_or-map}
 use Rattle.std.proofs.lemmas.List.Elements.{All-nil, All-cons, All-append, All-head, All-tail, All-map, All-weaker, All-from_get_or}
 use Rattle.std.proofs.lemmas.List.Sums.{get_or-le-sum_by}
 use Rattle.std.proofs.lemmas.Option.{slice_get-map, slice_get-get_or, get_or_from_slice_get}
@@ -239,7 +239,9 @@ module _ (parts : Parts) (are : AreParts parts) (tables : FitTables parts) (sizi
     lengths =
         map-append length (map (λ (s : PartSwitch). s.name) parts.switches) (map (λ (a : PartFunction). a.name) parts.attributed)
         ∙ ap (λ ls. ls ++ map length (map (λ (a : PartFunction). a.name) parts.attributed)) (switch_lengths parts.switches)
-        ∙ ap (λ ls. map (λ (row : SwitchRow). row.length) image.switches ++ ls) (function_lengths parts.attributed);
+        ∙ ap (λ ls. map (λ (row : SwitchRow). row.length) image.switches ++ ls) (function_lengths parts.attributed)
+        ∙ sym (append-nil (map (λ (row : SwitchRow). row.length) image.switches ++ map (λ (row : FunctionRow). row.length) image.functions))
+        ∙ sym (append-nil (map (λ (row : SwitchRow). row.length) image.switches ++ map (λ (row : FunctionRow). row.length) image.functions ++ []));
   }
     where
       switch_lengths : (switches : List PartSwitch) → map length (map (λ (s : PartSwitch). s.name) switches) ≡ map (λ (row : SwitchRow). row.length) (map switch_row switches)
@@ -266,6 +268,10 @@ module _ (parts : Parts) (are : AreParts parts) (tables : FitTables parts) (sizi
           variants = omega (arith, few.variants, tables.few_functions, variant_row_count entry (length parts.functions) (function_variants parts.attributed));
           guards = omega (arith, few.guards, tables.few_functions);
           sites = omega (arith, few_sites, site_length at numbers lines 0, slots_of_codes parts);
+          pointers = omega arith;
+          points = omega arith;
+          places = omega (arith, few_sites, site_length at numbers lines 0, slots_of_codes parts);
+          targets = omega arith;
           entry = record { aligned = refl; not_before = omega arith; within = omega (arith, some_words) };
         }
       where
@@ -280,13 +286,18 @@ module _ (parts : Parts) (are : AreParts parts) (tables : FitTables parts) (sizi
 
     pub tables_fit : FitsFormat image
     tables_fit = record {
+      version = record { known = inr refl; first = λ e. record { pointers = refl; points = refl; targets = refl; check = refl } };
       limits = within;
+      check = record { none = λ none. refl; check = λ some. absurd (omega (arith, some)); depth = λ some. absurd (omega (arith, some)) };
       fit = record {
         switches = All-map (FitsSwitch image) switch_row parts.switches (λ k d l. switch_fits image (length parts.globals) (omega (arith, length-map parts.globals (datum_word entry))) _ (tables.switches k d l));
         functions = function_rows_fit;
         variants = variant_rows_fit;
         guards = belongs.guards;
         sites = site_rows_fit;
+        pointers = λ k d lt. absurd (omega (arith, lt));
+        points = λ k d lt. absurd (omega (arith, lt));
+        targets = λ k d lt. absurd (omega (arith, lt));
       };
       unused = record {
         switches = All-map SwitchClean switch_row parts.switches (λ k d l. padded_zeros 16 (get_or parts.switches k d).values);
@@ -294,6 +305,14 @@ module _ (parts : Parts) (are : AreParts parts) (tables : FitTables parts) (sizi
         variants = variants_clean (length parts.functions) (function_variants parts.attributed);
       };
       sums = belongs.sums;
-      apart = record { entries = entries_ascend; sites = sites_ascend; outside = entries_outside };
+      apart = record {
+        entries = entries_ascend;
+        sites = sites_ascend;
+        outside = entries_outside;
+        points = λ k d lt. absurd (omega (arith, lt));
+        outside_points = λ f k d e hf hk. absurd (omega (arith, hk));
+        beside_points = λ j k d e hj hk. absurd (omega (arith, hk));
+        targets = λ k d lt. absurd (omega (arith, lt));
+      };
       names = named;
     }

@@ -1,5 +1,5 @@
 -- The image of parts, and why there is none.
-use Rattle.std.specs.Prelude.{ℕ, ◌<◌, ◌≤◌, ◌≡◌, List, ◌++◌, length, map}
+use Rattle.std.specs.Prelude.{ℕ, ◌<◌, ◌≤◌, ◌≡◌, List, [], ◌++◌, length, map}
 pub use Rattle.mv_num.specs.Limits.{site_limit}
 pub use Rattle.mv_num.specs.Regions.{data_limit}
 use Rattle.mv_isa.specs.Code.{IsLeast, address, label_address, text_start}
@@ -20,9 +20,10 @@ abbrev pub datum_word : (ℕ → ℕ) → Datum → ℕ
 datum_word address (Number n) = n
 datum_word address (Function f) = address f
 
--- the image of parts with some text, given the address of each code's entry and that of each line
+-- the image of parts with some text, in version 2, given the address of each code's entry and that of each line
 abbrev pub image_with : (address at : ℕ → ℕ) → (text : List ℕ) → Parts → Fields
 image_with address at text parts = record {
+  version = 2;
   entry = text_start;
   text = text;
   globals = map (datum_word address) parts.globals;
@@ -31,6 +32,10 @@ image_with address at text parts = record {
   variants = variant_rows address (length parts.functions) (function_variants parts.attributed);
   guards = guards_of (function_variants parts.attributed);
   sites = sites_from at (attributed_numbers parts.attributed) 0 (linked_lines parts);
+  pointers = [];
+  points = [];
+  targets = [];
+  check = 0;
   names = map (λ (s : PartSwitch). s.name) parts.switches ++ map (λ (a : PartFunction). a.name) parts.attributed;
 }
 

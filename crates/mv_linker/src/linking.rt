@@ -86,6 +86,7 @@ fn tabled(
     let sites = site_rows(alloc, attributed, joined.code.items.as_slice(), addresses)?;
     let names = names(alloc, parts.switches.as_slice(), attributed)?;
     Ok(Image::of_parts(
+        2,
         TEXT_START,
         placed.words,
         globals,
@@ -94,6 +95,10 @@ fn tabled(
         variants,
         guards,
         sites,
+        List::new(alloc),
+        List::new(alloc),
+        List::new(alloc),
+        0,
         names,
     ))
 }

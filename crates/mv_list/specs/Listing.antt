@@ -1,4 +1,4 @@
--- The listing of an image: its switches, its functions, each with its variants and their guard rows, and its sites.
+-- The listing of an image: its switches, its functions, each with its variants and their guard rows, its sites, and its pointer switches with their sites and targets.
 use Rattle.std.specs.Prelude.{ℕ, suc, zero, ◌+◌, ◌==◌, List, [], ◌∷◌, ◌++◌, codes, length, take, drop, slice_index, slice_index_or, if◌then◌else◌}
 use Rattle.std.specs.Fmt.{decimal}
 use Rattle.mv_num.specs.declared.kind.Kind.{Kind}
@@ -9,6 +9,9 @@ use Rattle.mv_descriptors.specs.declared.rows.FunctionRow.{FunctionRow}
 use Rattle.mv_descriptors.specs.declared.rows.VariantRow.{VariantRow}
 use Rattle.mv_descriptors.specs.declared.rows.GuardRow.{GuardRow}
 use Rattle.mv_descriptors.specs.declared.rows.SiteRow.{SiteRow}
+use Rattle.mv_descriptors.specs.declared.rows.PointerRow.{PointerRow}
+use Rattle.mv_descriptors.specs.declared.rows.PointRow.{PointRow}
+use Rattle.mv_descriptors.specs.declared.rows.TargetRow.{TargetRow}
 use Rattle.mv_image.specs.Spelling.{Fields}
 use Rattle.mv_image.specs.Patched.{kind_of}
 use Rattle.mv_list.specs.Numbers.{address_text, value_text}
@@ -22,6 +25,14 @@ switch_name image switch = slice_index_or image.names switch []
 -- those of the functions behind them
 abbrev pub function_name : Fields → ℕ → List ℕ
 function_name image function = slice_index_or (drop (length image.switches) image.names) function []
+
+-- then those of the pointer switches
+abbrev pub pointer_name : Fields → ℕ → List ℕ
+pointer_name image pointer = slice_index_or (drop (length image.functions) (drop (length image.switches) image.names)) pointer []
+
+-- and those of the targets
+abbrev pub target_name : Fields → ℕ → List ℕ
+target_name image target = slice_index_or (drop (length image.pointers) (drop (length image.functions) (drop (length image.switches) image.names))) target []
 
 unfoldable pub kind_name : Kind → List ℕ
 kind_name kinds.Bool = codes "_Bool"
@@ -124,8 +135,37 @@ unfoldable pub sites_text : Fields → List SiteRow → List ℕ
 sites_text image [] = []
 sites_text image (row ∷ rows) = site_line image row ++ sites_text image rows
 
+-- ---- pointer switches, each by its number
+
+unfoldable pub pointer_line : Fields → ℕ → PointerRow → List ℕ
+pointer_line image pointer row = codes "pointer " ++ (pointer_name image pointer ++ (codes " " ++ (address_text row.address ++ codes "\n")))
+
+unfoldable pub pointers_text : Fields → ℕ → List PointerRow → List ℕ
+pointers_text image n [] = []
+pointers_text image n (row ∷ rows) = pointer_line image n row ++ pointers_text image (n + 1) rows
+
+-- ---- pointer sites
+
+unfoldable pub point_line : Fields → PointRow → List ℕ
+point_line image row = codes "through " ++ (address_text row.address ++ (codes " " ++ (pointer_name image row.pointer ++ codes "\n")))
+
+unfoldable pub points_text : Fields → List PointRow → List ℕ
+points_text image [] = []
+points_text image (row ∷ rows) = point_line image row ++ points_text image rows
+
+-- ---- targets, each by its number
+
+unfoldable pub target_line : Fields → ℕ → TargetRow → List ℕ
+target_line image target row = codes "target " ++ (address_text row.entry ++ (codes " " ++ (target_name image target ++ codes "\n")))
+
+unfoldable pub targets_text : Fields → ℕ → List TargetRow → List ℕ
+targets_text image n [] = []
+targets_text image n (row ∷ rows) = target_line image n row ++ targets_text image (n + 1) rows
+
 -- ---- all together
 
 unfoldable pub listing_text : Fields → List ℕ
 listing_text image =
-    switches_text image 0 image.switches ++ (functions_text image 0 image.functions image.variants image.guards ++ sites_text image image.sites)
+    switches_text image 0 image.switches
+    ++ (functions_text image 0 image.functions image.variants image.guards
+    ++ (sites_text image image.sites ++ (pointers_text image 0 image.pointers ++ (points_text image image.points ++ targets_text image 0 image.targets))))

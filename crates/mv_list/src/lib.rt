@@ -16,6 +16,7 @@ mod lines;
 mod names;
 mod numbers;
 mod parts;
+mod pointers;
 mod switches;
 
 pub use bound::bindings;

@@ -6,6 +6,7 @@ ghost use Rattle.mv_list.specs.Listing.{site_line, sites_text, listing_text};
 use crate::functions::push_functions;
 use crate::names::function_name;
 use crate::numbers::push_address;
+use crate::pointers::{push_pointers, push_points, push_targets};
 use crate::switches::push_switches;
 use mv_descriptors::SiteRow;
 use mv_image::Image;
@@ -42,7 +43,7 @@ fn push_sites(alloc: Global, out: &mut Vec<u8>, image: &Image) -> Result<(), All
 }
 
 /// A line for each switch with its domain; for each attributed function, behind which stand its
-/// variants, each with its guard rows; and for each site.
+/// variants, each with its guard rows; for each site; and for each pointer switch, pointer site and target.
 #[tactic(auto, unfolding(crate::specs::Listing::listing_text))]
 pub fn listing(alloc: Global, image: &Image) -> Result<Vec<u8>, AllocError>
     ensures { IfOk result (λ text. text.items ≡ listing_text image.now) }
@@ -51,5 +52,8 @@ pub fn listing(alloc: Global, image: &Image) -> Result<Vec<u8>, AllocError>
     push_switches(alloc, &mut out, image)?;
     push_functions(alloc, &mut out, image)?;
     push_sites(alloc, &mut out, image)?;
+    push_pointers(alloc, &mut out, image)?;
+    push_points(alloc, &mut out, image)?;
+    push_targets(alloc, &mut out, image)?;
     Ok(out)
 }

@@ -1,8 +1,8 @@
-//! Names of switches, functions and kinds.
+//! Names of switches, functions, pointer switches, targets and kinds.
 
 ghost use Rattle.std.specs.Prelude.{◌≡◌, [], slice_index_or};
 ghost use Rattle.mv_image.specs.Patched.{kind_of};
-ghost use Rattle.mv_list.specs.Listing.{switch_name, function_name, kind_name};
+ghost use Rattle.mv_list.specs.Listing.{switch_name, function_name, pointer_name, target_name, kind_name};
 
 use crate::parts::behind;
 use mv_image::Image;
@@ -33,6 +33,23 @@ pub(crate) fn function_name(image: &Image, function: usize) -> &[u8]
 {
     let names = behind(image.names().as_slice(), image.switches().len());
     name_at(names, function)
+}
+
+/// The name of a pointer switch.
+pub(crate) fn pointer_name(image: &Image, pointer: usize) -> &[u8]
+    ensures { result.now ≡ pointer_name image.now pointer }
+{
+    let names = behind(image.names().as_slice(), image.switches().len());
+    name_at(behind(names, image.functions().len()), pointer)
+}
+
+/// The name of a target.
+pub(crate) fn target_name(image: &Image, target: usize) -> &[u8]
+    ensures { result.now ≡ target_name image.now target }
+{
+    let names = behind(image.names().as_slice(), image.switches().len());
+    let names = behind(names, image.functions().len());
+    name_at(behind(names, image.pointers().len()), target)
 }
 
 /// The number of the kind of a switch.

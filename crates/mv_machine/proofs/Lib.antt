@@ -4,9 +4,9 @@ pub mod Calls
 pub mod Walks
 pub mod Resumed
 pub mod Starts
-pub mod Plain
 pub mod Storing
 pub mod Telling
 pub mod Orders
 pub mod Leaving
 pub mod Opening
+mod Upgraded

@@ -14,7 +14,7 @@ use Rattle.mv_probe.specs.Ways.{Way, Follows, way_after}
 use Rattle.mv_machine.specs.declared.machine.Stopped.{Stopped}
 use Rattle.mv_machine.specs.declared.machine.Stopped.TheVariants as answer
 use Rattle.mv_machine.specs.Runs.{Stop, Going, Exit, Trap, Fault, State, Request, Reads, Writes, request_of, bytes_to_come, stopped, choices_at, fetched_step, turn, runs_from, executed}
-use Rattle.mv_machine.specs.Snapshots.{Snapshot, resumed, Under, Asks, Reached, Whole, Broken, Answered, WantsMemory, Ran, Unless, last_of, is_input_fault, is_output_fault}
+use Rattle.mv_machine.specs.Snapshots.{Snapshot, resumed, Under, Asks, Reached, Whole, Broken, Answered, WantsMemory, Ran, Unless, is_input_fault, is_output_fault}
 use Rattle.mv_machine.specs.Moves.{Seen, shown, Meets, Moves, Called, Wanting, Turns, Goes, Walked, FaultAt, input_failed, output_failed}
 use Rattle.mv_machine.proofs.Turns.{turn_by, turn_faults, runs_more, adds_by, executed_more, runs_over, executed_over, runs_append, IsOver}
 use Rattle.mv_machine.proofs.Moved.{SoFar, way_more, under_more, Joins, meets_more}
@@ -288,24 +288,6 @@ module _ (was is : Snapshot) (x y : Seen) (a : IsSeen was x) (b : IsSeen is y) (
       → Unless last (Ran steps result was is actions x.left y.left x.written y.written way way' A B Told)
   ran actions handed r result last e w f = unless last _
       (subst (λ (all : List Action). Ran steps result was is all x.left y.left x.written y.written way way' A B Told) handed (subst (λ (o : Stopped). Runs o) (sym e) (walked r w f)))
-
-abbrev is_fault : Option Stopped → Type 0
-is_fault (Some (answer.Fault pc why)) = Unit {0}
-is_fault _ = ⊥
-
-not_steps : (x y : Seen) (way way' : Option Way) (A B : Type 0) (Told : List Event → Type 0) → Turns (Some answer.Steps) x y way way' A B Told → ⊥
-not_steps x y way way' A B Told (inl t) = subst (λ (r : Option Stopped). is_fault r) (sym t.1) tt
-not_steps x y way way' A B Told (inr t) = t.3
-
-pub last_is : {P : Type 0} (Tell : P → P → List Event → Type 0) (p q : P) (steps : ℕ) (x y : Seen) (way way' : Option Way) (A B : Type 0) (r : Option Stopped) → Walked Tell p q steps r x y way way' A B → r ≡ last_of (unwrap_or r answer.Steps)
-last_is Tell p q steps x y way way' A B None w = refl
-last_is Tell p q steps x y way way' A B (Some (answer.Ended status)) w = refl
-last_is Tell p q steps x y way way' A B (Some (answer.Trapped code)) w = refl
-last_is Tell p q steps x y way way' A B (Some answer.Steps) w = absurd (not_steps w.1 y w.3 way' A B (Tell w.2 q) w.6)
-last_is Tell p q steps x y way way' A B (Some answer.InputFault) w = refl
-last_is Tell p q steps x y way way' A B (Some answer.OutputFault) w = refl
-last_is Tell p q steps x y way way' A B (Some (answer.Fault pc why)) w = refl
-last_is Tell p q steps x y way way' A B (Some answer.Memory) w = refl
 
 -- the device that the answer of a call of `run` names is the one that the last instruction names
 pub input_count : (r : Option Stopped) (result : Stopped) (before now : ℕ) → result ≡ unwrap_or r answer.Steps → CountAfter (input_failed r) before now → CountAfter (is_input_fault result) before now

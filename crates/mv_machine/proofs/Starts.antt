@@ -4,13 +4,7 @@ use Rattle.mv_bindings.specs.declared.action.Action.{Action}
 use Rattle.mv_bindings.specs.declared.binding.Binding.{Binding}
 use Rattle.mv_bindings.specs.Bindings.{free}
 use Rattle.mv_fetch.specs.Held.{Held, Room, first as first_memory}
-use Rattle.mv_descriptors.specs.declared.rows.SwitchRow.{SwitchRow}
-use Rattle.mv_descriptors.specs.declared.rows.FunctionRow.{FunctionRow}
-use Rattle.mv_descriptors.specs.declared.rows.VariantRow.{VariantRow}
-use Rattle.mv_descriptors.specs.declared.rows.GuardRow.{GuardRow}
-use Rattle.mv_descriptors.specs.declared.rows.SiteRow.{SiteRow}
 use Rattle.mv_image.specs.Spelling.{Fields}
-use Rattle.mv_image.specs.Format.{FitsFormat}
 use Rattle.mv_patch.specs.Tables.{patchable}
 use Rattle.mv_machine.specs.Acts.{polls_of}
 use Rattle.mv_machine.specs.declared.engine.Engine.{Engine}
@@ -47,12 +41,6 @@ started hart image same pc room bindings count n w p h s r e b c input =
 pub kept_start : (engine : Engine) (image : Fields) → ((input : List (Option ℕ)) → shown (seen engine [] None None) Going input [] [] ≡ first image input (record { hart = 0; acts = [] }))
     → kept (shown (seen engine [] None None) Going [] [] []) None ≡ kept (first image [] (polls_of [])) None
 kept_start engine image starts = ap (λ (s : State). kept s None) (starts [])
-
--- parts that are an image's fit the format
-pub copied_fits : (image : Fields) (entry : ℕ) (text globals : List ℕ) (switches : List SwitchRow) (functions : List FunctionRow) (variants : List VariantRow) (guards : List GuardRow) (sites : List SiteRow) (names : List (List ℕ))
-    → entry ≡ image.entry → text ≡ image.text → globals ≡ image.globals → switches ≡ image.switches → functions ≡ image.functions → variants ≡ image.variants → guards ≡ image.guards → sites ≡ image.sites → names ≡ image.names
-    → FitsFormat image → FitsFormat (record { entry = entry; text = text; globals = globals; switches = switches; functions = functions; variants = variants; guards = guards; sites = sites; names = names })
-copied_fits image entry text globals switches functions variants guards sites names e t g s f v u w n fits = rw (e, t, g, s, f, v, u, w, n) fits
 
 -- a run of a machine that has just been started is the run of its image
 pub first_state : (image : Fields) (input : List (Option ℕ)) (actions : List Action) → resumed (kept (first image [] (polls_of [])) None) input actions ≡ first image input (polls_of actions)

@@ -1,5 +1,5 @@
 -- Walks of one instruction after the other.
-use Rattle.std.proofs.Common.{ℕ, zero, suc, ◌≡◌, ◌<◌, ◌+◌, inl, inr, List, [], ◌∷◌, ◌++◌, length, Option, Some, None, option_map, unwrap_or, slice_get, option_and_then, refl, sym, ap, ap₂, ◌∙◌, subst, arith, append-nil}
+use Rattle.std.proofs.Common.{ℕ, zero, suc, ◌≡◌, ◌<◌, ◌+◌, inl, inr, List, [], ◌∷◌, ◌++◌, length, Option, Some, None, option_map, slice_get, option_and_then, refl, sym, ap, ap₂, ◌∙◌, subst, arith, append-nil}
 use Rattle.std.proofs.lemmas.List.{length-append}
 use Rattle.std.proofs.lemmas.Option.{none-some}
 use Rattle.mv_bindings.specs.declared.action.Action.{Action}
@@ -7,12 +7,12 @@ use Rattle.mv_bindings.specs.declared.binding.Event.{Event}
 use Rattle.mv_isa.specs.declared.instr.Cause.{Cause}
 use Rattle.mv_isa.specs.declared.instr.Cause.TheVariants as cause
 use Rattle.mv_isa.specs.Execution.{Goes as GoesTo, Calls, Faults, reg, step}
-use Rattle.mv_fetch.specs.Held.{Room, choices, only}
+use Rattle.mv_fetch.specs.Held.{Room, choices}
 use Rattle.mv_rv32.specs.Stepping.{access, picked_step, picked_target, word_target, Gives, Stays, Wants}
 use Rattle.mv_rv32.specs.declared.hart.Hart.{Hart}
 use Rattle.mv_rv32.specs.declared.hart.Stepped.{Stepped}
 use Rattle.mv_rv32.specs.declared.hart.Stepped.TheVariants as over
-use Rattle.mv_probe.specs.Ways.{Way, Follows, way_after}
+use Rattle.mv_probe.specs.Ways.{Way, way_after}
 use Rattle.mv_machine.specs.declared.engine.Engine.{Engine}
 use Rattle.mv_machine.specs.declared.machine.Stopped.{Stopped}
 use Rattle.mv_machine.specs.declared.machine.Stopped.TheVariants as answer
@@ -187,17 +187,6 @@ module _ (k : ℕ) (x : Seen) (e : Engine) (actions : List Action) (left written
       (turns_by (record e { hart = h; memory = r }) actions left written None (on hart' room') hart' room' w way' ⊥ ⊥ Behind over.Next g.4 (refl, refl, quiet)))
 
 -- ---- a step with the word that was fetched
-
-pub only_word : (words : List ℕ) (word : ℕ) → Some word ≡ only words → words ≡ word ∷ []
-only_word [] word e = absurd (none-some word (sym e))
-only_word (w ∷ []) word e = ap (λ (o : Option ℕ). unwrap_or o word ∷ []) (sym e)
-only_word (w ∷ v ∷ words) word e = absurd (none-some word (sym e))
-
-pub fetched_only : (words : List ℕ) (word pick : ℕ) (way way' : Option Way) → Some word ≡ only words → pick < 1 → Follows way way' 1 pick → Fetched (Some word) words way way'
-fetched_only words word pick way way' e lt follows =
-    let one : words ≡ word ∷ [] = only_word words word e in
-    let first : pick ≡ 0 = omega (arith, lt) in
-    subst (λ (ws : List ℕ). Fetched (Some word) ws way way') (sym one) (pick, lt, follows, ap (λ (p : ℕ). slice_get (word ∷ []) p) first)
 
 pub step_is : (room : Room) (pick word : ℕ) (regs : List ℕ) (pc : ℕ) → slice_get (choices room.held pc) pick ≡ Some word → picked_step room pick regs pc ≡ step access (Some word) regs pc room
 unfolding picked_step

@@ -5,3 +5,4 @@ pub mod Snapshots
 pub mod Moves
 pub mod Actions
 pub mod Acts
+pub mod Upgrades

@@ -19,12 +19,14 @@
 //!   has made, which `Machine` never does. `refuse` answers a call that changes nothing. `Operator` holds what polls take; `is_known` and `registers` tell what
 //!   stands before a call.
 //! - `specs/Commits.antt` says which commit is under way in a run. It is a definition for the laws above.
+//! - `laws::upgrade_law`: the runs of an image and of the image in version 2 differ in nothing but the image (`specs/Upgrades.antt`).
 //! - Only tested: that each pick is told the address of its instruction; two images that store over their own words under
 //!   three oracles, seven faults with their places, and an echo whose read or write fails (`mv_test_top`).
 #![tactic(auto)]
 
 mod call;
 mod engine;
+pub mod laws;
 mod machine;
 mod operator;
 mod patching;

@@ -9,49 +9,11 @@ use crate::engine::Engine;
 use mv_bindings::binding::Binding;
 use mv_fetch::Memory;
 use mv_image::Image;
-use mv_image::facts::{fits_format, within_limits};
+use mv_image::facts::within_limits;
 use mv_num::list::List;
-use mv_num::text::Text;
 use mv_patch::Plan;
 use mv_rv32::Hart;
 use std::alloc::{AllocError, Global};
-
-// The same names.
-fn copied_names(alloc: Global, names: &List<Text>) -> Result<List<Text>, AllocError>
-    ensures { IfOk result (λ copy. copy ≡ names.now) }
-{
-    let mut copy = List::new(alloc);
-    for name in names.as_slice() {
-        copy.push(Text::new(alloc, name.bytes())?)?;
-    }
-    Ok(copy)
-}
-
-// An image of the same parts.
-fn copied(alloc: Global, image: &Image) -> Result<Image, AllocError>
-    ensures { IfOk result (λ copy. copy ≡ image.now) }
-{
-    fits_format(image);
-    let text = image.text().copied(alloc)?;
-    let globals = image.globals().copied(alloc)?;
-    let switches = image.switches().copied(alloc)?;
-    let functions = image.functions().copied(alloc)?;
-    let variants = image.variants().copied(alloc)?;
-    let guards = image.guards().copied(alloc)?;
-    let sites = image.sites().copied(alloc)?;
-    let names = copied_names(alloc, image.names())?;
-    Ok(Image::of_parts(
-        image.entry(),
-        text,
-        globals,
-        switches,
-        functions,
-        variants,
-        guards,
-        sites,
-        names,
-    ))
-}
 
 // Functions that are all free, so many.
 fn all_free(alloc: Global, count: usize) -> Result<List<Binding>, AllocError>
@@ -71,7 +33,7 @@ impl Engine {
         let patchable = image.functions().len() + 2 * image.sites().len();
         Ok(Engine {
             number,
-            image: copied(alloc, image)?,
+            image: image.copied(alloc)?,
             hart: Hart {
                 regs: [0; 32],
                 pc: image.entry(),

@@ -6,7 +6,7 @@ use Rattle.std.proofs.lemmas.List.Elements.{All-head, All-tail}
 use Rattle.mv_machine.specs.Acts.{PollActs}
 use Rattle.mv_bindings.specs.Bindings.{free}
 use Rattle.mv_bindings.specs.declared.binding.Binding.{Binding}
-use Rattle.mv_fetch.specs.Held.{zeros, first as first_memory}
+use Rattle.mv_fetch.specs.Held.{zeros, older_at, first as first_memory}
 use Rattle.mv_image.specs.Spelling.{Fields}
 use Rattle.mv_image.specs.Patched.{Bindings, words_under, text_of}
 use Rattle.mv_ir.specs.World.{World}
@@ -18,7 +18,6 @@ use Rattle.mv_refine_machine.specs.MachineRuns.{rest_of}
 use Rattle.mv_refine_machine.specs.Laws.{IsFirst}
 use Rattle.mv_refine_machine.proofs.Calming.{calm_tested}
 use Rattle.mv_refine_machine.proofs.Fetches.{free_under}
-use Rattle.mv_machine.proofs.Plain.{none_older}
 
 -- ---- where all functions are free, the image's text stands
 
@@ -48,6 +47,12 @@ none_bound : (n : ℕ) → AreFree (values_of (replicate n free))
 none_bound zero function = refl
 none_bound (suc n) zero = refl
 none_bound (suc n) (suc function) = none_bound n function
+
+-- no word of text was stored yet
+pub none_older : (n i : ℕ) → older_at (replicate n []) i ≡ []
+none_older zero i = refl
+none_older (suc n) zero = refl
+none_older (suc n) (suc i) = none_older n i
 
 pub zeros_count : (n : ℕ) → length (zeros n) ≡ n
 unfolding zeros

@@ -47,7 +47,7 @@ use Rattle.mv_refine_machine.proofs.OfCommits.Stands.{StubStands, stub_stands}
 use Rattle.mv_refine_machine.proofs.OfCommits.Fetched.{executes, instr_is, plainly_sound, target_is}
 use Rattle.mv_refine_machine.proofs.OfCommits.Instrs.{return_goes}
 use Rattle.mv_refine_machine.proofs.OfCommits.Loop.{Commits, commits}
-use Rattle.mv_machine.proofs.Plain.{none_older}
+use Rattle.mv_refine_machine.proofs.Starts.{none_older}
 use Rattle.mv_isa.proofs.LineSteps.{add_four}
 
 -- ---- memory outside text

@@ -1,4 +1,4 @@
-use Rattle.mv_image.proofs.RowsStand.{counts_of, switch_is, function_is, variant_is, guard_is, site_is, text_is, globals_are, image_fits}
+use Rattle.mv_image.proofs.RowsStand.{counts_of, switch_is, function_is, variant_is, guard_is, site_is, pointer_is, point_is, target_is, text_is, globals_are, image_fits}
 use Rattle.mv_image.proofs.facts.rows_at_places.Goals as goal
 
 pub returns-clause-fit : goal.returns-clause-fit
@@ -27,3 +27,12 @@ returns-clause-guards c = guard_is c.args.image.now c.entry-entry.ensures.rules
 
 pub returns-clause-sites : goal.returns-clause-sites
 returns-clause-sites c = site_is c.args.image.now c.entry-entry.ensures.rules
+
+pub returns-clause-pointers : goal.returns-clause-pointers
+returns-clause-pointers c = pointer_is c.args.image.now c.entry-entry.ensures.rules
+
+pub returns-clause-points : goal.returns-clause-points
+returns-clause-points c = point_is c.args.image.now c.entry-entry.ensures.rules
+
+pub returns-clause-targets : goal.returns-clause-targets
+returns-clause-targets c = target_is c.args.image.now c.entry-entry.ensures.rules

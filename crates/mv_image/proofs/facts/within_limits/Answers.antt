@@ -33,3 +33,15 @@ returns-clause-entry_not_before c = (is_within c.args.image.now c.entry-entry.en
 
 pub returns-clause-entry_within : goal.returns-clause-entry_within
 returns-clause-entry_within c = (is_within c.args.image.now c.entry-entry.ensures.rules).entry.within
+
+pub returns-clause-pointers : goal.returns-clause-pointers
+returns-clause-pointers c = (is_within c.args.image.now c.entry-entry.ensures.rules).pointers
+
+pub returns-clause-points : goal.returns-clause-points
+returns-clause-points c = (is_within c.args.image.now c.entry-entry.ensures.rules).points
+
+pub returns-clause-places : goal.returns-clause-places
+returns-clause-places c = (is_within c.args.image.now c.entry-entry.ensures.rules).places
+
+pub returns-clause-targets : goal.returns-clause-targets
+returns-clause-targets c = (is_within c.args.image.now c.entry-entry.ensures.rules).targets

@@ -30,10 +30,10 @@ pub of_parts-requires : goal.of_parts-requires
 of_parts-requires c =
     (made_linked c.format_law.ensures.groups c.args.parts.now c.requires.parts c.requires.tables c.requires.sites c.requires.data c.args.joined.now c.requires.joined
     c.args.placed.words c.args.placed.addresses c.requires.placed c.in_ok-starts.starts c.in_ok-globals.globals c.in_ok-switches.switches c.in_ok-functions.functions
-    c.in_ok-variants.variants c.in_ok-guards.guards c.in_ok-sites.sites c.in_ok-names.names
+    c.in_ok-variants.variants c.in_ok-guards.guards c.in_ok-sites.sites c.new.result c.new-2.result c.new-3.result c.in_ok-names.names
     c.as_slice-addresses.result.now c.as_slice.result.now c.as_slice-starts.result.now c.as_slice-2.result.now c.as_slice-3.result.now c.as_slice-attributed.result.now c.as_slice-4.result.now c.len.result
     c.as_slice-addresses.ensures c.as_slice.ensures c.as_slice-starts.ensures c.as_slice-2.ensures c.as_slice-3.ensures c.as_slice-attributed.ensures c.as_slice-4.ensures c.len.ensures
-    c.in_ok-starts.ensures c.in_ok-globals.ensures c.in_ok-switches.ensures c.in_ok-functions.ensures c.in_ok-variants.ensures c.in_ok-guards.ensures c.in_ok-sites.ensures
+    c.in_ok-starts.ensures c.in_ok-globals.ensures c.in_ok-switches.ensures c.in_ok-functions.ensures c.in_ok-variants.ensures c.in_ok-guards.ensures c.in_ok-sites.ensures c.new.ensures c.new-2.ensures c.new-3.ensures
     (rw (c.as_slice-5.ensures, ← c.as_slice-3.ensures) at c.in_ok-names.ensures)).0
 
 pub returns : goal.returns
@@ -41,8 +41,8 @@ returns c =
     subst (IsLinked c.args.parts.now) (sym c.of_parts.ensures)
     (made_linked c.format_law.ensures.groups c.args.parts.now c.requires.parts c.requires.tables c.requires.sites c.requires.data c.args.joined.now c.requires.joined
     c.args.placed.words c.args.placed.addresses c.requires.placed c.in_ok-starts.starts c.in_ok-globals.globals c.in_ok-switches.switches c.in_ok-functions.functions
-    c.in_ok-variants.variants c.in_ok-guards.guards c.in_ok-sites.sites c.in_ok-names.names
+    c.in_ok-variants.variants c.in_ok-guards.guards c.in_ok-sites.sites c.new.result c.new-2.result c.new-3.result c.in_ok-names.names
     c.as_slice-addresses.result.now c.as_slice.result.now c.as_slice-starts.result.now c.as_slice-2.result.now c.as_slice-3.result.now c.as_slice-attributed.result.now c.as_slice-4.result.now c.len.result
     c.as_slice-addresses.ensures c.as_slice.ensures c.as_slice-starts.ensures c.as_slice-2.ensures c.as_slice-3.ensures c.as_slice-attributed.ensures c.as_slice-4.ensures c.len.ensures
-    c.in_ok-starts.ensures c.in_ok-globals.ensures c.in_ok-switches.ensures c.in_ok-functions.ensures c.in_ok-variants.ensures c.in_ok-guards.ensures c.in_ok-sites.ensures
+    c.in_ok-starts.ensures c.in_ok-globals.ensures c.in_ok-switches.ensures c.in_ok-functions.ensures c.in_ok-variants.ensures c.in_ok-guards.ensures c.in_ok-sites.ensures c.new.ensures c.new-2.ensures c.new-3.ensures
     (rw (c.as_slice-5.ensures, ← c.as_slice-3.ensures) at c.in_ok-names.ensures)).1

@@ -5,7 +5,7 @@ use Rattle.mv_image.proofs.image.Image.without_tables.Goals as goal
 
 pub of_parts-requires : goal.of_parts-requires
 of_parts-requires c =
-    subst FitsFormat (sym (bare_is c.args.entry c.args.text c.args.globals _ _ _ _ _ _ c.new.ensures c.new-2.ensures c.new-3.ensures c.new-4.ensures c.new-5.ensures c.new-6.ensures))
+    subst FitsFormat (sym (bare_is c.args.entry c.args.text c.args.globals _ _ _ _ _ _ _ _ _ c.new.ensures c.new-2.ensures c.new-3.ensures c.new-4.ensures c.new-5.ensures c.new-6.ensures c.new-7.ensures c.new-8.ensures c.new-9.ensures))
     (bare_fits c.args.entry c.args.text c.args.globals (record {
       aligned = c.requires.aligned;
       not_before = c.requires.not_before;
@@ -15,4 +15,4 @@ of_parts-requires c =
     }))
 
 pub returns : goal.returns
-returns c = c.of_parts.ensures ∙ bare_is c.args.entry c.args.text c.args.globals _ _ _ _ _ _ c.new.ensures c.new-2.ensures c.new-3.ensures c.new-4.ensures c.new-5.ensures c.new-6.ensures
+returns c = c.of_parts.ensures ∙ bare_is c.args.entry c.args.text c.args.globals _ _ _ _ _ _ _ _ _ c.new.ensures c.new-2.ensures c.new-3.ensures c.new-4.ensures c.new-5.ensures c.new-6.ensures c.new-7.ensures c.new-8.ensures c.new-9.ensures
