@@ -1,8 +1,10 @@
 #!/usr/bin/env python3
-"""What a commit saves and what it costs: run.py [saves|costs]..
+"""What a commit saves and what it costs: run.py [saves|forms|costs]..
 
 saves: guest instructions of 100,000 calls of an attributed function that tests a switch: free, bound by a commit, and with a constant in the place of the
 switch. The function with the constant keeps its attribute; it is told free and bound as well. One callee is inlined where it is bound, the other is called.
+forms: guest instructions of calls of an attributed function that tests two switches in one of the usual forms: free, bound by a commit, and bound with a body
+whose dead code was left out by hand.
 costs: what a commit takes as the sites grow, in guest instructions and in time of the host, where one word of each site changes, and where both do.
 
 Guest instructions are counted by the least step limit that is enough. Time is the processor's, of many commits less that of none, and the least of several runs.
@@ -23,6 +25,20 @@ SITES = (64, 256, 1_024, 4_096, 16_384)
 COMMITTED, RUNS = 2_621_440, 5
 # What the callee does where the switch is on: a store of its parameter is inlined, a sum is not.
 CALLEES = {"inlined": "sum = n;", "called": "sum += n;"}
+
+# Forms in which a callee tests its switches a and b, and, under values of these, its body without dead code.
+FORMS = (
+    ("if (a) sum += n;", {(0, 0): "", (1, 0): "sum += n;"}),
+    ("if (a || b) sum += n;", {(0, 0): "", (0, 1): "sum += n;", (1, 0): "sum += n;"}),
+    ("if (a && b) sum += n;", {(0, 1): "", (1, 0): "", (1, 1): "sum += n;"}),
+    ("if (a ? b : 0) sum += n;", {(0, 1): "", (1, 0): "", (1, 1): "sum += n;"}),
+    ("int on = a; if (on) sum += n;", {(0, 0): "", (1, 0): "sum += n;"}),
+    ("int on = a || b; if (on && n) sum += n;", {(0, 0): "", (1, 1): "if (n) sum += n;"}),
+    ("switch (a) { case 0: break; case 1: sum += n; }", {(0, 0): "", (1, 0): "sum += n;"}),
+    ("switch (a) { case 0: sum -= n; break; default: sum += n; }", {(0, 0): "sum -= n;", (1, 0): "sum += n;"}),
+    ("int i; int on = a; for (i = 0; i < 3; i++) if (on) sum += i;", {(0, 0): "int i; for (i = 0; i < 3; i++) ;", (1, 0): "int i; for (i = 0; i < 3; i++) sum += i;"}),
+    ("while (a) { sum += n; break; }", {(0, 0): "", (1, 0): "sum += n;"}),
+)
 
 
 def notes_of(source, *options):
@@ -61,11 +77,11 @@ def written(room, text):
     return file
 
 
-def calling(body, switch, commit):
-    """Returns a guest that makes the calls: its switch is declared so, and it commits or not."""
-    return f"""{switch}
+def calling(body, switches, commit):
+    """Returns a guest that makes the calls: the switches and the callee are so, and it commits or not."""
+    return f"""{switches}
 int sum;
-{MARK} void callee(int n) {{ if (on) {body} }}
+{MARK} void callee(int n) {{ {body} }}
 int main(void) {{
     int i;
     {commit}
@@ -92,10 +108,20 @@ def saves(room):
     switch, constant = f"{MARK} int on = 1;", "enum { on = 1 };"
     commit = "multiverse_commit();"
     for name, body in CALLEES.items():
-        forms = [(switch, ""), (switch, commit), (constant, ""), (constant, commit)]
-        free, bound, plain, folded = (instructions(written(room, calling(body, *form))) / CALLS for form in forms)
+        guests = [(switch, ""), (switch, commit), (constant, ""), (constant, commit)]
+        free, bound, plain, folded = (instructions(written(room, calling(f"if (on) {body}", *guest))) / CALLS for guest in guests)
         print(f"{name}: guest instructions a turn: free {free:.2f}, committed {bound:.2f}, constant {plain:.2f}, constant and committed {folded:.2f}; ", end="")
         print(f"committed by free {bound / free:.3f}, by constant {bound / plain:.3f}, by constant and committed {bound / folded:.3f}", flush=True)
+
+
+def forms(room):
+    for form, bodies in FORMS:
+        for (a, b), body in bodies.items():
+            switches = f"{MARK} int a = {a}; {MARK} int b = {b};"
+            guests = ((form, ""), (form, "multiverse_commit();"), (body, "multiverse_commit();"))
+            free, bound, by_hand = (instructions(written(room, calling(it, switches, commit))) / CALLS for it, commit in guests)
+            print(f"{form} under {a}, {b}: guest instructions a turn: free {free:.2f}, committed {bound:.2f}, ", end="")
+            print(f"by hand {by_hand:.2f}; committed by by hand {bound / by_hand:.3f}", flush=True)
 
 
 def costs(room):
@@ -115,8 +141,8 @@ def main(measures):
     if not os.access(PROGRAM, os.X_OK):
         sys.exit(f"no {PROGRAM}: .ci/run makes it")
     with tempfile.TemporaryDirectory() as room:
-        for measure in measures or ("saves", "costs"):
-            {"saves": saves, "costs": costs}[measure](room)
+        for measure in measures or ("saves", "forms", "costs"):
+            {"saves": saves, "forms": forms, "costs": costs}[measure](room)
 
 
 if __name__ == "__main__":

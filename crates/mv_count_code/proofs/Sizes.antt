@@ -13,13 +13,14 @@ use Rattle.mv_select_code.specs.Control.Encoded.{own_words, most_words}
 use Rattle.mv_select.specs.Functions.FunctionCode.{arrays_start}
 use Rattle.mv_lower_spec.specs.Functions.{lower_function}
 use Rattle.mv_lower_spec.specs.Shape.Law.{IsFunctionOf, LoweredAreSmall}
+use Rattle.mv_carry.specs.Carried.{IsCarried}
 use Rattle.mv_fold.specs.Folded.{IsFolded}
 use Rattle.mv_regalloc.specs.Intervals.{IsRenamed}
 use Rattle.mv_variants.specs.Bound.Meant.{MadeAreVariants}
 use Rattle.mv_variants.specs.Bound.Led.{BodiesAreMade}
 use Rattle.mv_variants.specs.Bound.Tables.{GroupsFit}
 use Rattle.mv_variants.proofs.OfBound.FewSlots.{one_and_more}
-use Rattle.mv_variants.proofs.OfBound.Measures.{bound_no_more, folded_no_more, renamed_no_more}
+use Rattle.mv_variants.proofs.OfBound.Measures.{bound_no_more, carried_no_more, folded_no_more, renamed_no_more}
 use Rattle.mv_select.specs.Laws.{greatest_length, SelectedIsEncoded}
 use Rattle.mv_count_code.specs.Sizes.{IsBodyOf, renamed, folded, bound, words_of, frame_count, CodeIsShort, LinesAreShort, VariantsAreShort, FramesFit, FramesPass, LoweredFramesPass}
 use Rattle.mv_count_code.proofs.OwnWords.{words_allowed, words_measured}
@@ -35,6 +36,12 @@ renamed_words_fewer : (body b : Body) → IsRenamed body b → most_words b.code
 renamed_words_fewer body b r =
     let own : own_words b.code ≤ own_words body.code = subst (λ c. own_words c ≤ own_words body.code) (sym (ap (λ (x : Body). x.code) r.changes)) (renamed_no_more words_measured r.numbers body.code) in
     let trees = r.tree_nodes in
+    omega (arith, own, trees)
+
+carried_words_fewer : (body b : Body) → IsCarried body b → most_words b.code ≤ most_words body.code
+carried_words_fewer body b h =
+    let own : own_words b.code ≤ own_words body.code = subst (λ c. own_words c ≤ own_words body.code) (sym h.code) (carried_no_more words_measured body.temps body.code) in
+    let trees = h.smaller.tree_nodes in
     omega (arith, own, trees)
 
 folded_words_fewer : (body b : Body) → IsFolded body b → most_words b.code ≤ most_words body.code
@@ -62,7 +69,7 @@ module _ (made : MadeAreVariants) where
       in
       let trees = m.is_bound.tree_nodes in
       record {
-        words = omega (arith, own, trees, folded_words_fewer m.bound m.folded m.is_folded, renamed_words_fewer m.folded b m.is_renamed);
+        words = omega (arith, own, trees, carried_words_fewer m.bound m.carried m.is_carried, folded_words_fewer m.carried m.folded m.is_folded, renamed_words_fewer m.folded b m.is_renamed);
         temps = variant.temps;
         sizes = variant.sizes;
       }

@@ -176,19 +176,19 @@ ended_thinner (s ∷ xs) = cut_thinner s xs (ended xs) (jumps s) refl (ended_thi
 
 -- ---- trees
 
-abbrev NoMoreRead : Tree → Tree → Type 0
+abbrev pub NoMoreRead : Tree → Tree → Type 0
 NoMoreRead x y = (t : ℕ) → Implies every t (reads_temp t x) (reads_temp t y)
 
-number_reads : (n : ℕ) (x : Tree) → NoMoreRead x (number n)
+pub number_reads : (n : ℕ) (x : Tree) → NoMoreRead x (number n)
 number_reads n x t e = from_falsity (sym (reads_temp_roll t (tree.Number n)) ∙ e)
 
-abbrev IsTree : Tree → Type 0
+abbrev pub IsTree : Tree → Type 0
 IsTree x = NoMoreRead x (simple_tree x)
 
-abbrev LayerReads : Tree-F Tree → Tree-F Tree → Type 0
+abbrev pub LayerReads : Tree-F Tree → Tree-F Tree → Type 0
 LayerReads x y = (t : ℕ) → layer_reads_temp t (map-Tree Tree Bool (reads_temp t) y) ≡ true → layer_reads_temp t (map-Tree Tree Bool (reads_temp t) x) ≡ true
 
-node_reads : (x y : Tree-F Tree) → LayerReads x y → NoMoreRead (roll-Tree x) (roll-Tree y)
+pub node_reads : (x y : Tree-F Tree) → LayerReads x y → NoMoreRead (roll-Tree x) (roll-Tree y)
 node_reads x y h t e = (reads_temp_roll t x ∙ h t (sym (reads_temp_roll t y) ∙ e), refl)
 
 unary_reads : (o : ℕ) (a : Tree) (c : Option ℕ) → IsTree a → NoMoreRead (roll-Tree (tree.Unary o a)) (one_or c (unary o) (roll-Tree (tree.Unary o (simple_tree a))))
@@ -220,7 +220,7 @@ tree_layer (tree.Unary o a) h = to_tree (tree.Unary o a) (unary_reads o a (const
 tree_layer (tree.Binary o a b) h = to_tree (tree.Binary o a b) (binary_reads o a b (constant (simple_tree a)) (constant (simple_tree b)) h.0 h.1)
 tree_layer (tree.Narrow k a) h = to_tree (tree.Narrow k a) (narrow_reads k a (constant (simple_tree a)) h)
 
-tree_reads_less : (x : Tree) → IsTree x
+pub tree_reads_less : (x : Tree) → IsTree x
 tree_reads_less = tree_ind IsTree tree_layer
 
 abbrev Less : List Tree → List Tree → Type 0
@@ -268,10 +268,10 @@ kids_thin (s ∷ b) h = thinner_append every (s ∷ []) (simple_stm s) b (joined
 code_thin : (b : List Stm) → Each IsThin b → Thinner b (simple_code b)
 code_thin b h = thinner_trans every b (joined (map simple_stm b)) (simple_code b) (kids_thin b h) (ended_thinner (joined (map simple_stm b)))
 
-abbrev thin_one : (x y : Stm-F Stm) → Thins every (true ∷ []) (flow_of_layer x) (flow_of_layer y) → Thinner (roll-Stm x ∷ []) (alone y)
+abbrev pub thin_one : (x y : Stm-F Stm) → Thins every (true ∷ []) (flow_of_layer x) (flow_of_layer y) → Thinner (roll-Stm x ∷ []) (alone y)
 thin_one x y h = thinner_one every x y (true ∷ []) h
 
-next_thins : (ts ts' : List Tree) (writes : Option ℕ) → Less ts ts' → Thins every (true ∷ []) (λ t. plain t ts writes goes_next) (λ t. plain t ts' writes goes_next)
+pub next_thins : (ts ts' : List Tree) (writes : Option ℕ) → Less ts ts' → Thins every (true ∷ []) (λ t. plain t ts writes goes_next) (λ t. plain t ts' writes goes_next)
 next_thins ts ts' writes h = plain_thins every ts ts' writes goes_next h (on_next every)
 
 division_thin : (c d : Option ℕ) (t o : ℕ) (a b : Tree) → Thinner (roll-Stm (stm.Divide t o a b) ∷ []) (division c d t o (simple_tree a) (simple_tree b))

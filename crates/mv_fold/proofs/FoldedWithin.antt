@@ -30,10 +30,10 @@ use Rattle.mv_fold.proofs.Within.{Among, among_append, none_among, Amount, Less,
 
 -- ---- trees
 
-abbrev of_tree : Tree → Amount
+abbrev pub of_tree : Tree → Amount
 of_tree t = record { nodes = nodes t; depth = depth t; reads = tree_reads t; statements = 0; calls = 0; arrays = [] }
 
-abbrev of_node : Tree-F Tree → Amount
+abbrev pub of_node : Tree-F Tree → Amount
 of_node x = record {
   nodes = node_count (map-Tree Tree ℕ nodes x);
   depth = node_depth (map-Tree Tree ℕ depth x);
@@ -46,10 +46,10 @@ of_node x = record {
 of_tree_roll : (x : Tree-F Tree) → of_tree (roll-Tree x) ≡ of_node x
 of_tree_roll x = λ i. record { nodes = nodes_roll x i; depth = depth_roll x i; reads = reads_roll x i; statements = 0; calls = 0; arrays = [] }
 
-nodes_less : (x y : Tree-F Tree) → Less (of_node y) (of_node x) → Less (of_tree (roll-Tree y)) (of_tree (roll-Tree x))
+pub nodes_less : (x y : Tree-F Tree) → Less (of_node y) (of_node x) → Less (of_tree (roll-Tree y)) (of_tree (roll-Tree x))
 nodes_less x y h = subst (λ a. Less a (of_tree (roll-Tree x))) (sym (of_tree_roll y)) (subst (Less (of_node y)) (sym (of_tree_roll x)) h)
 
-number_less : (n : ℕ) (t : Tree) → Less (of_tree (number n)) (of_tree t)
+pub number_less : (n : ℕ) (t : Tree) → Less (of_tree (number n)) (of_tree t)
 number_less n t = subst (λ a. Less a (of_tree t)) (sym (of_tree_roll (tree.Number n))) (record {
   nodes = nodes_some t;
   depth = depth_positive t;
@@ -59,7 +59,7 @@ number_less n t = subst (λ a. Less a (of_tree t)) (sym (of_tree_roll (tree.Numb
   arrays = none_among [];
 })
 
-abbrev TreeLess : Tree → Type 0
+abbrev pub TreeLess : Tree → Type 0
 TreeLess t = Less (of_tree (simple_tree t)) (of_tree t)
 
 unary_less : (o : ℕ) (a : Tree) (c : Option ℕ) → TreeLess a → Less (of_tree (one_or c (unary o) (roll-Tree (tree.Unary o (simple_tree a))))) (of_tree (roll-Tree (tree.Unary o a)))
@@ -98,15 +98,15 @@ less_layer (tree.Unary o a) h = to_less (tree.Unary o a) (unary_less o a (consta
 less_layer (tree.Binary o a b) h = to_less (tree.Binary o a b) (binary_less o a b (constant (simple_tree a)) (constant (simple_tree b)) h.0 h.1)
 less_layer (tree.Narrow k a) h = to_less (tree.Narrow k a) (narrow_less k a (constant (simple_tree a)) h)
 
-tree_less : (t : Tree) → TreeLess t
+pub tree_less : (t : Tree) → TreeLess t
 tree_less = tree_ind TreeLess less_layer
 
 -- ---- lists of trees
 
-abbrev TreesLess : List Tree → List Tree → Type 0
+abbrev pub TreesLess : List Tree → List Tree → Type 0
 TreesLess ts us = Less (of_trees ts) (of_trees us)
 
-cons_less : (t u : Tree) (ts us : List Tree) → Less (of_tree t) (of_tree u) → TreesLess ts us → TreesLess (t ∷ ts) (u ∷ us)
+pub cons_less : (t u : Tree) (ts us : List Tree) → Less (of_tree t) (of_tree u) → TreesLess ts us → TreesLess (t ∷ ts) (u ∷ us)
 cons_less t u ts us h k = less_with (of_tree t) (of_tree u) (of_trees ts) (of_trees us) h k
 
 one_less : (t : Tree) → TreesLess (simple_tree t ∷ []) (t ∷ [])
@@ -139,11 +139,11 @@ trees_of x = layer_trees (map-Stm Stm (List Tree) stm_trees x)
 abbrev arrays_of : Stm-F Stm → List ℕ
 arrays_of x = layer_arrays (map-Stm Stm (List ℕ) stm_arrays x)
 
-leaf : (x y : Stm-F Stm) → TreesLess (trees_of y) (trees_of x) → layer_size (map-Stm Stm ℕ stm_size y) ≤ layer_size (map-Stm Stm ℕ stm_size x) → layer_calls (map-Stm Stm ℕ stm_calls y) ≤ layer_calls (map-Stm Stm ℕ stm_calls x) → Among (arrays_of y) (arrays_of x) → Within (roll-Stm x ∷ []) (alone y)
+pub leaf : (x y : Stm-F Stm) → TreesLess (trees_of y) (trees_of x) → layer_size (map-Stm Stm ℕ stm_size y) ≤ layer_size (map-Stm Stm ℕ stm_size x) → layer_calls (map-Stm Stm ℕ stm_calls y) ≤ layer_calls (map-Stm Stm ℕ stm_calls x) → Among (arrays_of y) (arrays_of x) → Within (roll-Stm x ∷ []) (alone y)
 leaf x y t s c a = within_one x y (record { nodes = t.nodes; depth = t.depth; reads = t.reads; statements = s; calls = c; arrays = a })
 
 -- a loop or a block
-inside : (x y : Stm-F Stm) (b b' : List Stm) → layer_amount x ≡ with (record { nodes = 0; depth = 0; reads = []; statements = 1; calls = 0; arrays = [] }) (amount b) → layer_amount y ≡ with (record { nodes = 0; depth = 0; reads = []; statements = 1; calls = 0; arrays = [] }) (amount b') → Within b b' → Within (roll-Stm x ∷ []) (alone y)
+pub inside : (x y : Stm-F Stm) (b b' : List Stm) → layer_amount x ≡ with (record { nodes = 0; depth = 0; reads = []; statements = 1; calls = 0; arrays = [] }) (amount b) → layer_amount y ≡ with (record { nodes = 0; depth = 0; reads = []; statements = 1; calls = 0; arrays = [] }) (amount b') → Within b b' → Within (roll-Stm x ∷ []) (alone y)
 inside x y b b' e f h =
     let one : Amount = record { nodes = 0; depth = 0; reads = []; statements = 1; calls = 0; arrays = [] } in
     within_one x y (subst (λ a. Less a (layer_amount x)) (sym f) (subst (Less (with one (amount b'))) (sym e) (less_with one one (amount b') (amount b) (less_refl one) h)))
@@ -157,10 +157,10 @@ none_max n = omega arith
 one_plus : (n : ℕ) → suc n ≡ 1 + n
 one_plus n = omega arith
 
-loop_amount : (b : List Stm) → layer_amount (stm.Loop b) ≡ with (record { nodes = 0; depth = 0; reads = []; statements = 1; calls = 0; arrays = [] }) (amount b)
+pub loop_amount : (b : List Stm) → layer_amount (stm.Loop b) ≡ with (record { nodes = 0; depth = 0; reads = []; statements = 1; calls = 0; arrays = [] }) (amount b)
 loop_amount b = λ i. record { nodes = none_plus (amount b).nodes i; depth = none_max (amount b).depth i; reads = (amount b).reads; statements = one_plus (amount b).statements i; calls = none_plus (amount b).calls i; arrays = (amount b).arrays }
 
-block_amount : (b : List Stm) → layer_amount (stm.Block b) ≡ with (record { nodes = 0; depth = 0; reads = []; statements = 1; calls = 0; arrays = [] }) (amount b)
+pub block_amount : (b : List Stm) → layer_amount (stm.Block b) ≡ with (record { nodes = 0; depth = 0; reads = []; statements = 1; calls = 0; arrays = [] }) (amount b)
 block_amount b = λ i. record { nodes = none_plus (amount b).nodes i; depth = none_max (amount b).depth i; reads = (amount b).reads; statements = one_plus (amount b).statements i; calls = none_plus (amount b).calls i; arrays = (amount b).arrays }
 
 abbrev chooser : Tree → Amount
@@ -179,7 +179,7 @@ if_amount t a b = λ i. record {
     both : of_trees (trees a ++ trees b) ≡ with (of_trees (trees a)) (of_trees (trees b))
     both = of_trees_append (trees a) (trees b)
 
-if_within : (t t' : Tree) (a a' b b' : List Stm) → Less (of_tree t') (of_tree t) → Within a a' → Within b b' → Within (roll-Stm (stm.If t a b) ∷ []) (alone (stm.If t' a' b'))
+pub if_within : (t t' : Tree) (a a' b b' : List Stm) → Less (of_tree t') (of_tree t) → Within a a' → Within b b' → Within (roll-Stm (stm.If t a b) ∷ []) (alone (stm.If t' a' b'))
 if_within t t' a a' b b' h ha hb =
     let head : Less (chooser t') (chooser t) = record { nodes = h.nodes; depth = h.depth; reads = h.reads; statements = omega arith; calls = omega arith; arrays = none_among [] } in
     within_one (stm.If t a b) (stm.If t' a' b') (subst (λ x. Less x (layer_amount (stm.If t a b))) (sym (if_amount t' a' b')) (subst (Less (with (chooser t') (with (amount a') (amount b')))) (sym (if_amount t a b))

@@ -31,17 +31,17 @@ use Rattle.mv_num.proofs.Lists.{length_map}
 
 -- ---- what is asked of code
 
-record Facts : Type 0 where
-  targets : List Bool → Bool
-  arguments : Bool
-  named : (Array → Bool) → Bool
+pub record Facts : Type 0 where
+  pub targets : List Bool → Bool
+  pub arguments : Bool
+  pub named : (Array → Bool) → Bool
 
-record Keep (a b : Facts) : Type 0 where
-  targets : (around : List Bool) → a.targets around ≡ true → b.targets around ≡ true
-  arguments : a.arguments ≡ true → b.arguments ≡ true
-  named : (p : Array → Bool) → a.named p ≡ true → b.named p ≡ true
+pub record Keep (a b : Facts) : Type 0 where
+  pub targets : (around : List Bool) → a.targets around ≡ true → b.targets around ≡ true
+  pub arguments : a.arguments ≡ true → b.arguments ≡ true
+  pub named : (p : Array → Bool) → a.named p ≡ true → b.named p ≡ true
 
-keep_refl : (a : Facts) → Keep a a
+pub keep_refl : (a : Facts) → Keep a a
 keep_refl a = record { targets = λ r e. e; arguments = λ e. e; named = λ p e. e }
 
 keep_trans : (a b c : Facts) → Keep a b → Keep b c → Keep a c
@@ -76,7 +76,7 @@ keep_second a b = record {
 
 -- ---- of lists and of statements
 
-abbrev facts : List Stm → Facts
+abbrev pub facts : List Stm → Facts
 facts code = record { targets = all_around (map stm_targets code); arguments = all_true (map stm_arguments code); named = λ p. all_true (map p (named code)) }
 
 and_assoc : (a b c : Bool) → ((a && b) && c) ≡ (a && (b && c))
@@ -104,7 +104,7 @@ facts_append xs ys = λ i. record {
   named = λ p. (ap (λ l. all_true (map p l)) (named_append xs ys) ∙ arrays_append p (named xs) (named ys)) i;
 }
 
-abbrev layer_facts : Stm-F Stm → Facts
+abbrev pub layer_facts : Stm-F Stm → Facts
 layer_facts x = record {
   targets = layer_targets (map-Stm Stm (List Bool → Bool) stm_targets x);
   arguments = layer_arguments (map-Stm Stm Bool stm_arguments x);
@@ -118,10 +118,10 @@ facts_one x = λ i. record {
   named = λ p. (arrays_append p (stm_named (roll-Stm x)) [] ∙ and_true (all_true (map p (stm_named (roll-Stm x)))) ∙ ap (λ l. all_true (map p l)) (named_roll x)) i;
 }
 
-abbrev Kept : List Stm → List Stm → Type 0
+abbrev pub Kept : List Stm → List Stm → Type 0
 Kept xs ys = Keep (facts xs) (facts ys)
 
-kept_append : (xs xs' ys ys' : List Stm) → Kept xs xs' → Kept ys ys' → Kept (xs ++ ys) (xs' ++ ys')
+pub kept_append : (xs xs' ys ys' : List Stm) → Kept xs xs' → Kept ys ys' → Kept (xs ++ ys) (xs' ++ ys')
 kept_append xs xs' ys ys' h k =
     subst (λ a. Keep a (facts (xs' ++ ys'))) (sym (facts_append xs ys)) (subst (Keep (both (facts xs) (facts ys))) (sym (facts_append xs' ys')) (keep_both (facts xs) (facts xs') (facts ys) (facts ys') h k))
 
@@ -135,7 +135,7 @@ kept_nothing : (xs : List Stm) → Kept xs []
 kept_nothing xs = record { targets = λ r e. refl; arguments = λ e. refl; named = λ p e. refl }
 
 -- two layers that ask the same
-alike : (x y : Stm-F Stm) → layer_facts x ≡ layer_facts y → Kept (roll-Stm x ∷ []) (alone y)
+pub alike : (x y : Stm-F Stm) → layer_facts x ≡ layer_facts y → Kept (roll-Stm x ∷ []) (alone y)
 alike x y e = kept_one x y (subst (Keep (layer_facts x)) e (keep_refl (layer_facts x)))
 
 if_facts : (t : Tree) (a b : List Stm) → layer_facts (stm.If t a b) ≡ both (facts a) (facts b)
@@ -145,17 +145,17 @@ if_facts t a b = λ i. record {
   named = λ p. arrays_append p (named a) (named b) i;
 }
 
-if_kept : (t t' : Tree) (a a' b b' : List Stm) → Kept a a' → Kept b b' → Kept (roll-Stm (stm.If t a b) ∷ []) (alone (stm.If t' a' b'))
+pub if_kept : (t t' : Tree) (a a' b b' : List Stm) → Kept a a' → Kept b b' → Kept (roll-Stm (stm.If t a b) ∷ []) (alone (stm.If t' a' b'))
 if_kept t t' a a' b b' h k =
     kept_one (stm.If t a b) (stm.If t' a' b') (subst (λ f. Keep f (layer_facts (stm.If t' a' b'))) (sym (if_facts t a b)) (subst (Keep (both (facts a) (facts b))) (sym (if_facts t' a' b')) (keep_both (facts a) (facts a') (facts b) (facts b') h k)))
 
 side_kept : (t : Tree) (a b c : List Stm) → Keep (both (facts a) (facts b)) (facts c) → Kept (roll-Stm (stm.If t a b) ∷ []) c
 side_kept t a b c h = kept_many (stm.If t a b) c (subst (λ f. Keep f (facts c)) (sym (if_facts t a b)) h)
 
-loop_kept : (b b' : List Stm) → Kept b b' → Kept (roll-Stm (stm.Loop b) ∷ []) (alone (stm.Loop b'))
+pub loop_kept : (b b' : List Stm) → Kept b b' → Kept (roll-Stm (stm.Loop b) ∷ []) (alone (stm.Loop b'))
 loop_kept b b' h = kept_one (stm.Loop b) (stm.Loop b') (record { targets = λ r. h.targets (true ∷ r); arguments = h.arguments; named = h.named })
 
-block_kept : (b b' : List Stm) → Kept b b' → Kept (roll-Stm (stm.Block b) ∷ []) (alone (stm.Block b'))
+pub block_kept : (b b' : List Stm) → Kept b b' → Kept (roll-Stm (stm.Block b) ∷ []) (alone (stm.Block b'))
 block_kept b b' h = kept_one (stm.Block b) (stm.Block b') (record { targets = λ r. h.targets (false ∷ r); arguments = h.arguments; named = h.named })
 
 -- ---- constants computed
@@ -193,10 +193,10 @@ choice_kept (Some (suc n)) t a b ha hb = side_kept t a b (simple_code a) (keep_t
 same_length : (args : List Tree) → length args ≡ length (map simple_tree args)
 same_length args = sym (length_map simple_tree args)
 
-abbrev asked : (ℕ → Bool) → ℕ → List Array → Facts
+abbrev pub asked : (ℕ → Bool) → ℕ → List Array → Facts
 asked b n arrays = record { targets = λ r. true; arguments = b n; named = λ p. all_true (map p arrays) }
 
-with_arguments : (x y : Stm-F Stm) (b : ℕ → Bool) (arrays : List Array) (n m : ℕ) → layer_facts x ≡ asked b n arrays → layer_facts y ≡ asked b m arrays → n ≡ m → Kept (roll-Stm x ∷ []) (alone y)
+pub with_arguments : (x y : Stm-F Stm) (b : ℕ → Bool) (arrays : List Array) (n m : ℕ) → layer_facts x ≡ asked b n arrays → layer_facts y ≡ asked b m arrays → n ≡ m → Kept (roll-Stm x ∷ []) (alone y)
 with_arguments x y b arrays n m e f same = alike x y (e ∙ ap (λ k. asked b k arrays) same ∙ sym f)
 
 -- the same pointer switch is named
@@ -289,14 +289,9 @@ true_all : (p : ℕ → Bool) (ys : List ℕ) → ((y : ℕ) → Contains ys y �
 true_all p [] h = refl
 true_all p (y ∷ ys) h = ap (λ b. b && all_true (map p ys)) (h y (cons_head y ys y refl)) ∙ true_all p ys (λ z c. h z (cons_tail y ys z c))
 
-pub folded_well_formed : (b : Body) (needed : ℕ → Bool) → (HasTemps b → HasTemps (record b { code = needed_code needed (simple_body b.temps b.code) })) → IsNoGreater b.code (needed_code needed (simple_body b.temps b.code)) →
-    IsWellFormed b → IsWellFormed (record b { code = needed_code needed (simple_body b.temps b.code) })
-folded_well_formed b needed temps less w =
-    let simple = simple_code b.code in
-    let short = simple_body b.temps b.code in
-    let code = needed_code needed short in
-    let shorter = keep_trans (facts b.code) (facts simple) (facts short) (simple_kept b.code) (short_kept b.temps simple) in
-    let kept = keep_trans (facts b.code) (facts short) (facts code) shorter (needed_kept needed short) in
+-- code in which no jump loses its target, no name its room and no call its arguments, with no more of all that is counted
+pub code_well_formed : (b : Body) (code : List Stm) → Kept b.code code → (HasTemps b → HasTemps (record b { code = code })) → IsNoGreater b.code code → IsWellFormed b → IsWellFormed (record b { code = code })
+code_well_formed b code kept temps less w =
     record {
       temps = temps w.temps;
       params = w.params;
@@ -306,3 +301,13 @@ folded_well_formed b needed temps less w =
       arguments = kept.arguments w.arguments;
       size = omega (arith, w.size, less.statements, less.tree_nodes);
     }
+
+pub folded_well_formed : (b : Body) (needed : ℕ → Bool) → (HasTemps b → HasTemps (record b { code = needed_code needed (simple_body b.temps b.code) })) → IsNoGreater b.code (needed_code needed (simple_body b.temps b.code)) →
+    IsWellFormed b → IsWellFormed (record b { code = needed_code needed (simple_body b.temps b.code) })
+folded_well_formed b needed temps less =
+    let simple = simple_code b.code in
+    let short = simple_body b.temps b.code in
+    let code = needed_code needed short in
+    let shorter = keep_trans (facts b.code) (facts simple) (facts short) (simple_kept b.code) (short_kept b.temps simple) in
+    let kept = keep_trans (facts b.code) (facts short) (facts code) shorter (needed_kept needed short) in
+    code_well_formed b code kept temps less

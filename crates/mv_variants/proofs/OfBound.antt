@@ -4,6 +4,7 @@ pub mod Meant
 pub mod Words
 pub mod BoundNames
 pub mod FoldedNames
+pub mod CarriedNames
 pub mod RenamedNames
 pub mod NamesKept
 pub mod Measures

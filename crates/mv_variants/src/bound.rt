@@ -1,11 +1,10 @@
 //! What holds of the bodies of attributed functions under values of their switches: which of them a table's rows lead to, and what they mean.
 //!
-//! Laws on bodies of attributed functions that are bound to values of their switches, folded, renamed and merged.
-//! Nothing calls these passes one after the other yet.
+//! Laws on bodies of attributed functions that are bound to values of their switches, with numbers carried, folded, renamed and merged.
 //!
 //! - `rows_lead_to_variants`: the guard rows of an image, grouped by variant, lead from a combination of the domains to
 //!   the body that came with it, and from other values to none.
-//! - `made_bodies_are_variants`: a body that is bound, folded and renamed means under these values what the function
+//! - `made_bodies_are_variants`: a body that is bound, with numbers carried, folded and renamed means under these values what the function
 //!   means, reads none of the switches, and is no greater.
 //! - `passes_name_no_more`, `variants_can_be_selected`: it names no function and no known function that the first
 //!   doesn't, calls none more often, and code can be selected for it where it can for the first, but for the number of
@@ -15,7 +14,7 @@
 
 ghost use Rattle.mv_variants.specs.Bound.Led.{BodiesAreMade, CombinationsAreLed};
 ghost use Rattle.mv_variants.specs.Bound.Meant.{LoweredAreVariants, MadeAreVariants, RenamingKeepsForm};
-ghost use Rattle.mv_variants.specs.Bound.Names.{BindingNamesNoMore, FoldingNamesNoMore};
+ghost use Rattle.mv_variants.specs.Bound.Names.{BindingNamesNoMore, CarryingNamesNoMore, FoldingNamesNoMore};
 ghost use Rattle.mv_variants.specs.Bound.Reads.{VariantsReadNoSwitch};
 ghost use Rattle.mv_variants.specs.Bound.Rows.{FittingIsLed, GroupedIsLed};
 ghost use Rattle.mv_variants.specs.Bound.Slots.{AllSlotsAreFew, OwnSlotsAreFew, RenamedSlotsAreFew, SlotsAreCalls, SlotsAreFew, SlotsArePatchable, SlotsWeighAsCalls, VariantSlotsAreFew};
@@ -40,24 +39,25 @@ pub fn rows_lead_to_variants()
     ensures bodies { BodiesAreMade }
 {}
 
-/// A body that is bound to values of its switches, folded and renamed means under these values what the first means, reads none of the switches, has the
-/// folded form, and is no greater. The call does nothing: its contract is the law.
+/// A body that is bound to values of its switches, with numbers carried through its temporaries, folded and renamed means under these values what the first
+/// means, reads none of the switches, has the folded form, and is no greater. The call does nothing: its contract is the law.
 pub fn made_bodies_are_variants()
     ensures form { RenamingKeepsForm }
     ensures all { MadeAreVariants }
     ensures lowered { LoweredAreVariants }
 {}
 
-/// Code whose switches are bound, and folded code, name no functions and known functions that the code before doesn't, and constants stay words. The call
-/// does nothing: its contract is the law.
+/// Code whose switches are bound, code with numbers carried through its temporaries, and folded code name no functions and known functions that the code before
+/// doesn't, and constants stay words. The call does nothing: its contract is the law.
 pub fn passes_name_no_more()
     ensures bind { BindingNamesNoMore }
+    ensures carry { CarryingNamesNoMore }
     ensures fold { FoldingNamesNoMore }
 {}
 
-/// A body that is bound to words, folded and renamed names no more than the first and has no more calls of each function; and it is one that code can be
-/// selected for, where the first is but for its temporaries. Its frame is no larger than that of the first body renamed. The call does nothing: its contract is
-/// the law.
+/// A body that is bound to words, with numbers carried, folded and renamed names no more than the first and has no more calls of each function; and it is one
+/// that code can be selected for, where the first is but for its temporaries. Its frame is no larger than that of the first body renamed. The call does
+/// nothing: its contract is the law.
 pub fn variants_can_be_selected()
     ensures names { MadeNameNoMore }
     ensures calls { MadeCallNoMore }

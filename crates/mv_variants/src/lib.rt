@@ -1,10 +1,10 @@
-//! The variants of an attributed function: its body under each assignment of its switches, folded, with its temporaries renamed, and equal bodies as one.
+//! The variants of an attributed function: its body under each assignment of its switches, with numbers carried, folded and renamed, and equal bodies as one.
 //!
 //! What they are is said by `AreVariants` (`specs/Variants.antt`) in the words of `mv_variants::bound`, whose laws say what follows: that each means what the
 //! function means under its values and reads none of its switches, and which rows lead to it.
 //!
 //! - `variants_of`: of a function and what it is lowered to, the body under each assignment of its switches, bound,
-//!   folded and with its temporaries renamed, and equal bodies as one, each with the guard rows that lead to it
+//!   with numbers carried, folded and with its temporaries renamed, and equal bodies as one, each with the guard rows that lead to it
 //!   (`AreVariantsOf`). By `mv_variants::bound` each means what the function means under its values, and reads none of its
 //!   switches.
 //!

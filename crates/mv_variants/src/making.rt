@@ -8,6 +8,7 @@ ghost use Rattle.mv_ir.specs.WellFormed.{IsWellFormed};
 ghost use Rattle.mv_variants.specs.Bound.Meant.{IsMadeUnder};
 ghost use Rattle.mv_variants.specs.Rows.{AreMergedUnder, IsRowUnder};
 
+use mv_carry::carry;
 use mv_clone::bind::bind;
 use mv_fold::fold;
 use mv_ir::body::{Assignment, Body};
@@ -57,7 +58,7 @@ fn row_under(alloc: Global, body: &Body, assignment: &Assignment) -> Result<Boun
     })
 }
 
-// The body under an assignment: bound, then folded, then renamed.
+// The body under an assignment: bound, then with numbers carried through its temporaries, then folded, then renamed.
 fn made_under(alloc: Global, body: &Body, assignment: &Assignment) -> Result<Body, AllocError>
     requires formed { IsWellFormed body.now }
     requires whole { IsWhole body.now }
@@ -65,6 +66,7 @@ fn made_under(alloc: Global, body: &Body, assignment: &Assignment) -> Result<Bod
     ensures { IfOk result (λ made. IsMadeUnder (zip body.now.switches assignment.now.values) body.now made) }
 {
     let bound = bind(alloc, body, assignment)?;
-    let folded = fold(alloc, &bound)?;
+    let carried = carry(alloc, &bound)?;
+    let folded = fold(alloc, &carried)?;
     rename(alloc, &folded)
 }

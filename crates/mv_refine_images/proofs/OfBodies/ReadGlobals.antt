@@ -49,13 +49,13 @@ not_found (s ∷ globals) (v ∷ values) k e = by (not_found globals values k) (
 module _ (ps : List (ℕ × ℕ)) (body result : Body) (m : IsMadeUnder ps body result) where
   scalar_was : (k : ℕ) → Contains (scalars_read result.code) k → Contains (scalars_read body.code) k
   scalar_was k c =
-      let was = m.is_folded.smaller.scalars k (subst (λ l. Contains l k) m.is_renamed.scalars c) in
+      let was = m.is_carried.smaller.scalars k (m.is_folded.smaller.scalars k (subst (λ l. Contains l k) m.is_renamed.scalars c)) in
       let unbound : All (Contains (scalars_read body.code)) (filter (is_free ps) (scalars_read body.code)) =
       All-filter (is_free ps) (Contains (scalars_read body.code)) (scalars_read body.code) (All-contains_itself (scalars_read body.code)) in
       All-contains (Contains (scalars_read body.code)) (filter (is_free ps) (scalars_read body.code)) k unbound (subst (λ l. Contains l k) m.is_bound.scalars was)
 
   array_was : (k : ℕ) → Contains (arrays_read result.code) k → Contains (arrays_read body.code) k
-  array_was k c = subst (λ l. Contains l k) m.is_bound.arrays (m.is_folded.smaller.arrays k (subst (λ l. Contains l k) m.is_renamed.arrays c))
+  array_was k c = subst (λ l. Contains l k) m.is_bound.arrays (m.is_carried.smaller.arrays k (m.is_folded.smaller.arrays k (subst (λ l. Contains l k) m.is_renamed.arrays c)))
 
   abbrev Among : ℕ → Type 0
   Among k = is_among k (globals_read body.code) ≡ true

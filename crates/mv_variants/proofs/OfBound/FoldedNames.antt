@@ -39,7 +39,7 @@ module _ (F : ℕ → Type 0) (K : Known → Type 0) (C : ℕ → Type 0) (close
   -- ---- trees
 
   -- the value of a tree that is a constant is of the kind
-  constant_names : (t : Tree) → TreeNames F K C t → (n : ℕ) → constant t ≡ Some n → C n
+  pub constant_names : (t : Tree) → TreeNames F K C t → (n : ℕ) → constant t ≡ Some n → C n
   constant_names = tree_ind (λ t. TreeNames F K C t → (n : ℕ) → constant t ≡ Some n → C n) (λ x h names n e. by x (tree_out F K C x names) n (sym (constant_roll x) ∙ e))
     where
       by : (x : Tree-F Tree) → TreeParts F K C x → (n : ℕ) → layer_constant x ≡ Some n → C n
@@ -51,7 +51,7 @@ module _ (F : ℕ → Type 0) (K : Known → Type 0) (C : ℕ → Type 0) (close
       by (tree.Binary o a b) p n e = absurd cc
       by (tree.Narrow k a) p n e = absurd cc
 
-  abbrev TreeKept : Tree → Type 0
+  abbrev pub TreeKept : Tree → Type 0
   TreeKept t = TreeNames F K C t → TreeNames F K C (simple_tree t)
 
   one_names : (o : Option ℕ) (f : ℕ → ℕ) (t : Tree) → ((n : ℕ) → o ≡ Some n → C (f n)) → TreeNames F K C t → TreeNames F K C (one_or o f t)
@@ -78,7 +78,7 @@ module _ (F : ℕ → Type 0) (K : Known → Type 0) (C : ℕ → Type 0) (close
   node (tree.Narrow k a) h p =
       one_names (constant (simple_tree a)) (word.narrow k) (roll-Tree (tree.Narrow k (simple_tree a))) (λ n e. closed.narrowed k n (constant_names (simple_tree a) (h p) n e)) (tree_in F K C (tree.Narrow k (simple_tree a)) (h p))
 
-  tree_kept : (t : Tree) → TreeKept t
+  pub tree_kept : (t : Tree) → TreeKept t
   tree_kept = tree_ind TreeKept (λ x h n. subst (TreeNames F K C) (sym (simple_tree_roll x)) (node x h (tree_out F K C x n)))
 
   trees_kept : (ts : List Tree) → Each (TreeNames F K C) ts → Each (TreeNames F K C) (map simple_tree ts)

@@ -1,4 +1,4 @@
--- A body that is bound, folded and renamed.
+-- A body that is bound, with numbers carried, folded and renamed.
 use Rattle.std.proofs.Common.{arith, ◌≡◌, ℕ, true, not, List, Option, None, Some, is_some, refl, sym, ◌∙◌, ap, subst, Contains}
 use Rattle.std.specs.List.{filter, zip}
 use Rattle.std.proofs.lemmas.List.Elements.{All-contains, All-contains_itself, filter_passes, All-weaker}
@@ -20,14 +20,15 @@ module _ (ps : List (ℕ × ℕ)) (body result : Body) (m : IsMadeUnder ps body 
   keeps : KeepsUnder ps body result
   keeps setting depth live contents args bound w =
       let first = m.is_bound.means ps (λ g h. h) setting depth live contents args bound w in
-      let second = m.is_folded.means setting (record { depth = depth; live = live; bound = ps }) contents args bound w in
-      let third = m.is_renamed.keeps setting (record { depth = depth; live = live; bound = ps }) contents args bound w in
-      record { same = first.same ∙ second.same ∙ third.same; cheaper = omega (arith, first.cheaper, second.cheaper, third.cheaper) }
+      let second = m.is_carried.means setting (record { depth = depth; live = live; bound = ps }) contents args bound w in
+      let third = m.is_folded.means setting (record { depth = depth; live = live; bound = ps }) contents args bound w in
+      let fourth = m.is_renamed.keeps setting (record { depth = depth; live = live; bound = ps }) contents args bound w in
+      record { same = first.same ∙ second.same ∙ third.same ∙ fourth.same; cheaper = omega (arith, first.cheaper, second.cheaper, third.cheaper, fourth.cheaper) }
 
   reads_free : (g : ℕ) → Contains (scalars_read result.code) g → found ps g ≡ None
   reads_free g c =
       let in_folded = subst (λ l. Contains l g) m.is_renamed.scalars c in
-      let in_bound = subst (λ l. Contains l g) m.is_bound.scalars (m.is_folded.smaller.scalars g in_folded) in
+      let in_bound = subst (λ l. Contains l g) m.is_bound.scalars (m.is_carried.smaller.scalars g (m.is_folded.smaller.scalars g in_folded)) in
       is_none (found ps g) (All-contains (λ k. is_free ps k ≡ true) (filter (is_free ps) (scalars_read body.code)) g (filter_passes (is_free ps) (scalars_read body.code)) in_bound)
 
   is_variant : IsVariantOf ps body result
@@ -35,19 +36,19 @@ module _ (ps : List (ℕ × ℕ)) (body result : Body) (m : IsMadeUnder ps body 
     keeps = keeps;
     free = All-weaker (Contains (scalars_read result.code)) (λ g. found ps g ≡ None) reads_free (scalars_read result.code) (All-contains_itself (scalars_read result.code));
     form = subst (λ (b : Body). IsFoldedForm b.code) (sym m.is_renamed.changes) (renaming_keeps_form m.is_renamed.numbers m.folded.code m.is_folded.form);
-    deepest = omega (arith, m.is_bound.deepest, m.is_folded.smaller.deepest, m.is_renamed.deepest);
-    statements = omega (arith, m.is_bound.statements, m.is_folded.smaller.statements, m.is_renamed.statements);
-    tree_nodes = omega (arith, m.is_bound.tree_nodes, m.is_folded.smaller.tree_nodes, m.is_renamed.tree_nodes);
-    calls = omega (arith, m.is_bound.calls, m.is_folded.smaller.calls, m.is_renamed.calls);
-    temps = omega (arith, m.is_bound.most, m.is_folded.intervals, m.is_renamed.temps);
+    deepest = omega (arith, m.is_bound.deepest, m.is_carried.smaller.deepest, m.is_folded.smaller.deepest, m.is_renamed.deepest);
+    statements = omega (arith, m.is_bound.statements, m.is_carried.smaller.statements, m.is_folded.smaller.statements, m.is_renamed.statements);
+    tree_nodes = omega (arith, m.is_bound.tree_nodes, m.is_carried.smaller.tree_nodes, m.is_folded.smaller.tree_nodes, m.is_renamed.tree_nodes);
+    calls = omega (arith, m.is_bound.calls, m.is_carried.smaller.calls, m.is_folded.smaller.calls, m.is_renamed.calls);
+    temps = omega (arith, m.is_bound.most, m.is_carried.intervals, m.is_folded.intervals, m.is_renamed.temps);
     whole = m.is_renamed.whole;
     has_temps = m.is_renamed.has_temps;
-    well_formed = λ h. m.is_renamed.well_formed (m.is_folded.well_formed (m.is_bound.well_formed h));
-    params = ap (λ (b : Body). b.params) m.is_renamed.changes ∙ m.is_folded.params ∙ m.is_bound.params;
-    sizes = ap (λ (b : Body). b.arrays) m.is_renamed.changes ∙ m.is_folded.sizes ∙ m.is_bound.sizes;
-    rooms = ap (λ (b : Body). b.rooms) m.is_renamed.changes ∙ m.is_folded.rooms ∙ m.is_bound.rooms;
-    marked = ap (λ (b : Body). b.marked) m.is_renamed.changes ∙ m.is_folded.marked ∙ m.is_bound.marked;
-    switches = ap (λ (b : Body). b.switches) m.is_renamed.changes ∙ m.is_folded.switches ∙ m.is_bound.switches;
+    well_formed = λ h. m.is_renamed.well_formed (m.is_folded.well_formed (m.is_carried.well_formed (m.is_bound.well_formed h)));
+    params = ap (λ (b : Body). b.params) m.is_renamed.changes ∙ m.is_folded.params ∙ m.is_carried.params ∙ m.is_bound.params;
+    sizes = ap (λ (b : Body). b.arrays) m.is_renamed.changes ∙ m.is_folded.sizes ∙ m.is_carried.sizes ∙ m.is_bound.sizes;
+    rooms = ap (λ (b : Body). b.rooms) m.is_renamed.changes ∙ m.is_folded.rooms ∙ m.is_carried.rooms ∙ m.is_bound.rooms;
+    marked = ap (λ (b : Body). b.marked) m.is_renamed.changes ∙ m.is_folded.marked ∙ m.is_carried.marked ∙ m.is_bound.marked;
+    switches = ap (λ (b : Body). b.switches) m.is_renamed.changes ∙ m.is_folded.switches ∙ m.is_carried.switches ∙ m.is_bound.switches;
   }
 
 pub made : MadeAreVariants

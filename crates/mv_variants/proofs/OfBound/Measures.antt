@@ -17,6 +17,10 @@ use Rattle.mv_ir.proofs.Keeping.{map_append}
 use Rattle.mv_ir.proofs.Joining.{total_append}
 use Rattle.mv_clone.specs.Bind.{bound_callee, bound_layer, bound_stm, bound_code}
 use Rattle.mv_clone.proofs.Bound.{bound_stm_roll}
+use Rattle.mv_carry.specs.declared.facts.Fact.{Fact}
+use Rattle.mv_carry.specs.declared.facts.Reach.TheVariants.{Knowing}
+use Rattle.mv_carry.specs.Carrying.{carried_tree, carried_callee, outermost, carried_code}
+use Rattle.mv_carry.proofs.Structure.{IsClosed, carried_is}
 use Rattle.mv_fold.specs.Simple.{constant, simple_tree, jumps, ended, simple_callee, alone, division, choice, simple_layer, simple_stm, simple_code}
 use Rattle.mv_fold.specs.Shortened.{shortened}
 use Rattle.mv_fold.specs.Needed.{needed_layer, needed_stm, needed_code}
@@ -151,6 +155,46 @@ module _ {layer : Stm-F ℕ → ℕ} {m : Stm → ℕ} (of : Measure layer m) wh
 
     pub renamed_no_more : (code : List Stm) → all (renamed_code c code) ≤ all code
     renamed_no_more code = omega (arith, renamed_same code)
+
+  -- ---- with numbers carried
+
+  abbrev CountsNoMore : List Stm → List Stm → Type 0
+  CountsNoMore xs ys = all ys ≤ all xs
+
+  pair : (x y : Stm-F Stm) → own y ≤ own x → CountsNoMore (alone x) (alone y)
+  pair x y le = omega (arith, of.roll x, of.roll y, le)
+
+  twin : (x y : Stm-F Stm) → own y ≡ own x → CountsNoMore (alone x) (alone y)
+  twin x y e = omega (arith, of.roll x, of.roll y, e)
+
+  carried_goal : (fs : List Fact) (f : Callee) → SameGoal (carried_callee fs f) f
+  carried_goal fs (callee.Direct f) = refl
+  carried_goal fs (callee.Through t) = tt
+  carried_goal fs (callee.Switched g) = tt
+
+  carried_closed : IsClosed CountsNoMore
+  carried_closed = record {
+    none = omega arith;
+    both = λ xs xs' ys ys' h k. omega (arith, all_append xs ys, all_append xs' ys', h, k);
+    set = λ fs t v. twin (stm.Set t v) (stm.Set t (carried_tree fs v)) (of.set _ _ _ _);
+    store = λ fs g v. twin (stm.SetGlobal g v) (stm.SetGlobal g (carried_tree fs v)) (of.store _ _ _ _);
+    divide = λ fs t o a b. twin (stm.Divide t o a b) (stm.Divide t o (carried_tree fs a) (carried_tree fs b)) (of.divide _ _ _ _ _ _ _ _);
+    check = λ fs r i. twin (stm.Check r i) (stm.Check r (carried_tree fs i)) (of.check _ _ _ _);
+    read = λ fs t r i. twin (stm.Read t r i) (stm.Read t r (carried_tree fs i)) (of.read _ _ _ _ _ _);
+    write = λ fs r i v. twin (stm.Write r i v) (stm.Write r (carried_tree fs i) (carried_tree fs v)) (of.write _ _ _ _ _ _);
+    zeroed = λ l. omega arith;
+    branch = λ fs t a a' b b' h k. pair (stm.If t a b) (stm.If (carried_tree fs t) a' b') (of.branch _ _ _ _ _ _ h k);
+    loop = λ b b' h. pair (stm.Loop b) (stm.Loop b') (of.loop _ _ h);
+    block = λ b b' h. pair (stm.Block b) (stm.Block b') (of.block _ _ h);
+    break = λ n. omega arith;
+    back = λ n. omega arith;
+    call = λ fs t f args. twin (stm.Call t f args) (stm.Call t (carried_callee fs f) (map (carried_tree fs) args)) (of.call _ _ _ _ _ _ (carried_goal fs f));
+    known = λ fs t k args. twin (stm.Known t k args) (stm.Known t k (map (carried_tree fs) args)) (of.known _ _ _ _ _);
+    return = λ fs v. twin (stm.Return v) (stm.Return (carried_tree fs v)) (of.return _ _);
+  }
+
+  pub carried_no_more : (temps : ℕ) (code : List Stm) → all (carried_code temps outermost (Knowing []) code).code ≤ all code
+  carried_no_more temps code = carried_is temps CountsNoMore carried_closed outermost (Knowing []) code
 
   -- ---- statements for one
 

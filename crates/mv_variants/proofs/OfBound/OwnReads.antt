@@ -36,4 +36,4 @@ read_no_switch p g reads vs many result m =
     was_read : (k : ℕ) → Contains (arrays_read result.code) k → Contains (arrays_read (lower_function p g).code) k
     was_read k c =
         let in_folded = subst (λ l. Contains l k) m.is_renamed.arrays c in
-        subst (λ l. Contains l k) m.is_bound.arrays (m.is_folded.smaller.arrays k in_folded)
+        subst (λ l. Contains l k) m.is_bound.arrays (m.is_carried.smaller.arrays k (m.is_folded.smaller.arrays k in_folded))

@@ -1,4 +1,4 @@
--- A body that is bound, folded and renamed is one that code can be selected for.
+-- A body that is bound, with numbers carried, folded and renamed is one that code can be selected for.
 use Rattle.std.proofs.Common.{arith, ◌≡◌, ℕ, ◌+◌, ◌*◌, ◌/◌, ◌<◌, ◌≤◌, true, None, List, length, sym, ap, subst, Contains}
 use Rattle.mv_ir.specs.declared.stm.Stm.{Stm}
 use Rattle.mv_ir.specs.declared.body.Body.{Body}
@@ -15,8 +15,8 @@ use Rattle.mv_variants.specs.Bound.Meant.{IsMadeUnder}
 use Rattle.mv_variants.specs.Bound.Names.{NamesNoMore}
 use Rattle.mv_variants.specs.Bound.Variants.{MadeNameNoMore, MadeCallNoMore, MadeAreInProgram, MadeFramesAreNoLarger}
 use Rattle.mv_variants.proofs.OfBound.Meant.{made}
-use Rattle.mv_variants.proofs.OfBound.NamesKept.{binding_names, folding_names, renaming_names}
-use Rattle.mv_variants.proofs.OfBound.Measures.{bound_no_more, folded_no_more, renamed_no_more}
+use Rattle.mv_variants.proofs.OfBound.NamesKept.{binding_names, carrying_names, folding_names, renaming_names}
+use Rattle.mv_variants.proofs.OfBound.Measures.{bound_no_more, carried_no_more, folded_no_more, renamed_no_more}
 use Rattle.mv_variants.proofs.OfBound.Weights.{weights}
 use Rattle.mv_num.proofs.Lists.{contains_all}
 
@@ -32,9 +32,11 @@ names_after a b c h k = record {
 pub made_names : MadeNameNoMore
 made_names ps body result words m =
     let first : NamesNoMore body.code m.bound.code = subst (NamesNoMore body.code) (sym m.is_bound.code) (binding_names ps words body.code) in
-    let second = folding_names m.bound.temps m.bound.code m.folded.code m.is_folded.code in
-    let third : NamesNoMore m.folded.code result.code = subst (NamesNoMore m.folded.code) (sym (ap (λ (b : Body). b.code) m.is_renamed.changes)) (renaming_names m.is_renamed.numbers m.folded.code) in
-    names_after body.code m.folded.code result.code (names_after body.code m.bound.code m.folded.code first second) third
+    let second : NamesNoMore m.bound.code m.carried.code = subst (NamesNoMore m.bound.code) (sym m.is_carried.code) (carrying_names m.bound.temps m.bound.code) in
+    let third = folding_names m.carried.temps m.carried.code m.folded.code m.is_folded.code in
+    let fourth : NamesNoMore m.folded.code result.code = subst (NamesNoMore m.folded.code) (sym (ap (λ (b : Body). b.code) m.is_renamed.changes)) (renaming_names m.is_renamed.numbers m.folded.code) in
+    let bound_and_carried = names_after body.code m.bound.code m.carried.code first second in
+    names_after body.code m.folded.code result.code (names_after body.code m.carried.code m.folded.code bound_and_carried third) fourth
 
 -- ---- calls
 
@@ -53,7 +55,10 @@ made_calls direct through ps body result m =
     let first : code_weight direct through m.bound.code ≤ code_weight direct through body.code =
     subst (λ c. code_weight direct through c ≤ code_weight direct through body.code) (sym m.is_bound.code) (bound_no_more (weights direct through) ps body.code)
     in
-    omega (arith, first, worked_calls direct through m.bound m.folded result m.is_folded m.is_renamed)
+    let second : code_weight direct through m.carried.code ≤ code_weight direct through m.bound.code =
+    subst (λ c. code_weight direct through c ≤ code_weight direct through m.bound.code) (sym m.is_carried.code) (carried_no_more (weights direct through) m.bound.temps m.bound.code)
+    in
+    omega (arith, first, second, worked_calls direct through m.carried m.folded result m.is_folded m.is_renamed)
 
 -- ---- frames
 
@@ -75,7 +80,7 @@ made_frames ps body own result is_own m =
 arrays_less : (ps : List (ℕ × ℕ)) (body result : Body) (m : IsMadeUnder ps body result) (g : ℕ) → Contains (arrays_read result.code) g → Contains (arrays_read body.code) g
 arrays_less ps body result m g c =
     let in_folded = subst (λ l. Contains l g) m.is_renamed.arrays c in
-    subst (λ l. Contains l g) m.is_bound.arrays (m.is_folded.smaller.arrays g in_folded)
+    subst (λ l. Contains l g) m.is_bound.arrays (m.is_carried.smaller.arrays g (m.is_folded.smaller.arrays g in_folded))
 
 pub made_in_program : MadeAreInProgram
 made_in_program y setting ps body result of no_elements words m =

@@ -1,4 +1,4 @@
--- What a body means and has that comes of another by binding its switches, folding and renaming.
+-- What a body means and has that comes of another by binding its switches, carrying numbers, folding and renaming.
 use Rattle.std.specs.Prelude.{ℕ, ◌≡◌, ◌≤◌, List, All, None}
 use Rattle.std.specs.List.{zip}
 use Rattle.mv_ast.specs.declared.program.Program.{Program}
@@ -11,18 +11,21 @@ use Rattle.mv_ir.specs.Measures.{scalars_read, statements, tree_nodes, calls, de
 use Rattle.mv_ir.specs.Live.{IsWhole, HasTemps, most_intervals}
 use Rattle.mv_ir.specs.WellFormed.{IsWellFormed}
 use Rattle.mv_clone.specs.Bind.{IsBound}
+use Rattle.mv_carry.specs.Carried.{IsCarried}
 use Rattle.mv_fold.specs.Form.{IsFoldedForm}
 use Rattle.mv_fold.specs.Folded.{IsFolded}
 use Rattle.mv_regalloc.specs.Rename.{renamed_code}
 use Rattle.mv_regalloc.specs.Intervals.{IsRenamed}
 use Rattle.mv_lower_spec.specs.Functions.{lower_function}
 
--- a body bound to the values of its switches, then folded, then with its temporaries renamed
+-- a body bound to the values of its switches, then with numbers carried through its temporaries, then folded, then with its temporaries renamed
 pub record IsMadeUnder (ps : List (ℕ × ℕ)) (body result : Body) : Type 0 where
   pub bound : Body
+  pub carried : Body
   pub folded : Body
   pub is_bound : IsBound ps body bound
-  pub is_folded : IsFolded bound folded
+  pub is_carried : IsCarried bound carried
+  pub is_folded : IsFolded carried folded
   pub is_renamed : IsRenamed folded result
 
 -- Whatever numbers temporaries get, code that has the folded form has it with them.

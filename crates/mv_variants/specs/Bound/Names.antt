@@ -1,11 +1,13 @@
--- The names and constants in code that comes of other code by binding or folding.
-use Rattle.std.specs.Prelude.{ℕ, ◌≡◌, ◌<◌, ◌^◌, List, Contains, Some}
+-- The names and constants in code that comes of other code by binding, carrying numbers or folding.
+use Rattle.std.specs.Prelude.{ℕ, ◌≡◌, ◌<◌, ◌^◌, List, [], Contains, Some}
 use Rattle.mv_ast.specs.declared.program.Known.{Known}
 use Rattle.mv_ir.specs.declared.stm.Stm.{Stm}
 use Rattle.mv_ir.specs.Trees.{found}
 use Rattle.mv_select_code.specs.Control.Labels.{functions}
 use Rattle.mv_select.specs.Bodies.SelectedBodies.{HasWords, knowns}
 use Rattle.mv_clone.specs.Bind.{bound_code}
+use Rattle.mv_carry.specs.declared.facts.Reach.TheVariants.{Knowing}
+use Rattle.mv_carry.specs.Carrying.{outermost, carried_code}
 use Rattle.mv_fold.specs.Folded.{IsFoldedCode}
 
 -- The second code names no functions and known functions that the first doesn't; and its constants are words, and its orders fit, where those of the first are and do.
@@ -20,6 +22,9 @@ ReadAsWords ps = (g v : ℕ) → found ps g ≡ Some v → v < 2 ^ 32
 
 abbrev pub BindingNamesNoMore : Type 0
 BindingNamesNoMore = (ps : List (ℕ × ℕ)) → ReadAsWords ps → (code : List Stm) → NamesNoMore code (bound_code ps code)
+
+abbrev pub CarryingNamesNoMore : Type 0
+CarryingNamesNoMore = (temps : ℕ) (code : List Stm) → NamesNoMore code (carried_code temps outermost (Knowing []) code).code
 
 abbrev pub FoldingNamesNoMore : Type 0
 FoldingNamesNoMore = (temps : ℕ) (code folded : List Stm) → IsFoldedCode temps code folded → NamesNoMore code folded
