@@ -2,7 +2,8 @@
 """Whether a command dies of deep calls in deep nesting: run.py [KIND..]
 
 Each kind of nesting is made at several depths in the body of a function that calls itself 510 times, and in one that is called once. The sources are given to `eval`, `run` and `build`
-with a stack of 8 MiB. Printed is how each command ended; the status is 1 where one died of a signal. Needs the program that .ci/run leaves (or PROGRAM).
+with a stack of 8 MiB. Printed is how each command ended, and of many calls also the least stack by which `eval` ends so; the status is 1 where one died of a signal. Needs the program
+that .ci/run leaves (or PROGRAM).
 """
 import os
 import resource
@@ -45,16 +46,21 @@ def source(kind, nesting, calls):
     return f"int a[1];int g(int x){{return x;}}int f(int n){{int r=0;{KINDS[kind](nesting)}return r;}}int main(void){{return f({calls});}}\n"
 
 
-def limit():
-    """Gives a command the usual stack."""
-    resource.setrlimit(resource.RLIMIT_STACK, (STACK, STACK))
-
-
-def ended(words):
-    """Returns the last line of a command, or its status, and whether it died."""
+def ended(words, stack=STACK):
+    """Returns the last line of a command that has so much stack, or its status, and whether it died."""
+    limit = lambda: resource.setrlimit(resource.RLIMIT_STACK, (stack, stack))
     ran = subprocess.run([PROGRAM, *words], stdin=subprocess.DEVNULL, capture_output=True, preexec_fn=limit)
     lines = ran.stderr.decode(errors="replace").splitlines()
     return lines[-1] if lines else f"status {ran.returncode}", ran.returncode < 0
+
+
+def least_stack(words):
+    """Returns the least stack, in KiB, with which a command doesn't die."""
+    least, most = 0, STACK >> 10
+    while most - least > 16:
+        half = (least + most) // 2
+        least, most = (half, most) if ended(words, half << 10)[1] else (least, half)
+    return most
 
 
 def main(kinds):
@@ -68,9 +74,11 @@ def main(kinds):
                 for nesting in NESTINGS:
                     with open(file, "w", encoding="ascii") as it:
                         it.write(source(kind, nesting, calls))
-                    ends = [ended(words) for words in (["eval", file, "--bound", "1000000"], ["run", file], ["build", file, file + ".img"])]
+                    evaluation = ["eval", file, "--bound", "1000000"]
+                    ends = [ended(words) for words in (evaluation, ["run", file], ["build", file, file + ".img"])]
                     deaths += sum(died for _, died in ends)
-                    print(f"{kind}, {nesting} deep, {calls} calls: {', '.join(line for line, _ in ends)}", flush=True)
+                    stack = f"; {least_stack(evaluation)} KiB of stack" if calls == CALLS else ""
+                    print(f"{kind}, {nesting} deep, {calls} calls: {', '.join(line for line, _ in ends)}{stack}", flush=True)
     print(f"{deaths} died")
     sys.exit(deaths > 0)
 

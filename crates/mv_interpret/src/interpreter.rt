@@ -8,6 +8,7 @@ ghost use Rattle.mv_interpret.specs.Forms.{binary_outcome, both_outcome, either_
 ghost use Rattle.mv_ast.specs.Numbering.{own_numbers};
 ghost use Rattle.mv_meaning.specs.Meaning.{value_in, callee_in, returned_value};
 
+use crate::arguments::Arguments;
 use crate::arms::{arms_from, first_arm};
 use crate::known::known_value;
 use crate::numbers::{function_of_number, number_of};
@@ -25,7 +26,7 @@ use mv_num::word::{add, sub};
 use std::alloc::AllocError;
 
 /// How many expressions and blocks may be evaluated within one another, over all calls. Each takes some of the stack, which no clause can speak of:
-/// less than 500 bytes as LLVM compiles the program, so that these take less than 5 of the usual 8 MiB. A deeper one is given up for want of memory.
+/// less than 600 bytes as LLVM compiles the program, so that these take less than 6 of the usual 8 MiB. A deeper one is given up for want of memory.
 const LEVEL_LIMIT: u32 = 10_000;
 
 // The value in an lvalue.
@@ -459,12 +460,12 @@ fn values_of(
     es: &List<Expr>,
     frame: &mut Frame,
     state: &mut State,
-) -> Result<List<u32>, Halt>
+) -> Result<Arguments, Halt>
     requires { IsReady program.now here.depth here.live here.plan_work }
     ensures { IsOutcome state.old.work (exprs_outcome program.now here es.now frame.old state.old) here result frame.new state.new }
 {
     let _work = state.work;
-    let mut values = List::new(state.alloc);
+    let mut values = Arguments::new(state.alloc);
     for e in es.as_slice() {
         let v = value_of(program, here, level, e, frame, state)?;
         values.push(v)?;
@@ -500,7 +501,7 @@ fn call(
     here: Here,
     level: u32,
     f: u32,
-    arguments: &List<u32>,
+    arguments: &Arguments,
     caller: &Frame,
     state: &mut State,
 ) -> Result<u32, Halt>

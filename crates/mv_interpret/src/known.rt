@@ -4,11 +4,11 @@ ghost use Rattle.mv_ast.specs.Numbering.{own_numbers};
 ghost use Rattle.mv_meaning.specs.Meaning.{get_byte, put_byte, known_value};
 ghost use Rattle.mv_interpret.specs.Runs.{IsReady, IsOutcome, world_of};
 
+use crate::arguments::Arguments;
 use crate::commits::{ordered, polled};
 use crate::state::{Halt, Here, State, count};
 use mv_ast::program::{Known, Program};
 use mv_meaning::state::Frame;
-use mv_num::list::List;
 use std::alloc::AllocError;
 
 // The next byte of the input, or -1 at its end (C11 7.21.7.6).
@@ -43,7 +43,7 @@ pub fn known_value(
     program: &Program,
     here: Here,
     known: Known,
-    values: &List<u32>,
+    values: &Arguments,
     frame: &Frame,
     state: &mut State,
 ) -> Result<u32, Halt>
@@ -53,7 +53,7 @@ pub fn known_value(
     let _work = state.work;
     match known {
         Known::Getchar => get_byte(here, frame, state),
-        Known::Putchar => match values.get(0) {
+        Known::Putchar => match values.as_slice().first() {
             Some(v) => put_byte(here, *v, frame, state),
             None => put_byte(here, 0, frame, state),
         },

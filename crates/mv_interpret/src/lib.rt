@@ -10,6 +10,7 @@
 //! - `mv_test_top` runs worked programs on it.
 #![tactic(auto)]
 
+pub mod arguments;
 pub mod arms;
 pub mod commits;
 pub mod interpreter;

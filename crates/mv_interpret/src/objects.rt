@@ -7,6 +7,7 @@ ghost use Rattle.mv_ast.specs.Starts.{first_words};
 ghost use Rattle.mv_meaning.specs.Meaning.{frame_of, size_of};
 ghost use Rattle.mv_meaning.specs.Growth.{capped};
 
+use crate::arguments::Arguments;
 use crate::state::{State, count, size_at};
 use mv_ast::program::{Expr, Function, Global as Object, Local, Program};
 use mv_meaning::state::Frame;
@@ -35,7 +36,7 @@ fn zeros(alloc: Global, n: usize) -> Result<List<u32>, AllocError>
 // The words of the locals from their parameters on: each argument is one word.
 fn push_arguments(
     alloc: Global,
-    arguments: &List<u32>,
+    arguments: &Arguments,
     locals: &mut List<List<u32>>,
 ) -> Result<(), AllocError>
     ensures { OnOk result (locals.new ≡ locals.old ++ map (λ v. v ∷ []) arguments.now) }
@@ -81,7 +82,7 @@ pub fn frame_of(
     alloc: Global,
     g: &Function,
     f: u32,
-    arguments: &List<u32>,
+    arguments: &Arguments,
 ) -> Result<Frame, AllocError>
     ensures { IfOk result (λ frame. frame ≡ frame_of f g.now arguments.now) }
 {

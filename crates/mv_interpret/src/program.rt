@@ -6,6 +6,7 @@ ghost use Rattle.mv_meaning.specs.Growth.{Extends, with_capped_work};
 ghost use Rattle.mv_interpret.specs.Runs.{IsReady};
 ghost use Rattle.mv_interpret.specs.Programs.{IsStart, HasRun, HasEnd};
 
+use crate::arguments::Arguments;
 use crate::commits::all_free;
 use crate::interpreter::{flow_of_all, returned_value};
 use crate::objects::{first_globals, frame_of};
@@ -55,7 +56,12 @@ fn run_main(program: &Program, here: Here, state: &mut State) -> Result<Flow, Ha
     match program.functions.get(program.main as usize) {
         None => Ok(Flow::Goes),
         Some(main) => {
-            let mut frame = frame_of(state.alloc, main, program.main, &List::new(state.alloc))?;
+            let mut frame = frame_of(
+                state.alloc,
+                main,
+                program.main,
+                &Arguments::new(state.alloc),
+            )?;
             flow_of_all(program, here, 0, &main.body, &mut frame, state)
         }
     }
