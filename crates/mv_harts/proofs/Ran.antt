@@ -19,7 +19,8 @@ use Rattle.mv_harts_one.specs.declared.seat.Seat.{Seat}
 use Rattle.mv_harts_turns.specs.declared.group.Group.{Group}
 use Rattle.mv_harts_turns.specs.Pairs.{Both, Pairs}
 use Rattle.mv_harts_turns.specs.Groups.{IsSeat, Shows, bindings_of, seat_at}
-use Rattle.mv_harts_turns.specs.Runs.{Broken, Outside, GotAll, Ran, IsReadyFor, bytes_of, harts_of, inputs_of, turns_by}
+use Rattle.mv_harts_turns.specs.Runs.{Broken, Outside, FaultsOfAll, GotAll, Ran, IsReadyFor, bytes_of, harts_of, inputs_of, turns_by}
+use Rattle.mv_harts_turns.proofs.Standing.{faults_told, ran_counts}
 use Rattle.mv_harts.specs.declared.ends.HartEnd.{HartEnd}
 use Rattle.mv_harts.specs.declared.ends.HartsEnd.{HartsEnd}
 use Rattle.mv_harts.specs.Ends.{IsEnd, end_of}
@@ -64,6 +65,10 @@ broken_behind image actions count schedule was is group ran = record {
   failing = ran.failing;
   paired = ran.paired;
   written = subst (λ (s : List ℕ). GotAll was is (harts_of image actions count was s ran.failing)) (sym (take_all (length schedule) schedule (omega arith))) ran.written;
+  faults = subst (λ (s : List ℕ). FaultsOfAll was is (harts_of image actions count was s ran.failing)) (sym (take_all (length schedule) schedule (omega arith)))
+      (faults_told was is (harts_of image actions count was schedule ran.failing) (ran_counts image actions count schedule was is group ran));
+  later_inputs = ran.later_inputs;
+  later_outputs = ran.later_outputs;
 }
 
 -- ---- the promise

@@ -9,7 +9,8 @@
 //!   hart is its own run alone with what its polls took, and adopts the commits of hart 0 in order, none skipped; and what each hart does is what the
 //!   program means in it.
 //! - `built_programs_are_runnable`: what `build` gives is an image of which `run_harts` asks no more.
-//! - An error of `run_harts` is want of memory; then each sink grew by what its hart wrote by some turn.
+//! - An error of `run_harts` is want of memory; then each sink grew by what its hart wrote by some turn, and each count of faults is as before, but that of
+//!   the device at which a hart failed by then, which rose, by one at most (`Broken`).
 //! - `mvharts(alloc, words, shelf, out, notes, oracle)` does all that the program does (`specs/Outcomes.antt`). With `Done`, `out` grew by exactly the text
 //!   (`specs/Texts.antt`) of one such run, by the schedule that the words ask for (`mv_harts_words`), of one image that `mv_build` gives of the text
 //!   under FILE. After `OutputFault` it grew by less of that, and after `Memory`, `Usage`, `ShelfFault` and `Refused` it is unchanged; each of

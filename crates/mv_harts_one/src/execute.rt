@@ -1,6 +1,6 @@
 //! One instruction of a hart.
 
-ghost use Rattle.std.specs.Prelude.{◌≡◌, ◌+◌, ◌<◌, ◌≤◌, ◌^◌, ◌∷◌, [], ◌&&◌, not, false, ℕ, List, Option, Some, None};
+ghost use Rattle.std.specs.Prelude.{◌≡◌, ◌+◌, ◌<◌, ◌≤◌, ◌^◌, ◌∷◌, [], ◌&&◌, not, false, ℕ, List, Option, Some, None, OnErr};
 ghost use Rattle.mv_bindings.specs.declared.binding.Binding.{Binding};
 ghost use Rattle.mv_bindings.specs.Acts.{act_of};
 ghost use Rattle.mv_fetch.specs.Held.{choices};
@@ -73,7 +73,8 @@ impl Seat {
 
     /// One instruction of a hart that has not ended, whose poll would take `act`: `Skip` of another hart than 0, which takes a commit on by `adopt`.
     /// `under` says whether the commit of hart 0 is under way, and the answer says it of the time behind the instruction. Where a read or a write failed,
-    /// the hart has ended, and the count of that device alone may have risen. An error is want of memory for a word that a store into text replaces.
+    /// the hart has ended, and the count of that device alone may have risen. An error is want of memory for a word that a store into text replaces; the hart
+    /// has not ended then.
     #[inline(always)]
     pub fn execute<I: Source, O: Sink>(
         &mut self,
@@ -93,6 +94,7 @@ impl Seat {
         ensures image { self.new.engine.image ≡ self.old.engine.image }
         ensures input { I.faults source.old ≤ I.faults source.new }
         ensures output { O.faults sink.old ≤ O.faults sink.new }
+        ensures going { OnErr result (self.new.stop ≡ None) }
         ensures reading { CountAfter (input_failed self.new.stop) (I.faults source.old) (I.faults source.new) }
         ensures writing { CountAfter (output_failed self.new.stop) (O.faults sink.old) (O.faults sink.new) }
     {

@@ -152,10 +152,6 @@ module _ (rooms : RoomsAreWhole) where
 
 -- ---- bindings
 
-either_binds : (b : Bool) (bs : List Binding) (x y : State) → x.bindings ≡ bs → y.bindings ≡ bs → (if b then x else y).bindings ≡ bs
-either_binds true bs x y h k = h
-either_binds false bs x y h k = k
-
 -- where no commit is made and nothing is adopted, the bindings stay
 idle_binds : (idle : Bool) (s : State) (a : Act) → ((known : Bool) → place_by Polls known idle ≡ AtPoll → a ≡ Skip) → (if idle then acted (handed s a) (a ∷ []) else refused (handed s a) 0).bindings ≡ s.bindings
 unfolding answered

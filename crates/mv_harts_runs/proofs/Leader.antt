@@ -48,9 +48,6 @@ shared_ended st x e = ap (λ g. if g then record x { state = record x.state { ro
 
 -- ---- how runs stand
 
-pub going_is : (stop : Stop) → stop ≡ Going → is_going stop ≡ true
-going_is stop e = ap is_going e
-
 pub is_going_told : (stop : Stop) → is_going stop ≡ true → stop ≡ Going
 is_going_told Going e = refl
 is_going_told (Exit status) e = absurd (cc)

@@ -15,7 +15,7 @@ use Rattle.mv_harts_one.specs.Executions.{HasAdvanced}
 use Rattle.mv_harts_one.proofs.Advancing.{unshared}
 use Rattle.mv_harts_turns.specs.Pairs.{Both}
 use Rattle.mv_harts_turns.specs.declared.group.Group.{Group}
-use Rattle.mv_harts_turns.specs.Groups.{AreTaken, IsSeat, Shows, HaveExecuted, Beside, Advanced, Stands, SameStops, Reaches, asked_by, seat_at, output, bindings_of}
+use Rattle.mv_harts_turns.specs.Groups.{AreTaken, IsSeat, Shows, HaveExecuted, Beside, Advanced, Stands, SameStops, Reaches, asked_by, output, bindings_of}
 use Rattle.mv_harts_turns.proofs.Places.{both_same, both_right, both_moved, both_here, pairs_one}
 use Rattle.mv_harts_turns.proofs.Seats.{on_none}
 use Rattle.mv_harts_turns.proofs.Reaching.{map_same, reaches_quiet}
@@ -166,9 +166,6 @@ seat_stands image commits n bytes was is o same taken sits s = record {
   took = subst (λ ts. AreTaken commits ts o.taken) (sym taken) s.took;
 }
 
-pub stands_same : (group : Group) → Stands group group
-stands_same group = record { shows = λ image actions bytes hs h. h; stops = λ h. same_seats (seat_at h group) }
-
 pub leader_stands : (was : Group) (seat : Seat) → seat.engine.image ≡ was.leader.engine.image → seat.taken ≡ was.leader.taken → seat.stop ≡ was.leader.stop
     → ((number : ℕ) (bytes : List ℕ) (o : Hart) → Sits number was.leader bytes o → Sits number seat bytes o) → Stands was (record was { leader = seat })
 leader_stands was seat same taken stop sits = record { shows = shows; stops = stops }
@@ -213,9 +210,6 @@ other_stands was is n old seat b same taken stop sits = record { shows = shows; 
         by_eq (inr ne) = subst (λ p. Both (λ (s s' : Seat). s'.stop ≡ s.stop) (slice_get was.others.items k) p) (sym (b.rest k ne)) (same_seats (slice_get was.others.items k))
 
 -- ---- how many instructions are executed
-
-pub executed_still : (was : Group) (most : ℕ) → HaveExecuted was most → HaveExecuted was (most + 1)
-executed_still was most h = record { leader = (let l = h.leader in omega (arith, l)); others = λ k s at. (let l = h.others k s at in omega (arith, l)) }
 
 pub executed_leader : (was : Group) (seat : Seat) (most : ℕ) → seat.instructions ≤ was.leader.instructions + 1 → HaveExecuted was most → HaveExecuted (record was { leader = seat }) (most + 1)
 executed_leader was seat most le h = record {

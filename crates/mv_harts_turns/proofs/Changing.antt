@@ -17,15 +17,6 @@ pub record ChangedBelow {A : Type 0} (R : ℕ → A → A → Type 0) (k : ℕ) 
   pub below : (n : ℕ) → n < k → Both (R n) (slice_get was n) (slice_get is n)
   pub above : (n : ℕ) → k ≤ n → slice_get is n ≡ slice_get was n
 
-pub changed_none : {A : Type 0} (R : ℕ → A → A → Type 0) (was : List A) → ChangedBelow R 0 was was
-changed_none R was = record { below = λ n lt. absurd (omega (arith, lt)); above = λ n le. refl }
-
-pub changed_skip : {A : Type 0} (R : ℕ → A → A → Type 0) (k : ℕ) (was is : List A) → ((x : A) → R k x x) → ChangedBelow R k was is → ChangedBelow R (k + 1) was is
-changed_skip R k was is same h = record {
-  below = below_more (λ n. Both (R n) (slice_get was n) (slice_get is n)) k h.below (subst (λ p. Both (R k) (slice_get was k) p) (sym (h.above k (omega arith))) (both_same (R k) same (slice_get was k)));
-  above = λ n le. h.above n (omega (arith, le));
-}
-
 pub changed_more : {A : Type 0} (R : ℕ → A → A → Type 0) (k : ℕ) (was is : List A) (x y : A) → slice_get is k ≡ Some x → R k x y → ChangedBelow R k was is → ChangedBelow R (k + 1) was (set is k y)
 changed_more R k was is x y at r h = record {
   below = below_more (λ n. Both (R n) (slice_get was n) (slice_get (set is k y) n)) k

@@ -23,9 +23,10 @@ use Rattle.mv_harts_turns.specs.declared.group.Group.{Group}
 use Rattle.mv_harts_turns.specs.declared.group.Committed.{Committed}
 use Rattle.mv_harts_turns.specs.declared.poll.PollAnswer.TheVariants.{Waits, Adopts, Goes}
 use Rattle.mv_harts_turns.specs.Polls.{answer_at, answer_by}
-use Rattle.mv_harts_turns.specs.Groups.{IsSeat, IsGlance, Shared, Shows, Beside, WasAsked, IsDevice, TookStore, SameStop, SameStops, SameCounts, Fares, IsOnAt, Wrote, Stepped, StepRefused, Reaches, Refused, acted, asked, asked_by, seat_at, output_of, output, other_acts, held, adopts_last, bindings_of}
+use Rattle.mv_harts_turns.specs.Groups.{IsSeat, IsGlance, Shared, Shows, Beside, WasAsked, IsDevice, TookStore, SameStop, SameStops, SameCounts, Fares, FaresBy, StandsAs, IsOnAt, Wrote, WroteIn, Stepped, StepRefused, Reaches, Refused, acted, asked, asked_by, hart_at, seat_at, output_of, output, other_acts, held, adopts_last, bindings_of}
 use Rattle.mv_harts_turns.proofs.Places.{both_weaker, both_moved, both_here, both_left, both_after, pairs_one, set_other, map_set_other, map_set_there, sum_same, sum_one}
-use Rattle.mv_harts_turns.proofs.Seats.{shared_asked, shared_output}
+use Rattle.mv_harts_turns.proofs.Seats.{not_failed, shared_asked, shared_output}
+use Rattle.mv_harts_turns.proofs.Standing.{shared_stands, option_shared, fares_none, fares_by}
 use Rattle.mv_harts_turns.proofs.Reaching.{reaches_quiet, other_any, other_any_is, output_shared, seat_took, seat_bytes, move_store, outside_silent}
 
 -- ---- what it writes
@@ -40,18 +41,34 @@ on_wrote hs n o m f more there e = record { own = own; rest = rest }
     rest zero ne = shared_output m.store hs.leader
     rest (suc k) ne = ap output_of (map_set_other (shared m.store) hs.others n k (acted f o Skip m) (λ e. ne (ap suc e))) ∙ output_shared m.store (slice_get hs.others k)
 
-wrote_acts : (hs : Harts) (n : ℕ) (o : Hart) (m : Move) (f : Bool) (more : List ℕ) → IsDevice m f → (m.outside ≡ true → m.store ≡ None) → slice_get hs.others n ≡ Some o → (acted f o Skip m).state.output ≡ o.state.output ++ more → Wrote (suc n) hs (other_acts hs n o m f) more
-wrote_acts hs n o m f more d silent there e = subst (λ hs'. Wrote (suc n) hs hs' more) (sym (other_any_is f hs n o m d silent)) (on_wrote hs n o m f more there e)
+-- and how the harts stand behind it
+others_stand : (hs : Harts) (n : ℕ) (o : Hart) (m : Move) (f : Bool) (h : ℕ) → h ≢ suc n → Both StandsAs (hart_at h hs) (hart_at h (other_any f hs n o m))
+others_stand hs n o m f zero ne = shared_stands m.store hs.leader
+others_stand hs n o m f (suc k) ne =
+    subst (λ p. Both StandsAs (slice_get hs.others k) p) (sym (map_set_other (shared m.store) hs.others n k (acted f o Skip m) (λ e. ne (ap suc e)))) (option_shared m.store (slice_get hs.others k))
+
+wrote_in : (x : Beside) (hs : Harts) (n : ℕ) (o : Hart) (m : Move) (f : Bool) (more : List ℕ) → IsDevice m f → (m.outside ≡ true → m.store ≡ None) → slice_get hs.others n ≡ Some o → (acted f o Skip m).state.output ≡ o.state.output ++ more →
+    FaresBy x o (acted f o Skip m) → WroteIn (suc n) x hs (other_acts hs n o m f) more
+wrote_in x hs n o m f more d silent there e fares = subst (λ hs'. WroteIn (suc n) x hs hs' more) (sym (other_any_is f hs n o m d silent)) (record {
+  wrote = on_wrote hs n o m f more there e;
+  own = both_here (FaresBy x) (slice_get hs.others n) (hart_at (suc n) (other_any f hs n o m)) o (acted f o Skip m) there (map_set_there (shared m.store) hs.others n o (acted f o Skip m) there) fares;
+  others = others_stand hs n o m f;
+})
 
 pub on_refused : (x : Beside) (hs : Harts) (n : ℕ) (o : Hart) (m : Move) → (m.outside ≡ true → m.store ≡ None) → slice_get hs.others n ≡ Some o → StepRefused o Skip m x → Refused (suc n) x hs (other_acts hs n o m false)
 on_refused x hs n o m silent there r = record { more = r.more; written = r.written; either = by_either r.either }
   where
-    by_either : (r.more ≡ []) ⊎ (m.state.output ≡ o.state.output ++ r.more) → (r.more ≡ []) ⊎ Wrote (suc n) hs (other_acts hs n o m false) r.more
-    by_either (inl e) = inl e
-    by_either (inr e) = inr (wrote_acts hs n o m false r.more (λ t. absurd (cc)) silent there e)
+    by_either : (r.more ≡ []) ⊎ (m.state.output ≡ o.state.output ++ r.more) → ((r.more ≡ []) × SameCounts x) ⊎ WroteIn (suc n) x hs (other_acts hs n o m false) r.more
+    by_either (inl e) = inl (e, r.same_counts)
+    by_either (inr e) = inr (wrote_in x hs n o m false r.more (λ t. absurd (cc)) silent there e (fares_none x o (executes o Skip m) r.on r.on r.same_counts))
 
-pub on_share_refused : (image : Fields) (x : Beside) (hs : Harts) (n : ℕ) (o : Hart) (m : Move) (seat : Seat) (b : Bool) → (m.outside ≡ true → m.store ≡ None) → slice_get hs.others n ≡ Some o → (s : Stepped image hs.commits (suc n) o Skip m None x seat b) → Refused (suc n) x hs (other_acts hs n o m s.failing)
-on_share_refused image x hs n o m seat b silent there s = record { more = s.more; written = s.written; either = inr (wrote_acts hs n o m s.failing s.more s.outside silent there s.output_is) }
+pub on_share_refused : (image : Fields) (x : Beside) (hs : Harts) (n : ℕ) (o : Hart) (m : Move) (seat : Seat) (b : Bool) → (m.outside ≡ true → m.store ≡ None) → slice_get hs.others n ≡ Some o → o.failed ≡ false →
+    (s : Stepped image hs.commits (suc n) o Skip m None x seat b) → Refused (suc n) x hs (other_acts hs n o m s.failing)
+on_share_refused image x hs n o m seat b silent there on s = record {
+  more = s.more;
+  written = s.written;
+  either = inr (wrote_in x hs n o m s.failing s.more s.outside silent there s.output_is (fares_by image hs.commits (suc n) s.rest x seat o (acted s.failing o Skip m) on s.is_seat s.counts));
+}
 
 -- ---- an instruction
 
@@ -161,8 +178,10 @@ module _ (image : Fields) (actions : List Action) (bytes : ℕ → List ℕ) (x 
   pub on_step_refused : StepRefused o Skip moved x → Refused (suc n) x hs (other_acts hs n o moved false)
   on_step_refused r = on_refused x hs n o moved (outside_silent o.state Skip None) there r
 
-  pub on_store_refused : (seat : Seat) (b : Bool) → Stepped image hs.commits (suc n) o Skip moved None x seat b → (f : Bool) × IsDevice moved f × Refused (suc n) x hs (other_acts hs n o moved f)
-  on_store_refused seat b s = (s.failing, s.outside, on_share_refused image x hs n o moved seat b (outside_silent o.state Skip None) there s)
+  pub on_store_refused : (seat : Seat) (b : Bool) → IsOnAt was.others.items n → Stepped image hs.commits (suc n) o Skip moved None x seat b → (f : Bool) × IsDevice moved f × Refused (suc n) x hs (other_acts hs n o moved f)
+  on_store_refused seat b on s =
+      let old = both_left (IsSeat image hs.commits (suc n) (bytes (suc n))) (slice_get was.others.items n) (slice_get hs.others n) o there (shown.others n) in
+      (s.failing, s.outside, on_share_refused image x hs n o moved seat b (outside_silent o.state Skip None) there (not_failed (suc n) old.0 (bytes (suc n)) o old.2.sits (on old.0 old.1)) s)
 
 -- ---- a poll at which it waits or adopts
 

@@ -1,5 +1,5 @@
 -- A turn of hart 0.
-use Rattle.std.proofs.Common.{◌≡◌, ◌≢◌, ◌⊎◌, inl, inr, ℕ, zero, suc, ◌+◌, ◌≤◌, Bool, true, false, ◌&&◌, if◌then◌else◌, List, [], ◌∷◌, ◌++◌, map, drop, length, slice_get, Option, Some, None, option_map, Result, Ok, Err, OnOk, refl, sym, ap, ◌∙◌, arith, subst}
+use Rattle.std.proofs.Common.{◌≡◌, ◌≢◌, ◌⊎◌, inl, inr, ℕ, zero, suc, ◌+◌, Bool, true, false, ◌&&◌, if◌then◌else◌, List, [], ◌∷◌, ◌++◌, map, drop, slice_get, Option, Some, None, option_map, Result, Ok, Err, OnOk, refl, sym, ap, ◌∙◌, arith, subst}
 use Rattle.std.proofs.lemmas.Option.{slice_get-map}
 use Rattle.mv_bindings.specs.declared.binding.Binding.{Binding}
 use Rattle.mv_bindings.specs.declared.action.Action.{Action}
@@ -16,9 +16,10 @@ use Rattle.mv_harts_one.specs.Seats.{place_as, store_as}
 use Rattle.mv_harts_turns.specs.Pairs.{Both, Pairs}
 use Rattle.mv_harts_turns.specs.declared.group.Group.{Group}
 use Rattle.mv_harts_turns.specs.declared.group.Committed.{Committed}
-use Rattle.mv_harts_turns.specs.Groups.{AreTaken, IsSeat, IsGlance, Shows, Beside, IsDevice, TookStore, Shared, IsFreed, SameStop, SameStops, SameCounts, Fares, Wrote, Stepped, StepRefused, Reaches, Refused, Turned, MayFail, acted, asked, asked_by, seat_at, output_of, output, leader_acts, committed, bindings_of}
+use Rattle.mv_harts_turns.specs.Groups.{AreTaken, IsSeat, IsGlance, Shows, Beside, IsDevice, TookStore, Shared, IsFreed, SameStop, SameStops, SameCounts, Fares, FaresBy, StandsAs, Wrote, WroteIn, Stepped, StepRefused, Reaches, Refused, Turned, MayFail, acted, asked, asked_by, hart_at, seat_at, output_of, output, leader_acts, committed, bindings_of}
 use Rattle.mv_harts_turns.proofs.Places.{both_after, both_weaker, both_moved, both_then, sum_same}
-use Rattle.mv_harts_turns.proofs.Seats.{shared_asked, seat_more}
+use Rattle.mv_harts_turns.proofs.Seats.{not_failed, shared_asked, seat_more}
+use Rattle.mv_harts_turns.proofs.Standing.{all_shared, all_freed, all_stay, fares_none, fares_by}
 use Rattle.mv_harts_turns.proofs.Reaching.{leader_any, leader_any_is, output_shared, seat_took, seat_bytes, reaches_quiet, way_none, move_place, move_store, outside_silent}
 
 -- ---- actions
@@ -29,12 +30,6 @@ later_drop [] (suc k) = refl
 later_drop (a ∷ actions) zero = refl
 later_drop (a ∷ actions) (suc k) = later_drop actions k
 
-none_left : (actions : List Action) (k : ℕ) → length actions ≤ k → later_acts (map act_of (drop k actions)) ≡ map act_of (drop k actions)
-none_left [] zero le = refl
-none_left [] (suc k) le = refl
-none_left (a ∷ actions) zero le = absurd (omega (arith, le))
-none_left (a ∷ actions) (suc k) le = none_left actions k (omega (arith, le))
-
 not_poll : (p : Place) (acts : List Act) → (p ≡ place.AtPoll → ⊥) → left_behind (place_as p) acts ≡ acts
 not_poll place.AtOrder acts ne = refl
 not_poll place.AtPoll acts ne = absurd (ne refl)
@@ -43,9 +38,6 @@ not_poll place.Elsewhere acts ne = refl
 -- the actions behind an instruction, by what is played
 pub played_more : (p : Place) (actions : List Action) (k : ℕ) → p ≡ place.AtPoll → left_behind (place_as p) (map act_of (drop k actions)) ≡ map act_of (drop (k + 1) actions)
 played_more p actions k e = ap (λ q. left_behind (place_as q) (map act_of (drop k actions))) e ∙ later_drop actions k ∙ (let one : suc k ≡ k + 1 = omega arith in ap (λ j. map act_of (drop j actions)) one)
-
-pub played_none : (p : Place) (actions : List Action) (k : ℕ) → p ≡ place.AtPoll → length actions ≤ k → left_behind (place_as p) (map act_of (drop k actions)) ≡ map act_of (drop k actions)
-played_none p actions k e le = ap (λ q. left_behind (place_as q) (map act_of (drop k actions))) e ∙ none_left actions k le
 
 pub played_other : (p : Place) (actions : List Action) (k : ℕ) → (p ≡ place.AtPoll → ⊥) → left_behind (place_as p) (map act_of (drop k actions)) ≡ map act_of (drop k actions)
 played_other p actions k ne = not_poll p (map act_of (drop k actions)) ne
@@ -117,9 +109,13 @@ module _ (image : Fields) (actions : List Action) (bytes : ℕ → List ℕ) (x 
   went b w = subst (λ hs'. Reaches image actions 0 bytes x was is hs hs') (sym (leader_any_is w.stepped.failing hs a m w.stepped.outside w.silent)) (went_any b w)
 
   -- without memory
-  wrote_by : (f : Bool) (more : List ℕ) → IsDevice m f → (m.outside ≡ true → m.store ≡ None) → (acted f hs.leader a m).state.output ≡ hs.leader.state.output ++ more → Wrote 0 hs (leader_acts hs a m f) more
-  wrote_by f more d silent e = subst (λ hs'. Wrote 0 hs hs' more) (sym (leader_any_is f hs a m d silent)) (record { own = e; rest = rest })
+  wrote_by : (f : Bool) (more : List ℕ) → IsDevice m f → (m.outside ≡ true → m.store ≡ None) → (acted f hs.leader a m).state.output ≡ hs.leader.state.output ++ more → FaresBy x hs.leader (acted f hs.leader a m) → WroteIn 0 x hs (leader_acts hs a m f) more
+  wrote_by f more d silent e fares = subst (λ hs'. WroteIn 0 x hs hs' more) (sym (leader_any_is f hs a m d silent)) (record { wrote = record { own = e; rest = rest }; own = fares; others = stand })
     where
+      stand : (h : ℕ) → h ≢ 0 → Both StandsAs (hart_at h hs) (hart_at h (leader_any f hs a m))
+      stand zero ne = absurd (ne refl)
+      stand (suc n) ne = all_shared m.store hs.others n
+
       rest : (h : ℕ) → h ≢ 0 → output h (leader_any f hs a m) ≡ output h hs
       rest zero ne = absurd (ne refl)
       rest (suc n) ne = ap output_of (slice_get-map (shared m.store) hs.others n) ∙ output_shared m.store (slice_get hs.others n)
@@ -127,12 +123,16 @@ module _ (image : Fields) (actions : List Action) (bytes : ℕ → List ℕ) (x 
   pub went_refused : (m.outside ≡ true → m.store ≡ None) → StepRefused hs.leader a m x → Refused 0 x hs (leader_acts hs a m false)
   went_refused silent r = record { more = r.more; written = r.written; either = by_either r.either }
     where
-      by_either : (r.more ≡ []) ⊎ (m.state.output ≡ hs.leader.state.output ++ r.more) → (r.more ≡ []) ⊎ Wrote 0 hs (leader_acts hs a m false) r.more
-      by_either (inl e) = inl e
-      by_either (inr e) = inr (wrote_by false r.more (λ t. absurd (cc)) silent e)
+      by_either : (r.more ≡ []) ⊎ (m.state.output ≡ hs.leader.state.output ++ r.more) → ((r.more ≡ []) × SameCounts x) ⊎ WroteIn 0 x hs (leader_acts hs a m false) r.more
+      by_either (inl e) = inl (e, r.same_counts)
+      by_either (inr e) = inr (wrote_by false r.more (λ t. absurd (cc)) silent e (fares_none x hs.leader (executes hs.leader a m) r.on r.on r.same_counts))
 
-  pub share_refused : (seat : Seat) (b : Bool) → (m.outside ≡ true → m.store ≡ None) → (s : Stepped image hs.commits 0 hs.leader a m hs.under x seat b) → Refused 0 x hs (leader_acts hs a m s.failing)
-  share_refused seat b silent s = record { more = s.more; written = s.written; either = inr (wrote_by s.failing s.more s.outside silent s.output_is) }
+  pub share_refused : (seat : Seat) (b : Bool) → hs.leader.failed ≡ false → (m.outside ≡ true → m.store ≡ None) → (s : Stepped image hs.commits 0 hs.leader a m hs.under x seat b) → Refused 0 x hs (leader_acts hs a m s.failing)
+  share_refused seat b on silent s = record {
+    more = s.more;
+    written = s.written;
+    either = inr (wrote_by s.failing s.more s.outside silent s.output_is (fares_by image hs.commits 0 s.rest x seat hs.leader (acted s.failing hs.leader a m) on s.is_seat s.counts));
+  }
 
 -- by what the code has seen and done
 
@@ -170,10 +170,10 @@ module _ (image : Fields) (actions : List Action) (bytes : ℕ → List ℕ) (x 
   pub go_step_refused : StepRefused hs.leader act (move hs.leader.state act hs.under 0) x → Refused 0 x hs (leader_acts hs taken moved false)
   go_step_refused r = went_refused image actions bytes x was is hs taken moved (outside_silent hs.leader.state taken hs.under) (subst (λ (a : Act). StepRefused hs.leader a (move hs.leader.state a hs.under 0) x) (sym handed) r)
 
-  pub go_share_refused : (seat : Seat) (b : Bool) → Stepped image hs.commits 0 hs.leader act (move hs.leader.state act hs.under 0) hs.under x seat b → (f : Bool) × IsDevice moved f × Refused 0 x hs (leader_acts hs taken moved f)
-  go_share_refused seat b s =
+  pub go_share_refused : (seat : Seat) (b : Bool) → was.leader.stop ≡ None → Stepped image hs.commits 0 hs.leader act (move hs.leader.state act hs.under 0) hs.under x seat b → (f : Bool) × IsDevice moved f × Refused 0 x hs (leader_acts hs taken moved f)
+  go_share_refused seat b on s =
       let s' = stepped_as seat b s in
-      (s'.failing, s'.outside, share_refused image actions bytes x was is hs taken moved seat b (outside_silent hs.leader.state taken hs.under) s')
+      (s'.failing, s'.outside, share_refused image actions bytes x was is hs taken moved seat b (not_failed 0 was.leader (bytes 0) hs.leader shown.leader.sits on) (outside_silent hs.leader.state taken hs.under) s')
 
 -- ---- a commit
 
@@ -215,12 +215,18 @@ output_committed (suc n) hs = ap output_of (slice_get-map freed hs.others n) ∙
 wrote_committed : (hs hs' : Harts) (more : List ℕ) → Wrote 0 hs hs' more → Wrote 0 hs (committed hs') more
 wrote_committed hs hs' more w = record { own = output_committed 0 hs' ∙ w.own; rest = λ h ne. output_committed h hs' ∙ w.rest h ne }
 
+-- and how the harts stand behind it
+freed_stand : (hs hs' : Harts) → ((n : ℕ) → Both StandsAs (slice_get hs.others n) (slice_get hs'.others n)) → (h : ℕ) → h ≢ 0 → Both StandsAs (hart_at h hs) (hart_at h (committed hs'))
+freed_stand hs hs' s zero ne = absurd (ne refl)
+freed_stand hs hs' s (suc n) ne =
+    both_then StandsAs StandsAs StandsAs (λ o p q f g stop h. g stop (f stop h)) (slice_get hs.others n) (slice_get hs'.others n) (slice_get (map freed hs'.others) n) (s n) (all_freed hs'.others n)
+
 pub refused_committed : (x : Beside) (hs hs' : Harts) → Refused 0 x hs hs' → Refused 0 x hs (committed hs')
 refused_committed x hs hs' r = record { more = r.more; written = r.written; either = by_either r.either }
   where
-    by_either : (r.more ≡ []) ⊎ Wrote 0 hs hs' r.more → (r.more ≡ []) ⊎ Wrote 0 hs (committed hs') r.more
+    by_either : ((r.more ≡ []) × SameCounts x) ⊎ WroteIn 0 x hs hs' r.more → ((r.more ≡ []) × SameCounts x) ⊎ WroteIn 0 x hs (committed hs') r.more
     by_either (inl e) = inl e
-    by_either (inr w) = inr (wrote_committed hs hs' r.more w)
+    by_either (inr w) = inr (record { wrote = wrote_committed hs hs' r.more w.wrote; own = w.own; others = freed_stand hs hs' (λ n. w.others (suc n) (λ e. absurd (cc))) })
 
 pub reaches_committed : (image : Fields) (actions : List Action) (bytes : ℕ → List ℕ) (x : Beside) (was mid is : Group) (hs hs' : Harts) → Reaches image actions 0 bytes x was mid hs hs' →
     ((after : ℕ → List ℕ) → Shows image actions after mid hs' → Shows image actions after is (committed hs')) → is.leader ≡ mid.leader → Pairs (λ n. IsFreed) mid.others.items is.others.items →
@@ -244,8 +250,36 @@ reaches_committed image actions bytes x was mid is hs hs' r shows same frees = r
     others zero ne = absurd (ne refl)
     others (suc n) ne = both_then SameStop IsFreed SameStop (λ s t u p q. q.stop ∙ p) (slice_get was.others.items n) (slice_get mid.others.items n) (slice_get is.others.items n) (r.others (suc n) ne) (frees n)
 
-pub note_refused : (image : Fields) (actions : List Action) (bytes : ℕ → List ℕ) (x : Beside) (was mid : Group) (hs hs' : Harts) → Reaches image actions 0 bytes x was mid hs hs' → Refused 0 x hs (committed hs')
-note_refused image actions bytes x was mid hs hs' r = record { more = r.more; written = r.written; either = inr (wrote_committed hs hs' r.more r.wrote) }
+-- the bytes that are left behind a turn of hart 0
+abbrev left_now : (rest : List ℕ) (bytes : ℕ → List ℕ) → ℕ → List ℕ
+left_now rest bytes zero = rest
+left_now rest bytes (suc n) = bytes (suc n)
+
+acts_stand : (hs : Harts) (a : Act) (m : Move) (f : Bool) (n : ℕ) → Both StandsAs (slice_get hs.others n) (slice_get (leader_acts hs a m f).others n)
+acts_stand hs a m false n = all_shared m.store hs.others n
+acts_stand hs a m true n = all_stay (slice_get hs.others n)
+
+pub note_refused : (image : Fields) (actions : List Action) (bytes : ℕ → List ℕ) (x : Beside) (was mid : Group) (hs : Harts) (a : Act) (m : Move) (f : Bool) → Shows image actions bytes was hs → was.leader.stop ≡ None → Reaches image actions 0 bytes x was mid hs (leader_acts hs a m f) →
+    Refused 0 x hs (committed (leader_acts hs a m f))
+note_refused image actions bytes x was mid hs a m f shown on r = record {
+  more = r.more;
+  written = r.written;
+  either = inr (record { wrote = wrote_committed hs (leader_acts hs a m f) r.more r.wrote; own = fares r.own; others = freed_stand hs (leader_acts hs a m f) (acts_stand hs a m f) });
+}
+  where
+    kept : (h : ℕ) → h ≢ 0 → left_now r.rest bytes h ≡ bytes h
+    kept zero ne = absurd (ne refl)
+    kept (suc n) ne = refl
+
+    seat : IsSeat image (leader_acts hs a m f).commits 0 r.rest mid.leader (leader_acts hs a m f).leader
+    seat = (r.shows (left_now r.rest bytes) refl kept).leader
+
+    unfailed : hs.leader.failed ≡ false
+    unfailed = not_failed 0 was.leader (bytes 0) hs.leader shown.leader.sits on
+
+    fares : Fares x was.leader mid.leader → FaresBy x hs.leader (leader_acts hs a m f).leader
+    fares (inl same) = fares_none x hs.leader (leader_acts hs a m f).leader unfailed (not_failed 0 mid.leader r.rest (leader_acts hs a m f).leader seat.sits (same.0 ∙ on)) same.1
+    fares (inr went) = fares_by image (leader_acts hs a m f).commits 0 r.rest x mid.leader hs.leader (leader_acts hs a m f).leader unfailed seat went.1
 
 -- ---- hart 0 waits
 
@@ -315,14 +349,14 @@ lead_commits hs a m false e away d =
     ∙ ap (λ c. if c then leader_commits hs a m else leader_waits hs) away
 
 -- the commit is noted, or there is no memory for that
-pub lead_noted : {T E : Type 0} (image : Fields) (actions : List Action) (bytes : ℕ → List ℕ) (x : Beside) (was mid is : Group) (hs : Harts) (a : Act) (m : Move) → ((f : Bool) × IsDevice m f × Reaches image actions 0 bytes x was mid hs (leader_acts hs a m f)) → is_commit m.place a ≡ true → all_away hs.others ≡ true →
+pub lead_noted : {T E : Type 0} (image : Fields) (actions : List Action) (bytes : ℕ → List ℕ) (x : Beside) (was mid is : Group) (hs : Harts) (a : Act) (m : Move) → Shows image actions bytes was hs → was.leader.stop ≡ None → ((f : Bool) × IsDevice m f × Reaches image actions 0 bytes x was mid hs (leader_acts hs a m f)) → is_commit m.place a ≡ true → all_away hs.others ≡ true →
     (r : Result T E) → OnOk r ((image : Fields) (actions : List Action) (bytes : ℕ → List ℕ) (hs : Harts) → Shows image actions bytes mid hs → Shows image actions bytes is (committed hs)) → is.leader ≡ mid.leader → OnOk r (Pairs (λ n. IsFreed) mid.others.items is.others.items) →
     Turned image actions 0 bytes x was is hs MayFail (leader_by hs a m) r
-lead_noted image actions bytes x was mid is hs a m go commits away (Ok done) shows same frees =
+lead_noted image actions bytes x was mid is hs a m shown on go commits away (Ok done) shows same frees =
     let hs1 = leader_acts hs a m go.0 in
     (go.0, tt, subst (λ hs'. Reaches image actions 0 bytes x was is hs hs') (sym (lead_commits hs a m go.0 commits away go.1)) (reaches_committed image actions bytes x was mid is hs hs1 go.2 (λ after h. shows image actions after hs1 h) same frees))
-lead_noted image actions bytes x was mid is hs a m go commits away (Err error) shows same frees =
-    (go.0, tt, subst (λ hs'. Refused 0 x hs hs') (sym (lead_commits hs a m go.0 commits away go.1)) (note_refused image actions bytes x was mid hs (leader_acts hs a m go.0) go.2))
+lead_noted image actions bytes x was mid is hs a m shown on go commits away (Err error) shows same frees =
+    (go.0, tt, subst (λ hs'. Refused 0 x hs hs') (sym (lead_commits hs a m go.0 commits away go.1)) (note_refused image actions bytes x was mid hs a m go.0 shown on go.2))
 
 pub lead_refused : (x : Beside) (hs : Harts) (a : Act) (m : Move) → ((f : Bool) × IsDevice m f × Refused 0 x hs (leader_acts hs a m f)) → is_commit m.place a ≡ true → all_away hs.others ≡ true → (f : Bool) × MayFail f × Refused 0 x hs (leader_by hs a m f)
 lead_refused x hs a m go commits away = (go.0, tt, subst (λ hs'. Refused 0 x hs hs') (sym (lead_commits hs a m go.0 commits away go.1)) (refused_committed x hs (leader_acts hs a m go.0) go.2))

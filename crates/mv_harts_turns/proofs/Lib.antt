@@ -1,5 +1,6 @@
 mod Places
 mod Seats
+pub mod Standing
 mod Steps
 mod Reaching
 mod Leading

@@ -1,8 +1,8 @@
 -- Lists that agree place by place, and changes of one place.
-use Rattle.std.proofs.Common.{◌≡◌, ◌≢◌, ◌⊎◌, inl, inr, ℕ, zero, suc, ◌+◌, ◌≤◌, List, [], ◌∷◌, map, set, slice_get, Option, Some, None, option_map, length, refl, sym, ap, ◌∙◌, arith, subst}
+use Rattle.std.proofs.Common.{◌≡◌, ◌≢◌, ◌⊎◌, inl, inr, ℕ, zero, suc, ◌+◌, ◌≤◌, List, [], ◌∷◌, map, set, slice_get, Option, Some, None, option_map, refl, sym, ap, ◌∙◌, arith, subst}
 use Rattle.std.specs.List.{sum_by}
 use Rattle.std.proofs.lemmas.Bool.{cases_eq}
-use Rattle.std.proofs.lemmas.Option.{slice_get-map, slice_get_past}
+use Rattle.std.proofs.lemmas.Option.{slice_get-map}
 use Rattle.std.proofs.lemmas.List.Sums.{sum_by-cons}
 use Rattle.mv_num.proofs.Lists.{set_there}
 use Rattle.mv_harts_turns.specs.Pairs.{Both, Pairs}
@@ -14,16 +14,7 @@ set_other (x ∷ xs) zero (suc m) y ne = refl
 set_other (x ∷ xs) (suc n) zero y ne = refl
 set_other (x ∷ xs) (suc n) (suc m) y ne = set_other xs n m y (λ e. ne (ap suc e))
 
-pub get_past : {A : Type 0} (xs : List A) (n : ℕ) → length xs ≤ n → slice_get xs n ≡ None
-get_past xs n le = slice_get_past xs n le
-
 -- ---- agreement
-
-pub both_map : {A B C : Type 0} (R : A → B → Type 0) (S : A → C → Type 0) (f : B → C) → ((x : A) (y : B) → R x y → S x (f y)) → (o : Option A) (p : Option B) → Both R o p → Both S o (option_map f p)
-both_map R S f h None None b = tt
-both_map R S f h None (Some y) b = absurd b
-both_map R S f h (Some x) None b = absurd b
-both_map R S f h (Some x) (Some y) b = h x y b
 
 -- by way of a change on the left
 pub both_after : {A B C D : Type 0} (Q : A → C → Type 0) (R : A → B → Type 0) (S : C → D → Type 0) (f : B → D) → ((x : A) (z : C) (y : B) → Q x z → R x y → S z (f y)) →

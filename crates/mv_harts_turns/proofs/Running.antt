@@ -9,24 +9,23 @@ use Rattle.mv_num.proofs.Lists.{set_there, there_at}
 use Rattle.mv_bindings.specs.declared.action.Action.{Action}
 use Rattle.mv_bindings.specs.Acts.{Act, act_of}
 use Rattle.mv_image.specs.Spelling.{Fields}
-use Rattle.mv_io.specs.Outside.{Rose, CountAfter}
 use Rattle.mv_io.proofs.Common.{count_kept}
 use Rattle.mv_probe.specs.Ways.{Way, way_after, next_way}
 use Rattle.mv_machine.specs.declared.machine.Stopped.{Stopped}
 use Rattle.mv_machine.specs.declared.machine.Stopped.TheVariants as answer
 use Rattle.mv_machine.specs.Moves.{input_failed, output_failed}
 use Rattle.mv_machine.specs.Runs as runs
-use Rattle.mv_machine.specs.Runs.{State}
 use Rattle.mv_harts_runs.specs.Harts.{Hart, Harts, Turn, first_harts, others_from, first_of, hart_from, harts_after, turn_of}
 use Rattle.mv_harts_runs.specs.Alone.{Passes, HartsAreRight, IsRight, IsWell}
 use Rattle.mv_harts_one.specs.declared.seat.Seat.{Seat}
 use Rattle.mv_harts_one.specs.Seats.{has_failed}
 use Rattle.mv_harts_turns.specs.Pairs.{Both}
 use Rattle.mv_harts_turns.specs.declared.group.Group.{Group}
-use Rattle.mv_harts_turns.specs.Groups.{IsSeat, Shows, FetchesAre, SameStop, Counts, Fares, Stands, Beside, Advanced, Reaches, Refused, Wrote, MayFail, asked, asked_by, hart_at, seat_at, output, output_of, beside}
-use Rattle.mv_harts_turns.specs.Runs.{turns_by, Outside, outside, bytes_of, inputs_of, harts_of, CountsOf, AlwaysFetch, GotAll, Ran, Broken, IsReadyFor}
+use Rattle.mv_harts_turns.specs.Groups.{IsSeat, Shows, FetchesAre, SameStop, SameCounts, Counts, Fares, FaresBy, StandsAs, Stands, Beside, Advanced, Reaches, Refused, Wrote, WroteIn, MayFail, asked, asked_by, hart_at, seat_at, output, output_of, beside}
+use Rattle.mv_harts_turns.specs.Runs.{turns_by, Outside, outside, bytes_of, inputs_of, harts_of, CountsOf, stands, FaultsOfAll, AlwaysFetch, GotAll, Ran, Broken, IsReadyFor}
 use Rattle.mv_harts_turns.proofs.Places.{both_left, both_weaker, set_other}
 use Rattle.mv_harts_turns.proofs.Reaching.{grew_nothing, way_none}
+use Rattle.mv_harts_turns.proofs.Standing.{CountsOfHart, CountsOfAll, counts_unfailed, faults_told, ran_counts}
 
 -- ---- turns
 
@@ -186,6 +185,62 @@ module _ (image : Fields) (actions : List Action) (count : ℕ) (was is is' : Ou
         by_eq (inl e) = subst (λ i. is'.written i ≡ option_map (λ before. before ++ output i now) (was.written i)) (sym e) (n.new_written ∙ same ∙ sym n.old_written ∙ r.written h)
         by_eq (inr ne) = n.written_rest j ne ∙ r.written j
 
+    later_in : (j : ℕ) → is.inputs j ≤ is'.inputs j
+    later_in j = by_eq (cases_eq j h)
+      where
+        by_eq : (j ≡ h) ⊎ (j ≢ h) → is.inputs j ≤ is'.inputs j
+        by_eq (inl e) = subst (λ i. is.inputs i ≤ is'.inputs i) (sym e) (omega (arith, n.old_inputs, n.new_inputs, n.later_inputs))
+        by_eq (inr ne) = omega (arith, n.inputs_rest j ne)
+
+    later_out : (j : ℕ) → is.outputs j ≤ is'.outputs j
+    later_out j = by_eq (cases_eq j h)
+      where
+        by_eq : (j ≡ h) ⊎ (j ≢ h) → is.outputs j ≤ is'.outputs j
+        by_eq (inl e) = subst (λ i. is.outputs i ≤ is'.outputs i) (sym e) (omega (arith, n.old_outputs, n.new_outputs, n.later_outputs))
+        by_eq (inr ne) = omega (arith, n.outputs_rest j ne)
+
+    -- the counts behind a turn at which no device failed
+    counts_same : SameCounts x → CountsOfAll was is' now
+    counts_same same j o at =
+        let c = ran_counts image actions count schedule was is group r j o at in
+        record { stop = c.stop; has_stop = c.has_stop; counts = counts_till c.stop (was.inputs j) (is.inputs j) (is'.inputs j) (was.outputs j) (is.outputs j) (is'.outputs j) (by_input (cases_eq j h)) (by_output (cases_eq j h)) c.counts }
+      where
+        by_input : (j ≡ h) ⊎ (j ≢ h) → is'.inputs j ≡ is.inputs j
+        by_input (inl e) = subst (λ i. is'.inputs i ≡ is.inputs i) (sym e) (n.new_inputs ∙ same.0 ∙ sym n.old_inputs)
+        by_input (inr ne) = n.inputs_rest j ne
+
+        by_output : (j ≡ h) ⊎ (j ≢ h) → is'.outputs j ≡ is.outputs j
+        by_output (inl e) = subst (λ i. is'.outputs i ≡ is.outputs i) (sym e) (n.new_outputs ∙ same.1 ∙ sym n.old_outputs)
+        by_output (inr ne) = n.outputs_rest j ne
+
+    -- and behind one of which it is known how its hart fares
+    counts_behind : (more : List ℕ) → WroteIn h x now then' more → CountsOfAll was is' then'
+    counts_behind more w j o at = by_eq (cases_eq j h)
+      where
+        own : hart_at h then' ≡ Some o → CountsOfHart h was is' o
+        own here =
+            let old = both_left (FaresBy x) (hart_at h now) (hart_at h then') o here w.own in
+            let c = ran_counts image actions count schedule was is group r h old.0 old.1 in
+            let on = counts_unfailed c.stop (was.inputs h) (is.inputs h) (was.outputs h) (is.outputs h) (sym c.has_stop.0 ∙ old.2.0) c.counts in
+            let d = old.2.1 in
+            record {
+              stop = d.stop;
+              has_stop = d.has_stop;
+              counts = counts_since d.stop (was.inputs h) x.old_inputs (is'.inputs h) (was.outputs h) x.old_outputs (is'.outputs h) (sym n.old_inputs ∙ on.0) (sym n.old_outputs ∙ on.1)
+                  (counts_till d.stop x.old_inputs x.new_inputs (is'.inputs h) x.old_outputs x.new_outputs (is'.outputs h) n.new_inputs n.new_outputs d.counts);
+            }
+
+        by_eq : (j ≡ h) ⊎ (j ≢ h) → CountsOfHart j was is' o
+        by_eq (inl e) = subst (λ i. CountsOfHart i was is' o) (sym e) (own (subst (λ i. hart_at i then' ≡ Some o) e at))
+        by_eq (inr ne) =
+            let old = both_left StandsAs (hart_at j now) (hart_at j then') o at (w.others j ne) in
+            let c = ran_counts image actions count schedule was is group r j old.0 old.1 in
+            record {
+              stop = c.stop;
+              has_stop = old.2 c.stop c.has_stop;
+              counts = counts_till c.stop (was.inputs j) (is.inputs j) (is'.inputs j) (was.outputs j) (is.outputs j) (is'.outputs j) (n.inputs_rest j ne) (n.outputs_rest j ne) c.counts;
+            }
+
     module _ (reach : Reaches image actions h (bytes_of is) x group group' now then') where
       told_more : (j : ℕ) → j < count → is'.left j ≡ Some (bytes_of is' j)
       told_more j lt = by_eq (cases_eq j h)
@@ -193,20 +248,6 @@ module _ (image : Fields) (actions : List Action) (count : ℕ) (was is is' : Ou
           by_eq : (j ≡ h) ⊎ (j ≢ h) → is'.left j ≡ Some (bytes_of is' j)
           by_eq (inl e) = subst (λ i. is'.left i ≡ Some (bytes_of is' i)) (sym e) (told_some (is'.left h) reach.rest (n.left ∙ reach.left_is))
           by_eq (inr ne) = told_some (is'.left j) (bytes_of is j) (n.left_rest j ne ∙ r.told j lt)
-
-      later_in : (j : ℕ) → is.inputs j ≤ is'.inputs j
-      later_in j = by_eq (cases_eq j h)
-        where
-          by_eq : (j ≡ h) ⊎ (j ≢ h) → is.inputs j ≤ is'.inputs j
-          by_eq (inl e) = subst (λ i. is.inputs i ≤ is'.inputs i) (sym e) (omega (arith, n.old_inputs, n.new_inputs, n.later_inputs))
-          by_eq (inr ne) = omega (arith, n.inputs_rest j ne)
-
-      later_out : (j : ℕ) → is.outputs j ≤ is'.outputs j
-      later_out j = by_eq (cases_eq j h)
-        where
-          by_eq : (j ≡ h) ⊎ (j ≢ h) → is.outputs j ≤ is'.outputs j
-          by_eq (inl e) = subst (λ i. is.outputs i ≤ is'.outputs i) (sym e) (omega (arith, n.old_outputs, n.new_outputs, n.later_outputs))
-          by_eq (inr ne) = omega (arith, n.outputs_rest j ne)
 
       counts_own : (old seat : Seat) → Fares x old seat → CountsOf h was is old → CountsOf h was is' seat
       counts_own old seat (inl same) c =
@@ -252,13 +293,16 @@ module _ (image : Fields) (actions : List Action) (count : ℕ) (was is is' : Ou
     pub broke : (whole : List ℕ) (i : ℕ) → schedule ≡ take i whole → schedule ++ h ∷ [] ≡ take (i + 1) whole → i + 1 ≤ length whole → length schedule ≡ i → Refused h x now then' → Broken image actions count whole was is'
     broke whole i part next lt len q = by_either q.either
       where
-        by_either : (q.more ≡ []) ⊎ Wrote h now then' q.more → Broken image actions count whole was is'
+        by_either : ((q.more ≡ []) × SameCounts x) ⊎ WroteIn h x now then' q.more → Broken image actions count whole was is'
         by_either (inl e) = record {
           turns = i;
           within = omega arith;
           failing = r.failing;
           paired = r.paired ∙ len;
-          written = subst (λ l. GotAll was is' (harts_of image actions count was l r.failing)) part (got_same (q.written ∙ ap (λ m. option_map (λ before. before ++ m) x.old_written) e ∙ sym (grew_nothing x.old_written x.old_written refl)));
+          written = subst (λ l. GotAll was is' (harts_of image actions count was l r.failing)) part (got_same (q.written ∙ ap (λ m. option_map (λ before. before ++ m) x.old_written) e.0 ∙ sym (grew_nothing x.old_written x.old_written refl)));
+          faults = subst (λ l. FaultsOfAll was is' (harts_of image actions count was l r.failing)) part (faults_told was is' now (counts_same e.1));
+          later_inputs = λ j. omega (arith, r.later_inputs j, later_in j);
+          later_outputs = λ j. omega (arith, r.later_outputs j, later_out j);
         }
         by_either (inr wrote) = record {
           turns = i + 1;
@@ -266,7 +310,11 @@ module _ (image : Fields) (actions : List Action) (count : ℕ) (was is is' : Ou
           failing = r.failing ++ f ∷ [];
           paired = omega (arith, length-append r.failing (f ∷ []), r.paired, len);
           written = subst (λ l. GotAll was is' (harts_of image actions count was l (r.failing ++ f ∷ []))) next
-              (subst (λ hs. GotAll was is' hs) (sym (harts_more image actions count was schedule r.failing h f r.paired)) (got_more q.more wrote q.written));
+              (subst (λ hs. GotAll was is' hs) (sym (harts_more image actions count was schedule r.failing h f r.paired)) (got_more q.more wrote.wrote q.written));
+          faults = subst (λ l. FaultsOfAll was is' (harts_of image actions count was l (r.failing ++ f ∷ []))) next
+              (subst (λ hs. FaultsOfAll was is' hs) (sym (harts_more image actions count was schedule r.failing h f r.paired)) (faults_told was is' then' (counts_behind q.more wrote)));
+          later_inputs = λ j. omega (arith, r.later_inputs j, later_in j);
+          later_outputs = λ j. omega (arith, r.later_outputs j, later_out j);
         }
 
 -- ---- at the next place of a schedule
@@ -449,4 +497,13 @@ pub broken_none : (image : Fields) (actions : List Action) (count : ℕ) (was : 
 unfolding harts_after
 broken_none image actions count was whole =
     let acts = map act_of actions in
-    record { turns = 0; within = omega arith; failing = []; paired = refl; written = λ h. grew_nothing (was.written h) (was.written h) refl ∙ ap (λ l. option_map (λ before. before ++ l) (was.written h)) (sym (fresh_output image (inputs_of was) (count - 1) acts h)) }
+    record {
+      turns = 0;
+      within = omega arith;
+      failing = [];
+      paired = refl;
+      written = λ h. grew_nothing (was.written h) (was.written h) refl ∙ ap (λ l. option_map (λ before. before ++ l) (was.written h)) (sym (fresh_output image (inputs_of was) (count - 1) acts h));
+      faults = λ h o at. stands (fresh_at image (inputs_of was) (count - 1) acts h o at).failed refl refl;
+      later_inputs = λ h. omega arith;
+      later_outputs = λ h. omega arith;
+    }

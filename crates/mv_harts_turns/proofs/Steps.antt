@@ -14,10 +14,11 @@ use Rattle.mv_harts_one.specs.declared.glance.Place.{Place}
 use Rattle.mv_harts_one.specs.declared.glance.Place.TheVariants as place
 use Rattle.mv_harts_one.specs.Seats.{Sits, has_failed, is_under, place_as}
 use Rattle.mv_harts_one.specs.Executions.{HasExecuted, HasFailed, IsFaultOf}
-use Rattle.mv_harts_turns.specs.Groups.{AreTaken, IsSeat, Beside, WasAsked, Stepped, StepRefused, asked_by, input_rose, output_rose}
+use Rattle.mv_harts_turns.specs.Groups.{AreTaken, IsSeat, Beside, WasAsked, SameCounts, Stepped, StepRefused, asked_by, input_rose, output_rose}
 use Rattle.mv_harts_turns.specs.Polls.{IsNoted}
 use Rattle.mv_harts_turns.proofs.Reaching.{nothing, grew_nothing}
 use Rattle.mv_harts_turns.proofs.Seats.{not_failed, taken_append, noted, seat_noted}
+use Rattle.mv_harts_turns.proofs.Standing.{counts_unfailed}
 
 poll_only : (p : Place) → (p ≡ place.AtPoll → ⊥) → (a : Act) (acts : List Act) → took (place_as p) a acts ≡ acts
 poll_only place.AtOrder ne a acts = refl
@@ -26,6 +27,14 @@ poll_only place.Elsewhere ne a acts = refl
 
 fault_or : (stop : Option Stopped) → has_failed stop ≡ false → (stop ≡ Some answer.InputFault → ⊥) × (stop ≡ Some answer.OutputFault → ⊥)
 fault_or stop e = (λ s. absurd (let d : true ≡ false = ap has_failed (sym s) ∙ e in cc), λ s. absurd (let d : true ≡ false = ap has_failed (sym s) ∙ e in cc))
+
+-- while a hart goes on no device of it has failed
+pub going_counts : (stop : Option Stopped) (a b a' b' : ℕ) → stop ≡ None → CountAfter (input_failed stop) a b → CountAfter (output_failed stop) a' b' → (b ≡ a) × (b' ≡ a')
+going_counts stop a b a' b' on reading writing = (subst (λ s. CountAfter (input_failed s) a b) on reading, subst (λ s. CountAfter (output_failed s) a' b') on writing)
+
+-- nor of one that has ended otherwise
+unfailed_counts : (stop : Option Stopped) (a b a' b' : ℕ) → has_failed stop ≡ false → CountAfter (input_failed stop) a b → CountAfter (output_failed stop) a' b' → (b ≡ a) × (b' ≡ a')
+unfailed_counts stop a b a' b' e reading writing = counts_unfailed stop a b a' b' e (let none = fault_or stop e in record { input = λ s. absurd (none.0 s); output = λ s. absurd (none.1 s); reading = reading; writing = writing })
 
 module _ (image : Fields) (commits : List (List Binding)) (n : ℕ) (o : Hart) (a : Act) (m : Move) (under : Option (List Binding)) (ub : Bool) (x : Beside) where
   -- what an instruction came to, up to what its poll took
@@ -133,12 +142,21 @@ module _ (image : Fields) (commits : List (List Binding)) (n : ℕ) (o : Hart) (
   pub refused_note : place_as place.AtPoll ≡ m.place → (bytes : List ℕ) (was seat : Seat) (b : Bool) → Near bytes was seat b → StepRefused o a m x
   refused_note at bytes was seat b h = by_did h.did
     where
+      on : o.failed ≡ false
+      on = not_failed n was bytes o h.was_is.sits h.on
+
       by_did : HasExecuted n o a m seat b x.left x.old_written x.new_written ⊎ HasFailed n o m seat ub b bytes x.left x.old_written x.new_written (input_rose x) (output_rose x) → StepRefused o a m x
-      by_did (inl e) = record { more = e.more; written = e.wrote; either = inr e.output }
+      by_did (inl e) = record {
+        on = on;
+        same_counts = unfailed_counts seat.stop x.old_inputs x.new_inputs x.old_outputs x.new_outputs (sym e.sits.failed ∙ on) h.reading h.writing;
+        more = e.more;
+        written = e.wrote;
+        either = inr e.output;
+      }
       by_did (inr e) = absurd (no_break (sym at) bytes seat b e)
 
-  pub refused_step : x.new_written ≡ x.old_written → StepRefused o a m x
-  refused_step e = record { more = []; written = grew_nothing x.old_written x.new_written e; either = inl refl }
+  pub refused_step : (bytes : List ℕ) (was : Seat) → IsSeat image commits n bytes was o → was.stop ≡ None → SameCounts x → x.new_written ≡ x.old_written → StepRefused o a m x
+  refused_step bytes was is on same e = record { on = not_failed n was bytes o is.sits on; same_counts = same; more = []; written = grew_nothing x.old_written x.new_written e; either = inl refl }
 
 -- a poll that takes nothing
 pub skipped : (image : Fields) (commits : List (List Binding)) (n : ℕ) (o : Hart) (a : Act) (under : Option (List Binding)) (ub : Bool) (x : Beside) (bytes : List ℕ) (was seat : Seat) → IsSeat image commits n bytes was o → was.stop ≡ None → seat.stop ≡ None

@@ -18,7 +18,7 @@ use Rattle.mv_harts_one.specs.declared.seat.Mode.{Mode}
 use Rattle.mv_harts_one.specs.declared.seat.Mode.TheVariants as mode
 use Rattle.mv_harts_one.specs.declared.seat.Taken.{Taken}
 use Rattle.mv_harts_one.specs.declared.glance.Glance.{Glance}
-use Rattle.mv_harts_one.specs.Seats.{Sits, IsTaken, adopted, is_under, place_as, store_as}
+use Rattle.mv_harts_one.specs.Seats.{Sits, IsTaken, IsBefore, has_failed, adopted, is_under, place_as, store_as}
 use Rattle.mv_harts_one.specs.Executions.{is_into_text}
 use Rattle.mv_harts_turns.specs.Pairs.{Both, Pairs}
 use Rattle.mv_harts_turns.specs.declared.group.Group.{Group}
@@ -231,6 +231,16 @@ pub record Counts (stop : Option Stopped) (inputs inputs' outputs outputs' : ℕ
   pub reading : CountAfter (input_failed stop) inputs inputs'
   pub writing : CountAfter (output_failed stop) outputs outputs'
 
+-- a hart's read or write failed as a stop tells, and it stands before that call; or none did
+abbrev pub HasStop : Option Stopped → Hart → Type 0
+HasStop stop o = (o.failed ≡ has_failed stop) × IsBefore stop o.state
+
+-- those counts, by how the hart stands
+pub record CountsBy (o : Hart) (inputs inputs' outputs outputs' : ℕ) : Type 0 where
+  pub stop : Option Stopped
+  pub has_stop : HasStop stop o
+  pub counts : Counts stop inputs inputs' outputs outputs'
+
 -- those of a turn
 abbrev pub Counted : Beside → Option Stopped → Type 0
 Counted x stop = Counts stop x.old_inputs x.new_inputs x.old_outputs x.new_outputs
@@ -238,6 +248,14 @@ Counted x stop = Counts stop x.old_inputs x.new_inputs x.old_outputs x.new_outpu
 -- the hart whose turn it is stands as before and no device failed, or it went on before and its devices' counts are by how it stands
 abbrev pub Fares : Beside → (was is : Seat) → Type 0
 Fares x was is = (SameStop was is × SameCounts x) ⊎ ((was.stop ≡ None) × Counted x is.stop)
+
+-- what is known of how a hart stood holds of how it stands
+abbrev pub StandsAs : (was is : Hart) → Type 0
+StandsAs was is = (stop : Option Stopped) → HasStop stop was → HasStop stop is
+
+-- no read or write of a hart had failed, and the counts of a turn are by how it stands now
+abbrev pub FaresBy : Beside → (was is : Hart) → Type 0
+FaresBy x was is = (was.failed ≡ false) × CountsBy is x.old_inputs x.new_inputs x.old_outputs x.new_outputs
 
 -- these bytes were written
 abbrev pub Grew : Beside → List ℕ → Type 0
@@ -276,8 +294,10 @@ pub record Stepped (image : Fields) (commits : List (List Binding)) (number : �
   pub way_is : WasAsked x 1
   pub counts : Counted x seat.stop
 
--- without memory for the step: nothing is written, or what the instruction writes
+-- without memory for the step: no device failed, and nothing is written, or what the instruction writes
 pub record StepRefused (o : Hart) (a : Act) (m : Move) (x : Beside) : Type 0 where
+  pub on : o.failed ≡ false
+  pub same_counts : SameCounts x
   pub more : List ℕ
   pub written : Grew x more
   pub either : (more ≡ []) ⊎ (m.state.output ≡ o.state.output ++ more)
@@ -298,11 +318,17 @@ pub record Reaches (image : Fields) (actions : List Action) (hart : ℕ) (bytes 
   pub own : Both (Fares x) (seat_at hart was) (seat_at hart is)
   pub others : (h : ℕ) → h ≢ hart → Both SameStop (seat_at h was) (seat_at h is)
 
--- without memory for a turn: nothing is written, or what the turn to those harts writes
+-- a turn of a hart brought it from those harts to these and wrote these bytes, by what is known of its devices
+pub record WroteIn (hart : ℕ) (x : Beside) (was is : Harts) (more : List ℕ) : Type 0 where
+  pub wrote : Wrote hart was is more
+  pub own : Both (FaresBy x) (hart_at hart was) (hart_at hart is)
+  pub others : (h : ℕ) → h ≢ hart → Both StandsAs (hart_at h was) (hart_at h is)
+
+-- without memory for a turn: nothing is written and no device failed, or it is as behind the turn to those harts
 pub record Refused (hart : ℕ) (x : Beside) (hs hs' : Harts) : Type 0 where
   pub more : List ℕ
   pub written : Grew x more
-  pub either : (more ≡ []) ⊎ Wrote hart hs hs' more
+  pub either : ((more ≡ []) × SameCounts x) ⊎ WroteIn hart x hs hs' more
 
 -- a turn, by whether its read or write failed, which `Fits` allows
 abbrev pub Turned : {T E : Type 0} → (image : Fields) (actions : List Action) (hart : ℕ) (bytes : ℕ → List ℕ) (x : Beside) (was is : Group) (hs : Harts) (Fits : Bool → Type 0) (turned : Bool → Harts) → Result T E → Type 0

@@ -1,16 +1,18 @@
 -- What a run of a group is, and what it has done.
-use Rattle.std.specs.Prelude.{ℕ, suc, ◌≡◌, ◌-◌, ◌<◌, ◌≤◌, Bool, false, List, [], ◌∷◌, ◌++◌, map, take, length, slice_get, Option, Some, option_map, option_and_then, unwrap_or}
+use Rattle.std.specs.Prelude.{ℕ, suc, ◌≡◌, ◌+◌, ◌-◌, ◌<◌, ◌≤◌, Bool, true, false, List, [], ◌∷◌, ◌++◌, map, take, length, slice_get, Option, Some, option_map, option_and_then, unwrap_or}
 use Rattle.std.specs.List.{All}
 use Rattle.mv_bindings.specs.declared.action.Action.{Action}
 use Rattle.mv_bindings.specs.Acts.{Act, act_of}
 use Rattle.mv_image.specs.Spelling.{Fields}
 use Rattle.mv_probe.specs.Ways.{Way, way_after}
-use Rattle.mv_machine.specs.Runs.{bytes_to_come}
-use Rattle.mv_harts_runs.specs.Harts.{Harts, Turn, first_harts, harts_after}
+use Rattle.mv_io.specs.Outside.{Rose}
+use Rattle.mv_machine.specs.Runs.{Reads, Writes, bytes_to_come}
+use Rattle.mv_harts_runs.specs.Harts.{Hart, Harts, Turn, first_harts, harts_after}
 use Rattle.mv_harts_runs.specs.Alone.{Fitting, Passes}
 use Rattle.mv_harts_one.specs.declared.seat.Seat.{Seat}
+use Rattle.mv_harts_one.specs.Seats.{IsAt}
 use Rattle.mv_harts_turns.specs.declared.group.Group.{Group}
-use Rattle.mv_harts_turns.specs.Groups.{Shows, FetchesAre, Counts, seat_at, output, asked}
+use Rattle.mv_harts_turns.specs.Groups.{Shows, FetchesAre, Counts, hart_at, seat_at, output, asked}
 
 -- the turns of a schedule, of which some reads and writes fail; each fetch is by the pick 0
 abbrev pub turns_by : (schedule : List ℕ) → (failing : List Bool) → List Turn
@@ -64,6 +66,17 @@ CountsOf h was is seat = Counts seat.stop (was.inputs h) (is.inputs h) (was.outp
 abbrev pub AlwaysFetch : Fields → List Action → (count : ℕ) → Outside → (schedule : List ℕ) → Type 0
 AlwaysFetch image actions count was schedule = (time : ℕ) (failing : List Bool) → FetchesAre (harts_of image actions count was (take time schedule) failing)
 
+-- The counts of faults of a hart's source and sink, by how it stands: both are as before, or it stands before a read or a write that failed, and that device's
+-- count rose, by one at most.
+pub data FaultsOf (h : ℕ) (was is : Outside) (o : Hart) : Type 0 where
+  stands : o.failed ≡ false → is.inputs h ≡ was.inputs h → is.outputs h ≡ was.outputs h → FaultsOf h was is o
+  read_failed : o.failed ≡ true → IsAt o.state Reads → Rose (was.inputs h) (is.inputs h) → is.inputs h ≤ was.inputs h + 1 → is.outputs h ≡ was.outputs h → FaultsOf h was is o
+  write_failed : o.failed ≡ true → IsAt o.state Writes → Rose (was.outputs h) (is.outputs h) → is.outputs h ≤ was.outputs h + 1 → is.inputs h ≡ was.inputs h → FaultsOf h was is o
+
+-- so it is of each of them
+abbrev pub FaultsOfAll : (was is : Outside) → Harts → Type 0
+FaultsOfAll was is hs = (h : ℕ) (o : Hart) → hart_at h hs ≡ Some o → FaultsOf h was is o
+
 -- each sink got what its hart has written
 abbrev pub GotAll : (was is : Outside) → Harts → Type 0
 GotAll was is hs = (h : ℕ) → is.written h ≡ option_map (λ before. before ++ output h hs) (was.written h)
@@ -83,10 +96,13 @@ pub record Ran (image : Fields) (actions : List Action) (count : ℕ) (schedule 
   pub later_inputs : (h : ℕ) → was.inputs h ≤ is.inputs h
   pub later_outputs : (h : ℕ) → was.outputs h ≤ is.outputs h
 
--- without memory: each sink got what its hart has written by some turn
+-- Without memory: each sink got what its hart has written by some turn, and each count of faults is as before, but that of a device that failed by then.
 pub record Broken (image : Fields) (actions : List Action) (count : ℕ) (schedule : List ℕ) (was is : Outside) : Type 0 where
   pub turns : ℕ
   pub within : turns ≤ length schedule
   pub failing : List Bool
   pub paired : length failing ≡ turns
   pub written : GotAll was is (harts_of image actions count was (take turns schedule) failing)
+  pub faults : FaultsOfAll was is (harts_of image actions count was (take turns schedule) failing)
+  pub later_inputs : (h : ℕ) → was.inputs h ≤ is.inputs h
+  pub later_outputs : (h : ℕ) → was.outputs h ≤ is.outputs h

@@ -4,12 +4,13 @@ use Rattle.mv_harts_one.specs.Seats.{place_as}
 use Rattle.mv_harts_one.specs.declared.seat.Taken.TheVariants as taken
 use Rattle.mv_harts_turns.specs.Polls.{IsNoted}
 use Rattle.mv_harts_turns.proofs.Reaching.{match_err, move_place}
-use Rattle.mv_harts_turns.proofs.Steps.{stepped_plain, stepped_poll, skipped, refused_note, refused_step}
+use Rattle.mv_harts_turns.proofs.Steps.{stepped_plain, stepped_poll, skipped, going_counts, refused_note, refused_step}
 use Rattle.mv_harts_turns.proofs.step.step.Goals as goal
 
 pub returns-in_err-behind-clause-steps : goal.returns-in_err-behind-clause-steps
 returns-in_err-behind-clause-steps g c = λ image commits number bytes o under is glance left same.
-    match_err c.from_residual-in_err-behind.result _ _ _ c.from_residual-in_err-behind.ensures.1 (λ e. refused_step image commits number o (act_of c.args.action) _ under c.args.under _ (c.in_err-behind.ensures.does number bytes o under is.sits left glance.one same))
+    match_err c.from_residual-in_err-behind.result _ _ _ c.from_residual-in_err-behind.ensures.1 (λ e. refused_step image commits number o (act_of c.args.action) _ under c.args.under _ bytes c.args.seat.now is c.requires.on
+    (going_counts c.execute.new.self.stop _ _ _ _ c.in_err-behind.ensures.going c.in_err-behind.ensures.reading c.in_err-behind.ensures.writing) (c.in_err-behind.ensures.does number bytes o under is.sits left glance.one same))
 
 pub returns-in_err-push-2-clause-steps : goal.returns-in_err-push-2-clause-steps
 returns-in_err-push-2-clause-steps g c = λ image commits number bytes o under is glance left same.
@@ -33,7 +34,7 @@ returns-in_default-clause-steps g c = λ image commits number bytes o under is g
 
 pub returns-in_err-push-clause-steps : goal.returns-in_err-push-clause-steps
 returns-in_err-push-clause-steps g c = λ image commits number bytes o under is glance left same.
-    match_err c.from_residual.result _ _ _ c.from_residual.ensures.1 (λ e. refused_step image commits number o (act_of c.args.action) _ under c.args.under _ refl)
+    match_err c.from_residual.result _ _ _ c.from_residual.ensures.1 (λ e. refused_step image commits number o (act_of c.args.action) _ under c.args.under _ bytes c.args.seat.now is c.requires.on (refl, refl) refl)
 
 pub returns-then-skips-clause-steps : goal.returns-then-skips-clause-steps
 returns-then-skips-clause-steps g c = λ image commits number bytes o under is glance left same.

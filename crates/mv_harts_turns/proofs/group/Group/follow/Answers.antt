@@ -75,7 +75,7 @@ adopt-requires-clause-ready g c =
 
 pub returns-in_err-adopt-in-Adopts-clause-follows : goal.returns-in_err-adopt-in-Adopts-clause-follows
 returns-in_err-adopt-in-Adopts-clause-follows g c = λ image actions bytes hs o shown there one left.
-    turned_err image actions (suc c.args.place) bytes _ _ _ hs _ _ c.from_residual.result _ c.from_residual.ensures.1 false tt (record { more = []; written = grew_nothing _ _ refl; either = inl refl })
+    turned_err image actions (suc c.args.place) bytes _ _ _ hs _ _ c.from_residual.result _ c.from_residual.ensures.1 false tt (record { more = []; written = grew_nothing _ _ refl; either = inl (refl, (refl, refl)) })
 
 pub returns-in_ok-adopt-in-Adopts-clause-follows : goal.returns-in_ok-adopt-in-Adopts-clause-follows
 returns-in_ok-adopt-in-Adopts-clause-follows g c = λ image actions bytes hs o shown there one left.

@@ -56,4 +56,4 @@ returns-clause-leads g c = λ image bytes hs shown one left.
     let are_away : c.all_away.result ≡ true = first_of (cc, search rules, grind (arith, common_steps)) in
     let away : all_away hs.others ≡ true = sym (all_away_is image hs.commits suc (λ n. bytes (suc n)) s.others.items hs.others shown.others) ∙ sym (c.all_away.ensures ∙ ap (list_all is_seat_away) c.as_slice.ensures.value) ∙ are_away in
     let went = c.in_ok-go.ensures.goes image bytes hs shown (record { one = one; place = at; store = c.glance-glance.ensures.store 0 (bytes 0) hs.leader shown.leader.sits one }) left in
-    lead_noted image c.args.actions.now bytes _ s c.go-2.new.self c.note_commit.new.self hs a m went test away c.note_commit.result c.note_commit.ensures.shows c.note_commit.ensures.leader c.note_commit.ensures.others
+    lead_noted image c.args.actions.now bytes _ s c.go-2.new.self c.note_commit.new.self hs a m shown c.requires.on went test away c.note_commit.result c.note_commit.ensures.shows c.note_commit.ensures.leader c.note_commit.ensures.others

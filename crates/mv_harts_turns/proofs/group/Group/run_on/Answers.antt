@@ -37,7 +37,7 @@ returns-in_err-take_store-clause-goes g c = λ image actions bytes hs o shown th
     let old = c.index_mut.result.now in
     let at : slice_get items n ≡ Some old = slice_get_read items (length items) n old refl (omega (arith, s.others.ok.0, c.requires.there)) c.index_mut.ensures.value in
     let is = both_at (IsSeat image hs.commits (suc n) (bytes (suc n))) (slice_get items n) (slice_get hs.others n) old o at there (shown.others n) in
-    let r = on_store_refused image actions bytes _ s s hs n o c.args.glance shown there glance _ _ (c.in_ok-step.ensures.steps image hs.commits (suc n) (bytes (suc n)) o None is glance left refl) in
+    let r = on_store_refused image actions bytes _ s s hs n o c.args.glance shown there glance _ _ c.requires.on (c.in_ok-step.ensures.steps image hs.commits (suc n) (bytes (suc n)) o None is glance left refl) in
     turned_err image actions (suc n) bytes _ _ _ hs _ _ c.from_residual-in_err-take_store.result _ c.from_residual-in_err-take_store.ensures.1 r.0 r.1 r.2
 
 pub returns-in_err-share-clause-goes : goal.returns-in_err-share-clause-goes
@@ -48,7 +48,7 @@ returns-in_err-share-clause-goes g c = λ image actions bytes hs o shown there g
     let old = c.index_mut.result.now in
     let at : slice_get items n ≡ Some old = slice_get_read items (length items) n old refl (omega (arith, s.others.ok.0, c.requires.there)) c.index_mut.ensures.value in
     let is = both_at (IsSeat image hs.commits (suc n) (bytes (suc n))) (slice_get items n) (slice_get hs.others n) old o at there (shown.others n) in
-    let r = on_store_refused image actions bytes _ s s hs n o c.args.glance shown there glance _ _ (c.in_ok-step.ensures.steps image hs.commits (suc n) (bytes (suc n)) o None is glance left refl) in
+    let r = on_store_refused image actions bytes _ s s hs n o c.args.glance shown there glance _ _ c.requires.on (c.in_ok-step.ensures.steps image hs.commits (suc n) (bytes (suc n)) o None is glance left refl) in
     turned_err image actions (suc n) bytes _ _ _ hs _ _ c.from_residual-in_err-share.result _ c.from_residual-in_err-share.ensures.1 r.0 r.1 r.2
 
 pub returns-clause-goes : goal.returns-clause-goes
