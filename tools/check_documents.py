@@ -109,9 +109,10 @@ def wrong_in(document, known):
     for kind, block in BLOCK.findall(text):
         if kind == "c" and "int main(void)" in block and block not in examples:
             yield f"a program is no file of examples/: {block.splitlines()[0]}"
+    synopses = known["help", ""].splitlines() + explanations.SYNOPSES["mvharts"].splitlines()
     for table in text.split(SYNOPSES)[1:]:
         for command in re.findall(r"^\| `(.*?)`", re.match(r"(\|.*\n?)*", table)[0], re.M):
-            if all(f" {command}\n" not in synopsis for synopsis in explanations.SYNOPSES.values()):
+            if all(command not in (line, line.rpartition("] ")[2]) for line in synopses):
                 yield f"`{command}` is no line of the synopsis"
 
 

@@ -28,7 +28,7 @@ MEANT = [
 ]
 COMMANDED = [
     ("4 What `run` says of its status, its output and its notes", [("mv_top/specs/Running.antt", "RunDoes")]),
-    ("5 What joins it to the words of a command and to the devices", [("mv_top/src/top.rt", "multiverse")]),
+    ("5 What joins it to the words of a command and to the devices", [("mv_top/src/top.rt", "multiverse"), ("mv_top/src/picking.rt", "multiverse_by_words")]),
 ]
 APART = [
     ("6 The work that a meaning counts", [("mv_ast/specs/Names.antt", "names_local"), ("mv_ast/specs/Counts.antt", "patchable"), ("mv_meaning/specs/Meaning.antt", "poll_work")]),
@@ -52,6 +52,7 @@ APPENDICES = [
     ("G Several harts, and what the other harts adopt", [
         ("mv_harts/src/harts.rt", "run_harts"), ("mv_harts/src/top.rt", "mvharts"), ("mv_ast/specs/Bindings.antt", "are_bindings"),
         ("mv_ast/specs/Bindings.antt", "are_typed_bindings"), ("mv_machine/specs/Runs.antt", "adopted")]),
+    ("H `help` and `version`", [("mv_command/specs/Help.antt", "help_on"), ("mv_command/specs/Help.antt", "version_text")]),
 ]
 PARTS = MEANT + COMMANDED + APART + APPENDICES
 # Of these only what an earlier part has is to be believed: the rest says which bodies and tables an image was made of.

@@ -1,20 +1,16 @@
 """What `./multiverse` and `./mvharts` say behind the program's notes, at a terminal or where `--explain on` asks for it."""
 import os
+import re
 
+import hints
 import refusals
 
-# Of each program what its commands are.
+# Of each program what its launcher takes. What the commands of `multiverse` are it tells itself.
 SYNOPSES = {
     "multiverse": """\
-usage: ./multiverse [--explain on|off] [--preprocess] run FILE [--steps N] [--at LIST] [--bindings] [--words]
-       ./multiverse [--explain on|off] [--preprocess] build FILE IMAGE
-       ./multiverse [--explain on|off] exec IMAGE [--steps N] [--at LIST] [--bindings] [--words]
-       ./multiverse [--explain on|off] list IMAGE
-       ./multiverse [--explain on|off] [--preprocess] eval FILE --bound K
-       ./multiverse [--explain on|off] gen NUMBER [--source]
+usage: ./multiverse [--explain on|off] [--preprocess] COMMAND
        ./multiverse --build
-N is 1 to 1000000000000 (without it 1000000000), K and NUMBER are 0 to 4294967295, LIST is items POLL:SWITCH=VALUE with commas between;
-docs/commands.md has all""",
+--preprocess stands before run, build and eval; docs/commands.md has all""",
     "mvharts": """\
 usage: ./mvharts [--explain on|off] [--preprocess] FILE COUNT NUMBER TURNS
        ./mvharts --build
@@ -22,7 +18,11 @@ COUNT is 2 to 4, NUMBER 0 to 4294967295, TURNS 1 to 10000000; docs/harts.md has 
 }
 
 # The options whose value may be a word of its own.
-VALUED = ("--steps", "--at", "--bound")
+VALUED = ("--steps", "--at", "--oracle", "--bound")
+
+# The commands of `multiverse` whose file is a source, and the last lines of those that accepted it.
+COMPILING = ("run", "build", "eval")
+ACCEPTED = re.compile("done|ended|trapped|steps")
 
 # What is wrong with bytes that are no image.
 FAULTS = {"10": "something is missing", "11": "a field breaks a rule", "12": "something follows the end"}
@@ -73,11 +73,14 @@ def places_of_files(name, words):
     return operands(words, 0)[:1] if name == "mvharts" else operands(words, 1)
 
 
-def of_notes(name, notes, words, source=None):
-    """Returns the lines that explain the last line of the notes of a program with these words. Where its source is told, that is what it was handed as its file."""
+def of_notes(name, notes, words, source=None, told=lambda: ""):
+    """Returns the lines that explain the last line of the notes of a program with these words.
+
+    Where its source is told, that is what it was handed as its file; `told()` is what the program tells of its commands.
+    """
     last_line = notes.rstrip("\n").rpartition("\n")[2]
     if last_line == "usage":
-        return SYNOPSES[name].split("\n")
+        return [*SYNOPSES[name].splitlines(), *told().splitlines()]
     files = [words[at] for at in places_of_files(name, words)]
     if last_line == "shelf fault" and len(files) > 1:
         return [f"{files[0]} can't be read, or isn't there; or {files[1]} can't be written"]
@@ -85,11 +88,15 @@ def of_notes(name, notes, words, source=None):
         return [f"{' or '.join(files)} can't be read, or isn't there"]
     if last_line.startswith("bad image "):
         return [f"{files[0]} is no image, as `build` saves one: {FAULTS[last_line.split()[2]]} at byte {last_line.split()[3]}"]
+    if source is None and files:
+        source = text_of(files[0])
+    if source is not None and ACCEPTED.match(last_line) and (name == "mvharts" or words[0] in COMPILING):
+        found = hints.hints(source.decode("latin-1"))
+        return [f"{files[0]}:{line}:{column}: hint: {text}" for (line, column), text in found]
     explained = refusals.explained(last_line)
     if not explained:
         return []
     place, cause, remedy = explained
-    source = text_of(files[0]) if source is None else source
     line = line_at(source, place) if place and source is not None else None
     at = f"{files[0]}:{place[0]}:{place[1]}" if place else files[0]
     remedy = (line and refusals.advice(last_line, *line)) or remedy

@@ -24,8 +24,6 @@ ENDING = (signal.SIGINT, signal.SIGTERM, signal.SIGHUP)
 GUEST = "int main(void) { putchar('.'); while (1) ; }\n"
 # The stack of an unproved program: its checks take some ten times what a proved one does.
 UNPROVED_STACK = 256 << 20
-# The commands of `multiverse` whose file is a source.
-COMPILING = ("run", "build", "eval")
 WORDS = {"multiverse": ("run", "guest.c", "--steps", "1000000000000"), "mvharts": ("guest.c", "2", "0", "10000000")}
 
 
@@ -111,7 +109,7 @@ class Launcher:
     def preprocessed(self, words):
         """Returns the words with the file that they name preprocessed, as a file of this process that the program inherits, and its text."""
         places = explanations.places_of_files(self.name, words)
-        if not places or self.name == "multiverse" and words[0] not in COMPILING:
+        if not places or self.name == "multiverse" and words[0] not in explanations.COMPILING:
             self.give_up("--preprocess stands before a command that has a source")
         try:
             text = preprocessing.preprocessed(words[places[0]])
@@ -123,6 +121,14 @@ class Launcher:
             it.write(text)
         return [f"/dev/fd/{held}" if at == places[0] else word for at, word in enumerate(words)], text
 
+    def told(self, program):
+        """Returns what the program tells of its commands, which `mvharts` doesn't."""
+        if self.name != "multiverse":
+            return ""
+        how = {"stdin": subprocess.DEVNULL, "stdout": subprocess.PIPE, "stderr": subprocess.DEVNULL}
+        with started([program, "help"], **how) as telling:
+            return telling.stdout.read().decode(errors="replace")
+
     def run_explained(self, program, words, own_words, source):
         """Runs the program, passes its notes on, and says behind them what helps, by the words that this one was given."""
         notes = b""
@@ -130,7 +136,7 @@ class Launcher:
             for piece in iter(running.stderr.read1, b""):
                 os.write(2, piece)
                 notes += piece
-        for line in explanations.of_notes(self.name, notes.decode(errors="replace"), own_words, source):
+        for line in explanations.of_notes(self.name, notes.decode(errors="replace"), own_words, source, lambda: self.told(program)):
             self.say(line)
         sys.exit(running.returncode if running.returncode >= 0 else 128 - running.returncode)
 

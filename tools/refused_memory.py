@@ -106,6 +106,10 @@ class Case(NamedTuple):
     out: bytes
     notes: bytes
 
+    def line(self):
+        """The words as they can be printed."""
+        return " ".join(self.words).encode(errors="backslashreplace").decode()
+
     def is_met(self, answer):
         wrote = answer.out.startswith(self.out) if self.words[0] in ("list", "gen") else answer.out == self.out
         return wrote and (answer.status, answer.notes) == (self.status, self.notes)
@@ -125,6 +129,7 @@ def cases(image):
     polled = {"polled.c": POLLED.encode()}
     return [
         Case(["fly"], {}, 2, b"", b"usage\n"),
+        Case(["run", "\udcff.c"], {}, 2, b"", b"usage\n"),
         Case(["run", "none.c"], {}, 7, b"", b"shelf fault\n"),
         Case(["run", "trap.c"], {"trap.c": TRAP.encode()}, 1, b"*", b"trapped 1\n"),
         Case(["run", "hello.c", "--steps", "1"], {"hello.c": HELLO.encode()}, 8, b"", b"steps\n"),
@@ -205,10 +210,10 @@ def try_case(runner, case):
     """Refuses each allocation of a command in turn. Returns how many answers were wrong."""
     whole, calls = runner.run(case.words, case.files, b"", 0)
     if not case.is_met(whole):
-        print(f"{' '.join(case.words)}: {whole.status} {whole.out[:80]} {whole.notes[:80]} with ample memory")
+        print(f"{case.line()}: {whole.status} {whole.out[:80]} {whole.notes[:80]} with ample memory")
         return 1
     if calls == 0:
-        print(f"{' '.join(case.words)}: no allocation was seen, so none was refused")
+        print(f"{case.line()}: no allocation was seen, so none was refused")
         return 1
     wants, same, wrong = 0, 0, 0
     with ThreadPoolExecutor(max_workers=os.cpu_count()) as pool:
@@ -219,8 +224,8 @@ def try_case(runner, case):
                 wants += 1
             else:
                 wrong += 1
-                print(f"{' '.join(case.words)}, allocation {number}: {answer.status} {answer.out[:80]} {answer.notes[:80]} {sorted(answer.files)}")
-    print(f"{' '.join(case.words)}: {calls} allocations, {wants} answers of want of memory, {same} as with ample memory, {wrong} others")
+                print(f"{case.line()}, allocation {number}: {answer.status} {answer.out[:80]} {answer.notes[:80]} {sorted(answer.files)}")
+    print(f"{case.line()}: {calls} allocations, {wants} answers of want of memory, {same} as with ample memory, {wrong} others")
     return wrong
 
 
@@ -236,9 +241,11 @@ def is_part(lines, whole):
 
 
 def is_probed(text, whole):
-    """Whether what is printed of a row is what it prints with ample memory, or also an outcome that lacked memory."""
-    blocks = text.split("# and by another oracle\n")
-    return all(block == whole or is_part(block.splitlines(), whole.splitlines()) for block in blocks)
+    """Whether what is printed of a row is what it prints with ample memory, or also an outcome, of a run or of the evaluation beside it, that lacked memory."""
+    ran, *meant = text.split("# and it means something else\n")
+    runs = ran.split("# and by another oracle\n")
+    lacking = [block for block in runs if block != whole] + meant
+    return all(is_part(block.splitlines(), whole.splitlines()) for block in lacking)
 
 
 def try_row(runner):

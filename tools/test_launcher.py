@@ -75,7 +75,7 @@ class Launcher(unittest.TestCase):
         self.room = os.path.join(self.scratch, "tmp")
         for folder in ("bin", "bare", "tmp", "top/tools", "top/docs", "top/.ci", "top/crates/mv_cli/src", "top/crates/mv_harts_cli/src"):
             os.makedirs(os.path.join(self.scratch, folder))
-        for name in ("kept_program.py", "explanations.py", "preprocessing.py", "refusals.py"):
+        for name in ("kept_program.py", "explanations.py", "hints.py", "preprocessing.py", "refusals.py"):
             shutil.copy(os.path.join(TOP, "tools", name), os.path.join(self.top, "tools"))
         shutil.copy(os.path.join(TOP, "docs", "refusals.ini"), os.path.join(self.top, "docs"))
         shutil.copy(os.path.join(TOP, ".ci", "run"), os.path.join(self.top, ".ci"))
@@ -360,7 +360,10 @@ class Launcher(unittest.TestCase):
         return whole
 
     def test_usage_is_explained(self):
-        self.assertIn("run FILE [--steps N]", self.explained("usage", "fly"))
+        self.assertIn("\nmultiverse: usage: ./multiverse [--explain on|off] [--preprocess] COMMAND\n", self.explained("usage", "fly"))
+
+    def test_usage_is_explained_by_what_the_program_tells(self):
+        self.assertTrue(self.explained("usage", "fly").endswith("\nmultiverse: [help]\n"))
 
     def test_shelf_fault_is_explained(self):
         self.assertIn("none.c", self.explained("shelf fault", "run", "none.c", "--steps", "3"))
@@ -406,11 +409,42 @@ class Launcher(unittest.TestCase):
                 self.write("a.c", f"{line}\n")
                 self.assertIn(f"\nmultiverse: what to do: {advice}", self.explained(notes, "run", "a.c"))
 
+    def hinted(self, source, *words, notes="ended 0", **how):
+        """Returns the hints on a source, without the file's name."""
+        file = self.write("hinted.c", source)
+        lines = self.explained(notes, *words, file, **how).splitlines()[1:]
+        before = f"{how.get('name', 'multiverse')}: {file}:"
+        self.assertTrue(all(it.startswith(before) for it in lines))
+        return [it.removeprefix(before) for it in lines]
+
+    def test_hint_on_a_read_without_an_attribute(self):
+        marked = "__attribute__((multiverse)) int a;\n__attribute__((multiverse)) void f(void) { if (a) putchar('f'); }\n"
+        reads = "int g(int b) { return a + b; }\nint local(int a) { return a; }\nvoid turned(void) { a = !a; }\nint main(void) { return g(1) + a; }\n"
+        self.assertEqual(self.hinted(marked + reads, "run"), ["3:23: hint: `g` reads the switch `a` and has no attribute: no commit changes it"])
+
+    def test_hint_on_a_switch_that_nothing_reads(self):
+        source = "__attribute__((multiverse)) int a, b;\n__attribute__((multiverse)) int f(void) { return a; }\nint main(void) { return f(); }\n"
+        expected = ["1:36: hint: no attributed function reads the switch `b`: no commit changes any code for it"]
+        self.assertEqual(self.hinted(source, "run", notes="steps"), expected)
+        self.assertEqual(self.hinted(source, name="mvharts"), expected)
+        self.assertEqual(self.hinted(source, "exec"), [])
+
+    def test_hint_on_a_commit_in_an_attributed_function(self):
+        source = "__attribute__((multiverse)) int f(void);\nint f(void) {\n  return multiverse_commit();\n}\nint main(void) { return f(); }\n"
+        self.assertEqual(self.hinted(source, "eval"), ["3:10: hint: `f` is attributed and live here: `multiverse_commit` answers -1 and changes nothing"])
+
+    def test_hint_on_a_value_outside_the_domain(self):
+        marked = "enum mode { OFF, ON = 3 };\nstatic __attribute__((multiverse)) enum mode m = ON;\nint k __attribute__((multiverse(1, 0x10)));\n"
+        reads = "__attribute__((multiverse)) int f(void) { return k + m; }\n"
+        stores = "int main(void) {\n  m = 7; m = ON; multiverse_commit();\n  m = 1;\n  multiverse_commit_refs(&m);\n  k = 16; multiverse_commit();\n  k = 2;\n}\n"
+        expected = ["7:3: hint: 1 is no value of the switch `m` (0, 3): the commit in line 8 frees what reads it"]
+        self.assertEqual(self.hinted(marked + reads + stores, "run"), expected)
+
     def test_explained_off_a_terminal_where_it_is_asked_for(self):
         self.write("notes", "usage\n")
         self.gate()
         status, output, notes = self.run_it("--explain", "on", "fly")
-        self.assertTrue(notes.startswith("usage\nmultiverse: usage: ./multiverse [--explain on|off] [--preprocess] run FILE"))
+        self.assertTrue(notes.startswith("usage\nmultiverse: usage: ./multiverse [--explain on|off] [--preprocess] COMMAND\n"))
 
     def write_source_to_preprocess(self):
         self.write("own.h", "/* names */\nenum { TEN = 10 };\nint twice(int n);\n")

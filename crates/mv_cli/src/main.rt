@@ -1,14 +1,13 @@
 //! The program `multiverse`: the top call over standard input, standard output, standard error and the files of the machine.
 //!
-//! `main` makes the real objects, boxes an oracle that picks the oldest word, and calls `multiverse`. It has one stored
+//! `main` makes the real objects and calls `multiverse_by_words`, which picks by the oracle that the words name. It has one stored
 //! run. What the real objects hold is claimed by nothing.
 #![tactic(auto)]
 
 use mv_io::{FileShelf, StdSink, StdSource};
 use mv_notes::{Performed, report};
-use mv_probe::{FetchOracle, Oldest, Probe};
-use mv_top::{Status, multiverse};
-use std::alloc::AllocError;
+use mv_probe::Probe;
+use mv_top::{Status, multiverse_by_words};
 use std::io::ErrorKind;
 use std::process::ExitCode;
 use std::{env, io};
@@ -23,23 +22,21 @@ fn words(rt: &HostRuntime) -> io::Result<Vec<String>> {
 }
 
 // What the words ask for.
-fn run(rt: &HostRuntime, words: &[String]) -> Result<Status, AllocError> {
+fn run(rt: &HostRuntime, words: &[String]) -> Status {
     let mut shelf = FileShelf::new(rt);
     let mut input = StdSource::new(rt.stdin());
     let mut out = StdSink::new(rt.stdout());
     let mut notes = StdSink::new(rt.stderr());
-    let mut oracle: Box<dyn FetchOracle> = Box::new(rt.alloc(), Oldest)?;
     let mut probes: Vec<Box<dyn Probe>> = Vec::new(rt.alloc());
-    Ok(multiverse(
+    multiverse_by_words(
         rt.alloc(),
         words,
         &mut shelf,
         &mut input,
         &mut out,
         &mut notes,
-        &mut oracle,
         &mut probes,
-    ))
+    )
 }
 
 // Where the words can't be had: words that are no text are no command.
@@ -54,7 +51,7 @@ fn refused(rt: &HostRuntime, error: &io::Error) -> Status {
 
 fn main(rt: HostRuntime) -> ExitCode {
     let status = match words(&rt) {
-        Ok(words) => run(&rt, words.as_slice()).unwrap_or(Status::Memory),
+        Ok(words) => run(&rt, words.as_slice()),
         Err(error) => refused(&rt, &error),
     };
     ExitCode::from(status.number())

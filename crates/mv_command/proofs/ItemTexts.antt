@@ -1,15 +1,15 @@
 -- The text of an item, and where it is cut.
-use Rattle.std.proofs.Common.{ℕ, ℤ, pos, negsuc, zero, suc, ◌≡◌, ◌≢◌, ◌<◌, ◌≤◌, ◌+◌, ◌^◌, true, false, List, [], ◌∷◌, ◌++◌, length, get_or, take, drop, map, refl, sym, ap, ◌∙◌, subst, arith, lit<, eqb, eqb-true, add-one}
+use Rattle.std.proofs.Common.{ℕ, ℤ, pos, negsuc, suc, ◌≡◌, ◌≢◌, ◌<◌, ◌≤◌, ◌^◌, true, false, List, [], ◌∷◌, ◌++◌, length, get_or, take, drop, map, refl, sym, ap, ◌∙◌, subst, arith, lit<, eqb, eqb-true}
 use Rattle.std.specs.Int.{w64}
 use Rattle.std.specs.Prelude.{FitsSigned, Option, MatchOption, All}
 use Rattle.std.specs.List.{list_all, join_with_byte, slice_split}
 use Rattle.std.specs.Fmt.{decimal, signed_decimal}
 use Rattle.std.proofs.lemmas.Str.Pattern.{IsSplitOnceResult, split_after}
 use Rattle.std.proofs.lemmas.Bool.{false≢true, false_from_ne_true}
-use Rattle.std.proofs.lemmas.List.{get_or_default, map-append}
+use Rattle.std.proofs.lemmas.List.{get_or_default}
 use lib.Signed.{mag}
-use Rattle.std.proofs.lemmas.List.Splits.{slice_split_none, slice_split_at, length-slice_split, join_with_byte-slice_split}
-use Rattle.std.proofs.lemmas.List.Elements.{All-cons, All-head, All-tail, All-append}
+use Rattle.std.proofs.lemmas.List.Splits.{length-slice_split, join_with_byte-slice_split}
+use Rattle.std.proofs.lemmas.List.Elements.{All-cons, All-append}
 use lib.Pointwise.{pointwise}
 use Rattle.std.proofs.lemmas.Fmt.{decimal_injective, signed_decimal_injective}
 use Rattle.std.proofs.lemmas.List.Sums.{AllPass-from_list_all}
@@ -17,6 +17,7 @@ use Rattle.mv_command.specs.declared.items.Item.{Item}
 use Rattle.mv_command.specs.declared.options.TheConstants.{MOST_POLL, LEAST_VALUE}
 use Rattle.mv_command.specs.Items.{is_name, is_name_byte, IsValue, IsItem, item_text, Ascend, IsList}
 use Rattle.mv_command.proofs.Numerals.{digits_alone}
+use Rattle.mv_command.proofs.Pieces.{first_same, list_cut, rest_same, same_all}
 use denote.Ref.{Bor}
 
 pub poll_plain : (n i : ℕ) → n < 2 ^ 59 → i < length (decimal n) → get_or (decimal n) i 0 ≢ 58
@@ -69,7 +70,7 @@ item_is text poll flip name value n v w same small few named cut behind numeral 
     (record { poll = few; name = named; value = subst IsValue (sym same) small }, rw (cut, behind, numeral, signed, same) refl)
 
 -- the text of an item has no comma
-number_plain : (n : ℕ) → n < 2 ^ 59 → All (λ b. eqb b 44 ≡ false) (decimal n)
+pub number_plain : (n : ℕ) → n < 2 ^ 59 → All (λ b. eqb b 44 ≡ false) (decimal n)
 number_plain n small k d here = let digit = digits_alone n k (decimal n) small refl here in let same = get_or_default (decimal n) k d 0 here in false_from_ne_true (eqb (get_or (decimal n) k d) 44) (λ is. omega (arith, digit, same, eqb-true (get_or (decimal n) k d) 44 is))
 
 value_plain : (value : ℤ) → IsValue value → All (λ b. eqb b 44 ≡ false) (signed_decimal value)
@@ -87,40 +88,6 @@ item_plain item fits =
     All-append (λ b. eqb b 44 ≡ false) (decimal item.poll) (58 ∷ (item.name ++ (61 ∷ signed_decimal item.value))) (number_plain item.poll (omega (arith, fits.poll)))
     (All-cons (λ b. eqb b 44 ≡ false) 58 (item.name ++ (61 ∷ signed_decimal item.value)) refl
     (All-append (λ b. eqb b 44 ≡ false) item.name (61 ∷ signed_decimal item.value) (name_no_comma item.name fits.name) (All-cons (λ b. eqb b 44 ≡ false) 61 (signed_decimal item.value) refl (value_plain item.value fits.value))))
-
--- a list of items is cut at its commas into their texts
-pub list_cut : (items : List Item) → All IsItem items → (items ≡ [] → ⊥) → slice_split (λ b. eqb b 44) (join_with_byte 44 (map item_text items)) ≡ map item_text items
-list_cut [] each some = absurd (some refl)
-list_cut (item ∷ []) each some = slice_split_none (λ b. eqb b 44) (item_text item) (item_plain item (All-head IsItem item [] each))
-list_cut (item ∷ next ∷ rest) each some =
-    slice_split_at (λ b. eqb b 44) (item_text item) 44 (join_with_byte 44 (map item_text (next ∷ rest))) (item_plain item (All-head IsItem item (next ∷ rest) each)) refl ∙
-    ap (λ parts. item_text item ∷ parts) (list_cut (next ∷ rest) (All-tail IsItem item (next ∷ rest) each) (λ e. let l : suc (length rest) ≡ 0 = ap length e in omega (arith, l)))
-
-first_same : {X : Type 0} {x y : X} {xs ys : List X} → x ∷ xs ≡ y ∷ ys → x ≡ y
-first_same {x = x} e = ap (λ l. get_or l 0 x) e
-
-rest_same : {X : Type 0} {x y : X} {xs ys : List X} → x ∷ xs ≡ y ∷ ys → xs ≡ ys
-rest_same e = ap (drop 1) e
-
-module _ {W : Type 0} (now : W → List ℕ) where
-  -- where one of some texts is no item's, they aren't the texts of items
-  pub no_texts : (texts : List W) (items : List Item) (k : ℕ) (d : W) → k < length texts → ((item : Item) → IsItem item → now (get_or texts k d) ≢ item_text item) → All IsItem items →
-      map item_text items ≢ map now texts
-  no_texts [] items k d here none each e = omega (arith, here)
-  no_texts (w ∷ ws) [] k d here none each e = let l : 0 ≡ suc (length (map now ws)) = ap length e in omega (arith, l)
-  no_texts (w ∷ ws) (item ∷ rest) zero d here none each e = none item (All-head IsItem item rest each) (sym (first_same e))
-  no_texts (w ∷ ws) (item ∷ rest) (suc k) d here none each e = no_texts ws rest k d (omega (arith, here)) none (All-tail IsItem item rest each) (rest_same e)
-
-  take_more : (texts : List W) (k : ℕ) (d : W) → k < length texts → take (suc k) (map now texts) ≡ take k (map now texts) ++ now (get_or texts k d) ∷ []
-  take_more [] k d here = absurd (omega (arith, here))
-  take_more (w ∷ ws) zero d here = refl
-  take_more (w ∷ ws) (suc k) d here = ap (λ l. now w ∷ l) (take_more ws k d (omega (arith, here)))
-
-  pub texts_more : (texts : List W) (items more : List Item) (item : Item) (k : ℕ) (d : W) → k < length texts → map item_text items ≡ take k (map now texts) → now (get_or texts k d) ≡ item_text item →
-      more ≡ items ++ item ∷ [] → map item_text more ≡ take (k + 1) (map now texts)
-  texts_more texts items more item k d here before is grown =
-      ap (map item_text) grown ∙ map-append item_text items (item ∷ []) ∙ ap (λ l. l ++ item_text item ∷ []) before ∙ ap (λ t. take k (map now texts) ++ t ∷ []) (sym is) ∙
-      sym (take_more texts k d here) ∙ ap (λ n. take n (map now texts)) (sym (add-one k))
 
 -- what stands before the first of a byte, and what behind it
 apart : (c : ℕ) (xs ys us vs : List ℕ) → ((i : ℕ) → i < length xs → get_or xs i 0 ≢ c) → ((i : ℕ) → i < length ys → get_or ys i 0 ≢ c) → xs ++ (c ∷ us) ≡ ys ++ (c ∷ vs) → (xs ≡ ys) × (us ≡ vs)
@@ -148,17 +115,11 @@ same_item item other fits more e =
     (signed_decimal_injective item.value other.value (value_small item.value fits.value) (value_small other.value more.value) back.1)
 
 pub same_items : (items others : List Item) → All IsItem items → All IsItem others → map item_text items ≡ map item_text others → items ≡ others
-same_items [] [] each more e = refl
-same_items [] (o ∷ os) each more e = let l : 0 ≡ suc (length (map item_text os)) = ap length e in absurd (omega (arith, l))
-same_items (i ∷ is) [] each more e = let l : suc (length (map item_text is)) ≡ 0 = ap length e in absurd (omega (arith, l))
-same_items (i ∷ is) (o ∷ os) each more e =
-    let first = same_item i o (All-head IsItem i is each) (All-head IsItem o os more) (first_same e) in
-    let rest = same_items is os (All-tail IsItem i is each) (All-tail IsItem o os more) (rest_same e) in
-    rw (first, rest) refl
+same_items items others each more e = same_all item_text IsItem same_item items others each more e
 
 -- what a list says of its pieces
 pub list_pieces : (text : List ℕ) (items : List Item) (pieces : List (List ℕ)) → pieces ≡ slice_split (λ b. eqb b 44) text → IsList text items → map item_text items ≡ pieces
-list_pieces text items pieces e list = sym (list_cut items list.each list.some) ∙ ap (slice_split (λ b. eqb b 44)) (sym list.spelled) ∙ sym e
+list_pieces text items pieces e list = sym (list_cut item_text IsItem item_plain items list.each list.some) ∙ ap (slice_split (λ b. eqb b 44)) (sym list.spelled) ∙ sym e
 
 pub pieces_list : (text : List ℕ) (items : List Item) (pieces : List (List ℕ)) → pieces ≡ slice_split (λ b. eqb b 44) text → map item_text items ≡ pieces → All IsItem items → Ascend 0 items → IsList text items
 pieces_list text items pieces e same each ascend = record {

@@ -1,5 +1,5 @@
 -- Words are one command at most.
-use Rattle.std.proofs.Common.{ℕ, ◌≡◌, List, refl, sym, ap, ap₂, ◌∙◌, subst, arith, eqb}
+use Rattle.std.proofs.Common.{ℕ, ◌≡◌, List, length, take, inl, inr, refl, sym, ap, ap₂, ◌∙◌, subst, arith, eqb}
 use Rattle.std.specs.Prelude.{Option, Some, None}
 use Rattle.std.specs.List.{slice_split, position_or_len}
 use Rattle.std.specs.Str.{bytes_eq}
@@ -8,14 +8,18 @@ use Rattle.std.proofs.lemmas.Option.{same_Some}
 use Rattle.clap.specs.Walk.{Row, Text}
 use Rattle.mv_command.specs.declared.items.Item.{Item}
 use Rattle.mv_command.specs.declared.command.RunOptions.{RunOptions}
-use Rattle.mv_command.specs.declared.options.TheConstants.{COMMANDS, AT, STEPS}
+use Rattle.mv_command.specs.declared.options.TheConstants.{AT, ORACLE, STEPS}
+use Rattle.mv_command.specs.Spelled.{commands}
 use Rattle.mv_command.specs.Items.{Ascend}
-use Rattle.mv_command.specs.Commands.{Asked, Runs, Builds, Executes, Lists, Evaluates, Generates, IsLimit, AreItems, AreOptions, Asks, IsCommand, given}
+use Rattle.mv_command.specs.Oracles.{IsOracle}
+use Rattle.mv_command.specs.declared.oracles.Oracle.{Oracle}
+use Rattle.mv_command.specs.Commands.{Asked, Runs, Builds, Executes, Lists, Evaluates, Generates, Prints, IsLimit, AreItems, AreOptions, Asks, IsCommand, PicksBy, by_command, by_none, given, oracle_asked}
 use Rattle.mv_command.proofs.ItemTexts.{same_items, list_pieces}
+use Rattle.mv_command.proofs.OracleTexts.{same_named}
 
--- where a command stands in the table, by its name and by what it asks for
+-- where a command that does more than print stands in the table, by its name and by what it asks for
 abbrev pub place : Text → ℕ
-place name = position_or_len (λ row. bytes_eq row.0.now name) COMMANDS
+place name = position_or_len (λ form. bytes_eq form.name name) (take 6 commands)
 
 abbrev pub order : Asked → ℕ
 order (Runs file options) = 0
@@ -24,6 +28,7 @@ order (Executes image options) = 2
 order (Lists image) = 3
 order (Evaluates file bound) = 4
 order (Generates number source) = 5
+order (Prints text) = 6
 
 pub placed : (name : Text) (rows : List Row) (a : Asked) → Asks name rows a → place name ≡ order a
 placed name rows (Runs file options) h = ap place h.0
@@ -32,6 +37,8 @@ placed name rows (Executes image options) h = ap place h.0
 placed name rows (Lists image) h = ap place h.0
 placed name rows (Evaluates file bound) h = ap place h.0
 placed name rows (Generates number source) h = ap place h.0
+placed name rows (Prints text) (inl h) = ap place h.0
+placed name rows (Prints text) (inr h) = ap place h.0
 
 pub same_limit : (text : Option Text) (steps more : ℕ) → IsLimit text steps → IsLimit text more → steps ≡ more
 same_limit None steps more l m = l ∙ sym m
@@ -42,13 +49,18 @@ same_list None items more l m = l ∙ sym m
 same_list (Some text) items more l m =
     same_items items more l.each m.each (list_pieces text items (slice_split (λ b. eqb b 44) text) refl l ∙ sym (list_pieces text more (slice_split (λ b. eqb b 44) text) refl m))
 
+same_oracle : (text : Option Text) (oracle more : Oracle) → IsOracle text oracle → IsOracle text more → oracle ≡ more
+same_oracle None oracle more l m = l ∙ sym m
+same_oracle (Some text) oracle more l m = same_named text oracle more l m
+
 same_options : (rows : List Row) (options more : RunOptions) → AreOptions rows options → AreOptions rows more → options ≡ more
 same_options rows options more one other =
     let steps = same_limit (given STEPS.now rows) options.steps more.steps one.limit other.limit in
     let items = same_list (given AT.now rows) options.items more.items one.items other.items in
+    let oracle = same_oracle (given ORACLE.now rows) options.oracle more.oracle one.oracle other.oracle in
     let bindings = one.bindings ∙ sym other.bindings in
     let words = one.words ∙ sym other.words in
-    λ i. record { steps = steps i; items = items i; bindings = bindings i; words = words i }
+    λ i. record { steps = steps i; items = items i; oracle = oracle i; bindings = bindings i; words = words i }
 
 same_text : {value : Option Text} {x y : Text} → value ≡ Some x → value ≡ Some y → x ≡ y
 same_text {x = x} {y = y} e f = same_Some x y (sym e ∙ f)
@@ -62,12 +74,23 @@ same_asks name rows (Evaluates f m) (Evaluates g n) h k =
     ap₂ Evaluates (same_text h.1 k.1) (decimal_injective m n (omega (arith, h.3)) (omega (arith, k.3)) (same_text h.2 k.2))
 same_asks name rows (Generates m s) (Generates n t) h k =
     ap₂ Generates (decimal_injective m n (omega (arith, h.2)) (omega (arith, k.2)) (same_text h.1 k.1)) (h.3 ∙ sym k.3)
+same_asks name rows (Prints s) (Prints t) (inl h) (inl k) = ap Prints (same_Some s t (sym h.1 ∙ k.1))
+same_asks name rows (Prints s) (Prints t) (inr h) (inr k) = ap Prints (h.1 ∙ sym k.1)
+same_asks name rows (Prints s) (Prints t) (inl h) (inr k) = let l : 4 ≡ 7 = ap length (sym h.0 ∙ k.0) in absurd (omega (arith, l))
+same_asks name rows (Prints s) (Prints t) (inr h) (inl k) = let l : 7 ≡ 4 = ap length (sym h.0 ∙ k.0) in absurd (omega (arith, l))
 same_asks name rows a b h k = let l : order a ≡ order b = sym (placed name rows a h) ∙ placed name rows b k in absurd (omega (arith, l))
 
 pub same_asked : {words : List Text} {a b : Asked} → IsCommand words a → IsCommand words b → a ≡ b
 same_asked {a = a} {b = b} c d =
     let same = same_Some (d.name, d.rows) (c.name, c.rows) (sym d.read ∙ c.read) in
     same_asks c.name c.rows a b c.asks (subst (λ (p : Text × List Row). Asks p.0 p.1 b) same d.asks)
+
+-- words pick by one oracle
+pub same_picks : {words : List Text} {a b : Oracle} → PicksBy words a → PicksBy words b → a ≡ b
+same_picks (by_command a c) (by_command b d) = ap oracle_asked (same_asked c d)
+same_picks (by_command a c) (by_none none) = absurd (none a c)
+same_picks (by_none none) (by_command a c) = absurd (none a c)
+same_picks (by_none none) (by_none more) = refl
 
 ascend_of : (list : Option Text) (items : List Item) → AreItems list items → Ascend 0 items
 ascend_of None items none = subst (Ascend 0) (sym none) tt

@@ -13,41 +13,35 @@ use Rattle.clap.specs.declared.builder.command.Command.{Command}
 use Rattle.clap.specs.declared.builder.command.Command.TheViews.{out-Command}
 use Rattle.clap.specs.declared.error.kind.ErrorKind.{ErrorKind}
 use Rattle.clap.specs.declared.error.kind.ErrorKind.TheVariants.{OutOfMemory}
-use Rattle.mv_command.specs.declared.options.Kind.{Kind}
-use Rattle.mv_command.specs.Commands.{app, argument_text, form, no_forms, rule, table, with_argument, with_form}
-use denote.Ref.{Bor}
+use Rattle.mv_command.specs.declared.options.Argument as declared_argument
+use Rattle.mv_command.specs.declared.options.Form as declared_form
+use Rattle.mv_command.specs.Commands.{app, argument_of, form, form_of, no_forms, rule, table, with_argument, with_form}
 
 -- one argument more
-pub argument_more : (start : App) (xs : List (Kind × Bor Text)) (i : ℕ) (d : Kind × Bor Text) (old new : Command) (arg : Arg) → i < length xs → AddsArg old arg new → arg.global ≡ false →
-    rule_of arg ≡ rule (get_or xs i d).0 (get_or xs i d).1.now → app_of old ≡ fold (λ a x. with_argument a (argument_text x)) start (take i xs) →
-    app_of new ≡ fold (λ a x. with_argument a (argument_text x)) start (take (i + 1) xs)
+pub argument_more : (start : App) (xs : List declared_argument.Argument) (i : ℕ) (d : declared_argument.Argument) (old new : Command) (arg : Arg) → i < length xs → AddsArg old arg new → arg.global ≡ false →
+    rule_of arg ≡ rule (get_or xs i d).kind (get_or xs i d).name.now → app_of old ≡ fold (λ a x. with_argument a (argument_of x)) start (take i xs) →
+    app_of new ≡ fold (λ a x. with_argument a (argument_of x)) start (take (i + 1) xs)
 argument_more start xs i d old new arg here adds local is before =
-    adds.shape local ∙ ap₂ with_rule before is ∙ sym (fold_more (λ a x. with_argument a (argument_text x)) start xs i d here)
+    adds.shape local ∙ ap₂ with_rule before is ∙ sym (fold_more (λ a x. with_argument a (argument_of x)) start xs i d here)
 
 pub local_more : (old new : Command) (arg : Arg) → AddsArg old arg new → arg.global ≡ false → (out-Command old).has_globals ≡ false → (out-Command new).has_globals ≡ false
 local_more old new arg adds local before = adds.globals ∙ ap₂ (λ a b. a || b) before local
 
-pub arguments_all : (start : App) (xs : List (Kind × Bor Text)) (i : ℕ) (command : Command) → length xs ≤ i → app_of command ≡ fold (λ a x. with_argument a (argument_text x)) start (take i xs) →
-    app_of command ≡ fold with_argument start (map argument_text xs)
-arguments_all start xs i command all is = is ∙ ap (fold (λ a x. with_argument a (argument_text x)) start) (take_all i xs all) ∙ sym (fold-map with_argument argument_text start xs)
+pub arguments_all : (start : App) (xs : List declared_argument.Argument) (i : ℕ) (command : Command) → length xs ≤ i → app_of command ≡ fold (λ a x. with_argument a (argument_of x)) start (take i xs) →
+    app_of command ≡ fold with_argument start (map argument_of xs)
+arguments_all start xs i command all is = is ∙ ap (fold (λ a x. with_argument a (argument_of x)) start) (take_all i xs all) ∙ sym (fold-map with_argument argument_of start xs)
 
 -- one command more
-abbrev pub Entry : Type 0
-Entry = Bor Text × Bor (List (Kind × Bor Text))
-
-abbrev pub entry_row : Entry → Text × List (Kind × Text)
-entry_row row = (row.0.now, map argument_text row.1.now)
-
-pub form_more : (start : App) (xs : List Entry) (i : ℕ) (d : Entry) (old new sub : Command) → i < length xs → AddsSubcommand old sub new → (out-Command sub).has_globals ≡ false →
-    app_of sub ≡ form (entry_row (get_or xs i d)) → app_of old ≡ fold (λ a x. with_form a (entry_row x)) start (take i xs) →
-    app_of new ≡ fold (λ a x. with_form a (entry_row x)) start (take (i + 1) xs)
+pub form_more : (start : App) (xs : List declared_form.Form) (i : ℕ) (d : declared_form.Form) (old new sub : Command) → i < length xs → AddsSubcommand old sub new → (out-Command sub).has_globals ≡ false →
+    app_of sub ≡ form (get_or xs i d).name.now (map argument_of (get_or xs i d).arguments.now) → app_of old ≡ fold (λ a x. with_form a (form_of x)) start (take i xs) →
+    app_of new ≡ fold (λ a x. with_form a (form_of x)) start (take (i + 1) xs)
 form_more start xs i d old new sub here adds local is before =
-    adds.shape local ∙ ap₂ (λ a b. with_subcommand a b.top) before is ∙ sym (fold_more (λ a x. with_form a (entry_row x)) start xs i d here)
+    adds.shape local ∙ ap₂ (λ a b. with_subcommand a b.top) before is ∙ sym (fold_more (λ a x. with_form a (form_of x)) start xs i d here)
 
-pub whole : (xs : List Entry) (i : ℕ) (program : Command) → length xs ≤ i → map entry_row xs ≡ table → app_of program ≡ fold (λ a x. with_form a (entry_row x)) no_forms (take i xs) → app_of program ≡ app
+pub whole : (xs : List declared_form.Form) (i : ℕ) (program : Command) → length xs ≤ i → map form_of xs ≡ table → app_of program ≡ fold (λ a x. with_form a (form_of x)) no_forms (take i xs) → app_of program ≡ app
 unfolding app
 whole xs i program all same is =
-    is ∙ ap (fold (λ a x. with_form a (entry_row x)) no_forms) (take_all i xs all) ∙ sym (fold-map with_form entry_row no_forms xs) ∙ ap (fold with_form no_forms) same
+    is ∙ ap (fold (λ a x. with_form a (form_of x)) no_forms) (take_all i xs all) ∙ sym (fold-map with_form form_of no_forms xs) ∙ ap (fold with_form no_forms) same
 
 pub app_simple : is_simple app ≡ true
 unfolding app

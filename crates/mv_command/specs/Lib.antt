@@ -1,3 +1,5 @@
 pub mod Spelled
 pub mod Items
+pub mod Oracles
+pub mod Help
 pub mod Commands

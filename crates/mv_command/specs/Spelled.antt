@@ -2,7 +2,7 @@
 use Rattle.std.specs.Prelude.{ℕ, List, [], ◌∷◌, codes}
 use Rattle.clap.specs.Walk.{Text}
 use Rattle.mv_command.specs.declared.options.Kind.{Kind}
-use Rattle.mv_command.specs.declared.options.Kind.TheVariants.{Operand, Valued, Flag}
+use Rattle.mv_command.specs.declared.options.Kind.TheVariants.{Operand, Optional, Needed, Valued, Flag}
 
 -- the name of the program
 abbrev pub program : Text
@@ -28,7 +28,16 @@ eval = codes "eval"
 abbrev pub gen : Text
 gen = codes "gen"
 
+abbrev pub help : Text
+help = codes "help"
+
+abbrev pub version : Text
+version = codes "version"
+
 -- ---- those of operands and options
+
+abbrev pub command : Text
+command = codes "command"
 
 abbrev pub file : Text
 file = codes "file"
@@ -45,6 +54,9 @@ steps = codes "steps"
 abbrev pub at : Text
 at = codes "at"
 
+abbrev pub oracle : Text
+oracle = codes "oracle"
+
 abbrev pub bindings : Text
 bindings = codes "bindings"
 
@@ -57,17 +69,63 @@ bound = codes "bound"
 abbrev pub source : Text
 source = codes "source"
 
+-- ---- those of oracles
+
+abbrev pub fresh : Text
+fresh = codes "fresh"
+
+abbrev pub oldest : Text
+oldest = codes "oldest"
+
 -- ---- the table
 
--- what may stand behind a command that runs an image
-abbrev pub of_runs : List (Kind × Text)
-of_runs = (Valued, steps) ∷ (Valued, at) ∷ (Flag, bindings) ∷ (Flag, words) ∷ []
+-- an operand or an option: its name, what is written in place of its value, and what it is for
+pub record Argument : Type 0 where
+  pub kind : Kind
+  pub name : Text
+  pub value : Text
+  pub about : Text
 
--- each command's name with what may stand behind it: the operands in this order, the options anywhere
-abbrev pub commands : List (Text × List (Kind × Text))
+abbrev argument : Kind → (name value about : Text) → Argument
+argument kind name value about = record { kind = kind; name = name; value = value; about = about }
+
+-- a command: its name, what it does, and what may stand behind it, the operands in this order, the options anywhere
+pub record Form : Type 0 where
+  pub name : Text
+  pub does : Text
+  pub arguments : List Argument
+
+abbrev form : (name does : Text) → List Argument → Form
+form name does arguments = record { name = name; does = does; arguments = arguments }
+
+abbrev pub source_file : Argument
+source_file = argument Operand file (codes "FILE") (codes "a file with a C program")
+
+abbrev pub image_file : Argument
+image_file = argument Operand image (codes "IMAGE") (codes "a file with an image")
+
+-- what may stand behind a command that runs an image
+abbrev pub of_runs : List Argument
+of_runs =
+    argument Valued steps (codes "N") (codes "at most N instructions, 1 to 1000000000000; without it 1000000000") ∷
+    argument Valued at (codes "LIST") (codes "what the operator does: items POLL:SWITCH=VALUE, with commas between") ∷
+    argument Valued oracle (codes "WAY") (codes "which of its words a fetch gives: fresh, oldest, or numbers with commas between; without it oldest") ∷
+    argument Flag bindings [] (codes "notes for each attributed function what it is bound to at the end") ∷
+    argument Flag words [] (codes "notes each word of text that is another at the end than at the start") ∷ []
+
+-- each command once
+abbrev pub commands : List Form
 commands =
-    (run, (Operand, file) ∷ of_runs) ∷ (build, (Operand, file) ∷ (Operand, image) ∷ []) ∷ (exec, (Operand, image) ∷ of_runs) ∷ (list, (Operand, image) ∷ []) ∷
-    (eval, (Operand, file) ∷ (Valued, bound) ∷ []) ∷ (gen, (Operand, number) ∷ (Flag, source) ∷ []) ∷ []
+    form run (codes "compiles FILE and runs it") (source_file ∷ of_runs) ∷
+    form build (codes "compiles FILE and saves its image as IMAGE") (source_file ∷ image_file ∷ []) ∷
+    form exec (codes "runs IMAGE") (image_file ∷ of_runs) ∷
+    form list (codes "writes what stands in IMAGE") (image_file ∷ []) ∷
+    form eval (codes "evaluates what FILE means at the bound K")
+    (source_file ∷ argument Needed bound (codes "K") (codes "0 to 4294967295, for calls within calls and turns of loops") ∷ []) ∷
+    form gen (codes "makes the program of NUMBER and runs it")
+    (argument Operand number (codes "NUMBER") (codes "0 to 4294967295") ∷ argument Flag source [] (codes "writes its text in place of its run") ∷ []) ∷
+    form help (codes "tells of the commands, or of COMMAND") (argument Optional command (codes "COMMAND") (codes "the name of a command") ∷ []) ∷
+    form version (codes "tells the version") [] ∷ []
 
 -- ---- numbers
 
@@ -94,3 +152,7 @@ most_value = 4294967295
 
 abbrev pub least_value : ℕ
 least_value = 2147483648
+
+-- the greatest number of an oracle
+abbrev pub most_pick : ℕ
+most_pick = 4294967295

@@ -5,14 +5,17 @@ ghost use Rattle.std.specs.Option.{option_copied};
 ghost use Rattle.std.specs.String.{string_bytes};
 ghost use Rattle.clap.specs.Walk.{rows_of};
 ghost use Rattle.clap.specs.Matches.{found_of};
-ghost use Rattle.mv_command.specs.Commands.{given, is_set, IsLimit, AreItems, AreOptions, IsReading, IsCommand, IsNoCommand, asked};
+ghost use Rattle.mv_command.specs.Commands.{given, is_set, IsLimit, AreItems, AreOptions, IsReading, IsCommand, IsNoCommand, PicksBy, asked, oracle_asked};
+ghost use Rattle.mv_command.specs.Oracles.{IsOracle};
 
+use crate::help::{help_on, version_text};
 use crate::items::{Item, list_of};
 use crate::number::number;
 use crate::options::{
-    AT, BINDINGS, BOUND, BUILD, DEFAULT_STEPS, EVAL, EXEC, FILE, GEN, IMAGE, LIST, MOST_BOUND,
-    MOST_NUMBER, MOST_STEPS, NUMBER, RUN, SOURCE, STEPS, WORDS,
+    AT, BINDINGS, BOUND, BUILD, COMMAND, DEFAULT_STEPS, EVAL, EXEC, FILE, GEN, HELP, IMAGE, LIST,
+    MOST_BOUND, MOST_NUMBER, MOST_STEPS, NUMBER, ORACLE, RUN, SOURCE, STEPS, VERSIONS, WORDS,
 };
+use crate::oracles::{Oracle, named};
 use crate::program::matches_of;
 use clap::ArgMatches;
 use mv_num::list::List;
@@ -61,6 +64,11 @@ pub enum Command<'a> {
         /// Whether its text is asked for, in place of its run.
         source: bool,
     },
+    /// Writes what the program tells of itself.
+    Print {
+        /// What is written.
+        text: Vec<u8>,
+    },
 }
 
 /// How a file or an image is run.
@@ -70,6 +78,8 @@ pub struct RunOptions {
     pub steps: u64,
     /// What the operator does, with ascending polls.
     pub items: List<Item>,
+    /// What picks the words that fetches give.
+    pub oracle: Oracle,
     /// Whether the bindings are shown.
     pub bindings: bool,
     /// Whether the words of text that aren't as they were built are shown.
@@ -95,6 +105,15 @@ fn items_of(alloc: Global, text: Option<&str>) -> Result<Option<List<Item>>, All
     match text {
         Some(text) => list_of(alloc, text),
         None => Ok(Some(List::new(alloc))),
+    }
+}
+
+fn oracle_of(alloc: Global, text: Option<&str>) -> Result<Option<Oracle>, AllocError>
+    ensures { IfOk result (λ found. MatchOption found ((oracle : Oracle) → IsOracle (option_copied text.entry) oracle → ⊥) (IsOracle (option_copied text.entry))) }
+{
+    match text {
+        Some(text) => named(alloc, text),
+        None => Ok(Some(Oracle::Oldest)),
     }
 }
 
@@ -124,9 +143,13 @@ fn options_of(alloc: Global, found: &ArgMatches) -> Result<Option<RunOptions>, A
     let Some(items) = items_of(alloc, given(found, AT))? else {
         return Ok(None);
     };
+    let Some(oracle) = oracle_of(alloc, given(found, ORACLE))? else {
+        return Ok(None);
+    };
     Ok(Some(RunOptions {
         steps,
         items,
+        oracle,
         bindings: is_set(found, BINDINGS),
         words: is_set(found, WORDS),
     }))
@@ -192,6 +215,22 @@ fn generate<'a>(found: &ArgMatches<'a>) -> Option<Command<'a>>
     })
 }
 
+fn help<'a>(alloc: Global, found: &ArgMatches<'a>) -> Result<Option<Command<'a>>, AllocError>
+    ensures { IfOk result (IsReading HELP.now (rows_of (found_of found.now))) }
+{
+    match help_on(alloc, given(found, COMMAND))? {
+        Some(text) => Ok(Some(Command::Print { text })),
+        None => Ok(None),
+    }
+}
+
+fn version<'a>(alloc: Global, found: &ArgMatches<'a>) -> Result<Option<Command<'a>>, AllocError>
+    ensures { IfOk result (IsReading VERSIONS.now (rows_of (found_of found.now))) }
+{
+    let text = version_text(alloc)?;
+    Ok(Some(Command::Print { text }))
+}
+
 // What the values of the command with this name ask for.
 fn read<'a>(
     alloc: Global,
@@ -218,6 +257,12 @@ fn read<'a>(
     if name == GEN {
         return Ok(generate(found));
     }
+    if name == HELP {
+        return help(alloc, found);
+    }
+    if name == VERSIONS {
+        return version(alloc, found);
+    }
     Ok(None)
 }
 
@@ -232,4 +277,24 @@ pub fn command_of<'a>(alloc: Global, words: &'a [String]) -> Result<Option<Comma
         return Ok(None);
     };
     read(alloc, name, found)
+}
+
+// The oracle by which a command picks.
+fn oracle_asked(command: Command) -> Oracle
+    ensures { result ≡ oracle_asked (asked command.entry) }
+{
+    match command {
+        Command::Run { options, .. } | Command::Exec { options, .. } => options.oracle,
+        _ => Oracle::Oldest,
+    }
+}
+
+/// The oracle by which the words pick: the one that they name, or the one that always picks the oldest word. An error is want of memory.
+pub fn oracle_of_words(alloc: Global, words: &[String]) -> Result<Oracle, AllocError>
+    ensures { IfOk result (PicksBy (map string_bytes words.now)) }
+{
+    match command_of(alloc, words)? {
+        Some(command) => Ok(oracle_asked(command)),
+        None => Ok(Oracle::Oldest),
+    }
 }

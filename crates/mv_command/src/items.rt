@@ -103,8 +103,8 @@ fn items_of(alloc: Global, texts: &[&str]) -> Result<Option<List<Item>>, AllocEr
     Ok(Some(items))
 }
 
-// The texts between the commas.
-fn pieces_of(alloc: Global, text: &str) -> Result<Vec<&str>, AllocError>
+/// The texts between the commas.
+pub(crate) fn pieces_of(alloc: Global, text: &str) -> Result<Vec<&str>, AllocError>
     ensures { IfOk result (λ pieces. map (λ piece. piece.now) pieces.items ≡ slice_split (λ b. b == 44) text.now) }
 {
     text.split(',').collect(alloc)

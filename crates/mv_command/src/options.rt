@@ -1,48 +1,186 @@
 //! The table of commands: each command once with its operands and its options, and the values that these may have.
 
-use Kind::{Flag, Operand, Valued};
+use Kind::{Flag, Needed, Operand, Optional, Valued};
 
 /// What may stand behind the name of a command.
 #[derive(Clone, Copy)]
 pub enum Kind {
     /// A word by itself, which must stand there.
     Operand,
+    /// A word by itself, which may be left out.
+    Optional,
+    /// An option with a value, as `--NAME VALUE` or `--NAME=VALUE`, which must stand there, once.
+    Needed,
     /// An option with a value, as `--NAME VALUE` or `--NAME=VALUE`, once or not at all.
     Valued,
     /// An option without a value, as `--NAME`, once or not at all.
     Flag,
 }
 
+/// An operand or an option of a command.
+#[derive(Clone, Copy)]
+pub struct Argument {
+    /// How it stands among the words.
+    pub kind: Kind,
+    /// Its name, which of an option stands behind `--`.
+    pub name: &'static str,
+    /// What is written in place of its value where commands are told of.
+    pub value: &'static str,
+    /// What it is for.
+    pub about: &'static str,
+}
+
+/// A command, with what may stand behind its name.
+#[derive(Clone, Copy)]
+pub struct Form {
+    /// Its name.
+    pub name: &'static str,
+    /// What it does.
+    pub does: &'static str,
+    /// The operands in this order, the options anywhere.
+    pub arguments: &'static [Argument],
+}
+
 /// The name of the program.
 pub const PROGRAM: &str = "multiverse";
 
-/// Each command once, with what may stand behind its name: the operands in this order, the options anywhere.
-pub const COMMANDS: [(&str, &[(Kind, &str)]); 6] = [
-    (
-        RUN,
-        &[
-            (Operand, FILE),
-            (Valued, STEPS),
-            (Valued, AT),
-            (Flag, BINDINGS),
-            (Flag, WORDS),
+/// The version of the program.
+pub const VERSION: &str = "0.9";
+
+/// Each command once.
+pub const COMMANDS: [Form; 8] = [
+    Form {
+        name: RUN,
+        does: "compiles FILE and runs it",
+        arguments: &[
+            SOURCE_FILE,
+            RUN_STEPS,
+            RUN_AT,
+            RUN_ORACLE,
+            RUN_BINDINGS,
+            RUN_WORDS,
         ],
-    ),
-    (BUILD, &[(Operand, FILE), (Operand, IMAGE)]),
-    (
-        EXEC,
-        &[
-            (Operand, IMAGE),
-            (Valued, STEPS),
-            (Valued, AT),
-            (Flag, BINDINGS),
-            (Flag, WORDS),
+    },
+    Form {
+        name: BUILD,
+        does: "compiles FILE and saves its image as IMAGE",
+        arguments: &[SOURCE_FILE, IMAGE_FILE],
+    },
+    Form {
+        name: EXEC,
+        does: "runs IMAGE",
+        arguments: &[
+            IMAGE_FILE,
+            RUN_STEPS,
+            RUN_AT,
+            RUN_ORACLE,
+            RUN_BINDINGS,
+            RUN_WORDS,
         ],
-    ),
-    (LIST, &[(Operand, IMAGE)]),
-    (EVAL, &[(Operand, FILE), (Valued, BOUND)]),
-    (GEN, &[(Operand, NUMBER), (Flag, SOURCE)]),
+    },
+    Form {
+        name: LIST,
+        does: "writes what stands in IMAGE",
+        arguments: &[IMAGE_FILE],
+    },
+    Form {
+        name: EVAL,
+        does: "evaluates what FILE means at the bound K",
+        arguments: &[
+            SOURCE_FILE,
+            Argument {
+                kind: Needed,
+                name: BOUND,
+                value: "K",
+                about: "0 to 4294967295, for calls within calls and turns of loops",
+            },
+        ],
+    },
+    Form {
+        name: GEN,
+        does: "makes the program of NUMBER and runs it",
+        arguments: &[
+            Argument {
+                kind: Operand,
+                name: NUMBER,
+                value: "NUMBER",
+                about: "0 to 4294967295",
+            },
+            Argument {
+                kind: Flag,
+                name: SOURCE,
+                value: "",
+                about: "writes its text in place of its run",
+            },
+        ],
+    },
+    Form {
+        name: HELP,
+        does: "tells of the commands, or of COMMAND",
+        arguments: &[Argument {
+            kind: Optional,
+            name: COMMAND,
+            value: "COMMAND",
+            about: "the name of a command",
+        }],
+    },
+    Form {
+        name: VERSIONS,
+        does: "tells the version",
+        arguments: &[],
+    },
 ];
+
+// ---- the arguments of several commands
+
+const SOURCE_FILE: Argument = Argument {
+    kind: Operand,
+    name: FILE,
+    value: "FILE",
+    about: "a file with a C program",
+};
+
+const IMAGE_FILE: Argument = Argument {
+    kind: Operand,
+    name: IMAGE,
+    value: "IMAGE",
+    about: "a file with an image",
+};
+
+const RUN_STEPS: Argument = Argument {
+    kind: Valued,
+    name: STEPS,
+    value: "N",
+    about: "at most N instructions, 1 to 1000000000000; without it 1000000000",
+};
+
+const RUN_AT: Argument = Argument {
+    kind: Valued,
+    name: AT,
+    value: "LIST",
+    about: "what the operator does: items POLL:SWITCH=VALUE, with commas between",
+};
+
+const RUN_ORACLE: Argument = Argument {
+    kind: Valued,
+    name: ORACLE,
+    value: "WAY",
+    about: "which of its words a fetch gives: fresh, oldest, or numbers with commas between; without it oldest",
+};
+
+const RUN_BINDINGS: Argument = Argument {
+    kind: Flag,
+    name: BINDINGS,
+    value: "",
+    about: "notes for each attributed function what it is bound to at the end",
+};
+
+const RUN_WORDS: Argument = Argument {
+    kind: Flag,
+    name: WORDS,
+    value: "",
+    about: "notes each word of text that is another at the end than at the start",
+};
 
 /// Compiles a file and runs it.
 pub const RUN: &str = "run";
@@ -61,6 +199,15 @@ pub const EVAL: &str = "eval";
 
 /// Makes a program, and runs it or shows it.
 pub const GEN: &str = "gen";
+
+/// Tells of the commands.
+pub const HELP: &str = "help";
+
+/// Tells the version.
+pub const VERSIONS: &str = "version";
+
+/// The name of a command that is told of.
+pub const COMMAND: &str = "command";
 
 /// The name of a file with C.
 pub const FILE: &str = "file";
@@ -94,6 +241,18 @@ pub const MOST_VALUE: u64 = 4_294_967_295;
 
 /// How far below 0 a value in a list may be, as far as an `int`.
 pub const LEAST_VALUE: u64 = 2_147_483_648;
+
+/// By which oracle fetches are picked: `FRESH`, `OLDEST`, which it is where none is given, or a list of numbers.
+pub const ORACLE: &str = "oracle";
+
+/// The oracle that always picks the present word.
+pub const FRESH: &str = "fresh";
+
+/// The oracle that always picks the oldest word.
+pub const OLDEST: &str = "oldest";
+
+/// The greatest number of an oracle.
+pub const MOST_PICK: u64 = 4_294_967_295;
 
 /// Asks for a line for each attributed function with its binding.
 pub const BINDINGS: &str = "bindings";

@@ -6,20 +6,20 @@ ghost use Rattle.clap.specs.Walk.{rule_of};
 ghost use Rattle.clap.specs.Simple.{app_of, subcommand_of, subcommand_rows_of};
 ghost use Rattle.clap.specs.Faults.{fault_of};
 ghost use Rattle.clap.specs.declared.builder.command.Command.TheViews.{out-Command};
-ghost use Rattle.mv_command.specs.Commands.{rule, form, argument_text, app};
+ghost use Rattle.mv_command.specs.Commands.{rule, form, argument_of, app};
 
-use crate::options::{COMMANDS, Kind, PROGRAM};
+use crate::options::{Argument, COMMANDS, Kind, PROGRAM};
 use clap::error::ErrorKind;
 use clap::{Arg, ArgAction, ArgMatches, Command};
 use std::alloc::{AllocError, Global};
 
-fn argument_of<'a>(alloc: Global, kind: Kind, name: &'a str) -> Arg<'a>
+fn clap_argument<'a>(alloc: Global, kind: Kind, name: &'a str) -> Arg<'a>
     ensures rule { rule_of result ≡ rule kind name.now }
     ensures local { result.global ≡ false }
 {
     match kind {
-        Kind::Operand => Arg::new(alloc, name),
-        Kind::Valued => Arg::new(alloc, name).long(name),
+        Kind::Operand | Kind::Optional => Arg::new(alloc, name),
+        Kind::Needed | Kind::Valued => Arg::new(alloc, name).long(name),
         Kind::Flag => Arg::new(alloc, name).long(name).action(ArgAction::SetTrue),
     }
 }
@@ -28,13 +28,13 @@ fn argument_of<'a>(alloc: Global, kind: Kind, name: &'a str) -> Arg<'a>
 fn form_of<'a>(
     alloc: Global,
     name: &'static str,
-    arguments: &[(Kind, &'static str)],
+    arguments: &[Argument],
 ) -> Result<Command<'a>, AllocError>
-    ensures { IfOk result (λ command. (app_of command ≡ form (name.now, map argument_text arguments.now)) × ((out-Command command).has_globals ≡ false)) }
+    ensures { IfOk result (λ command. (app_of command ≡ form name.now (map argument_of arguments.now)) × ((out-Command command).has_globals ≡ false)) }
 {
     let mut command = Command::new(alloc, name);
     for argument in arguments {
-        command = command.arg(argument_of(alloc, argument.0, argument.1))?;
+        command = command.arg(clap_argument(alloc, argument.kind, argument.name))?;
     }
     Ok(command)
 }
@@ -48,7 +48,7 @@ fn program<'a>(alloc: Global) -> Result<Command<'a>, AllocError>
         .disable_help_flag(true)
         .disable_help_subcommand(true);
     for row in &COMMANDS {
-        program = program.subcommand(form_of(alloc, row.0, row.1)?)?;
+        program = program.subcommand(form_of(alloc, row.name, row.arguments)?)?;
     }
     Ok(program)
 }

@@ -8,7 +8,7 @@
 //! | ` !room N` | how many bytes the output has room for |
 //! | ` !notes N`, ` !piece N` | how many the notes have room for, and how many they take at once |
 //! | ` !shelf N` | the call of the shelf that fails: a shelf in memory, for this command alone |
-//! | ` !oracle NAME` | the one oracle by which what runs fetches: `fresh`, `oldest`, the numbers of a table, or `told:` and the addresses of which it is asked |
+//! | ` !oracle NAME` | the one oracle by which what runs fetches: `fresh`, `oldest`, the numbers of a table, `told:` and the addresses of which it is asked, or `named`, which is the one that the words name |
 //! | ` !verdict` | of a text that isn't refused that alone is printed |
 //! | ` !log` | how many probes are left is printed, of one with room for a single event and one with more, and what that heard |
 //! | ` !limits N` | the command is carried out with each step limit up to N, too |
@@ -20,8 +20,8 @@
 //! | `@NAME WORDS` | another file, of these words: four bytes `0xN` from the lowest on, one of two digits, and four of eight digits, `*N` times |
 //!
 //! What runs does so under three oracles, unless it is refused. The outcome under `Oldest` is printed, and another one where it differs, that is its output,
-//! its notes or what the probes were told. A run without an operator that ends is compared with an evaluation. In what `list` writes of an image that was
-//! built, `ADDRESS` stands for each address.
+//! its notes or what the probes were told. A run without an operator that ends is compared with an evaluation, whose outcome is printed where it differs. In
+//! what `list` writes of an image that was built, `ADDRESS` stands for each address.
 #![tactic(auto)]
 
 mod limits;
@@ -52,7 +52,8 @@ fn repeat(rt: &HostRuntime, row: &Row, first: &Outcome, oracle: &str) -> io::Res
     Ok(())
 }
 
-// Compares a run that ended, and in which no operator acted, with an evaluation of its file, lines of the notes before the last one aside.
+// Compares a run that ended, and in which no operator acted, with an evaluation of its file, lines of the notes before the last one aside. Prints what that
+// came to where it is something else.
 fn compare(rt: &HostRuntime, row: &Row, outcome: &Outcome) -> io::Result<()> {
     let words = row.words().0;
     if !words.starts_with("run ") || words.contains("--at") || outcome.status > TRAPPED {
@@ -68,6 +69,7 @@ fn compare(rt: &HostRuntime, row: &Row, outcome: &Outcome) -> io::Result<()> {
             .ends_with(evaluated.notes.as_slice())
     {
         println!(rt; "# and it means something else")?;
+        print_outcome(rt, row, &evaluated)?;
     }
     Ok(())
 }

@@ -8,7 +8,7 @@ use crate::row::Row;
 use mv_bindings::binding::Event;
 use mv_io::{FileShelf, MemShelf, MemSink, MemSource, Shelf};
 use mv_probe::{FetchOracle, Probe, Recorder};
-use mv_top::multiverse;
+use mv_top::{multiverse, multiverse_by_words};
 use std::alloc::{AllocError, Global};
 use std::{fs, io};
 
@@ -17,6 +17,9 @@ const EVENTS: u32 = 1_000;
 
 /// How many bytes a sink has room for where a row says nothing.
 const ROOM: u32 = 8_192;
+
+/// The name of the oracle that the words name.
+const NAMED: &str = "named";
 
 /// What a command came to.
 #[derive(Drop)]
@@ -143,6 +146,44 @@ fn status_of<H: Shelf>(
     .number()
 }
 
+// Carries out a command under the oracle that its words name, and gives the number of its status.
+fn status_by_words<H: Shelf>(
+    alloc: Global,
+    shelf: &mut H,
+    command: &mut Command,
+    probes: &mut Vec<Box<dyn Probe>>,
+) -> u8
+    requires { All (λ probe. IsPatient (hearing (told probe) (patience probe))) probes.old.items }
+{
+    multiverse_by_words(
+        alloc,
+        command.words.as_slice(),
+        shelf,
+        &mut command.input,
+        &mut command.out,
+        &mut command.notes,
+        probes,
+    )
+    .number()
+}
+
+// Carries out a command under an oracle of this name, and gives the number of its status.
+fn status_under<H: Shelf>(
+    alloc: Global,
+    shelf: &mut H,
+    command: &mut Command,
+    oracle: &str,
+    probes: &mut Vec<Box<dyn Probe>>,
+) -> Result<u8, AllocError>
+    requires { All (λ probe. IsPatient (hearing (told probe) (patience probe))) probes.old.items }
+{
+    if oracle == NAMED {
+        return Ok(status_by_words(alloc, shelf, command, probes));
+    }
+    let mut oracle: Box<dyn FetchOracle> = Box::new(alloc, picks_of(alloc, oracle)?)?;
+    Ok(status_of(alloc, shelf, command, &mut oracle, probes))
+}
+
 // What the devices and the probes tell of a command.
 fn told_outcome(
     alloc: Global,
@@ -165,11 +206,10 @@ fn heard<H: Shelf>(
     command: &mut Command,
     oracle: &str,
 ) -> Result<Outcome, AllocError> {
-    let mut oracle: Box<dyn FetchOracle> = Box::new(alloc, picks_of(alloc, oracle)?)?;
     let mut probes: Vec<Box<dyn Probe>> = Vec::new(alloc);
     probes.push(Box::new(alloc, Recorder::new(alloc, 1)?)?)?;
     probes.push(Box::new(alloc, Recorder::new(alloc, EVENTS)?)?)?;
-    let status = status_of(alloc, shelf, command, &mut oracle, &mut probes);
+    let status = status_under(alloc, shelf, command, oracle, &mut probes)?;
     told_outcome(alloc, status, command, probes.as_slice())
 }
 

@@ -2,16 +2,16 @@
 use Rattle.std.proofs.Common.{ℕ, ◌≡◌, Bool, List, [], refl, subst, Option, Some, ◌∙◌}
 use Rattle.std.specs.Prelude.{MatchOption}
 use Rattle.mv_bindings.specs.declared.binding.Event.{Event}
-use Rattle.mv_command.specs.Commands.{asked, Builds, Evaluates, Generates, Lists, IsCommand, IsNoCommand}
+use Rattle.mv_command.specs.Commands.{asked, Builds, Evaluates, Generates, Lists, Prints, IsCommand, IsNoCommand}
 use Rattle.mv_command.specs.declared.command.Command.{Command}
 use Rattle.mv_notes.specs.declared.status.Status.{Status}
-use Rattle.mv_notes.specs.declared.status.Status.TheVariants.{Usage, Memory}
+use Rattle.mv_notes.specs.declared.status.Status.TheVariants.{Usage, Memory, Done}
 use Rattle.mv_top.specs.Building.{BuildsFile}
 use Rattle.mv_top.specs.Evaluating.{EvaluatesFile}
 use Rattle.mv_top.specs.Generating.{GenDoes}
 use Rattle.mv_top.specs.Listing.{ListsFile}
 use Rattle.mv_top.specs.Outcomes.{Comes, done, unread, usage}
-use Rattle.mv_top.specs.Outside.{Outside, KeepsFiles}
+use Rattle.mv_top.specs.Outside.{Outside, KeepsFiles, Writes}
 use Rattle.mv_top.specs.Uses.{Uses}
 use Rattle.mv_top.proofs.Performing.{alone}
 
@@ -39,6 +39,11 @@ module _ (before after : Outside) (Heard : List Event → Type 0) (words : List 
 
   pub evaluated : (file : List ℕ) (bound : ℕ) → IsCommand words (Evaluates file bound) → EvaluatesFile before after file bound due → KeepsFiles before after → Uses before after (Evaluates file bound) due → Came lines status
   evaluated file bound command evaluates keeps uses = alone Came lines status due none same (done (Evaluates file bound) [] due command ((evaluates, keeps, (refl, unheard)), uses))
+
+  pub printed : (text : List ℕ) → IsCommand words (Prints text) → Writes before.environment after.environment text Done due → after.environment.input ≡ before.environment.input →
+      after.environment.way ≡ before.environment.way → KeepsFiles before after → Uses before after (Prints text) due → Came lines status
+  printed text command writes input way keeps uses =
+      alone Came lines status due none same (done (Prints text) [] due command ((writes, input, way, keeps, (refl, unheard)), uses))
 
 module _ (before after : Outside) (Heard : List Event → Type 0) (words : List (List ℕ)) (lines : List ℕ) (status due : Status) (none : lines ≡ []) (same : status ≡ due) where
   pub made : (number : ℕ) (source : Bool) → IsCommand words (Generates number source) → GenDoes before.environment after.environment Heard number source due →

@@ -1,5 +1,5 @@
 -- Which status comes of a command, from what each status says.
-use Rattle.std.proofs.Common.{ℕ, ◌≡◌, ◌⊎◌, inl, inr, true, false, List, [], refl, sym, ap, ◌∙◌, subst, Option, Some, None}
+use Rattle.std.proofs.Common.{ℕ, ◌≡◌, ◌⊎◌, inl, inr, true, false, List, refl, sym, ap, ◌∙◌, subst, Option, Some, None}
 use Rattle.mv_ast.specs.declared.program.Program.{Program}
 use Rattle.mv_bindings.specs.declared.binding.Event.{Event}
 use Rattle.mv_io.specs.Shelves.{Files, Lacks}
@@ -8,7 +8,7 @@ use Rattle.mv_front.specs.Verdicts.{IsRefused}
 use Rattle.mv_front.specs.declared.refusal.Refusal.{Refusal}
 use Rattle.mv_exec.specs.Loading.{IsBadImage}
 use Rattle.mv_refine.specs.Environment.{Writing}
-use Rattle.mv_command.specs.Commands.{Asked, Runs, Builds, Executes, Lists, Evaluates, Generates, IsCommand, IsNoCommand}
+use Rattle.mv_command.specs.Commands.{Asked, Runs, Builds, Executes, Lists, Evaluates, Generates, Prints, IsCommand, IsNoCommand}
 use Rattle.mv_command.proofs.Same.{same_asked}
 use Rattle.mv_notes.specs.Lines.{Noted, written, unmade, cut}
 use Rattle.mv_notes.specs.declared.status.Status.{Status}
@@ -20,7 +20,7 @@ use Rattle.mv_top.specs.Outcomes.{Comes, Does, IsCarriedOut, IsDue}
 use Rattle.mv_top.specs.Outside as outsides
 use Rattle.mv_top.specs.Outside.{Outside, Holds, OfFile, ShelfFailed, Tells}
 use Rattle.mv_top.proofs.RunsDecided.{run_ended, run_refused, run_stands, run_wrong_item}
-use Rattle.mv_top.proofs.OthersDecided.{build_done, build_refused, eval_ended, eval_refused, exec_bad, exec_stands, exec_wrong_item, gen_ended, gen_summed, list_bad, list_done, show_done}
+use Rattle.mv_top.proofs.OthersDecided.{build_done, build_refused, eval_ended, eval_refused, exec_bad, exec_stands, exec_wrong_item, gen_ended, gen_summed, list_bad, list_done, show_done, written_whole}
 
 -- ---- one file
 
@@ -94,6 +94,7 @@ module _ (counted : CountedPassNone) (before after : Outside) (Heard : List Even
   absent (Lists f) lines status does file e lacks = lacking before after quiet.shelf _ f _ does.0 file e lacks
   absent (Evaluates f bound) lines status does file e lacks = lacking before after quiet.shelf _ f _ does.0 file e lacks
   absent (Generates number source) lines status does file e lacks = absurd e
+  absent (Prints text) lines status does file e lacks = absurd e
 
   module _ (file bytes : List ℕ) (tells : Tells before.shelf.files file bytes) where
     refused : (asked : Asked) (lines : List ℕ) (status : Status) → Did asked lines status → IsLoaded asked file → reads_source asked ≡ true → (r : Refusal) → IsRefused bytes r →
@@ -107,6 +108,7 @@ module _ (counted : CountedPassNone) (before after : Outside) (Heard : List Even
     refused (Evaluates f bound) lines status does e reads r why =
         or_memory (λ came. eval_refused before.environment after.environment quiet.input quiet.output bytes bound came.0 r why) (given before after quiet.shelf _ f _ does.0 file bytes e tells)
     refused (Generates number source) lines status does e reads r why = cc
+    refused (Prints text) lines status does e reads r why = absurd e
 
     bad : (asked : Asked) (lines : List ℕ) (status : Status) → Did asked lines status → IsLoaded asked file → reads_source asked ≡ false → (code offset : ℕ) →
         IsBadImage bytes code offset → Is status (BadImage code offset)
@@ -119,6 +121,7 @@ module _ (counted : CountedPassNone) (before after : Outside) (Heard : List Even
         or_memory (λ came. list_bad before.environment after.environment quiet.output bytes came.0 code offset why) (given before after quiet.shelf _ f _ does.0 file bytes e tells)
     bad (Evaluates f bound) lines status does e image_file code offset why = cc
     bad (Generates number source) lines status does e image_file code offset why = absurd e
+    bad (Prints text) lines status does e image_file code offset why = absurd e
 
   module _ (words : List (List ℕ)) where
     abbrev Came : List ℕ → Status → Type 0
@@ -173,6 +176,7 @@ module _ (counted : CountedPassNone) (before after : Outside) (Heard : List Even
         generated_ended = λ number bound p e c good ends.
             or_memory (λ does. gen_ended before.environment after.environment quiet.output Heard number counted p good does.0 bound e ends) (did came (Generates number false) c);
         generated_runs = λ number c. or_summed (λ does. gen_summed before.environment after.environment quiet.output Heard number does.0) (did came (Generates number false) c);
+        printed = λ text c. or_memory (λ does. inl (written_whole before.environment after.environment text _ quiet.output does.0)) (did came (Prints text) c);
       }
 
     memory_decided : Decides words before.shelf.files before.environment.input.left after.environment.input.left Memory
@@ -192,6 +196,7 @@ module _ (counted : CountedPassNone) (before after : Outside) (Heard : List Even
       shown = λ number c. inr refl;
       generated_ended = λ number bound p e c good ends. inr refl;
       generated_runs = λ number c. inr refl;
+      printed = λ text c. inr refl;
     }
 
     noted : (lines : List ℕ) (due status : Status) → Came lines due → Noted lines due was.written is.written was.faults is.faults status →

@@ -12,6 +12,7 @@ use Rattle.mv_operator.proofs.Acting.{not_both}
 use Rattle.mv_image.specs.Spelling.{Fields}
 use Rattle.mv_io.specs.Outside.{Rose}
 use Rattle.mv_command.specs.declared.command.RunOptions.{RunOptions}
+use Rattle.mv_command.specs.declared.oracles.Oracle.TheVariants.{Oldest}
 use Rattle.mv_command.specs.declared.items.Item.{Item}
 use Rattle.mv_command.specs.declared.options.TheConstants.{DEFAULT_STEPS}
 use Rattle.mv_eval.specs.Grown.{Grew, GrewLess}
@@ -76,7 +77,7 @@ module _ (was is : Writing) (way way' : Option Way) (Heard : List Event → Type
 
   -- options that ask for nothing but these items
   abbrev with_items : List Item → RunOptions
-  with_items items = record { steps = DEFAULT_STEPS; items = items; bindings = false; words = false }
+  with_items items = record { steps = DEFAULT_STEPS; items = items; oracle = Oldest; bindings = false; words = false }
 
   module _ (input : Reading) (text : List ℕ) (items : List Item) (none : items ≡ []) where
     pub ran_plainly : (lines : List ℕ) (stands status : Status) → Ran (with_items items) text lines stands → (status ≡ stands) ⊎ (status ≡ Memory) →

@@ -7,6 +7,7 @@ pub mod Generating
 pub mod RunsDecided
 pub mod OthersDecided
 pub mod Decisions
+pub mod ByWords
 pub mod Few
 pub mod Causes
 pub mod Commands

@@ -54,7 +54,7 @@ use Rattle.mv_io.proofs.Common.{of_told, rose_later, some_later}
 
 -- ---- a text that is written
 
-written_whole : (before after : Environment) (text : List ℕ) (due : Status) → (WriteFailed before after → ⊥) → {status : Status} → Writes before after text due status → status ≡ due
+pub written_whole : (before after : Environment) (text : List ℕ) (due : Status) → (WriteFailed before after → ⊥) → {status : Status} → Writes before after text due status → status ≡ due
 written_whole before after text due no_fault (outsides.whole wrote) = refl
 written_whole before after text due no_fault (outsides.part less rose) = absurd (no_fault rose)
 

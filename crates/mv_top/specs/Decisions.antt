@@ -18,7 +18,7 @@ use Rattle.mv_meaning.specs.Meaning.{mean}
 use Rattle.mv_meaning.specs.declared.meant.End.{End}
 use Rattle.mv_meaning.specs.declared.meant.End.TheVariants.{More}
 use Rattle.mv_eval.specs.Evaluations.{IsInput, meaning}
-use Rattle.mv_command.specs.Commands.{Asked, Runs, Builds, Executes, Lists, Evaluates, Generates, IsCommand, IsNoCommand}
+use Rattle.mv_command.specs.Commands.{Asked, Runs, Builds, Executes, Lists, Evaluates, Generates, Prints, IsCommand, IsNoCommand}
 use Rattle.mv_command.specs.declared.command.RunOptions.{RunOptions}
 use Rattle.mv_command.specs.Spelled.{default_steps}
 use Rattle.mv_operator.specs.Operator.{IsActions, IsFirstWrong, IsImageActions, IsImageFirstWrong}
@@ -46,6 +46,7 @@ IsLoaded (Executes file options) loaded = loaded ≡ file
 IsLoaded (Lists file) loaded = loaded ≡ file
 IsLoaded (Evaluates file bound) loaded = loaded ≡ file
 IsLoaded (Generates number source) loaded = ⊥
+IsLoaded (Prints text) loaded = ⊥
 
 -- it reads what it loads as a source; else it reads it as an image
 abbrev pub reads_source : Asked → Bool
@@ -55,6 +56,7 @@ reads_source (Executes file options) = false
 reads_source (Lists file) = false
 reads_source (Evaluates file bound) = true
 reads_source (Generates number source) = false
+reads_source (Prints text) = false
 
 -- ---- answers
 
@@ -136,3 +138,4 @@ module _ (words : List (List ℕ)) (files : Option Files) (left left' : Option (
     pub generated_ended : (number bound : ℕ) (p : Program) (e : End) → IsCommand words (Generates number false) → IsProgram (generated number) p →
         Ends p [] [] default_steps bound e → Is result (status_of_end e)
     pub generated_runs : (number : ℕ) → IsCommand words (Generates number false) → IsSummedUp result
+    pub printed : (text : List ℕ) → IsCommand words (Prints text) → Is result Done

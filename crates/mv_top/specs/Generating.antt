@@ -7,6 +7,7 @@ use Rattle.mv_io.specs.Outside.{Rose}
 use Rattle.mv_eval.specs.Grown.{Grew, GrewLess}
 use Rattle.mv_refine.specs.Environment.{Environment, Reading, Writing, environment, reading}
 use Rattle.mv_command.specs.declared.command.RunOptions.{RunOptions}
+use Rattle.mv_command.specs.declared.oracles.Oracle.TheVariants.{Oldest}
 use Rattle.mv_command.specs.Spelled.{default_steps}
 use Rattle.mv_notes.specs.Lines.{status_text}
 use Rattle.mv_notes.specs.declared.status.Status.{Status}
@@ -21,7 +22,7 @@ summary number status =
 
 -- it is run to the default limit, without an operator
 abbrev pub plain : RunOptions
-plain = record { steps = default_steps; items = []; bindings = false; words = false }
+plain = record { steps = default_steps; items = []; oracle = Oldest; bindings = false; words = false }
 
 -- it has no input, which never fails
 abbrev pub no_input : Reading

@@ -10,3 +10,5 @@ pub mod Generating
 pub mod Uses
 pub mod Decisions
 pub mod Outcomes
+pub mod Named
+pub mod Picking

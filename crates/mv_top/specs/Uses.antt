@@ -2,7 +2,7 @@
 use Rattle.std.specs.Prelude.{◌≡◌, Bool}
 use Rattle.mv_io.specs.Outside.{CountAfter}
 use Rattle.mv_io.specs.Shelves.{AsksFor}
-use Rattle.mv_command.specs.Commands.{Asked, Runs, Builds, Executes, Lists, Evaluates, Generates}
+use Rattle.mv_command.specs.Commands.{Asked, Runs, Builds, Executes, Lists, Evaluates, Generates, Prints}
 use Rattle.mv_notes.specs.Lines.{names_input, names_output, names_shelf}
 use Rattle.mv_notes.specs.declared.status.Status.{Status}
 use Rattle.mv_top.specs.Generating.{is_cut_short}
@@ -16,6 +16,7 @@ write_failed (Executes file options) status = names_output status
 write_failed (Lists file) status = names_output status
 write_failed (Evaluates file bound) status = names_output status
 write_failed (Generates number source) status = is_cut_short status
+write_failed (Prints text) status = names_output status
 
 module _ (before after : Outside) where
   -- its file is loaded once, and no other
@@ -26,6 +27,7 @@ module _ (before after : Outside) where
   Asks (Lists file) = AsksFor before.shelf.asked after.shelf.asked file
   Asks (Evaluates file bound) = AsksFor before.shelf.asked after.shelf.asked file
   Asks (Generates number source) = after.shelf.asked ≡ before.shelf.asked
+  Asks (Prints text) = after.shelf.asked ≡ before.shelf.asked
 
   pub record Uses (asked : Asked) (status : Status) : Type 0 where
     pub asks : Asks asked

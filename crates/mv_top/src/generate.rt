@@ -10,8 +10,8 @@ ghost use Rattle.mv_top.specs.Generating.{is_cut_short, is_summed_up, summary, G
 
 use crate::files::write_text;
 use crate::run::run_text;
-use mv_command::RunOptions;
 use mv_command::options::DEFAULT_STEPS;
+use mv_command::{Oracle, RunOptions};
 use mv_eval::writing::write_all;
 use mv_gen::{functions_of, generate};
 use mv_gen_accepted::generated_texts_are_accepted;
@@ -97,6 +97,7 @@ fn run_plainly<O: Sink>(
     let options = RunOptions {
         steps: DEFAULT_STEPS,
         items: List::new(alloc),
+        oracle: Oracle::Oldest,
         bindings: false,
         words: false,
     };

@@ -35,10 +35,11 @@
 //!   `mv_eval` says. No probe is told anything.
 //! - `gen NUMBER` (`specs/Generating.antt`): with `--source`, `Done`, `out` grew by exactly the text of the number. Without it that text is
 //!   run as above on no input, without an operator and to the default limit, and then `out` grew by exactly the summary. It is never `Refused`. `input` is unchanged.
+//! - `help`, `help COMMAND`, `version` (`Prints` in `specs/Outcomes.antt`): `Done`, `out` grew by exactly the text that `mv_command` defines; `input` and the files are unchanged.
 //! - `InputFault`, `OutputFault`: the count of `input`, of `out` or of `notes` rose.
 //! - A device that failed is asked nothing more (`specs/Uses.antt`): the counts of `shelf`, `input` and `out` are as before, but for that of the device that the status due
 //!   names, which is one more at most; with `Memory` of `gen` that of `out` may be too. A shelf that tells which names it was asked to load was asked for FILE or
-//!   IMAGE of the command, once, and for nothing else; of `gen`, of words that are no command and of words that couldn't be read all is as before.
+//!   IMAGE of the command, once, and for nothing else; of `gen`, `help` and `version`, of words that are no command and of words that couldn't be read all is as before.
 //! - `notes` grew by exactly the lines that were asked for and the last line of the status (`mv_notes`); after `OutputFault` of `out` and after `Memory` they are
 //!   as before. Where there was no memory to make the lines, the notes are as before and the status is `Memory`; where a
 //!   write to them failed, they grew by less.
@@ -46,8 +47,10 @@
 //!   offset of bytes that are no image, 15
 //!   unless the program passes a limit, and the end of an evaluation; of a run the end of the
 //!   meaning on what was taken and whatever may come behind it, at some bound, where N is at least 100 × (1 + the work there), unless the program passes a limit, and else how it stands; `Done` of `list`,
-//!   of `gen --source`, and of `build` unless the program passes a limit; of `exec` how its run stands; of `gen` an end, a trap, or that the steps are used up.
+//!   of `gen --source`, of `help` and `version`, and of `build` unless the program passes a limit; of `exec` how its run stands; of `gen` an end, a trap, or that the steps are used up.
 //!   No program passes a limit that is within the counts over its source (`mv_count_limits`). Want of memory may come in place of each.
+//! - Fetches are picked by the oracle that is handed in. `multiverse_by_words` hands in the one that the words name by `--oracle`, or the one that always picks
+//!   the oldest word, and says the same of its way (`specs/Picking.antt`); where there was no memory for it, it is `Memory` as of words that couldn't be read.
 //! - Asked is that each probe that tells its patience has some left.
 //!
 //! `run` really runs: a body that writes what the program means and executes nothing, or one instruction fewer, is
@@ -61,9 +64,11 @@ mod exec;
 mod files;
 mod generate;
 mod list;
+mod picking;
 mod run;
 mod top;
 
 pub use mv_front::Refusal;
 pub use mv_notes::Status;
+pub use picking::multiverse_by_words;
 pub use top::multiverse;

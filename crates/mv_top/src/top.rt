@@ -13,6 +13,7 @@ ghost use Rattle.mv_top.specs.Outside.{outside, shelved};
 use crate::build::build_file;
 use crate::eval::eval_file;
 use crate::exec::exec_file;
+use crate::files::write_text;
 use crate::generate::generate_program;
 use crate::list::list_file;
 use crate::run::run_file;
@@ -59,6 +60,10 @@ fn perform<H: Shelf, I: Source, O: Sink>(
         }
         Ok(Some(Command::Gen { number, source })) => {
             let status = generate_program(alloc, number, source, out, oracle, probes);
+            Ok(Performed::alone(alloc, status))
+        }
+        Ok(Some(Command::Print { text })) => {
+            let status = write_text(text.as_slice(), out);
             Ok(Performed::alone(alloc, status))
         }
         Ok(None) => Ok(Performed::alone(alloc, Status::Usage)),

@@ -4,9 +4,9 @@ use Rattle.mv_command.proofs.program.form_of.Goals as goal
 
 pub loop-argument-preserved : goal.loop-argument-preserved
 loop-argument-preserved c = record {
-  app = argument_more (new_app c.args.name.now) c.args.arguments.now c.loop-argument.argument-index _ c.loop-argument.command c.in_ok-command.command c.argument_of.result c.loop-argument-test.true
-      c.in_ok-command.ensures c.argument_of.ensures.local c.argument_of.ensures.rule c.loop-argument.invariant.app;
-  local = local_more c.loop-argument.command c.in_ok-command.command c.argument_of.result c.in_ok-command.ensures c.argument_of.ensures.local c.loop-argument.invariant.local;
+  app = argument_more (new_app c.args.name.now) c.args.arguments.now c.loop-argument.argument-index _ c.loop-argument.command c.in_ok-command.command c.clap_argument.result c.loop-argument-test.true
+      c.in_ok-command.ensures c.clap_argument.ensures.local c.clap_argument.ensures.rule c.loop-argument.invariant.app;
+  local = local_more c.loop-argument.command c.in_ok-command.command c.clap_argument.result c.in_ok-command.ensures c.clap_argument.ensures.local c.loop-argument.invariant.local;
 }
 
 pub returns : goal.returns

@@ -1,13 +1,17 @@
-use Rattle.std.proofs.Common.{map, refl}
+use Rattle.std.proofs.Common.{ℕ, ◌≡◌, List, map, refl, subst}
 use Rattle.std.specs.String.{string_bytes}
 use Rattle.mv_command.specs.Commands.{Executes, Runs}
-use Rattle.mv_command.specs.declared.command.Command.TheVariants.{Build, Eval, Exec, Gen, Run}
+use Rattle.mv_command.specs.declared.command.Command.TheVariants.{Build, Eval, Exec, Gen, Print, Run}
 use Rattle.mv_command.specs.declared.command.Command.TheVariants as command
 use Rattle.mv_io.proofs.Common.{count_kept}
 use Rattle.mv_command.proofs.Same.{exec_items, run_items}
 use Rattle.mv_probe.proofs.Logs.{told_nothing}
 use Rattle.mv_top.specs.Outcomes.{done}
-use Rattle.mv_top.proofs.Commands.{built, evaluated, is_command, listed, made, no_command, no_memory}
+use Rattle.mv_notes.specs.declared.status.Status.{Status}
+use Rattle.mv_notes.specs.declared.status.Status.TheVariants.{Done}
+use Rattle.mv_refine.specs.Environment.{Environment}
+use Rattle.mv_top.specs.Outside.{Writes}
+use Rattle.mv_top.proofs.Commands.{built, evaluated, is_command, listed, made, no_command, no_memory, printed}
 use Rattle.mv_top.proofs.Performing.{performs_so}
 use Rattle.mv_top.proofs.top.perform.Goals as goal
 
@@ -64,6 +68,18 @@ returns-in-Ok-Some-Gen g c =
     (is_command (map string_bytes c.args.words.now) c.in-Ok-Some-Gen.field-0 c.in-Ok-Some-Gen.field-0-0 (Gen c.in-Ok-Some-Gen.number c.in-Ok-Some-Gen.source)
     c.in-Ok-Some-Gen.ensures c.in-Ok-Some-Gen.field-0-is c.in-Ok-Some-Gen.field-0-0-is) (c.generate_program-status.ensures.does _) refl refl
     (record { asks = refl; shelf = count_kept _ _ _ refl; input = count_kept _ _ _ refl; output = c.generate_program-status.ensures.count })
+
+written_alike : (before after : Environment) (text other : List ℕ) (status : Status) → Writes before after text Done status → text ≡ other → Writes before after other Done status
+written_alike before after text other status writes e = subst (λ (words : List ℕ). Writes before after words Done status) e writes
+
+pub returns-in-Ok-Some-Print : goal.returns-in-Ok-Some-Print
+returns-in-Ok-Some-Print g c =
+    printed _ _ _ (map string_bytes c.args.words.now) _ _ c.write_text-status.result c.alone-in-Ok-Some-Print.ensures.lines c.alone-in-Ok-Some-Print.ensures.status
+    (told_nothing _ _ c.args.probes.now.items c.requires) c.in-Ok-Some-Print.text.items
+    (is_command (map string_bytes c.args.words.now) c.in-Ok-Some-Print.field-0 c.in-Ok-Some-Print.field-0-0 (Print c.in-Ok-Some-Print.text)
+    c.in-Ok-Some-Print.ensures c.in-Ok-Some-Print.field-0-is c.in-Ok-Some-Print.field-0-0-is)
+    (written_alike _ _ _ _ _ (c.write_text-status.ensures.writes _ _) c.as_slice.ensures.value) refl refl refl
+    (record { asks = refl; shelf = count_kept _ _ _ refl; input = count_kept _ _ _ refl; output = c.write_text-status.ensures.count })
 
 pub returns-in-Ok-None : goal.returns-in-Ok-None
 returns-in-Ok-None g c =
