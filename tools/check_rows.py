@@ -15,7 +15,7 @@ import tempfile
 
 TOP = os.path.dirname(os.path.dirname(os.path.realpath(__file__)))
 # The scripts, each with the crate whose rows it writes.
-SCRIPTS = {"patching_rows.py": "mv_test_top", "call_rows.py": "mv_test_top", "harts_rows.py": "mv_test_harts", "image_rows.py": "mv_test_image"}
+SCRIPTS = {"patching_rows.py": "mv_test_top", "call_rows.py": "mv_test_top", "harts_rows.py": "mv_test_harts", "image_rows.py": "mv_test_image", "elf_rows.py": "mv_test_elf"}
 
 
 def sections_of(file):

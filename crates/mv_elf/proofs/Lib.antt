@@ -1,0 +1,15 @@
+pub mod NumberLaws
+pub mod SegmentLaws
+pub mod MemoryLaws
+pub mod SpellingParts
+pub mod NoteLaws
+pub mod ReadLaws
+pub mod OneVerdict
+pub mod WordReads
+pub mod HeaderHas
+pub mod Filed
+pub mod Loads
+pub mod FileHolds
+pub mod ContentSize
+pub mod FileLaw
+pub mod OneFault

@@ -1,0 +1,9 @@
+pub mod Numbers
+pub mod Header
+pub mod Segments
+pub mod Flaws
+pub mod Memory
+pub mod Notes
+pub mod NoteFaults
+pub mod Faults
+pub mod Writing
