@@ -1,4 +1,5 @@
 pub mod FieldHolds
+pub mod FittingCode
 pub mod InstructionFits
 pub mod Lexing
 pub mod LineEnds

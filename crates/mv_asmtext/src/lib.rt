@@ -2,7 +2,7 @@
 //!
 //! - `scan`: the code that the text reads as by the definition ([docs/assembler.md](assembler.md)), or the first refusal
 //!   in the definition's order, with its line or count. The definition is a function of the text, so one text has one
-//!   code.
+//!   code, and it fits an image.
 //! - `print`: the text that the definition gives for the code: an instruction where the word is the instruction's, else a
 //!   number. The definition reads that text as the code, where an image has room for it and its entry is the address of
 //!   one of its words of text (`read_back`): so `scan` gives the code again, whatever its words.
@@ -49,7 +49,9 @@ const LENGTH_LIMIT: usize = 16_777_216;
 /// more than 262,144 words of data.
 #[tactic(auto, unfolding(crate::specs::Scans::scanned))]
 pub fn scan(alloc: Global, text: &[u8]) -> Result<Code, ScanError>
-    ensures { MatchResult result (λ code. scanned text.now ≡ Ok code) (λ e. IsCause e (scanned text.now)) }
+    ensures code { MatchResult result (λ code. scanned text.now ≡ Ok code) (λ e. IsCause e (scanned text.now)) }
+    // What is read fits an image.
+    ensures fits { IfOk result FitsImage }
 {
     if text.len() > LENGTH_LIMIT {
         return Err(ScanError::TooLong(text.len() as u64));
