@@ -42,17 +42,21 @@ APPENDICES = [
         ("mv_check_expressions/specs/Breaches.antt", "breaches"), ("mv_check_expressions/specs/Judged.antt", "first_broken"),
         ("mv_check_limits/specs/Ordered.antt", "first_excess"), ("mv_parser/specs/Verdict.antt", "IsShallow"), ("mv_front/specs/Verdicts.antt", "IsRefused"),
         ("mv_count_limits/specs/Counted.antt", "IsWithinCounts")]),
-    ("B `build`, and the form of an image", [("mv_top/specs/Building.antt", "BuildsFile"), ("mv_image/specs/Faults.antt", "Spells")]),
+    ("B `build`, and the form of an image", [("mv_top/specs/Building.antt", "BuildsFile"), ("mv_top/specs/Building.antt", "IsBuiltAs"), ("mv_image/specs/Faults.antt", "Spells")]),
     ("C `exec`", [
         ("mv_top/specs/Executing.antt", "ExecDoes"), ("mv_exec/specs/Loading.antt", "IsBadImage"), ("mv_operator/specs/Operator.antt", "IsImageFirstWrong"),
         ("mv_operator/specs/Operator.antt", "IsImageActions")]),
-    ("D `list`", [("mv_top/specs/Listing.antt", "ListsFile")]),
+    ("D `list` and `disasm`", [("mv_top/specs/Listing.antt", "ListsFile"), ("mv_top/specs/Listing.antt", "DisassemblesFile")]),
     ("E `eval`", [("mv_top/specs/Evaluating.antt", "EvaluatesFile"), ("mv_eval/specs/Evaluations.antt", "meaning")]),
     ("F `gen`", [("mv_top/specs/Generating.antt", "GenDoes"), ("mv_gen/specs/Generated.antt", "generated"), ("mv_top/specs/Generating.antt", "is_cut_short")]),
     ("G Several harts, and what the other harts adopt", [
         ("mv_harts/src/harts.rt", "run_harts"), ("mv_harts/src/top.rt", "mvharts"), ("mv_ast/specs/Bindings.antt", "are_bindings"),
         ("mv_ast/specs/Bindings.antt", "are_typed_bindings"), ("mv_machine/specs/Runs.antt", "adopted")]),
     ("H `help` and `version`", [("mv_command/specs/Help.antt", "help_on"), ("mv_command/specs/Help.antt", "version_text")]),
+    ("I `upgrade`, `asm`, `elf` and `unelf`", [
+        ("mv_top/specs/Converting.antt", "ConvertsFile"), ("mv_top/specs/Converting.antt", "status_of_conversion"), ("mv_convert/specs/Conversions.antt", "IsConverted"),
+        ("mv_convert/specs/Causes.antt", "IsNotConverted")]),
+    ("J `check`", [("mv_top/specs/Checking.antt", "ChecksFile"), ("mv_top/specs/Checking.antt", "AsksToCheck"), ("mv_top/specs/Checking.antt", "CompareDoes")]),
 ]
 PARTS = MEANT + COMMANDED + APART + APPENDICES
 # Of these only what an earlier part has is to be believed: the rest says which bodies and tables an image was made of.

@@ -10,7 +10,7 @@ SYNOPSES = {
     "multiverse": """\
 usage: ./multiverse [--explain on|off] [--preprocess] COMMAND
        ./multiverse --build
---preprocess stands before run, build and eval; docs/commands.md has all""",
+--preprocess stands before run, build, eval and check; docs/commands.md has all""",
     "mvharts": """\
 usage: ./mvharts [--explain on|off] [--preprocess] FILE COUNT NUMBER TURNS
        ./mvharts --build
@@ -21,11 +21,19 @@ COUNT is 2 to 4, NUMBER 0 to 4294967295, TURNS 1 to 10000000; docs/harts.md has 
 VALUED = ("--steps", "--at", "--oracle", "--bound")
 
 # The commands of `multiverse` whose file is a source, and the last lines of those that accepted it.
-COMPILING = ("run", "build", "eval")
-ACCEPTED = re.compile("done|ended|trapped|steps")
+COMPILING = ("run", "build", "eval", "check")
+ACCEPTED = re.compile("done|ended|trapped|steps|differs")
 
-# What is wrong with bytes that are no image.
-FAULTS = {"10": "something is missing", "11": "a field breaks a rule", "12": "something follows the end"}
+# What is wrong with bytes that are no image, and with those of an ELF file that holds none.
+FAULTS = {
+    "10": "something is missing",
+    "11": "a field breaks a rule",
+    "12": "something follows the end",
+    "20": "a field of the header is wrong",
+    "21": "a segment breaks its rule, or none has a word of text,",
+    "22": "it is made for something else",
+    "23": "the note gives none",
+}
 
 # How many characters of a line are shown, and how many of these at most before the place.
 WIDTH, BEFORE = 100, 60
@@ -73,6 +81,13 @@ def places_of_files(name, words):
     return operands(words, 0)[:1] if name == "mvharts" else operands(words, 1)
 
 
+def of_difference(last_line, files):
+    """Returns the line that explains where an image differs from that of a source, if this last line says so."""
+    if not last_line.startswith("differs "):
+        return []
+    return [f"{files[1]} isn't the image of {files[0]}: the files of the two differ from byte {last_line.split()[1]} on"]
+
+
 def of_notes(name, notes, words, source=None, told=lambda: ""):
     """Returns the lines that explain the last line of the notes of a program with these words.
 
@@ -82,17 +97,18 @@ def of_notes(name, notes, words, source=None, told=lambda: ""):
     if last_line == "usage":
         return [*SYNOPSES[name].splitlines(), *told().splitlines()]
     files = [words[at] for at in places_of_files(name, words)]
-    if last_line == "shelf fault" and len(files) > 1:
+    if last_line == "shelf fault" and len(files) > 1 and words[0] != "check":
         return [f"{files[0]} can't be read, or isn't there; or {files[1]} can't be written"]
     if last_line == "shelf fault":
         return [f"{' or '.join(files)} can't be read, or isn't there"]
     if last_line.startswith("bad image "):
-        return [f"{files[0]} is no image, as `build` saves one: {FAULTS[last_line.split()[2]]} at byte {last_line.split()[3]}"]
+        what = "holds no image" if words[0] == "unelf" else "is no image, as `build` saves one"
+        return [f"{files[0]} {what}: {FAULTS[last_line.split()[2]]} at byte {last_line.split()[3]}"]
     if source is None and files:
         source = text_of(files[0])
     if source is not None and ACCEPTED.match(last_line) and (name == "mvharts" or words[0] in COMPILING):
         found = hints.hints(source.decode("latin-1"))
-        return [f"{files[0]}:{line}:{column}: hint: {text}" for (line, column), text in found]
+        return of_difference(last_line, files) + [f"{files[0]}:{line}:{column}: hint: {text}" for (line, column), text in found]
     explained = refusals.explained(last_line)
     if not explained:
         return []

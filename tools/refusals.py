@@ -47,7 +47,7 @@ def explained(last_line):
     if name not in known:
         return None
     found = known[name]
-    is_placed = line and "LINE:COLUMN" in found.get("line", "LINE:COLUMN")
+    is_placed = line and "LINE:" in found.get("line", "LINE:")
     cause = ", at most ".join(found[key] for key in ("cause", "greatest") if key in found)
     return (int(line), int(column)) if is_placed else None, f"{name}: {cause}" if kind else cause, found["do"]
 

@@ -95,6 +95,7 @@ BREAK = bytes.fromhex("4d564931010000000010000001000000" + "00" * 32 + "73001000
 PROBED = f"run a.c !log\n    {LOCK}\n"
 HEARD = "1 left, 3 events: 0 0, 0 1, 0 free\n"
 LISTED = b"switch smp int values 0 1\n"
+CODE = b".entry 0x00001000\nebreak\n"
 
 
 class Case(NamedTuple):
@@ -122,8 +123,8 @@ class Answer(NamedTuple):
     files: dict
 
 
-def cases(image):
-    """The commands; `image` is that of the program with a lock, as `build` saves it."""
+def cases(image, elf):
+    """The commands; `image` is that of the program with a lock, as `build` saves it, and `elf` its ELF file."""
     with_lock = {"lock.c": LOCK.encode()}
     built = {"lock.mvi": image}
     polled = {"polled.c": POLLED.encode()}
@@ -154,6 +155,16 @@ def cases(image):
         Case(["build", "lock.c", "lock.mvi"], {**with_lock, "lock.mvi": b"old"}, 0, b"", b"done\n"),
         Case(["exec", "lock.mvi"], built, 0, b"0011", b"ended 0\n"),
         Case(["list", "lock.mvi"], built, 0, LISTED, b"done\n"),
+        Case(["upgrade", "break.mvi", "new.mvi"], {"break.mvi": BREAK, "new.mvi": b"old"}, 0, b"", b"done\n"),
+        Case(["upgrade", "lock.mvi", "new.mvi"], built, 0, b"", b"done\n"),
+        Case(["asm", "break.s", "new.mvi"], {"break.s": CODE}, 0, b"", b"done\n"),
+        Case(["asm", "break.s", "new.mvi"], {"break.s": b"beq x0, x0, c", "new.mvi": b"old"}, 3, b"", b"refused 19 1:1\n"),
+        Case(["disasm", "break.mvi"], {"break.mvi": BREAK}, 0, CODE, b"done\n"),
+        Case(["elf", "lock.mvi", "lock.elf"], built, 0, b"", b"done\n"),
+        Case(["unelf", "lock.elf", "new.mvi"], {"lock.elf": elf, "new.mvi": b"old"}, 0, b"", b"done\n"),
+        Case(["unelf", "lock.elf", "new.mvi"], {"lock.elf": elf[:51], "new.mvi": b"old"}, 9, b"", b"bad image 10 51\n"),
+        Case(["check", "lock.c", "lock.mvi"], {**with_lock, **built}, 0, b"", b"done\n"),
+        Case(["check", "lock.c", "break.mvi"], {**with_lock, "break.mvi": BREAK}, 11, b"", b"differs 4\n"),
     ]
 
 
@@ -279,7 +290,8 @@ def main(words):
         runner = Runner(words[0], room)
         built, _ = runner.run(["build", "lock.c", "lock.mvi"], {"lock.c": LOCK.encode()}, b"", 0)
         image = built.files.get("lock.mvi", b"")
-        wrong = sum(try_case(runner, case) for case in cases(image))
+        packed, _ = runner.run(["elf", "lock.mvi", "lock.elf"], {"lock.mvi": image}, b"", 0)
+        wrong = sum(try_case(runner, case) for case in cases(image, packed.files.get("lock.elf", b"")))
         if len(words) > 1:
             wrong += try_row(Runner(words[1], room))
         if len(words) > 2:

@@ -373,12 +373,28 @@ class Launcher(unittest.TestCase):
         self.assertIn("a.c can't be read", whole)
         self.assertIn("a.img can't be written", whole)
 
+    def test_shelf_fault_of_two_files_that_are_read_is_explained(self):
+        self.assertIn("multiverse: a.c or a.img can't be read, or isn't there\n", self.explained("shelf fault", "check", "a.c", "a.img"))
+
     def test_options_are_no_files(self):
         whole = self.explained("shelf fault", "exec", "--steps", "3", "--at=1:s=1", "--words", "none.img")
         self.assertIn("multiverse: none.img can't be read", whole)
 
     def test_bad_image_is_explained(self):
         self.assertIn("a.img is no image, as `build` saves one: something is missing at byte 8", self.explained("bad image 10 8", "list", "a.img"))
+
+    def test_elf_file_without_an_image_is_explained(self):
+        self.assertIn("a.elf holds no image: it is made for something else at byte 18", self.explained("bad image 22 18", "unelf", "a.elf", "a.img"))
+
+    def test_difference_is_explained(self):
+        self.write("a.c", "int main(void) { }\n")
+        self.assertIn("a.img isn't the image of a.c: the files of the two differ from byte 12 on", self.explained("differs 12", "check", "a.c", "a.img"))
+
+    def test_refused_line_of_assembler_text_is_explained(self):
+        self.write("a.s", "ecall\naddi a0, zero, 2048\n")
+        whole = self.explained("refused 18 2:1", "asm", "a.s", "a.img")
+        self.assertIn("multiverse:     addi a0, zero, 2048\nmultiverse:     ^\n", whole)
+        self.assertIn("outside its range", whole)
 
     def test_refusal_is_explained(self):
         self.write("a.c", "int main(void) {\n\tint \u00e4 = y;\n}\n")

@@ -1,25 +1,33 @@
 -- Words are one command at most.
-use Rattle.std.proofs.Common.{ℕ, ◌≡◌, List, length, take, inl, inr, refl, sym, ap, ap₂, ◌∙◌, subst, arith, eqb}
-use Rattle.std.specs.Prelude.{Option, Some, None}
-use Rattle.std.specs.List.{slice_split, position_or_len}
+use Rattle.std.proofs.Common.{ℕ, ◌≡◌, List, length, inl, inr, refl, sym, ap, ap₂, ◌∙◌, subst, arith, eqb}
+use Rattle.std.specs.Prelude.{Option, Some, None, [], ◌∷◌, if◌then◌else◌}
+use Rattle.std.specs.List.{list_any, slice_split, position_or_len}
 use Rattle.std.specs.Str.{bytes_eq}
 use Rattle.std.proofs.lemmas.Fmt.{decimal_injective}
 use Rattle.std.proofs.lemmas.Option.{same_Some}
 use Rattle.clap.specs.Walk.{Row, Text}
 use Rattle.mv_command.specs.declared.items.Item.{Item}
 use Rattle.mv_command.specs.declared.command.RunOptions.{RunOptions}
+use Rattle.mv_command.specs.declared.conversion.Conversion.{Conversion}
+use Rattle.mv_command.specs.declared.conversion.Conversion.TheVariants.{Upgrade, Assemble, ToElf, FromElf}
 use Rattle.mv_command.specs.declared.options.TheConstants.{AT, ORACLE, STEPS}
-use Rattle.mv_command.specs.Spelled.{commands}
+use Rattle.mv_command.specs.Spelled.{run, build, exec, list, eval, gen, upgrade, asm, disasm, elf, unelf, check}
+use Rattle.mv_command.specs.Conversions.{from_of, name_of, to_of}
 use Rattle.mv_command.specs.Items.{Ascend}
 use Rattle.mv_command.specs.Oracles.{IsOracle}
 use Rattle.mv_command.specs.declared.oracles.Oracle.{Oracle}
-use Rattle.mv_command.specs.Commands.{Asked, Runs, Builds, Executes, Lists, Evaluates, Generates, Prints, IsLimit, AreItems, AreOptions, Asks, IsCommand, PicksBy, by_command, by_none, given, oracle_asked}
+use Rattle.mv_command.specs.Commands.{Asked, Runs, Builds, Executes, Lists, Evaluates, Generates, Converts, Disassembles, Checks, Prints, IsLimit, AreItems, AreOptions, Asks, IsCommand, PicksBy, by_command, by_none, given, oracle_asked}
 use Rattle.mv_command.proofs.ItemTexts.{same_items, list_pieces}
 use Rattle.mv_command.proofs.OracleTexts.{same_named}
 
--- where a command that does more than print stands in the table, by its name and by what it asks for
+-- the names of the commands that do more than print, by what they ask for
+abbrev names : List (List Text)
+names =
+    (run ∷ []) ∷ (build ∷ []) ∷ (exec ∷ []) ∷ (list ∷ []) ∷ (eval ∷ []) ∷ (gen ∷ []) ∷ (upgrade ∷ asm ∷ elf ∷ unelf ∷ []) ∷ (disasm ∷ []) ∷ (check ∷ []) ∷ []
+
+-- where a command stands among these, by its name and by what it asks for
 abbrev pub place : Text → ℕ
-place name = position_or_len (λ form. bytes_eq form.name name) (take 6 commands)
+place name = position_or_len (λ ns. list_any (λ n. bytes_eq n name) ns) names
 
 abbrev pub order : Asked → ℕ
 order (Runs file options) = 0
@@ -28,7 +36,10 @@ order (Executes image options) = 2
 order (Lists image) = 3
 order (Evaluates file bound) = 4
 order (Generates number source) = 5
-order (Prints text) = 6
+order (Converts conversion from to) = 6
+order (Disassembles image) = 7
+order (Checks file image) = 8
+order (Prints text) = 9
 
 pub placed : (name : Text) (rows : List Row) (a : Asked) → Asks name rows a → place name ≡ order a
 placed name rows (Runs file options) h = ap place h.0
@@ -37,8 +48,27 @@ placed name rows (Executes image options) h = ap place h.0
 placed name rows (Lists image) h = ap place h.0
 placed name rows (Evaluates file bound) h = ap place h.0
 placed name rows (Generates number source) h = ap place h.0
+placed name rows (Converts Upgrade from to) h = ap place h.0
+placed name rows (Converts Assemble from to) h = ap place h.0
+placed name rows (Converts ToElf from to) h = ap place h.0
+placed name rows (Converts FromElf from to) h = ap place h.0
+placed name rows (Disassembles image) h = ap place h.0
+placed name rows (Checks file image) h = ap place h.0
 placed name rows (Prints text) (inl h) = ap place h.0
 placed name rows (Prints text) (inr h) = ap place h.0
+
+-- a conversion by the name of its command
+abbrev by_name : Text → Conversion
+by_name name = if bytes_eq name upgrade then Upgrade else (if bytes_eq name asm then Assemble else (if bytes_eq name elf then ToElf else FromElf))
+
+its_own : (conversion : Conversion) → by_name (name_of conversion) ≡ conversion
+its_own Upgrade = refl
+its_own Assemble = refl
+its_own ToElf = refl
+its_own FromElf = refl
+
+same_conversion : (c d : Conversion) → name_of c ≡ name_of d → c ≡ d
+same_conversion c d e = sym (its_own c) ∙ ap by_name e ∙ its_own d
 
 pub same_limit : (text : Option Text) (steps more : ℕ) → IsLimit text steps → IsLimit text more → steps ≡ more
 same_limit None steps more l m = l ∙ sym m
@@ -74,6 +104,13 @@ same_asks name rows (Evaluates f m) (Evaluates g n) h k =
     ap₂ Evaluates (same_text h.1 k.1) (decimal_injective m n (omega (arith, h.3)) (omega (arith, k.3)) (same_text h.2 k.2))
 same_asks name rows (Generates m s) (Generates n t) h k =
     ap₂ Generates (decimal_injective m n (omega (arith, h.2)) (omega (arith, k.2)) (same_text h.1 k.1)) (h.3 ∙ sym k.3)
+same_asks name rows (Converts c f t) (Converts d g u) h k =
+    let same = same_conversion c d (sym h.0 ∙ k.0) in
+    let from = same_text (subst (λ x. given (from_of x) rows ≡ Some f) same h.1) k.1 in
+    let to = same_text (subst (λ x. given (to_of x) rows ≡ Some t) same h.2) k.2 in
+    λ i. Converts (same i) (from i) (to i)
+same_asks name rows (Disassembles i) (Disassembles j) h k = ap Disassembles (same_text h.1 k.1)
+same_asks name rows (Checks f i) (Checks g j) h k = ap₂ Checks (same_text h.1 k.1) (same_text h.2 k.2)
 same_asks name rows (Prints s) (Prints t) (inl h) (inl k) = ap Prints (same_Some s t (sym h.1 ∙ k.1))
 same_asks name rows (Prints s) (Prints t) (inr h) (inr k) = ap Prints (h.1 ∙ sym k.1)
 same_asks name rows (Prints s) (Prints t) (inl h) (inr k) = let l : 4 ≡ 7 = ap length (sym h.0 ∙ k.0) in absurd (omega (arith, l))

@@ -12,12 +12,14 @@ use Rattle.mv_command.specs.declared.items.Item.{Item}
 use Rattle.mv_command.specs.declared.command.Command.{Command}
 use Rattle.mv_command.specs.declared.command.Command.TheVariants as command
 use Rattle.mv_command.specs.declared.command.RunOptions.{RunOptions}
+use Rattle.mv_command.specs.declared.conversion.Conversion.{Conversion}
 use Rattle.mv_command.specs.declared.options.Kind.{Kind}
 use Rattle.mv_command.specs.declared.options.Kind.TheVariants.{Operand, Optional, Needed, Valued, Flag}
 use Rattle.mv_command.specs.declared.options.Argument as declared_argument
 use Rattle.mv_command.specs.declared.options.Form as declared_form
 use Rattle.mv_command.specs.Spelled as spelled
 use Rattle.mv_command.specs.Spelled.{Argument, Form}
+use Rattle.mv_command.specs.Conversions.{name_of, from_of, to_of}
 use Rattle.mv_command.specs.Help.{help_on, version_text}
 use Rattle.mv_command.specs.Items.{IsList}
 use Rattle.mv_command.specs.Oracles.{IsOracle}
@@ -101,6 +103,9 @@ pub data Asked : Type 0 where
   Lists : (image : List ℕ) → Asked
   Evaluates : (file : List ℕ) → (bound : ℕ) → Asked
   Generates : (number : ℕ) → (source : Bool) → Asked
+  Converts : Conversion → (from to : List ℕ) → Asked
+  Disassembles : (image : List ℕ) → Asked
+  Checks : (file image : List ℕ) → Asked
   Prints : (text : List ℕ) → Asked
 
 abbrev pub asked : Command → Asked
@@ -110,6 +115,9 @@ asked (command.Exec image options) = Executes image.now options
 asked (command.List image) = Lists image.now
 asked (command.Eval file bound) = Evaluates file.now bound
 asked (command.Gen number source) = Generates number source
+asked (command.Convert conversion from to) = Converts conversion from.now to.now
+asked (command.Disassemble image) = Disassembles image.now
+asked (command.Check file image) = Checks file.now image.now
 asked (command.Print text) = Prints text.items
 
 -- The command with this name, with these values, asks for this; numbers are decimal numerals.
@@ -120,6 +128,9 @@ Asks name rows (Executes image options) = (name ≡ spelled.exec) × (given spel
 Asks name rows (Lists image) = (name ≡ spelled.list) × (given spelled.image rows ≡ Some image)
 Asks name rows (Evaluates file bound) = (name ≡ spelled.eval) × (given spelled.file rows ≡ Some file) × (given spelled.bound rows ≡ Some (decimal bound)) × (bound ≤ spelled.most_bound)
 Asks name rows (Generates number source) = (name ≡ spelled.gen) × (given spelled.number rows ≡ Some (decimal number)) × (number ≤ spelled.most_number) × (source ≡ is_set spelled.source rows)
+Asks name rows (Converts conversion from to) = (name ≡ name_of conversion) × (given (from_of conversion) rows ≡ Some from) × (given (to_of conversion) rows ≡ Some to)
+Asks name rows (Disassembles image) = (name ≡ spelled.disasm) × (given spelled.image rows ≡ Some image)
+Asks name rows (Checks file image) = (name ≡ spelled.check) × (given spelled.file rows ≡ Some file) × (given spelled.image rows ≡ Some image)
 Asks name rows (Prints text) =
     ((name ≡ spelled.help) × (help_on (given spelled.command rows) ≡ Some text)) ⊎ ((name ≡ spelled.version) × (text ≡ version_text))
 
@@ -146,6 +157,9 @@ oracle_asked (Executes image options) = options.oracle
 oracle_asked (Lists image) = Oldest
 oracle_asked (Evaluates file bound) = Oldest
 oracle_asked (Generates number source) = Oldest
+oracle_asked (Converts conversion from to) = Oldest
+oracle_asked (Disassembles image) = Oldest
+oracle_asked (Checks file image) = Oldest
 oracle_asked (Prints text) = Oldest
 
 -- the oracle by which these words pick, whether they are a command or not

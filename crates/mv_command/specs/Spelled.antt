@@ -28,6 +28,24 @@ eval = codes "eval"
 abbrev pub gen : Text
 gen = codes "gen"
 
+abbrev pub upgrade : Text
+upgrade = codes "upgrade"
+
+abbrev pub asm : Text
+asm = codes "asm"
+
+abbrev pub disasm : Text
+disasm = codes "disasm"
+
+abbrev pub elf : Text
+elf = codes "elf"
+
+abbrev pub unelf : Text
+unelf = codes "unelf"
+
+abbrev pub check : Text
+check = codes "check"
+
 abbrev pub help : Text
 help = codes "help"
 
@@ -44,6 +62,9 @@ file = codes "file"
 
 abbrev pub image : Text
 image = codes "image"
+
+abbrev pub out : Text
+out = codes "out"
 
 abbrev pub number : Text
 number = codes "number"
@@ -104,6 +125,18 @@ source_file = argument Operand file (codes "FILE") (codes "a file with a C progr
 abbrev pub image_file : Argument
 image_file = argument Operand image (codes "IMAGE") (codes "a file with an image")
 
+abbrev pub assembler_file : Argument
+assembler_file = argument Operand file (codes "FILE") (codes "a file with assembler text")
+
+abbrev pub elf_file : Argument
+elf_file = argument Operand file (codes "FILE") (codes "an ELF file")
+
+abbrev pub made_image : Argument
+made_image = argument Operand image (codes "IMAGE") (codes "the file that is made")
+
+abbrev pub made_file : Argument
+made_file = argument Operand out (codes "OUT") (codes "the file that is made")
+
 -- what may stand behind a command that runs an image
 abbrev pub of_runs : List Argument
 of_runs =
@@ -124,6 +157,12 @@ commands =
     (source_file ∷ argument Needed bound (codes "K") (codes "0 to 4294967295, for calls within calls and turns of loops") ∷ []) ∷
     form gen (codes "makes the program of NUMBER and runs it")
     (argument Operand number (codes "NUMBER") (codes "0 to 4294967295") ∷ argument Flag source [] (codes "writes its text in place of its run") ∷ []) ∷
+    form upgrade (codes "saves IMAGE in version 2 as OUT") (image_file ∷ made_file ∷ []) ∷
+    form asm (codes "assembles FILE and saves its image as IMAGE") (assembler_file ∷ made_image ∷ []) ∷
+    form disasm (codes "writes the code of IMAGE as assembler text") (image_file ∷ []) ∷
+    form elf (codes "saves IMAGE as an ELF file OUT") (image_file ∷ made_file ∷ []) ∷
+    form unelf (codes "saves the image that the ELF file FILE holds as OUT") (elf_file ∷ made_file ∷ []) ∷
+    form check (codes "compiles FILE and tells whether IMAGE is its image") (source_file ∷ image_file ∷ []) ∷
     form help (codes "tells of the commands, or of COMMAND") (argument Optional command (codes "COMMAND") (codes "the name of a command") ∷ []) ∷
     form version (codes "tells the version") [] ∷ []
 

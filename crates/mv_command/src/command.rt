@@ -6,14 +6,17 @@ ghost use Rattle.std.specs.String.{string_bytes};
 ghost use Rattle.clap.specs.Walk.{rows_of};
 ghost use Rattle.clap.specs.Matches.{found_of};
 ghost use Rattle.mv_command.specs.Commands.{given, is_set, IsLimit, AreItems, AreOptions, IsReading, IsCommand, IsNoCommand, PicksBy, asked, oracle_asked};
+ghost use Rattle.mv_command.specs.Conversions.{name_of};
 ghost use Rattle.mv_command.specs.Oracles.{IsOracle};
 
+use crate::conversion::Conversion;
 use crate::help::{help_on, version_text};
 use crate::items::{Item, list_of};
 use crate::number::number;
 use crate::options::{
-    AT, BINDINGS, BOUND, BUILD, COMMAND, DEFAULT_STEPS, EVAL, EXEC, FILE, GEN, HELP, IMAGE, LIST,
-    MOST_BOUND, MOST_NUMBER, MOST_STEPS, NUMBER, ORACLE, RUN, SOURCE, STEPS, VERSIONS, WORDS,
+    AT, BINDINGS, BOUND, BUILD, CHECK, COMMAND, DEFAULT_STEPS, DISASM, EVAL, EXEC, FILE, GEN, HELP,
+    IMAGE, LIST, MOST_BOUND, MOST_NUMBER, MOST_STEPS, NUMBER, ORACLE, RUN, SOURCE, STEPS, VERSIONS,
+    WORDS,
 };
 use crate::oracles::{Oracle, named};
 use crate::program::matches_of;
@@ -63,6 +66,27 @@ pub enum Command<'a> {
         number: u32,
         /// Whether its text is asked for, in place of its run.
         source: bool,
+    },
+    /// Makes one file of another.
+    Convert {
+        /// Which file of which.
+        conversion: Conversion,
+        /// The name of the file of which it is made.
+        from: &'a str,
+        /// The name under which it is saved.
+        to: &'a str,
+    },
+    /// Shows the code of the image as assembler text.
+    Disassemble {
+        /// The name of the image.
+        image: &'a str,
+    },
+    /// Compares the image with that of the file.
+    Check {
+        /// The name of the file.
+        file: &'a str,
+        /// The name of the image.
+        image: &'a str,
     },
     /// Writes what the program tells of itself.
     Print {
@@ -215,6 +239,33 @@ fn generate<'a>(found: &ArgMatches<'a>) -> Option<Command<'a>>
     })
 }
 
+fn convert<'a>(conversion: Conversion, found: &ArgMatches<'a>) -> Option<Command<'a>>
+    ensures { IsReading (name_of conversion) (rows_of (found_of found.now)) result }
+{
+    let from = given(found, conversion.from_operand())?;
+    let to = given(found, conversion.to_operand())?;
+    Some(Command::Convert {
+        conversion,
+        from,
+        to,
+    })
+}
+
+fn disassemble<'a>(found: &ArgMatches<'a>) -> Option<Command<'a>>
+    ensures { IsReading DISASM.now (rows_of (found_of found.now)) result }
+{
+    let image = given(found, IMAGE)?;
+    Some(Command::Disassemble { image })
+}
+
+fn check<'a>(found: &ArgMatches<'a>) -> Option<Command<'a>>
+    ensures { IsReading CHECK.now (rows_of (found_of found.now)) result }
+{
+    let file = given(found, FILE)?;
+    let image = given(found, IMAGE)?;
+    Some(Command::Check { file, image })
+}
+
 fn help<'a>(alloc: Global, found: &ArgMatches<'a>) -> Result<Option<Command<'a>>, AllocError>
     ensures { IfOk result (IsReading HELP.now (rows_of (found_of found.now))) }
 {
@@ -240,30 +291,30 @@ fn read<'a>(
     ensures { IfOk result (IsReading name.now (rows_of (found_of found.now))) }
 {
     if name == RUN {
-        return run(alloc, found);
+        run(alloc, found)
+    } else if name == EXEC {
+        exec(alloc, found)
+    } else if name == BUILD {
+        Ok(build(found))
+    } else if name == LIST {
+        Ok(list(found))
+    } else if name == EVAL {
+        Ok(eval(found))
+    } else if name == GEN {
+        Ok(generate(found))
+    } else if let Some(conversion) = Conversion::by_command(name) {
+        Ok(convert(conversion, found))
+    } else if name == DISASM {
+        Ok(disassemble(found))
+    } else if name == CHECK {
+        Ok(check(found))
+    } else if name == HELP {
+        help(alloc, found)
+    } else if name == VERSIONS {
+        version(alloc, found)
+    } else {
+        Ok(None)
     }
-    if name == EXEC {
-        return exec(alloc, found);
-    }
-    if name == BUILD {
-        return Ok(build(found));
-    }
-    if name == LIST {
-        return Ok(list(found));
-    }
-    if name == EVAL {
-        return Ok(eval(found));
-    }
-    if name == GEN {
-        return Ok(generate(found));
-    }
-    if name == HELP {
-        return help(alloc, found);
-    }
-    if name == VERSIONS {
-        return version(alloc, found);
-    }
-    Ok(None)
 }
 
 /// The command that the words are, where they are one. An error is want of memory.

@@ -9,6 +9,7 @@
 #![tactic(auto)]
 
 mod command;
+mod conversion;
 mod help;
 mod items;
 pub mod number;
@@ -17,5 +18,6 @@ mod oracles;
 mod program;
 
 pub use command::{Command, RunOptions, command_of, oracle_of_words};
+pub use conversion::Conversion;
 pub use items::Item;
 pub use oracles::Oracle;

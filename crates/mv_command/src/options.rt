@@ -48,7 +48,7 @@ pub const PROGRAM: &str = "multiverse";
 pub const VERSION: &str = "0.9";
 
 /// Each command once.
-pub const COMMANDS: [Form; 8] = [
+pub const COMMANDS: [Form; 14] = [
     Form {
         name: RUN,
         does: "compiles FILE and runs it",
@@ -115,6 +115,36 @@ pub const COMMANDS: [Form; 8] = [
         ],
     },
     Form {
+        name: UPGRADE,
+        does: "saves IMAGE in version 2 as OUT",
+        arguments: &[IMAGE_FILE, MADE_FILE],
+    },
+    Form {
+        name: ASM,
+        does: "assembles FILE and saves its image as IMAGE",
+        arguments: &[ASSEMBLER_FILE, MADE_IMAGE],
+    },
+    Form {
+        name: DISASM,
+        does: "writes the code of IMAGE as assembler text",
+        arguments: &[IMAGE_FILE],
+    },
+    Form {
+        name: ELF,
+        does: "saves IMAGE as an ELF file OUT",
+        arguments: &[IMAGE_FILE, MADE_FILE],
+    },
+    Form {
+        name: UNELF,
+        does: "saves the image that the ELF file FILE holds as OUT",
+        arguments: &[ELF_FILE, MADE_FILE],
+    },
+    Form {
+        name: CHECK,
+        does: "compiles FILE and tells whether IMAGE is its image",
+        arguments: &[SOURCE_FILE, IMAGE_FILE],
+    },
+    Form {
         name: HELP,
         does: "tells of the commands, or of COMMAND",
         arguments: &[Argument {
@@ -145,6 +175,34 @@ const IMAGE_FILE: Argument = Argument {
     name: IMAGE,
     value: "IMAGE",
     about: "a file with an image",
+};
+
+const ASSEMBLER_FILE: Argument = Argument {
+    kind: Operand,
+    name: FILE,
+    value: "FILE",
+    about: "a file with assembler text",
+};
+
+const ELF_FILE: Argument = Argument {
+    kind: Operand,
+    name: FILE,
+    value: "FILE",
+    about: "an ELF file",
+};
+
+const MADE_IMAGE: Argument = Argument {
+    kind: Operand,
+    name: IMAGE,
+    value: "IMAGE",
+    about: "the file that is made",
+};
+
+const MADE_FILE: Argument = Argument {
+    kind: Operand,
+    name: OUT,
+    value: "OUT",
+    about: "the file that is made",
 };
 
 const RUN_STEPS: Argument = Argument {
@@ -200,6 +258,24 @@ pub const EVAL: &str = "eval";
 /// Makes a program, and runs it or shows it.
 pub const GEN: &str = "gen";
 
+/// Saves an image in version 2.
+pub const UPGRADE: &str = "upgrade";
+
+/// Assembles a file and saves its image.
+pub const ASM: &str = "asm";
+
+/// Shows the code of an image as assembler text.
+pub const DISASM: &str = "disasm";
+
+/// Saves an image as an ELF file.
+pub const ELF: &str = "elf";
+
+/// Saves the image that an ELF file holds.
+pub const UNELF: &str = "unelf";
+
+/// Compares an image with that of a file.
+pub const CHECK: &str = "check";
+
 /// Tells of the commands.
 pub const HELP: &str = "help";
 
@@ -209,11 +285,14 @@ pub const VERSIONS: &str = "version";
 /// The name of a command that is told of.
 pub const COMMAND: &str = "command";
 
-/// The name of a file with C.
+/// The name of a file with a text or in another format: with C, assembler text or ELF.
 pub const FILE: &str = "file";
 
 /// The name of a file with an image.
 pub const IMAGE: &str = "image";
+
+/// The name of a file that is made.
+pub const OUT: &str = "out";
 
 /// Which program is made: a number up to `MOST_NUMBER`.
 pub const NUMBER: &str = "number";

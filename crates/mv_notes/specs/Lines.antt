@@ -12,7 +12,7 @@ use Rattle.mv_eval.specs.Grown.{Grew, GrewLess}
 use Rattle.mv_io.specs.Outside.{Rose}
 use Rattle.mv_front.specs.Refusals.{refusal_text}
 use Rattle.mv_notes.specs.declared.status.Status.{Status}
-use Rattle.mv_notes.specs.declared.status.Status.TheVariants.{Ended, Trapped, Usage, Refused, Memory, InputFault, OutputFault, ShelfFault, Steps, BadImage, MachineFault, Done}
+use Rattle.mv_notes.specs.declared.status.Status.TheVariants.{Ended, Trapped, Usage, Refused, Memory, InputFault, OutputFault, ShelfFault, Steps, BadImage, MachineFault, Done, BadLine, Differs}
 
 -- eight hexadecimal digits
 abbrev pub word_text : ℕ → List ℕ
@@ -41,6 +41,8 @@ status_text Steps = codes "steps"
 status_text (BadImage code offset) = codes "bad image " ++ (decimal code ++ (codes " " ++ decimal offset))
 status_text (MachineFault address cause) = codes "machine fault 0x" ++ (word_text address ++ (codes " " ++ cause_name cause))
 status_text Done = codes "done"
+status_text (BadLine code line) = codes "refused " ++ (decimal code ++ (codes " " ++ (decimal line ++ codes ":1")))
+status_text (Differs offset) = codes "differs " ++ decimal offset
 
 abbrev pub last_line : Status → List ℕ
 last_line status = status_text status ++ 10 ∷ []
@@ -59,6 +61,8 @@ is_silent Steps = false
 is_silent (BadImage code offset) = false
 is_silent (MachineFault address cause) = false
 is_silent Done = false
+is_silent (BadLine code line) = false
+is_silent (Differs offset) = false
 
 -- The lines that a run is asked for, of its image and of the machine as it stopped: what each attributed function is bound to, and the words of text that
 -- are other than the image's.
@@ -91,6 +95,8 @@ number_of Steps = 8
 number_of (BadImage code offset) = 9
 number_of (MachineFault address cause) = 10
 number_of Done = 0
+number_of (BadLine code line) = 3
+number_of (Differs offset) = 11
 
 -- the device that a status names: the input, the output, or the shelf
 abbrev pub names_input : Status → Bool

@@ -34,6 +34,11 @@ pub enum Status {
     MachineFault(u32, Cause),
     /// A command that runs no program was carried out.
     Done,
+    /// The assembler text is refused: 17 where this line is none of assembler text, 18 where a number in it is outside its range, 19 where a label in it can't
+    /// be used.
+    BadLine(u8, u32),
+    /// The image isn't that of the source: this is the first offset at which the files of the two differ.
+    Differs(u64),
 }
 
 // The word for a cause in the last line.
@@ -69,6 +74,8 @@ impl Status {
             Status::BadImage(_, _) => 9,
             Status::MachineFault(_, _) => 10,
             Status::Done => 0,
+            Status::BadLine(_, _) => 3,
+            Status::Differs(_) => 11,
         }
     }
 
@@ -101,6 +108,8 @@ impl fmt::Display for Status {
                 cause_name(*cause)
             ),
             Status::Done => write!(f, "done"),
+            Status::BadLine(code, line) => write!(f, "refused {code} {line}:1"),
+            Status::Differs(offset) => write!(f, "differs {offset}"),
         }
     }
 }

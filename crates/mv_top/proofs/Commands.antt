@@ -2,14 +2,17 @@
 use Rattle.std.proofs.Common.{ℕ, ◌≡◌, Bool, List, [], refl, subst, Option, Some, ◌∙◌}
 use Rattle.std.specs.Prelude.{MatchOption}
 use Rattle.mv_bindings.specs.declared.binding.Event.{Event}
-use Rattle.mv_command.specs.Commands.{asked, Builds, Evaluates, Generates, Lists, Prints, IsCommand, IsNoCommand}
+use Rattle.mv_command.specs.Commands.{asked, Builds, Checks, Converts, Disassembles, Evaluates, Generates, Lists, Prints, IsCommand, IsNoCommand}
 use Rattle.mv_command.specs.declared.command.Command.{Command}
+use Rattle.mv_command.specs.declared.conversion.Conversion.{Conversion}
 use Rattle.mv_notes.specs.declared.status.Status.{Status}
 use Rattle.mv_notes.specs.declared.status.Status.TheVariants.{Usage, Memory, Done}
 use Rattle.mv_top.specs.Building.{BuildsFile}
+use Rattle.mv_top.specs.Checking.{ChecksFile}
+use Rattle.mv_top.specs.Converting.{ConvertsFile}
 use Rattle.mv_top.specs.Evaluating.{EvaluatesFile}
 use Rattle.mv_top.specs.Generating.{GenDoes}
-use Rattle.mv_top.specs.Listing.{ListsFile}
+use Rattle.mv_top.specs.Listing.{DisassemblesFile, ListsFile}
 use Rattle.mv_top.specs.Outcomes.{Comes, done, unread, usage}
 use Rattle.mv_top.specs.Outside.{Outside, KeepsFiles, Writes}
 use Rattle.mv_top.specs.Uses.{Uses}
@@ -36,6 +39,18 @@ module _ (before after : Outside) (Heard : List Event → Type 0) (words : List 
 
   pub listed : (file : List ℕ) → IsCommand words (Lists file) → ListsFile before after file due → KeepsFiles before after → Uses before after (Lists file) due → Came lines status
   listed file command lists keeps uses = alone Came lines status due none same (done (Lists file) [] due command ((lists, keeps, (refl, unheard)), uses))
+
+  pub converted : (conversion : Conversion) (from to : List ℕ) → IsCommand words (Converts conversion from to) → ConvertsFile before after conversion from to due →
+      Uses before after (Converts conversion from to) due → Came lines status
+  converted conversion from to command converts uses = alone Came lines status due none same (done (Converts conversion from to) [] due command ((converts, (refl, unheard)), uses))
+
+  pub disassembled : (file : List ℕ) → IsCommand words (Disassembles file) → DisassemblesFile before after file due → KeepsFiles before after → Uses before after (Disassembles file) due →
+      Came lines status
+  disassembled file command shows keeps uses = alone Came lines status due none same (done (Disassembles file) [] due command ((shows, keeps, (refl, unheard)), uses))
+
+  pub checked : (file image : List ℕ) → IsCommand words (Checks file image) → ChecksFile before after file image due → KeepsFiles before after → Uses before after (Checks file image) due →
+      Came lines status
+  checked file image command checks keeps uses = alone Came lines status due none same (done (Checks file image) [] due command ((checks, keeps, (refl, unheard)), uses))
 
   pub evaluated : (file : List ℕ) (bound : ℕ) → IsCommand words (Evaluates file bound) → EvaluatesFile before after file bound due → KeepsFiles before after → Uses before after (Evaluates file bound) due → Came lines status
   evaluated file bound command evaluates keeps uses = alone Came lines status due none same (done (Evaluates file bound) [] due command ((evaluates, keeps, (refl, unheard)), uses))

@@ -13,8 +13,8 @@ use Rattle.mv_machine.specs.declared.machine.Stopped.TheVariants as stop
 use Rattle.mv_refine.specs.Environment.{Environment}
 use Rattle.mv_notes.specs.Lines.{names_output, names_shelf}
 use Rattle.mv_notes.specs.declared.status.Status.{Status}
-use Rattle.mv_notes.specs.declared.status.Status.TheVariants.{Ended, Trapped, Usage, Refused, Memory, InputFault, OutputFault, ShelfFault, Steps, BadImage, MachineFault, Done}
-use Rattle.mv_top.specs.Building.{status_of_shelf}
+use Rattle.mv_notes.specs.declared.status.Status.TheVariants.{Ended, Trapped, Usage, Refused, Memory, InputFault, OutputFault, ShelfFault, Steps, BadImage, MachineFault, Done, BadLine, Differs}
+use Rattle.mv_top.specs.Saving.{status_of_shelf}
 use Rattle.mv_top.specs.Counts.{Counts}
 use Rattle.mv_top.specs.Generating.{is_cut_short, is_summed_up}
 use Rattle.mv_top.specs.Outside.{Outside}
@@ -74,6 +74,8 @@ cut_by Steps before now h = h
 cut_by (BadImage code offset) before now h = h
 cut_by (MachineFault address cause) before now h = h
 cut_by Done before now h = h
+cut_by (BadLine code line) before now h = h
+cut_by (Differs offset) before now h = h
 
 -- a run that is summed up was not cut short, and so no count has risen
 pub summed_stands : (ran : Status) (summed : Bool) (before now : ℕ) → summed ≡ is_summed_up ran → summed ≡ true → CountAfter (is_cut_short ran) before now → now ≡ before
@@ -89,3 +91,5 @@ summed_stands Steps summed before now said whole h = h
 summed_stands (BadImage code offset) summed before now said whole h = h
 summed_stands (MachineFault address cause) summed before now said whole h = h
 summed_stands Done summed before now said whole h = h
+summed_stands (BadLine code line) summed before now said whole h = h
+summed_stands (Differs offset) summed before now said whole h = h

@@ -1,5 +1,5 @@
 -- Which status comes of a command, from what each status says.
-use Rattle.std.proofs.Common.{ℕ, ◌≡◌, ◌⊎◌, inl, inr, true, false, List, refl, sym, ap, ◌∙◌, subst, Option, Some, None}
+use Rattle.std.proofs.Common.{ℕ, ◌≡◌, ◌⊎◌, inl, inr, true, false, List, refl, subst, Option}
 use Rattle.mv_ast.specs.declared.program.Program.{Program}
 use Rattle.mv_bindings.specs.declared.binding.Event.{Event}
 use Rattle.mv_io.specs.Shelves.{Files, Lacks}
@@ -8,53 +8,23 @@ use Rattle.mv_front.specs.Verdicts.{IsRefused}
 use Rattle.mv_front.specs.declared.refusal.Refusal.{Refusal}
 use Rattle.mv_exec.specs.Loading.{IsBadImage}
 use Rattle.mv_refine.specs.Environment.{Writing}
-use Rattle.mv_command.specs.Commands.{Asked, Runs, Builds, Executes, Lists, Evaluates, Generates, Prints, IsCommand, IsNoCommand}
+use Rattle.mv_command.specs.Commands.{Asked, Runs, Builds, Executes, Lists, Evaluates, Generates, Converts, Disassembles, Checks, Prints, IsCommand, IsNoCommand}
 use Rattle.mv_command.proofs.Same.{same_asked}
 use Rattle.mv_notes.specs.Lines.{Noted, written, unmade, cut}
 use Rattle.mv_notes.specs.declared.status.Status.{Status}
 use Rattle.mv_notes.specs.declared.status.Status.TheVariants.{Usage, Refused, Memory, ShelfFault, BadImage}
-use Rattle.mv_top.specs.Decisions as decisions
-use Rattle.mv_top.specs.Decisions.{Decides, Is, IsLoaded, IsSummedUp, IsTooLarge, IsWithinLimits, Quiet, Stands, reads_source}
+use Rattle.mv_top.specs.Decisions.{Decides, Is, IsCompared, IsLoaded, IsSummedUp, IsTooLarge, IsWithinLimits, Quiet, Stands, reads_image, reads_source}
 use Rattle.mv_top.specs.Outcomes as outcomes
 use Rattle.mv_top.specs.Outcomes.{Comes, Does, IsCarriedOut, IsDue}
-use Rattle.mv_top.specs.Outside as outsides
-use Rattle.mv_top.specs.Outside.{Outside, Holds, OfFile, ShelfFailed, Tells}
+use Rattle.mv_top.specs.Outside.{Outside, Tells}
 use Rattle.mv_top.proofs.RunsDecided.{run_ended, run_refused, run_stands, run_wrong_item}
-use Rattle.mv_top.proofs.OthersDecided.{build_done, build_refused, eval_ended, eval_refused, exec_bad, exec_stands, exec_wrong_item, gen_ended, gen_summed, list_bad, list_done, show_done, written_whole}
+use Rattle.mv_list.specs.Listing.{listing_text}
+use Rattle.mv_convert.specs.Conversions.{assembler_text}
+use Rattle.mv_top.proofs.FilesDecided.{build_done, build_refused, check_compared, check_lacks, check_refused, convert_bad, convert_done, convert_fails, show_bad, show_done, written_whole}
+use Rattle.mv_top.proofs.OthersDecided.{eval_ended, eval_refused, exec_bad, exec_stands, exec_wrong_item, gen_ended, gen_summed, source_done}
+use Rattle.mv_top.proofs.ToldFiles.{given, lacking}
 
--- ---- one file
-
-some_injective : (a b : List ℕ) → Some a ≡ Some b → a ≡ b
-some_injective a b e = cc
-
-same_bytes : (files : Option Files) (file other bytes bytes' : List ℕ) → other ≡ file → Holds files file bytes → Tells files other bytes' → bytes ≡ bytes'
-same_bytes None file other bytes bytes' e h t = absurd t
-same_bytes (Some files) file other bytes bytes' e h t = some_injective bytes bytes' (sym h ∙ sym (ap files e) ∙ t)
-
-no_bytes : (files : Option Files) (file other bytes : List ℕ) → other ≡ file → Holds files file bytes → Lacks files other → ⊥
-no_bytes None file other bytes e h l = l
-no_bytes (Some files) file other bytes e h l = let f : Some bytes ≡ None = sym h ∙ sym (ap files e) ∙ l in cc
-
-told_lacks : (files : Option Files) (file other bytes : List ℕ) → other ≡ file → Lacks files file → Tells files other bytes → ⊥
-told_lacks None file other bytes e l t = l
-told_lacks (Some files) file other bytes e l t = let f : None ≡ Some bytes = sym l ∙ sym (ap files e) ∙ t in cc
-
-module _ (before after : Outside) (no_fault : ShelfFailed before after → ⊥) (Doing : Type 0) (file : List ℕ) (DoesWith : (bytes : List ℕ) → Status → Type 0) where
-  lacking : {status : Status} → OfFile before after Doing file DoesWith status → (other : List ℕ) → other ≡ file → Lacks before.shelf.files other → Is status ShelfFault
-  lacking (outsides.no_file why idle) other e lacks = inl refl
-  lacking (outsides.unloaded idle) other e lacks = inr refl
-  lacking (outsides.loaded bytes status holds does) other e lacks = absurd (no_bytes before.shelf.files file other bytes e holds lacks)
-
-  no_shelf_fault : (other bytes : List ℕ) → other ≡ file → ShelfFailed before after ⊎ Lacks before.shelf.files file → Tells before.shelf.files other bytes → ⊥
-  no_shelf_fault other bytes e (inl rose) tells = no_fault rose
-  no_shelf_fault other bytes e (inr lacks) tells = told_lacks before.shelf.files file other bytes e lacks tells
-
-  -- what comes of the bytes that the shelf tells, or there was no memory to load them
-  given : {status : Status} → OfFile before after Doing file DoesWith status → (other bytes : List ℕ) → other ≡ file → Tells before.shelf.files other bytes → DoesWith bytes status ⊎ (status ≡ Memory)
-  given (outsides.no_file why idle) other bytes e tells = absurd (no_shelf_fault other bytes e why tells)
-  given (outsides.unloaded idle) other bytes e tells = inr refl
-  given (outsides.loaded bytes' status holds does) other bytes e tells =
-      inl (subst (λ z. DoesWith z status) (same_bytes before.shelf.files file other bytes' bytes e holds tells) does)
+-- ---- one cause
 
 -- a fact of what comes of the bytes, or want of memory
 or_memory : {Came : Type 0} {status due : Status} → (Came → Is status due) → Came ⊎ (status ≡ Memory) → Is status due
@@ -68,6 +38,11 @@ or_limits so (inr none) = inl (inr none)
 or_large : {Came : Type 0} {status : Status} {p : Program} → (Came → Stands status ⊎ IsTooLarge p status) → Came ⊎ (status ≡ Memory) → Stands status ⊎ IsTooLarge p status
 or_large so (inl came) = so came
 or_large so (inr none) = inl (inr none)
+
+or_compared : {Came : Type 0} {status : Status} {text bytes : List ℕ} {p : Program} → (Came → IsCompared status text bytes ⊎ IsTooLarge p status) → Came ⊎ (status ≡ Memory) →
+    IsCompared status text bytes ⊎ IsTooLarge p status
+or_compared so (inl came) = so came
+or_compared so (inr none) = inl (inl none)
 
 or_none : {Came Due : Type 0} {status : Status} → (Came → (status ≡ Memory) ⊎ Due) → Came ⊎ (status ≡ Memory) → (status ≡ Memory) ⊎ Due
 or_none so (inl came) = so came
@@ -94,6 +69,9 @@ module _ (counted : CountedPassNone) (before after : Outside) (Heard : List Even
   absent (Lists f) lines status does file e lacks = lacking before after quiet.shelf _ f _ does.0 file e lacks
   absent (Evaluates f bound) lines status does file e lacks = lacking before after quiet.shelf _ f _ does.0 file e lacks
   absent (Generates number source) lines status does file e lacks = absurd e
+  absent (Converts conversion from to) lines status does file e lacks = lacking before after quiet.shelf _ from _ does.0 file e lacks
+  absent (Disassembles f) lines status does file e lacks = lacking before after quiet.shelf _ f _ does.0 file e lacks
+  absent (Checks f image) lines status does file e lacks = lacking before after quiet.shelf _ f _ does.0 file e lacks
   absent (Prints text) lines status does file e lacks = absurd e
 
   module _ (file bytes : List ℕ) (tells : Tells before.shelf.files file bytes) where
@@ -108,9 +86,13 @@ module _ (counted : CountedPassNone) (before after : Outside) (Heard : List Even
     refused (Evaluates f bound) lines status does e reads r why =
         or_memory (λ came. eval_refused before.environment after.environment quiet.input quiet.output bytes bound came.0 r why) (given before after quiet.shelf _ f _ does.0 file bytes e tells)
     refused (Generates number source) lines status does e reads r why = cc
+    refused (Converts conversion from to) lines status does e reads r why = cc
+    refused (Disassembles f) lines status does e reads r why = cc
+    refused (Checks f image) lines status does e reads r why =
+        or_memory (λ came. check_refused before after quiet.shelf image bytes came.0 r why) (given before after quiet.shelf _ f _ does.0 file bytes e tells)
     refused (Prints text) lines status does e reads r why = absurd e
 
-    bad : (asked : Asked) (lines : List ℕ) (status : Status) → Did asked lines status → IsLoaded asked file → reads_source asked ≡ false → (code offset : ℕ) →
+    bad : (asked : Asked) (lines : List ℕ) (status : Status) → Did asked lines status → IsLoaded asked file → reads_image asked ≡ true → (code offset : ℕ) →
         IsBadImage bytes code offset → Is status (BadImage code offset)
     bad (Runs f options) lines status does e image_file code offset why = cc
     bad (Builds f image) lines status does e image_file code offset why = cc
@@ -118,9 +100,14 @@ module _ (counted : CountedPassNone) (before after : Outside) (Heard : List Even
         or_memory (λ came. exec_bad before.environment after.environment quiet.input quiet.output bytes Heard options came code offset why)
         (given before after quiet.shelf _ f _ does.0 file bytes e tells)
     bad (Lists f) lines status does e image_file code offset why =
-        or_memory (λ came. list_bad before.environment after.environment quiet.output bytes came.0 code offset why) (given before after quiet.shelf _ f _ does.0 file bytes e tells)
+        or_memory (λ came. show_bad listing_text before.environment after.environment quiet.output bytes came.0 code offset why) (given before after quiet.shelf _ f _ does.0 file bytes e tells)
     bad (Evaluates f bound) lines status does e image_file code offset why = cc
     bad (Generates number source) lines status does e image_file code offset why = absurd e
+    bad (Converts conversion from to) lines status does e image_file code offset why =
+        or_memory (λ came. convert_bad before after quiet.shelf to bytes conversion image_file came.0 code offset why) (given before after quiet.shelf _ from _ does.0 file bytes e tells)
+    bad (Disassembles f) lines status does e image_file code offset why =
+        or_memory (λ came. show_bad assembler_text before.environment after.environment quiet.output bytes came.0 code offset why) (given before after quiet.shelf _ f _ does.0 file bytes e tells)
+    bad (Checks f image) lines status does e image_file code offset why = cc
     bad (Prints text) lines status does e image_file code offset why = absurd e
 
   module _ (words : List (List ℕ)) where
@@ -167,15 +154,30 @@ module _ (counted : CountedPassNone) (before after : Outside) (Heard : List Even
             or_stands (λ does. or_stands (λ ran. exec_stands before.environment after.environment quiet.input quiet.output bytes Heard options image spells ran actions are)
             (given before after quiet.shelf _ file _ does.0 l.file bytes l.loaded l.tells)) (did came (Executes file options) l.command);
         listed = λ file bytes image l spells.
-            or_memory (λ does. or_memory (λ made. list_done before.environment after.environment quiet.output bytes made.0 image spells)
+            or_memory (λ does. or_memory (λ made. show_done listing_text before.environment after.environment quiet.output bytes made.0 image spells)
             (given before after quiet.shelf _ file _ does.0 l.file bytes l.loaded l.tells)) (did came (Lists file) l.command);
         evaluated = λ file text bound p l good.
             or_none (λ does. or_none (λ made. eval_ended before.environment after.environment quiet.input quiet.output text bound made.0 p good)
             (given before after quiet.shelf _ file _ does.0 l.file text l.loaded l.tells)) (did came (Evaluates file bound) l.command);
-        shown = λ number c. or_memory (λ does. show_done before.environment after.environment quiet.output Heard number does.0.0) (did came (Generates number true) c);
+        shown = λ number c. or_memory (λ does. source_done before.environment after.environment quiet.output Heard number does.0.0) (did came (Generates number true) c);
         generated_ended = λ number bound p e c good ends.
             or_memory (λ does. gen_ended before.environment after.environment quiet.output Heard number counted p good does.0 bound e ends) (did came (Generates number false) c);
         generated_runs = λ number c. or_summed (λ does. gen_summed before.environment after.environment quiet.output Heard number does.0) (did came (Generates number false) c);
+        converted = λ conversion from to bytes made l is.
+            or_memory (λ does. or_memory (λ came. convert_done before after quiet.shelf to bytes conversion came.0 made is)
+            (given before after quiet.shelf _ from _ does.0 l.file bytes l.loaded l.tells)) (did came (Converts conversion from to) l.command);
+        unconverted = λ conversion from to bytes error l why some.
+            or_memory (λ does. or_memory (λ came. convert_fails before after quiet.shelf to bytes conversion came.0 error why some)
+            (given before after quiet.shelf _ from _ does.0 l.file bytes l.loaded l.tells)) (did came (Converts conversion from to) l.command);
+        disassembled = λ file bytes image l spells.
+            or_memory (λ does. or_memory (λ made. show_done assembler_text before.environment after.environment quiet.output bytes made.0 image spells)
+            (given before after quiet.shelf _ file _ does.0 l.file bytes l.loaded l.tells)) (did came (Disassembles file) l.command);
+        nothing_compared = λ file image text p l good lacks.
+            or_limits (λ does. or_limits (λ came. check_lacks before after quiet.shelf image text counted came.0 p good lacks)
+            (given before after quiet.shelf _ file _ does.0 l.file text l.loaded l.tells)) (did came (Checks file image) l.command);
+        compared = λ file image text bytes p l good tells.
+            or_compared (λ does. or_compared (λ came. check_compared before after quiet.shelf image text counted came.0 p good bytes tells)
+            (given before after quiet.shelf _ file _ does.0 l.file text l.loaded l.tells)) (did came (Checks file image) l.command);
         printed = λ text c. or_memory (λ does. inl (written_whole before.environment after.environment text _ quiet.output does.0)) (did came (Prints text) c);
       }
 
@@ -196,6 +198,11 @@ module _ (counted : CountedPassNone) (before after : Outside) (Heard : List Even
       shown = λ number c. inr refl;
       generated_ended = λ number bound p e c good ends. inr refl;
       generated_runs = λ number c. inr refl;
+      converted = λ conversion from to bytes made l is. inr refl;
+      unconverted = λ conversion from to bytes error l why some. inr refl;
+      disassembled = λ file bytes image l spells. inr refl;
+      nothing_compared = λ file image text p l good lacks. inl (inr refl);
+      compared = λ file image text bytes p l good tells. inl (inl refl);
       printed = λ text c. inr refl;
     }
 

@@ -1,4 +1,4 @@
--- From the answers of the layers to what comes of bytes that are run or listed as an image.
+-- From the answers of the layers to what comes of bytes that are run or shown as an image.
 use Rattle.std.proofs.Common.{ℕ, ◌≡◌, List, [], sym, subst}
 use Rattle.mv_bindings.specs.declared.action.Action.{Action}
 use Rattle.mv_bindings.specs.declared.binding.Event.{Event}
@@ -8,7 +8,6 @@ use Rattle.mv_exec.specs.declared.error.LoadError.TheVariants as load
 use Rattle.mv_exec.specs.declared.loaded.Loaded.{Loaded}
 use Rattle.mv_image.specs.Faults.{Spells}
 use Rattle.mv_image.specs.Spelling.{Fields}
-use Rattle.mv_list.specs.Listing.{listing_text}
 use Rattle.mv_machine.specs.Acts.{polls_of}
 use Rattle.mv_operator.specs.Operator.{IsImageActions}
 use Rattle.mv_refine.specs.declared.execution.Execution.{Execution}
@@ -21,7 +20,7 @@ use Rattle.mv_notes.specs.declared.status.Status.TheVariants.{Memory, Done}
 use Rattle.mv_top.specs.Executing as executing
 use Rattle.mv_top.specs.Executing.{ExecDoes, status_of_load}
 use Rattle.mv_top.specs.Listing as listing
-use Rattle.mv_top.specs.Listing.{ListDoes}
+use Rattle.mv_top.specs.Listing.{ShowDoes}
 use Rattle.mv_top.specs.Outside.{Writes}
 use Rattle.mv_top.specs.Running.{Unused, status_of_stop}
 use Rattle.mv_top.proofs.Performing.{alone}
@@ -49,16 +48,16 @@ module _ (before after : Environment) (Heard : List Event → Type 0) (options :
   ran loaded actions e same is runs =
       executing.ran loaded.image actions e is.image (subst (λ a. IsImageActions loaded.image options.items a) (sym same) is.actions) runs
 
--- ---- a listing
+-- ---- a text of an image
 
-module _ (before after : Environment) (bytes : List ℕ) where
-  not_listed_by : (e : LoadError) → IsNotRead bytes e → after ≡ before → ListDoes before after bytes (status_of_load e)
+module _ (text_of : Fields → List ℕ) (before after : Environment) (bytes : List ℕ) where
+  not_listed_by : (e : LoadError) → IsNotRead bytes e → after ≡ before → ShowDoes text_of before after bytes (status_of_load e)
   not_listed_by (load.BadImage code offset) is untouched = listing.no_image code offset is untouched
   not_listed_by (load.Refused item) is untouched = absurd is
   not_listed_by (load.Memory m) is untouched = listing.unlisted untouched
 
-  pub not_listed : (status : Status) (e : LoadError) → status ≡ status_of_load e → IsNotRead bytes e → after ≡ before → ListDoes before after bytes status
-  not_listed status e same is untouched = subst (λ (s : Status). ListDoes before after bytes s) (sym same) (not_listed_by e is untouched)
+  pub not_listed : (status : Status) (e : LoadError) → status ≡ status_of_load e → IsNotRead bytes e → after ≡ before → ShowDoes text_of before after bytes status
+  not_listed status e same is untouched = subst (λ (s : Status). ShowDoes text_of before after bytes s) (sym same) (not_listed_by e is untouched)
 
-  pub listed_so : (image : Fields) (text : List ℕ) (status : Status) → text ≡ listing_text image → Spells bytes image → Writes before after text Done status → ListDoes before after bytes status
+  pub listed_so : (image : Fields) (text : List ℕ) (status : Status) → text ≡ text_of image → Spells bytes image → Writes before after text Done status → ShowDoes text_of before after bytes status
   listed_so image text status same spells writes = listing.listed image status spells (subst (λ t. Writes before after t Done status) same writes)

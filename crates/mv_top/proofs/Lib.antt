@@ -1,11 +1,15 @@
 pub mod Performing
 pub mod Loading
 pub mod WordLines
+pub mod Saves
+pub mod Checks
 pub mod Texts
 pub mod Images
 pub mod Generating
+pub mod ToldFiles
 pub mod RunsDecided
 pub mod OthersDecided
+pub mod FilesDecided
 pub mod Decisions
 pub mod ByWords
 pub mod Few

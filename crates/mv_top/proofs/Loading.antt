@@ -6,7 +6,7 @@ use Rattle.mv_io.specs.Shelves.{Files, Lacks, Loads}
 use Rattle.mv_io.specs.declared.outside.ShelfError.{ShelfError}
 use Rattle.mv_io.specs.declared.outside.ShelfError.TheVariants as shelf
 use Rattle.mv_notes.specs.declared.status.Status.{Status}
-use Rattle.mv_top.specs.Building.{status_of_shelf}
+use Rattle.mv_top.specs.Saving.{status_of_shelf}
 use Rattle.mv_top.specs.Outside.{Outside, Holds, OfFile, ShelfFailed, no_file, unloaded, loaded}
 
 pub holds_loaded : (told : Option Files) (name : List ℕ) (bytes : Vec ℕ Global) → Loads told name (Ok bytes) → Holds told name bytes.items

@@ -1,13 +1,11 @@
--- Which status comes of what is evaluated, built, run as an image, listed or generated.
+-- Which status comes of what is evaluated, run as an image or generated.
 use Rattle.std.proofs.Common.{ℕ, ◌≡◌, ◌≤◌, ◌<◌, ◌^◌, ◌⊎◌, inl, inr, List, [], ◌++◌, refl, sym, ap, ◌∙◌, subst, Some, arith}
-use Rattle.std.specs.Prelude.{Result, Ok, Err, IsTrue, ⊤}
+use Rattle.std.specs.Prelude.{Result, Ok, Err, IsTrue}
 use Rattle.std.proofs.lemmas.List.Elements.{All-nil}
 use Rattle.mv_ast.specs.declared.program.Program.{Program}
 use Rattle.mv_bindings.specs.declared.action.Action.{Action}
 use Rattle.mv_bindings.specs.declared.binding.Event.{Event}
 use Rattle.mv_io.specs.Outside.{OnInput}
-use Rattle.mv_io.specs.declared.outside.ShelfError.{ShelfError}
-use Rattle.mv_io.specs.declared.outside.ShelfError.TheVariants as shelf
 use Rattle.mv_image.specs.Faults.{Spells}
 use Rattle.mv_image.specs.Spelling.{Fields}
 use Rattle.mv_image.proofs.OneVerdict.{one_image}
@@ -29,8 +27,6 @@ use Rattle.mv_operator.specs.Operator.{IsImageActions, IsImageFirstWrong}
 use Rattle.mv_operator.proofs.Acting as operator
 use Rattle.mv_notes.specs.declared.status.Status.{Status}
 use Rattle.mv_notes.specs.declared.status.Status.TheVariants.{Refused, Memory, BadImage, Done}
-use Rattle.mv_top.specs.Building as building
-use Rattle.mv_top.specs.Building.{BuildDoes}
 use Rattle.mv_gen_accepted.specs.Counted.{CountedPassNone}
 use Rattle.mv_machine.specs.declared.machine.Stopped.{Stopped}
 use Rattle.mv_machine.specs.declared.machine.Stopped.TheVariants as stop
@@ -43,20 +39,11 @@ use Rattle.mv_top.specs.Executing as executing
 use Rattle.mv_top.specs.Executing.{ExecDoes}
 use Rattle.mv_top.specs.Generating as generating
 use Rattle.mv_top.specs.Generating.{is_cut_short, no_input, plain, RunsText, ShowsText, Sums}
-use Rattle.mv_top.specs.Listing as listing
-use Rattle.mv_top.specs.Listing.{ListDoes}
-use Rattle.mv_top.specs.Outside as outsides
-use Rattle.mv_top.specs.Outside.{Outside, ShelfFailed, Writes}
 use Rattle.mv_top.specs.Running as running
 use Rattle.mv_top.specs.Running.{no_action, RunDoes, status_of_stop}
-use Rattle.mv_top.proofs.RunsDecided.{one_cause, only_limits, run_ended, stands, too_large}
+use Rattle.mv_top.proofs.FilesDecided.{written_whole}
+use Rattle.mv_top.proofs.RunsDecided.{run_ended, stands}
 use Rattle.mv_io.proofs.Common.{of_told, rose_later, some_later}
-
--- ---- a text that is written
-
-pub written_whole : (before after : Environment) (text : List ℕ) (due : Status) → (WriteFailed before after → ⊥) → {status : Status} → Writes before after text due status → status ≡ due
-written_whole before after text due no_fault (outsides.whole wrote) = refl
-written_whole before after text due no_fault (outsides.part less rose) = absurd (no_fault rose)
 
 -- ---- an evaluation
 
@@ -83,24 +70,6 @@ module _ (before after : Environment) (no_input_fault : ReadFailed before after 
   eval_ended (evaluating.no_program r there untouched) p is = absurd (not_both text p r is there)
   eval_ended (evaluating.evaluated q result good evaluates) p is =
       subst (λ z. (status_of_evaluation result ≡ Memory) ⊎ IsEnd z (status_of_evaluation result)) (one_program text q p good is) (evaluation_is q result evaluates)
-
--- ---- a build
-
-module _ (before after : Outside) (no_shelf_fault : ShelfFailed before after → ⊥) (image text : List ℕ) where
-  pub build_refused : {status : Status} → BuildDoes before after image text status → (r : Refusal) → IsRefused text r → Is status (Refused r)
-  build_refused (building.unbuilt keeps) r is = inr refl
-  build_refused (building.not_built s why keeps) r is = inl (ap Refused (one_cause text s r why is))
-  build_refused (building.built of bytes result good spells saves failed) r is = absurd (not_both text of.program r good.program is)
-
-  save_is : (result : Result ⊤ ShelfError) → (result ≡ Err shelf.Failed → ShelfFailed before after) → Is (building.status_of_save result) Done
-  save_is (Ok done) failed = inl refl
-  save_is (Err shelf.Failed) failed = absurd (no_shelf_fault (failed refl))
-  save_is (Err (shelf.Memory e)) failed = inr refl
-
-  pub build_done : CountedPassNone → {status : Status} → BuildDoes before after image text status → (p : Program) → IsProgram text p → IsWithinLimits status Done p
-  build_done counted (building.unbuilt keeps) p is = inl (inr refl)
-  build_done counted (building.not_built s why keeps) p is = inr (too_large counted text p is s (only_limits text p is s why))
-  build_done counted (building.built of bytes result good spells saves failed) p is = inl (save_is result failed)
 
 -- ---- a run of an image
 
@@ -135,26 +104,12 @@ module _ (before after : Environment) (no_input_fault : ReadFailed before after 
         let later = some_later after.input.left in
         stands before after Heard no_input_fault no_output_fault other (polls_of acts) e.machine picks taken later.0 options.steps e.stopped (each later.0 later.1)
 
--- ---- a listing
-
-module _ (before after : Environment) (no_output_fault : WriteFailed before after → ⊥) (bytes : List ℕ) where
-  pub list_bad : {status : Status} → ListDoes before after bytes status → (code offset : ℕ) → IsBadImage bytes code offset → Is status (BadImage code offset)
-  list_bad (listing.unlisted untouched) code offset bad = inr refl
-  list_bad (listing.no_image c o there untouched) code offset bad =
-      let same = one_bad bytes c o code offset there bad in inl (λ i. BadImage (same.0 i) (same.1 i))
-  list_bad (listing.listed image status spells writes) code offset bad = absurd (spells_not_bad bytes image code offset spells bad)
-
-  pub list_done : {status : Status} → ListDoes before after bytes status → (image : Fields) → Spells bytes image → Is status Done
-  list_done (listing.unlisted untouched) image spells = inr refl
-  list_done (listing.no_image c o there untouched) image spells = absurd (spells_not_bad bytes image c o spells there)
-  list_done (listing.listed other status there writes) image spells = inl (written_whole before after _ Done no_output_fault writes)
-
 -- ---- a generated program
 
 module _ (before after : Environment) (no_output_fault : WriteFailed before after → ⊥) (Heard : List Event → Type 0) (number : ℕ) where
-  pub show_done : {status : Status} → ShowsText before after Heard number status → Is status Done
-  show_done (generating.unmade unused) = inr refl
-  show_done (generating.shown status unheard writes) = inl (written_whole before after _ Done no_output_fault writes)
+  pub source_done : {status : Status} → ShowsText before after Heard number status → Is status Done
+  source_done (generating.unmade unused) = inr refl
+  source_done (generating.shown status unheard writes) = inl (written_whole before after _ Done no_output_fault writes)
 
   no_reading_fault : (was is : Writing) → ReadFailed (environment no_input was before.way) (environment no_input is after.way) → ⊥
   no_reading_fault was is rose = grind (arith, rose)

@@ -1,12 +1,10 @@
 -- From the answers of the layers to what comes of a text that is run, built or evaluated.
-use Rattle.std.proofs.Common.{ℕ, ◌≡◌, ◌≤◌, List, [], sym, subst, Option}
-use Rattle.std.specs.Prelude.{Result, IsErrOf, ⊤}
+use Rattle.std.proofs.Common.{ℕ, ◌≡◌, List, [], sym, subst}
+use Rattle.std.specs.Prelude.{Result, Ok, Err, MatchResult, Vec}
+use Rattle.std.specs.declared.alloc.Global.{Global}
 use Rattle.mv_ast.specs.declared.program.Program.{Program}
 use Rattle.mv_bindings.specs.declared.action.Action.{Action}
 use Rattle.mv_bindings.specs.declared.binding.Event.{Event}
-use Rattle.mv_io.specs.Shelves.{Files, Saves}
-use Rattle.mv_io.specs.declared.outside.ShelfError.{ShelfError}
-use Rattle.mv_io.specs.declared.outside.ShelfError.TheVariants as shelf
 use Rattle.mv_image.specs.Faults.{Spells}
 use Rattle.mv_front.specs.Verdicts.{IsProgram}
 use Rattle.mv_front.specs.Verdicts as front
@@ -29,16 +27,14 @@ use Rattle.mv_notes.specs.Lines.{asked_lines}
 use Rattle.mv_notes.specs.declared.status.Status.{Status}
 use Rattle.mv_notes.specs.declared.status.Status.TheVariants.{Memory}
 use Rattle.mv_top.specs.Building as building
-use Rattle.mv_top.specs.Building.{BuildDoes, status_of_save}
+use Rattle.mv_top.specs.Building.{IsBuiltAs, IsUnbuilt}
 use Rattle.mv_top.specs.Evaluating as evaluating
 use Rattle.mv_top.specs.Evaluating.{EvalDoes, status_of_error, status_of_evaluation}
-use Rattle.mv_top.specs.Outside.{Outside, KeepsFiles, ShelfFailed, outside, shelved}
 use Rattle.mv_top.specs.Running as running
 use Rattle.mv_top.specs.Running.{IsCause, IsPrepared, RunDoes, Unused, status_of_build, status_of_stop}
 use Rattle.mv_top.specs.declared.run.Prepared.{Prepared}
 use Rattle.mv_top.proofs.Performing.{alone}
 use Rattle.mv_top.proofs.WordLines.{word_lines}
-use Rattle.mv_io.proofs.Common.{rose_later}
 
 -- ---- a run
 
@@ -73,34 +69,17 @@ module _ (before after : Environment) (Heard : List Event → Type 0) (options :
 
 -- ---- a build
 
-module _ (files : Option Files) (asked : Option (List (List ℕ))) (faults : ℕ) (e : Environment) (image text : List ℕ) where
-  later_faults : (after : Option Files) (asked' asked'' : Option (List (List ℕ))) (faults' faults'' : ℕ) (status : Status) → faults ≤ faults' →
-      BuildDoes (outside (shelved files asked' faults') e) (outside (shelved after asked'' faults'') e) image text status →
-      BuildDoes (outside (shelved files asked faults) e) (outside (shelved after asked'' faults'') e) image text status
-  later_faults after asked' asked'' faults' faults'' status later (building.unbuilt keeps) = building.unbuilt keeps
-  later_faults after asked' asked'' faults' faults'' status later (building.not_built r why keeps) = building.not_built r why keeps
-  later_faults after asked' asked'' faults' faults'' status later (building.built of bytes result is spells saves failed) =
-      building.built of bytes result is spells saves (λ f. rose_later faults faults' faults'' later (failed f))
+pub spelled : (text : List ℕ) (of : Built) (result : Result (Vec ℕ Global) Status) → IsBuiltFrom text of →
+    MatchResult result (λ bytes. Spells bytes.items of.image) (λ status. status ≡ Memory) → MatchResult result (λ bytes. IsBuiltAs text bytes.items) (IsUnbuilt text)
+spelled text of (Ok bytes) is h = record { of = of; built = is; spells = h }
+spelled text of (Err status) is h = subst (λ (s : Status). IsUnbuilt text s) (sym h) building.no_memory
 
-  pub behind_load : (files' after : Option Files) (asked' asked'' : Option (List (List ℕ))) (faults' faults'' : ℕ) (status : Status) → files' ≡ files → faults ≤ faults' →
-      BuildDoes (outside (shelved files' asked' faults') e) (outside (shelved after asked'' faults'') e) image text status →
-      BuildDoes (outside (shelved files asked faults) e) (outside (shelved after asked'' faults'') e) image text status
-  behind_load files' after asked' asked'' faults' faults'' status same later does =
-      later_faults after asked' asked'' faults' faults'' status later
-      (subst (λ (f : Option Files). BuildDoes (outside (shelved f asked' faults') e) (outside (shelved after asked'' faults'') e) image text status) same does)
+unbuilt_by : (text : List ℕ) (e : BuildError) → build.IsCause text e → IsUnbuilt text (status_of_build e)
+unbuilt_by text (build_error.Refused r) is = building.refused r is
+unbuilt_by text (build_error.Memory m) is = building.no_memory
 
-module _ (before after : Outside) (image text : List ℕ) where
-  not_built_by : (e : BuildError) → build.IsCause text e → KeepsFiles before after → BuildDoes before after image text (status_of_build e)
-  not_built_by (build_error.Refused r) is keeps = building.not_built r is keeps
-  not_built_by (build_error.Memory m) is keeps = building.unbuilt keeps
-
-  pub not_built : (status : Status) (e : BuildError) → status ≡ status_of_build e → build.IsCause text e → KeepsFiles before after → BuildDoes before after image text status
-  not_built status e same is keeps = subst (λ (s : Status). BuildDoes before after image text s) (sym same) (not_built_by e is keeps)
-
-  pub saved : (status : Status) (of : Built) (bytes : List ℕ) (result : Result ⊤ ShelfError) → status ≡ status_of_save result → IsBuiltFrom text of → Spells bytes of.image →
-      Saves before.shelf.files after.shelf.files image bytes result → (IsErrOf result shelf.Failed → ShelfFailed before after) → BuildDoes before after image text status
-  saved status of bytes result same is spells saves failed =
-      subst (λ (s : Status). BuildDoes before after image text s) (sym same) (building.built of bytes result is spells saves failed)
+pub unbuilt : (text : List ℕ) (status : Status) (e : BuildError) → status ≡ status_of_build e → build.IsCause text e → IsUnbuilt text status
+unbuilt text status e same is = subst (λ (s : Status). IsUnbuilt text s) (sym same) (unbuilt_by text e is)
 
 -- ---- an evaluation
 

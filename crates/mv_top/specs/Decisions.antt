@@ -18,12 +18,20 @@ use Rattle.mv_meaning.specs.Meaning.{mean}
 use Rattle.mv_meaning.specs.declared.meant.End.{End}
 use Rattle.mv_meaning.specs.declared.meant.End.TheVariants.{More}
 use Rattle.mv_eval.specs.Evaluations.{IsInput, meaning}
-use Rattle.mv_command.specs.Commands.{Asked, Runs, Builds, Executes, Lists, Evaluates, Generates, Prints, IsCommand, IsNoCommand}
+use Rattle.mv_command.specs.Commands.{Asked, Runs, Builds, Executes, Lists, Evaluates, Generates, Converts, Disassembles, Checks, Prints, IsCommand, IsNoCommand}
 use Rattle.mv_command.specs.declared.command.RunOptions.{RunOptions}
+use Rattle.mv_command.specs.declared.conversion.Conversion.{Conversion}
+use Rattle.mv_command.specs.declared.conversion.Conversion.TheVariants.{Upgrade, Assemble, ToElf, FromElf}
+use Rattle.mv_convert.specs.Causes.{IsMemory, IsNotConverted}
+use Rattle.mv_convert.specs.Conversions.{IsConverted}
+use Rattle.mv_convert.specs.declared.error.ConvertError.{ConvertError}
 use Rattle.mv_command.specs.Spelled.{default_steps}
 use Rattle.mv_operator.specs.Operator.{IsActions, IsFirstWrong, IsImageActions, IsImageFirstWrong}
 use Rattle.mv_notes.specs.declared.status.Status.{Status}
 use Rattle.mv_notes.specs.declared.status.Status.TheVariants.{Ended, Trapped, Usage, Refused, Memory, ShelfFault, Steps, BadImage, MachineFault, Done}
+use Rattle.mv_top.specs.Building.{IsBuiltAs}
+use Rattle.mv_top.specs.Checking.{CompareDoes}
+use Rattle.mv_top.specs.Converting.{status_of_conversion}
 use Rattle.mv_top.specs.Evaluating.{status_of_end}
 use Rattle.mv_top.specs.Generating.{is_summed_up}
 use Rattle.mv_top.specs.Outside.{Outside, ShelfFailed, Tells}
@@ -46,9 +54,12 @@ IsLoaded (Executes file options) loaded = loaded ≡ file
 IsLoaded (Lists file) loaded = loaded ≡ file
 IsLoaded (Evaluates file bound) loaded = loaded ≡ file
 IsLoaded (Generates number source) loaded = ⊥
+IsLoaded (Converts conversion from to) loaded = loaded ≡ from
+IsLoaded (Disassembles file) loaded = loaded ≡ file
+IsLoaded (Checks file image) loaded = loaded ≡ file
 IsLoaded (Prints text) loaded = ⊥
 
--- it reads what it loads as a source; else it reads it as an image
+-- it reads what it loads as a source
 abbrev pub reads_source : Asked → Bool
 reads_source (Runs file options) = true
 reads_source (Builds file image) = true
@@ -56,7 +67,29 @@ reads_source (Executes file options) = false
 reads_source (Lists file) = false
 reads_source (Evaluates file bound) = true
 reads_source (Generates number source) = false
+reads_source (Converts conversion from to) = false
+reads_source (Disassembles file) = false
+reads_source (Checks file image) = true
 reads_source (Prints text) = false
+
+-- it reads what it loads as an image
+abbrev pub converts_image : Conversion → Bool
+converts_image Upgrade = true
+converts_image Assemble = false
+converts_image ToElf = true
+converts_image FromElf = false
+
+abbrev pub reads_image : Asked → Bool
+reads_image (Runs file options) = false
+reads_image (Builds file image) = false
+reads_image (Executes file options) = true
+reads_image (Lists file) = true
+reads_image (Evaluates file bound) = false
+reads_image (Generates number source) = false
+reads_image (Converts conversion from to) = converts_image conversion
+reads_image (Disassembles file) = true
+reads_image (Checks file image) = false
+reads_image (Prints text) = false
 
 -- ---- answers
 
@@ -74,6 +107,10 @@ pub record IsTooLarge (p : Program) (result : Status) : Type 0 where
 -- this status, or want of memory, or the refusal of a program that is too large
 abbrev pub IsWithinLimits : (result status : Status) → Program → Type 0
 IsWithinLimits result status p = Is result status ⊎ IsTooLarge p result
+
+-- bytes are compared with an image of a text, or memory was wanting
+abbrev pub IsCompared : (result : Status) → (text bytes : List ℕ) → Type 0
+IsCompared result text bytes = (result ≡ Memory) ⊎ ((due : List ℕ) × IsBuiltAs text due × CompareDoes due bytes result)
 
 -- how a run of an image stands: it ended, trapped, faulted, or goes on
 abbrev pub IsStop : Status → Type 0
@@ -113,7 +150,7 @@ module _ (words : List (List ℕ)) (files : Option Files) (left left' : Option (
     pub usage : IsNoCommand words → Is result Usage
     pub absent : (asked : Asked) (file : List ℕ) → IsCommand words asked → IsLoaded asked file → Lacks files file → Is result ShelfFault
     pub refused : (asked : Asked) (text : List ℕ) (r : Refusal) → Loads asked text → reads_source asked ≡ true → IsRefused text r → Is result (Refused r)
-    pub bad_image : (asked : Asked) (bytes : List ℕ) (code offset : ℕ) → Loads asked bytes → reads_source asked ≡ false → IsBadImage bytes code offset →
+    pub bad_image : (asked : Asked) (bytes : List ℕ) (code offset : ℕ) → Loads asked bytes → reads_image asked ≡ true → IsBadImage bytes code offset →
         Is result (BadImage code offset)
     -- a run
     pub wrong_item : (file text : List ℕ) (options : RunOptions) (p : Program) (item : ℕ) → Loads (Runs file options) text → IsProgram text p →
@@ -138,4 +175,13 @@ module _ (words : List (List ℕ)) (files : Option Files) (left left' : Option (
     pub generated_ended : (number bound : ℕ) (p : Program) (e : End) → IsCommand words (Generates number false) → IsProgram (generated number) p →
         Ends p [] [] default_steps bound e → Is result (status_of_end e)
     pub generated_runs : (number : ℕ) → IsCommand words (Generates number false) → IsSummedUp result
+    -- a conversion
+    pub converted : (conversion : Conversion) (from to bytes made : List ℕ) → Loads (Converts conversion from to) bytes → IsConverted conversion bytes made → Is result Done
+    pub unconverted : (conversion : Conversion) (from to bytes : List ℕ) (error : ConvertError) → Loads (Converts conversion from to) bytes → IsNotConverted conversion bytes error →
+        (IsMemory error → ⊥) → Is result (status_of_conversion error)
+    pub disassembled : (file bytes : List ℕ) (image : Fields) → Loads (Disassembles file) bytes → Spells bytes image → Is result Done
+    -- a check, which compares with the file that the other name has
+    pub nothing_compared : (file image text : List ℕ) (p : Program) → Loads (Checks file image) text → IsProgram text p → Lacks files image → IsWithinLimits result ShelfFault p
+    pub compared : (file image text bytes : List ℕ) (p : Program) → Loads (Checks file image) text → IsProgram text p → Tells files image bytes →
+        IsCompared result text bytes ⊎ IsTooLarge p result
     pub printed : (text : List ℕ) → IsCommand words (Prints text) → Is result Done

@@ -2,9 +2,14 @@ pub mod Outside
 pub mod Counts
 pub mod WordLines
 pub mod Running
+pub mod Saving
 pub mod Building
+pub mod Converting
+pub mod Makers
+pub mod Checking
 pub mod Executing
 pub mod Listing
+pub mod Shown
 pub mod Evaluating
 pub mod Generating
 pub mod Uses

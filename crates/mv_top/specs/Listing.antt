@@ -1,5 +1,6 @@
--- What comes of listing an image.
+-- What comes of an image of which a text is written: its listing, or its code as assembler text.
 use Rattle.std.specs.Prelude.{ℕ, ◌≡◌, List}
+use Rattle.mv_convert.specs.Conversions.{assembler_text}
 use Rattle.mv_exec.specs.Loading.{IsBadImage}
 use Rattle.mv_image.specs.Faults.{Spells}
 use Rattle.mv_image.specs.Spelling.{Fields}
@@ -9,18 +10,25 @@ use Rattle.mv_notes.specs.declared.status.Status.TheVariants.{Memory, BadImage, 
 use Rattle.mv_refine.specs.Environment.{Environment}
 use Rattle.mv_top.specs.Outside.{Outside, OfFile, Untouched, Writes}
 
--- What comes of bytes that are to be listed as an image.
-module _ (before after : Environment) where
-  pub data ListDoes (bytes : List ℕ) : Status → Type 0 where
-    -- there was no memory to read them as an image, or for its listing
-    unlisted : after ≡ before → ListDoes bytes Memory
-    no_image : (code offset : ℕ) → IsBadImage bytes code offset → after ≡ before → ListDoes bytes (BadImage code offset)
-    -- its listing was written
-    listed : (image : Fields) (status : Status) → Spells bytes image → Writes before after (listing_text image) Done status → ListDoes bytes status
+-- What comes of bytes that are to be read as an image, and this text of it written.
+module _ (text_of : Fields → List ℕ) where
+  module _ (before after : Environment) where
+    pub data ShowDoes (bytes : List ℕ) : Status → Type 0 where
+      -- there was no memory to read them as an image, or for its text
+      unlisted : after ≡ before → ShowDoes bytes Memory
+      no_image : (code offset : ℕ) → IsBadImage bytes code offset → after ≡ before → ShowDoes bytes (BadImage code offset)
+      -- its text was written
+      listed : (image : Fields) (status : Status) → Spells bytes image → Writes before after (text_of image) Done status → ShowDoes bytes status
 
-module _ (before after : Outside) where
-  -- Nothing but the output changes.
-  abbrev pub ListsFile : (file : List ℕ) → Status → Type 0
-  ListsFile file status =
-      OfFile before after (Untouched before after) file
-      (λ bytes s. ListDoes before.environment after.environment bytes s × (after.environment.input ≡ before.environment.input) × (after.environment.way ≡ before.environment.way)) status
+  module _ (before after : Outside) where
+    -- Nothing but the output changes.
+    abbrev pub ShowsFile : (file : List ℕ) → Status → Type 0
+    ShowsFile file status =
+        OfFile before after (Untouched before after) file
+        (λ bytes s. ShowDoes before.environment after.environment bytes s × (after.environment.input ≡ before.environment.input) × (after.environment.way ≡ before.environment.way)) status
+
+abbrev pub ListsFile : (before after : Outside) (file : List ℕ) → Status → Type 0
+ListsFile before after file status = ShowsFile listing_text before after file status
+
+abbrev pub DisassemblesFile : (before after : Outside) (file : List ℕ) → Status → Type 0
+DisassemblesFile before after file status = ShowsFile assembler_text before after file status

@@ -2,18 +2,20 @@
 use Rattle.std.specs.Prelude.{ℕ, ◌≡◌, List, [], Result, Ok, Err}
 use Rattle.std.specs.declared.alloc.AllocError.{AllocError}
 use Rattle.mv_bindings.specs.declared.binding.Event.{Event}
-use Rattle.mv_command.specs.Commands.{Asked, Runs, Builds, Executes, Lists, Evaluates, Generates, Prints, IsCommand, IsNoCommand}
+use Rattle.mv_command.specs.Commands.{Asked, Runs, Builds, Executes, Lists, Evaluates, Generates, Converts, Disassembles, Checks, Prints, IsCommand, IsNoCommand}
 use Rattle.mv_refine.specs.Environment.{Writing}
 use Rattle.mv_notes.specs.Lines.{Noted}
 use Rattle.mv_notes.specs.declared.notes.Performed.{Performed}
 use Rattle.mv_notes.specs.declared.status.Status.{Status}
 use Rattle.mv_notes.specs.declared.status.Status.TheVariants.{Usage, Memory, Done}
 use Rattle.mv_top.specs.Building.{BuildsFile}
+use Rattle.mv_top.specs.Checking.{ChecksFile}
+use Rattle.mv_top.specs.Converting.{ConvertsFile}
 use Rattle.mv_top.specs.Decisions.{Quiet, Decides}
 use Rattle.mv_top.specs.Evaluating.{EvaluatesFile}
 use Rattle.mv_top.specs.Executing.{ExecDoes}
 use Rattle.mv_top.specs.Generating.{GenDoes}
-use Rattle.mv_top.specs.Listing.{ListsFile}
+use Rattle.mv_top.specs.Listing.{DisassemblesFile, ListsFile}
 use Rattle.mv_top.specs.Outside.{Outside, KeepsFiles, OfFile, Untouched, Writes}
 use Rattle.mv_top.specs.Running.{RunDoes}
 use Rattle.mv_top.specs.Uses.{Uses}
@@ -55,6 +57,9 @@ module _ (before after : Outside) (Heard : List Event → Type 0) where
   Does (Evaluates file bound) lines status = EvaluatesFile before after file bound status × KeepsFiles before after × Alone lines
   Does (Generates number source) lines status =
       GenDoes before.environment after.environment Heard number source status × (after.environment.input ≡ before.environment.input) × KeepsFiles before after × (lines ≡ [])
+  Does (Converts conversion from to) lines status = ConvertsFile before after conversion from to status × Alone lines
+  Does (Disassembles file) lines status = DisassemblesFile before after file status × KeepsFiles before after × Alone lines
+  Does (Checks file image) lines status = ChecksFile before after file image status × KeepsFiles before after × Alone lines
   Does (Prints text) lines status =
       Writes before.environment after.environment text Done status × (after.environment.input ≡ before.environment.input) × (after.environment.way ≡ before.environment.way)
       × KeepsFiles before after × Alone lines

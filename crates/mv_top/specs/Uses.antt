@@ -2,9 +2,10 @@
 use Rattle.std.specs.Prelude.{◌≡◌, Bool}
 use Rattle.mv_io.specs.Outside.{CountAfter}
 use Rattle.mv_io.specs.Shelves.{AsksFor}
-use Rattle.mv_command.specs.Commands.{Asked, Runs, Builds, Executes, Lists, Evaluates, Generates, Prints}
+use Rattle.mv_command.specs.Commands.{Asked, Runs, Builds, Executes, Lists, Evaluates, Generates, Converts, Disassembles, Checks, Prints}
 use Rattle.mv_notes.specs.Lines.{names_input, names_output, names_shelf}
 use Rattle.mv_notes.specs.declared.status.Status.{Status}
+use Rattle.mv_top.specs.Checking.{AsksToCheck}
 use Rattle.mv_top.specs.Generating.{is_cut_short}
 use Rattle.mv_top.specs.Outside.{Outside}
 
@@ -16,10 +17,13 @@ write_failed (Executes file options) status = names_output status
 write_failed (Lists file) status = names_output status
 write_failed (Evaluates file bound) status = names_output status
 write_failed (Generates number source) status = is_cut_short status
+write_failed (Converts conversion from to) status = names_output status
+write_failed (Disassembles file) status = names_output status
+write_failed (Checks file image) status = names_output status
 write_failed (Prints text) status = names_output status
 
 module _ (before after : Outside) where
-  -- its file is loaded once, and no other
+  -- its file is loaded once, and no other but the one that is compared
   abbrev pub Asks : Asked → Type 0
   Asks (Runs file options) = AsksFor before.shelf.asked after.shelf.asked file
   Asks (Builds file image) = AsksFor before.shelf.asked after.shelf.asked file
@@ -27,6 +31,9 @@ module _ (before after : Outside) where
   Asks (Lists file) = AsksFor before.shelf.asked after.shelf.asked file
   Asks (Evaluates file bound) = AsksFor before.shelf.asked after.shelf.asked file
   Asks (Generates number source) = after.shelf.asked ≡ before.shelf.asked
+  Asks (Converts conversion from to) = AsksFor before.shelf.asked after.shelf.asked from
+  Asks (Disassembles file) = AsksFor before.shelf.asked after.shelf.asked file
+  Asks (Checks file image) = AsksToCheck before after file image
   Asks (Prints text) = after.shelf.asked ≡ before.shelf.asked
 
   pub record Uses (asked : Asked) (status : Status) : Type 0 where

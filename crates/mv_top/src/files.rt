@@ -5,7 +5,7 @@ ghost use Rattle.mv_io.specs.Outside.{CountAfter};
 ghost use Rattle.mv_probe.specs.Ways.{Way};
 ghost use Rattle.mv_refine.specs.Environment.{environment, reading, writing, Reading};
 ghost use Rattle.mv_notes.specs.declared.status.Status.TheVariants.{Done};
-ghost use Rattle.mv_top.specs.Building.{status_of_shelf};
+ghost use Rattle.mv_top.specs.Saving.{status_of_shelf};
 ghost use Rattle.mv_notes.specs.Lines.{names_output};
 ghost use Rattle.mv_top.specs.Outside.{Writes};
 

@@ -10,13 +10,14 @@ ghost use Rattle.mv_refine.specs.Environment.{environment, reading, writing};
 ghost use Rattle.mv_top.specs.Outcomes.{Comes, IsCarriedOut, Performs};
 ghost use Rattle.mv_top.specs.Outside.{outside, shelved};
 
-use crate::build::build_file;
+use crate::check::check_file;
 use crate::eval::eval_file;
 use crate::exec::exec_file;
 use crate::files::write_text;
 use crate::generate::generate_program;
-use crate::list::list_file;
+use crate::list::{Shown, list_file};
 use crate::run::run_file;
+use crate::save::{Maker, save_file};
 use mv_command::{Command, command_of};
 use mv_gen_accepted::counted_programs_pass_no_limit;
 use mv_io::{Shelf, Sink, Source};
@@ -46,13 +47,15 @@ fn perform<H: Shelf, I: Source, O: Sink>(
             run_file(alloc, file, &options, shelf, input, out, oracle, probes)
         }
         Ok(Some(Command::Build { file, image })) => {
-            Ok(Performed::alone(alloc, build_file(alloc, file, image, shelf)))
+            let status = save_file(alloc, Maker::Build, file, image, shelf);
+            Ok(Performed::alone(alloc, status))
         }
         Ok(Some(Command::Exec { image, options })) => {
             exec_file(alloc, image, &options, shelf, input, out, oracle, probes)
         }
         Ok(Some(Command::List { image })) => {
-            Ok(Performed::alone(alloc, list_file(alloc, image, shelf, out)))
+            let status = list_file(alloc, Shown::Listing, image, shelf, out);
+            Ok(Performed::alone(alloc, status))
         }
         Ok(Some(Command::Eval { file, bound })) => {
             let status = eval_file(alloc, file, bound, shelf, input, out);
@@ -60,6 +63,26 @@ fn perform<H: Shelf, I: Source, O: Sink>(
         }
         Ok(Some(Command::Gen { number, source })) => {
             let status = generate_program(alloc, number, source, out, oracle, probes);
+            Ok(Performed::alone(alloc, status))
+        }
+        Ok(
+            Some(
+                Command::Convert {
+                    conversion,
+                    from,
+                    to,
+                },
+            ),
+        ) => {
+            let status = save_file(alloc, Maker::Convert(conversion), from, to, shelf);
+            Ok(Performed::alone(alloc, status))
+        }
+        Ok(Some(Command::Disassemble { image })) => {
+            let status = list_file(alloc, Shown::Assembler, image, shelf, out);
+            Ok(Performed::alone(alloc, status))
+        }
+        Ok(Some(Command::Check { file, image })) => {
+            let status = check_file(alloc, file, image, shelf);
             Ok(Performed::alone(alloc, status))
         }
         Ok(Some(Command::Print { text })) => {

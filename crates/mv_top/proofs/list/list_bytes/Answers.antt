@@ -8,7 +8,7 @@ returns-in-Ok-clause-does g c input way = c.list_image.ensures.does c.args.bytes
 
 pub returns-in-Err-clause-does : goal.returns-in-Err-clause-does
 returns-in-Err-clause-does g c input way =
-    not_listed _ _ c.args.bytes.now c.status_of_load.result c.in-Err.error c.status_of_load.ensures c.in-Err.ensures.err refl
+    not_listed _ _ _ c.args.bytes.now c.status_of_load.result c.in-Err.error c.status_of_load.ensures c.in-Err.ensures.err refl
 
 pub returns-in-Err-clause-writing : goal.returns-in-Err-clause-writing
 returns-in-Err-clause-writing g c = count_kept _ _ _ refl

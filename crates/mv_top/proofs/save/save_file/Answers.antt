@@ -3,23 +3,23 @@ use Rattle.std.specs.Prelude.{Err}
 use Rattle.mv_io.proofs.Common.{count_since}
 use Rattle.mv_top.proofs.Counting.{names_of_error}
 use Rattle.mv_top.proofs.Loading.{given, not_loaded}
-use Rattle.mv_top.proofs.Texts.{behind_load}
-use Rattle.mv_top.proofs.build.build_file.Goals as goal
+use Rattle.mv_top.proofs.Saves.{behind_load}
+use Rattle.mv_top.proofs.save.save_file.Goals as goal
 
 pub returns-in-Ok-clause-does : goal.returns-in-Ok-clause-does
 returns-in-Ok-clause-does g c e =
-    given _ _ _ c.args.file.now _ c.build_text.result c.in-Ok.text c.as_slice.result.now c.as_slice.ensures.value c.in-Ok.ensures.bytes
-    (behind_load _ _ _ e c.args.image.now c.as_slice.result.now _ _ _ _ _ _ c.build_text.result c.load.ensures.same c.load.ensures.later (c.build_text.ensures.does e), refl)
+    given _ _ _ c.args.file.now _ c.save_made.result c.in-Ok.bytes c.as_slice.result.now c.as_slice.ensures.value c.in-Ok.ensures.bytes
+    (behind_load _ _ _ e c.args.name.now _ _ _ _ _ _ _ _ c.save_made.result c.load.ensures.same c.load.ensures.later (c.save_made.ensures.does e), refl)
 
 pub returns-in-Err-clause-does : goal.returns-in-Err-clause-does
 returns-in-Err-clause-does g c e =
     not_loaded _ _ _ c.args.file.now _ c.status_of_shelf.result c.in-Err.error c.status_of_shelf.ensures (λ same. c.in-Err.ensures.failed (ap Err same)) (refl, c.load.ensures.same)
 
 pub returns-in-Ok-clause-asks : goal.returns-in-Ok-clause-asks
-returns-in-Ok-clause-asks g c = c.build_text.ensures.asks ∙ c.load.ensures.asks
+returns-in-Ok-clause-asks g c = c.save_made.ensures.asks ∙ c.load.ensures.asks
 
 pub returns-in-Ok-clause-count : goal.returns-in-Ok-clause-count
-returns-in-Ok-clause-count g c = count_since _ _ _ _ c.in-Ok.ensures.count c.build_text.ensures.count
+returns-in-Ok-clause-count g c = count_since _ _ _ _ c.in-Ok.ensures.count c.save_made.ensures.count
 
 pub returns-in-Err-clause-count : goal.returns-in-Err-clause-count
 returns-in-Err-clause-count g c = rw (names_of_error c.in-Err.error c.status_of_shelf.result c.status_of_shelf.ensures) c.in-Err.ensures.count

@@ -1,0 +1,11 @@
+-- The text that is written of an image.
+use Rattle.std.specs.Prelude.{ℕ, List}
+use Rattle.mv_convert.specs.Conversions.{assembler_text}
+use Rattle.mv_image.specs.Spelling.{Fields}
+use Rattle.mv_list.specs.Listing.{listing_text}
+use Rattle.mv_top.specs.declared.list.Shown.{Shown}
+use Rattle.mv_top.specs.declared.list.Shown.TheVariants.{Listing, Assembler}
+
+abbrev pub text_shown : Shown → Fields → List ℕ
+text_shown Listing image = listing_text image
+text_shown Assembler image = assembler_text image
