@@ -45,7 +45,7 @@ pub struct Form {
 pub const PROGRAM: &str = "multiverse";
 
 /// The version of the program.
-pub const VERSION: &str = "0.9";
+pub const VERSION: &str = "1.0";
 
 /// Each command once.
 pub const COMMANDS: [Form; 14] = [
