@@ -67,6 +67,11 @@ def image(a7, a0, a1, live, switch):
     return [0x3149564D, 1, 0x1000, len(words), 1, 1, 2, 3, 3, 1, 5, 0, *words, switch, *sum(tables, []), *names]
 
 
+def executed(known, pairs):
+    """Returns how many instructions an image executes: those up to the call, and behind it a load of the area, 7 for each pair, a last test, FENCE.I and the exit."""
+    return 11 + 7 * pairs if known else 5
+
+
 def is_known(a7, a0, a1, functions, switches):
     """Whether there is a call of these words."""
     if a7 == POLL or a0 in (0, 1):
@@ -103,11 +108,12 @@ def answer(a7, a0, a1, live, switch):
     functions = [] if switch is None else ["dp", "g2"]
     known = is_known(a7, a0, a1, len(functions), min(len(functions), 1))
     bindings, status = bound(a7, a0, a1, live, switch) if known else ({}, 0)
-    lines = []
+    shown = {number: "".join(f" s={it}" for it in values) for number, values in bindings.items()}
+    lines = [f"bound {functions[number]}{values}" for number, values in shown.items()]
     for number, name in enumerate(functions):
-        values = "".join(f" s={it}" for it in bindings.get(number, []))
-        lines.append(f"binding {name}{values}" if number in bindings else f"binding {name} free")
+        lines.append(f"binding {name}{shown.get(number, ' free')}")
     lines += [f"word {address:#010x} {old:#010x} {new:#010x}" for address, old, new in changed(bindings)]
+    lines.append(f"instructions {executed(known, len(changed(bindings)))}")
     lines.append(f"ended {status}" if known else "machine fault 0x00001010 call")
     log = [" ".join(str(it & 0xFFFFFFFF) for it in [number, *values]) for number, values in bindings.items()]
     lines.append(f"{2 - bool(log)} left, {len(log)} events{': ' * bool(log)}{', '.join(log)}")
@@ -134,7 +140,7 @@ def replace_rows(name, rows):
 
 
 def main():
-    replace_rows("stdin", [f"{title(*call)}exec b.img --bindings --words !log\n    @b.img {printed(image(*call))}\n" for call in CALLS])
+    replace_rows("stdin", [f"{title(*call)}exec b.img --log --bindings --words --stats !log\n    @b.img {printed(image(*call))}\n" for call in CALLS])
     replace_rows("stdout", [title(*call) + answer(*call) for call in CALLS])
 
 

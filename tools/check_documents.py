@@ -32,8 +32,8 @@ SYNOPSES = "| Command | What it does |\n|---|---|\n"
 SESSION = re.compile(r"^\$ \./(multiverse|mvharts) ", re.M)
 # The addresses of a listing.
 ADDRESS = re.compile(r"\b0x[0-9a-f]{8}\b")
-# The lines on bindings and words that stand before a last line.
-LINES = re.compile(r"^(binding|word) .*\n", re.M)
+# The lines on a run that stand before a last line.
+LINES = re.compile(r"^(bound|freed|binding|word|instructions) .*\n", re.M)
 ATTRIBUTE = "__attribute__((multiverse))"
 # What stands around the examples of rules, as docs/refusals.md says.
 BEFORE = f"{ATTRIBUTE} int s; int n; const int c = 1; int a[2]; int (*p)(void); int g(int i) {{ return i; }} void v(void) {{ }}\n"

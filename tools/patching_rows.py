@@ -75,6 +75,10 @@ class World:
         """Returns the switches of an attributed function, in order of declaration."""
         return [it for it in self.switches if it.name in function.names()]
 
+    def values(self, number, binding):
+        """Returns what is written of the values to which the attributed function with this number is bound."""
+        return "".join(f" {it.name}={value}" for it, value in zip(self.own(self.functions[number]), binding))
+
     def call(self, function, argument):
         frame = {"a": argument}
         if function.attributed:
@@ -335,13 +339,15 @@ class Draw:
     def rows(self, place):
         """Returns the row of the program, and what it must give."""
         listed = ",".join(f"{turn}:{name}={value}" for turn, name, value in self.items)
-        row = [f"{TITLE} {place}", f"run a.c --at {listed} --bindings !log", *(f"    {line}" for line in self.text())]
+        row = [f"{TITLE} {place}", f"run a.c --at {listed} --bindings --log !log", *(f"    {line}" for line in self.text())]
         world = World(self.switches, self.functions, self.actions())
         status = run_all(self.main, world, {})[0]
         wanted = [f"{TITLE} {place}", world.out]
-        for function, binding in zip(self.functions, world.bindings):
-            values = "".join(f" {it.name}={value}" for it, value in zip(world.own(function), binding or ()))
-            wanted.append(f"binding {function.name}{values if binding is not None else ' free'}")
+        for number, binding in world.log:
+            name = self.functions[number].name
+            wanted.append(f"freed {name}" if binding is None else f"bound {name}{world.values(number, binding)}")
+        for number, binding in enumerate(world.bindings):
+            wanted.append(f"binding {self.functions[number].name}{' free' if binding is None else world.values(number, binding)}")
         return row, [*wanted, f"ended {status}", told(world.log)]
 
 

@@ -1,5 +1,7 @@
 -- The limits that a program passes, by the answers of the steps.
-use Rattle.std.proofs.Common.{◌≡◌, ℕ, ◌<◌, ◌≤◌, List, length, refl, ap₂, subst, sym, ◌∙◌, arith}
+use Rattle.std.proofs.Common.{◌≡◌, ◌⊎◌, inl, inr, ℕ, ◌<◌, ◌≤◌, Bool, true, false, cond, List, length, refl, ap₂, subst, sym, ◌∙◌, arith}
+use Rattle.std.specs.Prelude.{nat_lt}
+use Rattle.std.proofs.lemmas.Bool.{cases_lt, ltb-false, ltb-true}
 use Rattle.mv_ast.specs.declared.program.Program.{Program}
 use Rattle.mv_ast.specs.declared.program.Function.{Function}
 use Rattle.mv_image.specs.Spelling.{Fields}
@@ -21,15 +23,19 @@ use Rattle.mv_linker.specs.Outcome.{data_limit, site_limit, HasFewSites, IsRefus
 use Rattle.mv_link_data.specs.FirstData.{first_data, data_words}
 use Rattle.mv_parts.specs.Codes.{frame_size, AreGenerics, FramesFit, HaveCode, PassesFirstFrame}
 use Rattle.mv_parts.specs.Counts.{up_to_greatest}
+use Rattle.mv_parts.specs.Fronts.{IsSizeOf, PassesFront}
 use Rattle.mv_parts.specs.Laws.{DataIsCounted, PartsCanBeLinked}
 use Rattle.mv_parts.specs.Parts.{ArePartsOf}
+use Rattle.mv_variants.specs.declared.size.Size.{Size}
+use Rattle.mv_variants.specs.declared.error.VariantError.{VariantError}
+use Rattle.mv_variants.specs.declared.error.VariantError.TheVariants as varying
+use Rattle.mv_variants.specs.Sizes.{Fits, OnLimit}
 use Rattle.mv_build.specs.declared.error.BuildError.{BuildError}
 use Rattle.mv_build.specs.declared.error.BuildError.TheVariants.{Refused, Memory}
-use Rattle.mv_build.specs.Compiled.{IsLinkedOf, IsLinkedTo, IsLinkRefusal, IsSound, IsWithinLimits, OnRefusal, parts_of, without_data}
-use Rattle.mv_build.specs.Errors.{of_linking, of_selecting}
+use Rattle.mv_build.specs.Compiled.{IsLinkedOf, IsLinkedTo, IsLinkRefusal, IsSound, IsWithinLimits, OnRefusal, PassesVarying, parts_of, without_data}
+use Rattle.mv_build.specs.Errors.{of_linking, of_selecting, of_varying, refusal_at}
 use Rattle.mv_num.specs.Regions.{text_limit}
-use Rattle.mv_build.specs.Sizes.{FitsAlone, PassesAlone, function_sites, function_words, too_many_sites, too_many_words}
-use Rattle.mv_build.specs.Verdicts.{IsCoded, PassesLimit, PassesWith, large_frame, large_functions, large_parts, many_sites, much_data, long_text}
+use Rattle.mv_build.specs.Verdicts.{IsAllWithin, IsCoded, IsWithin, PassesAt, PassesLimit, PassesWith, large_frame, large_functions, large_parts, large_variants, many_sites, much_data, long_text, too_many_sites, too_many_words}
 use Rattle.mv_num.proofs.Lists.{there_at}
 use Rattle.std.proofs.lemmas.Option.{same_Some}
 
@@ -46,27 +52,35 @@ frames_fit p bodies codes generics have f g below there =
     let h = have.each f body.0 code.0 body.1 code.1 in
     subst (λ (x : Function). frame_size p x ≤ frame_limit) (same_Some h.function g (sym h.there ∙ there)) h.frame
 
--- ---- functions
+-- ---- sizes
 
-module _ (p : Program) (functions : List Labelled) where
-  pub sites_alone : (sites : ℕ) → sites ≡ up_to_greatest (function_sites functions) → site_limit < sites → PassesAlone p functions (counted 14 0 sites)
-  sites_alone sites is past = subst (λ n. PassesAlone p functions (counted 14 0 n)) (sym is) (too_many_sites (omega (arith, is, past)))
+module _ (p : Program) (size : Size) where
+  -- code that doesn't fit has too many sites, or too many words
+  at_limit : data_words p ≤ data_limit → (Fits size → ⊥) → PassesAt p size (refusal_at size)
+  at_limit fits past = by (nat_lt site_limit size.sites) refl (cases_lt text_limit size.words)
+    where
+      by : (b : Bool) → nat_lt site_limit size.sites ≡ b → (text_limit < size.words) ⊎ (size.words ≤ text_limit) →
+          PassesAt p size (cond b (counted 14 0 size.sites) (counted 9 0 size.words))
+      by true many words = too_many_sites (ltb-true site_limit size.sites many)
+      by false few (inl long) = too_many_words (ltb-false site_limit size.sites few) fits long
+      by false few (inr short) = absurd (past (record { words = short; sites = ltb-false site_limit size.sites few }))
 
-  pub few_alone : (sites : ℕ) → sites ≡ up_to_greatest (function_sites functions) → sites ≤ site_limit → function_sites functions ≤ site_limit
-  few_alone sites is few = omega (arith, is, few)
+module _ (p : Program) (size : Size) (within : IsWithin p size) where
+  -- where the variants are more than there is room for
+  pub varying_refused : (e : VariantError) → OnLimit e (PassesFront p size) → OnRefusal (of_varying e) (PassesVarying p size)
+  varying_refused (varying.Limit over) h = record { over = over; front = h; why = at_limit p over within.data_fits h.past }
+  varying_refused (varying.Memory e) h = tt
 
-  pub words_alone : (words : ℕ) → words ≡ up_to_greatest (function_words functions) → text_limit < words → function_sites functions ≤ site_limit → data_words p ≤ data_limit →
-      PassesAlone p functions (counted 9 0 words)
-  words_alone words is past few fits = subst (λ n. PassesAlone p functions (counted 9 0 n)) (sym is) (too_many_words few fits (omega (arith, is, past)))
+module _ (p : Program) (bodies : List Body) (functions : List Labelled) (frames : FramesFit p (length p.functions)) (generics : AreGenerics p bodies)
+    (have : HaveCode p bodies functions) (size : Size) (is : IsSizeOf functions size) where
+  -- and so the program passes a limit
+  pub functions_refused : (e : BuildError) → OnRefusal e (PassesAt p size) → OnRefusal e (PassesLimit p)
+  functions_refused (Refused r) h = large_functions bodies functions size r frames generics have is h
+  functions_refused (Memory e) h = tt
 
-  pub short_alone : (words : ℕ) → words ≡ up_to_greatest (function_words functions) → words ≤ text_limit → function_words functions ≤ text_limit
-  short_alone words is few = omega (arith, is, few)
-
-  -- and so the program passes it
-  pub functions_refused : (bodies : List Body) → FramesFit p (length p.functions) → AreGenerics p bodies → HaveCode p bodies functions → (e : BuildError) →
-      OnRefusal e (PassesAlone p functions) → OnRefusal e (PassesLimit p)
-  functions_refused bodies frames generics have (Refused r) h = large_functions bodies functions r frames generics have h
-  functions_refused bodies frames generics have (Memory e) h = tt
+  pub variants_refused : IsWithin p size → (e : BuildError) → OnRefusal e (PassesVarying p size) → OnRefusal e (PassesLimit p)
+  variants_refused within (Refused r) h = large_variants bodies functions size h.over r frames generics have is within h.front h.why
+  variants_refused within (Memory e) h = tt
 
 -- ---- links
 
@@ -101,9 +115,10 @@ module _ (p : Program) (parts : Parts) where
     refusal_is (Memory e) h = tt
 
   -- and so the program passes it
-  pub limit_of : FramesFit p (length p.functions) → FitsAlone p parts.functions → IsCoded p parts → (e : BuildError) → OnRefusal e (PassesWith p parts) → OnRefusal e (PassesLimit p)
-  limit_of frames alone coded (Refused r) h = large_parts parts r frames alone coded h
-  limit_of frames alone coded (Memory e) h = tt
+  pub limit_of : FramesFit p (length p.functions) → (coded : IsCoded p parts) → IsAllWithin p parts.functions coded.tables → (e : BuildError) → OnRefusal e (PassesWith p parts) →
+      OnRefusal e (PassesLimit p)
+  limit_of frames coded within (Refused r) h = large_parts parts r frames coded within h
+  limit_of frames coded within (Memory e) h = tt
 
 -- ---- parts with their data
 

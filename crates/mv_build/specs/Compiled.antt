@@ -13,9 +13,11 @@ use Rattle.mv_linker.specs.Outcome.{data_limit, HasFewSites, IsLinked, IsRefusal
 use Rattle.mv_link_data.specs.FirstData.{first_data, data_words}
 use Rattle.mv_parts.specs.Codes.{FramesFit}
 use Rattle.mv_parts.specs.Counts.{HaveFewLabels}
+use Rattle.mv_parts.specs.Fronts.{HaveRoom, PassesFront}
 use Rattle.mv_parts.specs.Parts.{AreCodesOf, ArePartFunctions, AreTables}
 use Rattle.mv_parts.specs.Switches.{part_switches}
 use Rattle.mv_select.specs.Bodies.SelectedBodies.{HasWords}
+use Rattle.mv_variants.specs.declared.size.Size.{Size}
 use Rattle.mv_image.specs.Faults.{Rules}
 use Rattle.mv_image.specs.Spelling.{Fields}
 use Rattle.mv_build.specs.declared.built.Built.{Built}
@@ -25,7 +27,7 @@ use Rattle.mv_build.specs.declared.error.BuildError.{BuildError}
 use Rattle.mv_build.specs.declared.error.BuildError.TheVariants.{Refused, Memory}
 use Rattle.mv_build.specs.Errors.{of_linking}
 use Rattle.mv_build.specs.Images.{IsImageOf}
-use Rattle.mv_build.specs.Sizes.{FitsAlone}
+use Rattle.mv_build.specs.Verdicts.{IsAllWithin, PassesAt}
 
 -- a well-formed program without pointer switches, with what tables need to know of it
 pub record IsSound (p : Program) : Type 0 where
@@ -40,17 +42,25 @@ pub record IsCompiled (p : Program) (built : Built) : Type 0 where
 
 -- ---- code
 
--- The code of a program and what it is the code of. The constants in the bodies are words, the frames are small enough, and there is room for the functions.
+-- The code of a program and what it is the code of. The constants in the bodies are words, the frames are small enough, and there is room for it where each branch
+-- is one word.
 pub record IsCode (p : Program) (c : Coded) : Type 0 where
   pub codes : AreCodesOf p c.generics c.variants c.functions c.attributed
   pub words : All (λ (b : Body). HasWords b.code) c.generics
   pub frames : FramesFit p (length p.functions)
-  pub alone : FitsAlone p c.functions
+  pub within : IsAllWithin p c.functions c.variants
 
--- the variants of a program's attributed functions, and their code
-pub record AreVaried (p : Program) (v : Varied) : Type 0 where
+-- the variants of a program's attributed functions, which there is room for behind code of some size, and their code
+pub record AreVaried (p : Program) (size : Size) (v : Varied) : Type 0 where
   pub tables : AreTables p v.variants
   pub parts : ArePartFunctions p v.variants v.attributed
+  pub room : HaveRoom p size v.variants
+
+-- why there is no room for them
+pub record PassesVarying (p : Program) (size : Size) (r : Refusal) : Type 0 where
+  pub over : Size
+  pub front : PassesFront p size over
+  pub why : PassesAt p over r
 
 -- ---- image
 

@@ -1,5 +1,4 @@
 pub mod Images
-pub mod Sizes
 pub mod Verdicts
 pub mod Answers
 pub mod Errors

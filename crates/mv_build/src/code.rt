@@ -4,13 +4,11 @@ ghost use Rattle.std.specs.Prelude.{◌≡◌, map, length, All, IfErr, IfOk, On
 ghost use Rattle.mv_lower_spec.specs.Functions.{lower_function};
 ghost use Rattle.mv_select.specs.Bodies.SelectedBodies.{HasWords};
 ghost use Rattle.mv_parts.specs.Codes.{FramesFit};
-ghost use Rattle.mv_build.specs.Compiled.{AreVaried, IsCode, IsSound, OnRefusal};
-ghost use Rattle.mv_build.specs.Sizes.{FitsAlone, PassesAlone};
-ghost use Rattle.mv_build.specs.Verdicts.{PassesLimit};
+ghost use Rattle.mv_build.specs.Compiled.{AreVaried, IsCode, IsSound, OnRefusal, PassesVarying};
+ghost use Rattle.mv_build.specs.Verdicts.{IsWithin, PassesAt, PassesLimit};
 
 use crate::error::BuildError;
 use crate::image::{DATA_LIMIT, SITE_LIMIT, too_many};
-use crate::size::{sites_of, words_of};
 use mv_ast::program::Program;
 use mv_ir::body::Body;
 use mv_isa::labelled::Labelled;
@@ -19,10 +17,11 @@ use mv_linker::PartFunction;
 use mv_lower::lower_each;
 use mv_num::list::List;
 use mv_num::regions;
-use mv_parts::{attributed_numbers, codes_of, generics_of, part_functions, tables_of};
+use mv_parts::{attributed_numbers, codes_of, generics_of, part_functions, size_of, tables_of};
 use mv_select::bodies::code_has_words;
 use mv_variants::Variant;
-use std::alloc::{AllocError, Global};
+use mv_variants::size::Size;
+use std::alloc::Global;
 
 /// How many words of text there may be.
 const WORD_LIMIT: u64 = regions::TEXT_LIMIT as u64;
@@ -45,8 +44,8 @@ struct Varied {
     attributed: List<PartFunction>,
 }
 
-/// The code of a program's functions and variants. The first whose frame is too large is refused, and then what passes a limit without any variant, before these
-/// are made.
+/// The code of a program's functions and variants. The first whose frame is too large is refused, and then what passes a limit without any variant, before one is
+/// made, or with the first of them, before another is.
 pub(crate) fn code_of(alloc: Global, program: &Program) -> Result<Coded, BuildError>
     requires { IsSound program.now }
     ensures ok { IfOk result (λ c. IsCode program.now c) }
@@ -55,11 +54,12 @@ pub(crate) fn code_of(alloc: Global, program: &Program) -> Result<Coded, BuildEr
     let lowered = lower_each(alloc, program)?;
     let generics = generics_of(alloc, program, &lowered.bodies)?;
     let functions = codes_of(alloc, program, &generics)?;
-    test_functions(program, functions.as_slice())?;
+    let size = size_of(functions.as_slice());
+    test_size(program, size)?;
     let Varied {
         variants,
         attributed,
-    } = attributed_code(alloc, program, lowered.bodies.as_slice())?;
+    } = attributed_code(alloc, program, lowered.bodies.as_slice(), size)?;
     have_words(generics.as_slice());
     Ok(Coded {
         generics,
@@ -69,36 +69,42 @@ pub(crate) fn code_of(alloc: Global, program: &Program) -> Result<Coded, BuildEr
     })
 }
 
-/// Whether there is room for the code of functions, and for the data.
-fn test_functions(program: &Program, functions: &[Labelled]) -> Result<(), BuildError>
+/// Whether there is room for code of some size, and for the data.
+fn test_size(program: &Program, size: Size) -> Result<(), BuildError>
     requires { IsSound program.now }
-    ensures ok { OnOk result (FitsAlone program.now functions.now) }
-    ensures err { IfErr result (λ e. OnRefusal e (PassesAlone program.now functions.now)) }
+    ensures ok { OnOk result (IsWithin program.now size) }
+    ensures err { IfErr result (λ e. OnRefusal e (PassesAt program.now size)) }
 {
-    let sites = sites_of(functions);
-    if sites > SITE_LIMIT {
-        return Err(too_many(14, sites));
+    if size.sites > SITE_LIMIT {
+        return Err(too_many(14, size.sites));
     }
     let values = data_words(program);
     if values > DATA_LIMIT {
         return Err(too_many(13, values));
     }
-    let words = words_of(functions);
-    if words > WORD_LIMIT {
-        return Err(too_many(9, words));
+    if size.words > WORD_LIMIT {
+        return Err(too_many(9, size.words));
     }
     Ok(())
 }
 
-/// The variants of a program's attributed functions and their code, given what each function is lowered to.
-fn attributed_code(alloc: Global, program: &Program, lowered: &[Body]) -> Result<Varied, AllocError>
+/// The variants of a program's attributed functions and their code, behind code of some size, given what each function is lowered to. They are made up to the first
+/// that there is no room for.
+fn attributed_code(
+    alloc: Global,
+    program: &Program,
+    lowered: &[Body],
+    size: Size,
+) -> Result<Varied, BuildError>
     requires sound { IsSound program.now }
     requires lowered { lowered.now ≡ map (lower_function program.now) program.now.functions }
     requires frames { FramesFit program.now (length program.now.functions) }
-    ensures { IfOk result (λ v. AreVaried program.now v) }
+    requires within { IsWithin program.now size }
+    ensures ok { IfOk result (λ v. AreVaried program.now size v) }
+    ensures err { IfErr result (λ e. OnRefusal e (PassesVarying program.now size)) }
 {
     let numbers = attributed_numbers(alloc, program)?;
-    let variants = tables_of(alloc, program, numbers.as_slice(), lowered)?;
+    let variants = tables_of(alloc, program, numbers.as_slice(), lowered, size)?;
     let attributed = part_functions(alloc, program, numbers.as_slice(), variants.as_slice())?;
     Ok(Varied {
         variants,

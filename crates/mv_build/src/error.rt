@@ -1,11 +1,14 @@
 ghost use Rattle.std.specs.Prelude.{◌≡◌, alloc_error};
 ghost use Rattle.mv_build.specs.Answers.{of_front};
-ghost use Rattle.mv_build.specs.Errors.{of_linking, of_selecting};
+ghost use Rattle.mv_build.specs.Errors.{of_linking, of_selecting, of_varying, refusal_at};
 ghost use Rattle.mv_build.specs.declared.error.BuildError.TheVariants.{Memory};
 
+use crate::image::SITE_LIMIT;
 use mv_front::{FrontError, Refusal};
 use mv_linker::LinkError;
 use mv_select::error::SelectError;
+use mv_variants::VariantError;
+use mv_variants::size::Size;
 use std::alloc::{AllocError, AllocFailed};
 use thiserror::Error;
 
@@ -60,6 +63,17 @@ impl From<SelectError> for BuildError {
     }
 }
 
+impl From<VariantError> for BuildError {
+    ghost from_gives = { λ e given. given ≡ of_varying e };
+
+    fn from(e: VariantError) -> BuildError {
+        match e {
+            VariantError::Limit(size) => BuildError::Refused(refusal_at(size)),
+            VariantError::Memory(e) => BuildError::Memory(e),
+        }
+    }
+}
+
 impl From<LinkError> for BuildError {
     ghost from_gives = { λ e given. given ≡ of_linking e };
 
@@ -71,4 +85,14 @@ impl From<LinkError> for BuildError {
             LinkError::Memory(e) => BuildError::Memory(e),
         }
     }
+}
+
+// The refusal where there is no room for code of some size: it has too many sites, or else too many words.
+fn refusal_at(size: Size) -> Refusal
+    ensures { result ≡ refusal_at size }
+{
+    if size.sites > SITE_LIMIT {
+        return Refusal::counted(14, 0, size.sites);
+    }
+    Refusal::counted(9, 0, size.words)
 }

@@ -14,9 +14,10 @@
 //!   (`ShowsBindings`).
 //! - Each other answer has its cause, and each cause its answer unless memory is wanting: refusals 1 to 7 are those of
 //!   `mv_front`; 8 names the first function whose frame is above 2,032 bytes and its bytes, then 14 the sites above
-//!   16,384, then 13 the words of data above 262,144, then 9 the words of text above 131,072. These three count the code of
-//!   the functions alone, each branch taken for one word, where it passes a limit already, and no variant is made then; and
-//!   else all code that was made, which is linked where it is within the limits. A program that passes none has an image.
+//!   16,384, then 13 the words of data above 262,144, then 9 the words of text above 131,072. These three are first of the code
+//!   of the functions alone, each branch taken for one word; then of that and the variants, of which none is made behind the
+//!   first with which a limit is passed, so that the count is of those up to it; and else of all code, which is linked where it
+//!   is within the limits. A program that passes none has an image.
 //! - `compiled`: the same from a well-formed program without pointer switches, as `front` gives each.
 //! - The codes and counts of small sources are rows of `mv_test_top`.
 #![tactic(auto)]
@@ -33,7 +34,6 @@ mod built;
 mod code;
 mod error;
 mod image;
-mod size;
 
 use crate::code::{Coded, code_of};
 use crate::image::image_of;
@@ -53,7 +53,8 @@ use std::alloc::Global;
 ///
 /// The codes are tested in this order: 1 to 7 as `front` of `mv_front` tests them; 8, with the function's number as detail and the bytes that it needs, for
 /// the first frame above 2,032 bytes; 14 for more than 16,384 sites; 13 for more than 262,144 words of data; 9 for more than 131,072 words of text, each with
-/// their number. The code of the functions is tested for the last three first, with each branch as one word, and then that of the variants too.
+/// their number. For the last three the code of the functions is tested first, with each branch as one word; then that with each variant more, as far as it fits; and
+/// at last all of it, with its branches as they are.
 pub fn build(alloc: Global, text: &[u8]) -> Result<Built, BuildError>
     // Each answer has its cause.
     ensures built { IfOk result (λ b. spec.IsBuiltFrom text.now b) }

@@ -90,7 +90,9 @@ same_options rows options more one other =
     let oracle = same_oracle (given ORACLE.now rows) options.oracle more.oracle one.oracle other.oracle in
     let bindings = one.bindings ∙ sym other.bindings in
     let words = one.words ∙ sym other.words in
-    λ i. record { steps = steps i; items = items i; oracle = oracle i; bindings = bindings i; words = words i }
+    let log = one.log ∙ sym other.log in
+    let stats = one.stats ∙ sym other.stats in
+    λ i. record { steps = steps i; items = items i; oracle = oracle i; bindings = bindings i; words = words i; log = log i; stats = stats i }
 
 same_text : {value : Option Text} {x y : Text} → value ≡ Some x → value ≡ Some y → x ≡ y
 same_text {x = x} {y = y} e f = same_Some x y (sym e ∙ f)

@@ -85,13 +85,15 @@ abbrev pub AreItems : Option Text → List Item → Type 0
 AreItems None items = items ≡ []
 AreItems (Some text) items = IsList text items
 
--- `[--steps N] [--at LIST] [--oracle WAY] [--bindings] [--words]`
+-- `[--steps N] [--at LIST] [--oracle WAY] [--bindings] [--words] [--log] [--stats]`
 pub record AreOptions (rows : List Row) (options : RunOptions) : Type 0 where
   pub limit : IsLimit (given spelled.steps rows) options.steps
   pub items : AreItems (given spelled.at rows) options.items
   pub oracle : IsOracle (given spelled.oracle rows) options.oracle
   pub bindings : options.bindings ≡ is_set spelled.bindings rows
   pub words : options.words ≡ is_set spelled.words rows
+  pub log : options.log ≡ is_set spelled.log rows
+  pub stats : options.stats ≡ is_set spelled.stats rows
 
 -- ---- commands
 

@@ -84,6 +84,12 @@ bindings = codes "bindings"
 abbrev pub words : Text
 words = codes "words"
 
+abbrev pub log : Text
+log = codes "log"
+
+abbrev pub stats : Text
+stats = codes "stats"
+
 abbrev pub bound : Text
 bound = codes "bound"
 
@@ -144,7 +150,9 @@ of_runs =
     argument Valued at (codes "LIST") (codes "what the operator does: items POLL:SWITCH=VALUE, with commas between") ∷
     argument Valued oracle (codes "WAY") (codes "which of its words a fetch gives: fresh, oldest, or numbers with commas between; without it oldest") ∷
     argument Flag bindings [] (codes "notes for each attributed function what it is bound to at the end") ∷
-    argument Flag words [] (codes "notes each word of text that is another at the end than at the start") ∷ []
+    argument Flag words [] (codes "notes each word of text that is another at the end than at the start") ∷
+    argument Flag log [] (codes "notes each change of what an attributed function is bound to") ∷
+    argument Flag stats [] (codes "notes how many instructions were executed") ∷ []
 
 -- each command once
 abbrev pub commands : List Form

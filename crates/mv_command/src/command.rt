@@ -15,8 +15,8 @@ use crate::items::{Item, list_of};
 use crate::number::number;
 use crate::options::{
     AT, BINDINGS, BOUND, BUILD, CHECK, COMMAND, DEFAULT_STEPS, DISASM, EVAL, EXEC, FILE, GEN, HELP,
-    IMAGE, LIST, MOST_BOUND, MOST_NUMBER, MOST_STEPS, NUMBER, ORACLE, RUN, SOURCE, STEPS, VERSIONS,
-    WORDS,
+    IMAGE, LIST, LOG, MOST_BOUND, MOST_NUMBER, MOST_STEPS, NUMBER, ORACLE, RUN, SOURCE, STATS,
+    STEPS, VERSIONS, WORDS,
 };
 use crate::oracles::{Oracle, named};
 use crate::program::matches_of;
@@ -108,6 +108,10 @@ pub struct RunOptions {
     pub bindings: bool,
     /// Whether the words of text that aren't as they were built are shown.
     pub words: bool,
+    /// Whether the log is shown.
+    pub log: bool,
+    /// Whether the number of instructions is shown.
+    pub stats: bool,
 }
 
 fn limit_of(text: Option<&str>) -> Option<u64>
@@ -176,6 +180,8 @@ fn options_of(alloc: Global, found: &ArgMatches) -> Result<Option<RunOptions>, A
         oracle,
         bindings: is_set(found, BINDINGS),
         words: is_set(found, WORDS),
+        log: is_set(found, LOG),
+        stats: is_set(found, STATS),
     }))
 }
 

@@ -59,6 +59,8 @@ pub const COMMANDS: [Form; 14] = [
             RUN_ORACLE,
             RUN_BINDINGS,
             RUN_WORDS,
+            RUN_LOG,
+            RUN_STATS,
         ],
     },
     Form {
@@ -76,6 +78,8 @@ pub const COMMANDS: [Form; 14] = [
             RUN_ORACLE,
             RUN_BINDINGS,
             RUN_WORDS,
+            RUN_LOG,
+            RUN_STATS,
         ],
     },
     Form {
@@ -240,6 +244,20 @@ const RUN_WORDS: Argument = Argument {
     about: "notes each word of text that is another at the end than at the start",
 };
 
+const RUN_LOG: Argument = Argument {
+    kind: Flag,
+    name: LOG,
+    value: "",
+    about: "notes each change of what an attributed function is bound to",
+};
+
+const RUN_STATS: Argument = Argument {
+    kind: Flag,
+    name: STATS,
+    value: "",
+    about: "notes how many instructions were executed",
+};
+
 /// Compiles a file and runs it.
 pub const RUN: &str = "run";
 
@@ -338,6 +356,12 @@ pub const BINDINGS: &str = "bindings";
 
 /// Asks for a line for each word of text that isn't as it was built.
 pub const WORDS: &str = "words";
+
+/// Asks for a line for each changed binding.
+pub const LOG: &str = "log";
+
+/// Asks for a line with the number of instructions.
+pub const STATS: &str = "stats";
 
 /// The bound of an evaluation: a number up to `MOST_BOUND`.
 pub const BOUND: &str = "bound";

@@ -2,3 +2,4 @@ pub mod OwnWords
 pub mod Sizes
 pub mod Texts
 pub mod Sites
+pub mod Fronts

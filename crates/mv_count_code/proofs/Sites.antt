@@ -30,7 +30,7 @@ module _ (often : LoweredCallAsOften) (renamed_few : RenamedSlotsAreFew) (folded
 
 -- ---- sums
 
-at_most : {A : Type 0} (f : Function → ℕ) (n : A → ℕ) (gs : List Function) (xs : List A) → length xs ≡ length gs →
+pub at_most : {A : Type 0} (f : Function → ℕ) (n : A → ℕ) (gs : List Function) (xs : List A) → length xs ≡ length gs →
     ((i : ℕ) (g : Function) (x : A) → slice_get gs i ≡ Some g → slice_get xs i ≡ Some x → n x ≤ f g) → AtMost f gs (map n xs)
 at_most f n [] [] e h = tt
 at_most f n [] (x ∷ xs) e h = absurd (omega (arith, e))
@@ -45,13 +45,13 @@ sum_most n most (x ∷ xs) h =
     omega (arith, rest, h 0 x refl, all, sum_cons (n x) (map n xs))
 
 -- an attributed function is one of the functions
-abbrev IsOne : Function → List Function → Type 0
+abbrev pub IsOne : Function → List Function → Type 0
 IsOne g gs = (f : ℕ) × (slice_get gs f ≡ Some g)
 
 next : (x g : Function) (gs : List Function) → IsOne g gs → IsOne g (x ∷ gs)
 next x g gs (f, there) = (suc f, there)
 
-one_of : (gs : List Function) (n : ℕ) (g : Function) → slice_get (filter (λ g. g.attributed) gs) n ≡ Some g → IsOne g gs
+pub one_of : (gs : List Function) (n : ℕ) (g : Function) → slice_get (filter (λ g. g.attributed) gs) n ≡ Some g → IsOne g gs
 one_of [] n g e = absurd (cc)
 one_of (x ∷ gs) n g e = by x.attributed n (λ m d. next x g gs (one_of gs m g d)) e
   where

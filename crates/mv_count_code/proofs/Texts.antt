@@ -19,7 +19,7 @@ use Rattle.mv_linker.specs.Linked.{function_variants, variant_codes, codes, rela
 use Rattle.mv_count_code.specs.Sizes.{LinesAreShort, words_of}
 use Rattle.mv_count_code.specs.Texts.{IsCodeOf, TextsPass}
 
-abbrev words : List Line → ℕ
+abbrev pub words : List Line → ℕ
 words = sum_by greatest_words
 
 -- ---- a sizing takes no more words than the greatest
@@ -49,7 +49,7 @@ relabelled_words first count (line ∷ lines) =
     one (Entry rd f) = refl
     one (Slot f) = refl
 
-abbrev code_words : Labelled → ℕ
+abbrev pub code_words : Labelled → ℕ
 code_words code = words code.items
 
 part_words : (f first : ℕ) (code : Labelled) → words (function_part f first code) ≡ code_words code
@@ -76,7 +76,7 @@ stub_words main = lit≤ tt
 abbrev allowed : Program → Function → ℕ
 allowed p g = (1 + nodes g) * (1 + assignments p g)
 
-functions_short : (gs : List Function) (cs : List Labelled) → length cs ≡ length gs →
+pub functions_short : (gs : List Function) (cs : List Labelled) → length cs ≡ length gs →
     ((f : ℕ) (g : Function) (code : Labelled) → slice_get gs f ≡ Some g → slice_get cs f ≡ Some code → code_words code ≤ words_of g) →
     sum_by code_words cs ≤ sum (map words_of gs)
 functions_short [] [] e h = omega arith
@@ -89,7 +89,7 @@ functions_short (g ∷ gs) (code ∷ cs) e h =
 
 -- ---- the code of variants
 
-abbrev variant_words : Program → Function → ℕ
+abbrev pub variant_words : Program → Function → ℕ
 variant_words p g = assignments p g * words_of g
 
 -- an attributed function is one of all

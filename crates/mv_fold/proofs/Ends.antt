@@ -19,11 +19,16 @@ use Rattle.mv_ir.specs.declared.stm.Stm.TheOpen.{Stm-F}
 use Rattle.mv_ir.specs.declared.stm.Stm.TheOpen as stm
 use Rattle.mv_ir.specs.declared.stm.Stm.TheVariants.{rolls-Set, rolls-SetGlobal, rolls-Divide, rolls-Check, rolls-Read, rolls-Write, rolls-Zero, rolls-If, rolls-Loop, rolls-Block, rolls-Break, rolls-Back, rolls-Call, rolls-Known, rolls-Return}
 use Rattle.mv_ir.specs.declared.stm.Stm.TheViews.{roll-Stm, out-roll-Stm}
-use Rattle.mv_fold.specs.Shortened.{layer_leaves, leaves, without_leave, layer_is_temp, is_temp, where_true, layer_taking, taking, layer_as_one, as_one, or_both, in_front, carried}
+use Rattle.mv_fold.specs.Opened.{layer_leaves, leaves, without_leave}
+use Rattle.mv_fold.specs.Shortened.{layer_idles, idles, unless_idle, without_idle, layer_is_temp, is_temp, where_true, layer_taking, taking, layer_as_one, as_one, or_both, in_front, carried}
 
 pub leaves_roll : (x : Stm-F Stm) → leaves (roll-Stm x) ≡ layer_leaves x
 unfolding leaves
 leaves_roll x = ap layer_leaves (out-roll-Stm x)
+
+pub idles_roll : (x : Stm-F Stm) → idles (roll-Stm x) ≡ layer_idles x
+unfolding idles
+idles_roll x = ap layer_idles (out-roll-Stm x)
 
 pub is_temp_roll : (t : ℕ) (x : Tree-F Tree) → is_temp t (roll-Tree x) ≡ layer_is_temp t x
 unfolding is_temp
@@ -85,6 +90,53 @@ pub leaves_return : (v : Tree) → leaves (at.Return v) ≡ false
 leaves_return v = ap leaves (sym (rolls-Return v)) ∙ leaves_roll (stm.Return v)
 
 pub ruleset leaving = (leaves_set, leaves_setglobal, leaves_divide, leaves_check, leaves_read, leaves_write, leaves_zero, leaves_if, leaves_loop, leaves_block, leaves_break, leaves_back, leaves_call, leaves_known, leaves_return)
+
+pub idles_set : (t : ℕ) (v : Tree) → idles (at.Set t v) ≡ true
+idles_set t v = ap idles (sym (rolls-Set t v)) ∙ idles_roll (stm.Set t v)
+
+pub idles_setglobal : (g : ℕ) (v : Tree) → idles (at.SetGlobal g v) ≡ false
+idles_setglobal g v = ap idles (sym (rolls-SetGlobal g v)) ∙ idles_roll (stm.SetGlobal g v)
+
+pub idles_divide : (t o : ℕ) (a b : Tree) → idles (at.Divide t o a b) ≡ false
+idles_divide t o a b = ap idles (sym (rolls-Divide t o a b)) ∙ idles_roll (stm.Divide t o a b)
+
+pub idles_check : (a : Array) (i : Tree) → idles (at.Check a i) ≡ false
+idles_check a i = ap idles (sym (rolls-Check a i)) ∙ idles_roll (stm.Check a i)
+
+pub idles_read : (t : ℕ) (a : Array) (i : Tree) → idles (at.Read t a i) ≡ false
+idles_read t a i = ap idles (sym (rolls-Read t a i)) ∙ idles_roll (stm.Read t a i)
+
+pub idles_write : (a : Array) (i v : Tree) → idles (at.Write a i v) ≡ false
+idles_write a i v = ap idles (sym (rolls-Write a i v)) ∙ idles_roll (stm.Write a i v)
+
+pub idles_zero : (l : ℕ) → idles (at.Zero l) ≡ false
+idles_zero l = ap idles (sym (rolls-Zero l)) ∙ idles_roll (stm.Zero l)
+
+pub idles_if : (t : Tree) (a b : List Stm) → idles (at.If t a b) ≡ false
+idles_if t a b = ap idles (sym (rolls-If t a b)) ∙ idles_roll (stm.If t a b)
+
+pub idles_loop : (b : List Stm) → idles (at.Loop b) ≡ false
+idles_loop b = ap idles (sym (rolls-Loop b)) ∙ idles_roll (stm.Loop b)
+
+pub idles_block : (b : List Stm) → idles (at.Block b) ≡ false
+idles_block b = ap idles (sym (rolls-Block b)) ∙ idles_roll (stm.Block b)
+
+pub idles_break : (n : ℕ) → idles (at.Break n) ≡ true
+idles_break n = ap idles (sym (rolls-Break n)) ∙ idles_roll (stm.Break n)
+
+pub idles_back : (n : ℕ) → idles (at.Back n) ≡ false
+idles_back n = ap idles (sym (rolls-Back n)) ∙ idles_roll (stm.Back n)
+
+pub idles_call : (r : Option ℕ) (f : Callee) (args : List Tree) → idles (at.Call r f args) ≡ false
+idles_call r f args = ap idles (sym (rolls-Call r f args)) ∙ idles_roll (stm.Call r f args)
+
+pub idles_known : (r : Option ℕ) (k : Known) (args : List Tree) → idles (at.Known r k args) ≡ false
+idles_known r k args = ap idles (sym (rolls-Known r k args)) ∙ idles_roll (stm.Known r k args)
+
+pub idles_return : (v : Tree) → idles (at.Return v) ≡ false
+idles_return v = ap idles (sym (rolls-Return v)) ∙ idles_roll (stm.Return v)
+
+pub ruleset idling = (idles_set, idles_setglobal, idles_divide, idles_check, idles_read, idles_write, idles_zero, idles_if, idles_loop, idles_block, idles_break, idles_back, idles_call, idles_known, idles_return)
 
 pub temp_is_number : (t : ℕ) (n : ℕ) → is_temp t (tr.Number n) ≡ false
 temp_is_number t n = ap (is_temp t) (sym (rolls-Number n)) ∙ is_temp_roll t (tree.Number n)
@@ -231,6 +283,20 @@ keep_last (s ∷ t ∷ ss) (suc n) d e h = ap (λ c. s ∷ c) (keep_last (t ∷ 
 pub no_last : (code : List Stm) → length code ≡ 0 → without_leave code ≡ code
 no_last [] e = refl
 no_last (s ∷ ss) e = absurd (omega arith)
+
+pub idle_last : (code : List Stm) (n : ℕ) (d : Stm) → length code ≡ suc n → idles (get_or code n d) ≡ true → without_idle (take n code) ≡ without_idle code
+idle_last [] n d e h = absurd (omega arith)
+idle_last (s ∷ []) zero d e h = sym (ap (λ c. cond c [] (s ∷ [])) h)
+idle_last (s ∷ []) (suc n) d e h = absurd (omega arith)
+idle_last (s ∷ t ∷ ss) zero d e h = absurd (omega arith)
+idle_last (s ∷ t ∷ ss) (suc n) d e h = ap (unless_idle s) (idle_last (t ∷ ss) n d (omega (arith, e)) h)
+
+pub busy_last : (code : List Stm) (n : ℕ) (d : Stm) → length code ≡ suc n → idles (get_or code n d) ≡ false → without_idle code ≡ code
+busy_last [] n d e h = absurd (omega arith)
+busy_last (s ∷ []) zero d e h = ap (λ c. cond c [] (s ∷ [])) h
+busy_last (s ∷ []) (suc n) d e h = absurd (omega arith)
+busy_last (s ∷ t ∷ ss) zero d e h = absurd (omega arith)
+busy_last (s ∷ t ∷ ss) (suc n) d e h = ap (unless_idle s) (busy_last (t ∷ ss) n d (omega (arith, e)) h)
 
 pub add_one : (n : ℕ) → suc n ≡ n + 1
 add_one n = omega arith

@@ -19,6 +19,7 @@ use Rattle.mv_ir.specs.declared.stm.Stm.TheVariants.{rolls-Set, rolls-SetGlobal,
 use Rattle.mv_num.specs.Words.{as_word}
 use Rattle.mv_ir.specs.Trees.{unary, binary, divide}
 use Rattle.mv_fold.specs.Simple.{constant, one_or, two_or, simple_tree, simple_callee, simple_stm, simple_code, jumps, ended, division, choice}
+use Rattle.mv_fold.specs.Opened.{blocked, looped}
 use Rattle.mv_fold.proofs.SimpleKept.{not_zero, constant_roll, jumps_roll, simple_tree_roll, simple_stm_roll}
 use Rattle.mv_fold.proofs.Ends.{add_one}
 
@@ -158,11 +159,11 @@ simple_zero_stm l = ap simple_stm (sym (rolls-Zero l)) ∙ simple_stm_roll (stm.
 pub simple_if_stm : (t : Tree) (a : List Stm) (b : List Stm) → simple_stm (at.If t a b) ≡ choice (constant (simple_tree t)) (simple_tree t) (simple_code a) (simple_code b)
 simple_if_stm t a b = ap simple_stm (sym (rolls-If t a b)) ∙ simple_stm_roll (stm.If t a b)
 
-pub simple_loop_stm : (b : List Stm) → simple_stm (at.Loop b) ≡ at.Loop (simple_code b) ∷ []
-simple_loop_stm b = ap simple_stm (sym (rolls-Loop b)) ∙ simple_stm_roll (stm.Loop b) ∙ ap (λ s. s ∷ []) (rolls-Loop (simple_code b))
+pub simple_loop_stm : (b : List Stm) → simple_stm (at.Loop b) ≡ looped (simple_code b)
+simple_loop_stm b = ap simple_stm (sym (rolls-Loop b)) ∙ simple_stm_roll (stm.Loop b)
 
-pub simple_block_stm : (b : List Stm) → simple_stm (at.Block b) ≡ at.Block (simple_code b) ∷ []
-simple_block_stm b = ap simple_stm (sym (rolls-Block b)) ∙ simple_stm_roll (stm.Block b) ∙ ap (λ s. s ∷ []) (rolls-Block (simple_code b))
+pub simple_block_stm : (b : List Stm) → simple_stm (at.Block b) ≡ blocked (simple_code b)
+simple_block_stm b = ap simple_stm (sym (rolls-Block b)) ∙ simple_stm_roll (stm.Block b)
 
 pub simple_break_stm : (n : ℕ) → simple_stm (at.Break n) ≡ at.Break n ∷ []
 simple_break_stm n = ap simple_stm (sym (rolls-Break n)) ∙ simple_stm_roll (stm.Break n) ∙ ap (λ s. s ∷ []) (rolls-Break n)

@@ -28,6 +28,9 @@ use Rattle.mv_fold.proofs.SimpleKept.{jumps_roll, simple_tree_roll, each_simple}
 use Rattle.mv_fold.proofs.NeededEquations.{stm_uses_roll, each_left}
 use Rattle.mv_fold.proofs.Closing.{Closed, left, right, among, for_body, closed}
 use Rattle.mv_fold.proofs.Thinner.{Covers, covers_append, Implies, Thins, code_flow, IsThinner, flow_one, flow_append, thinner_one, thinner_many, thinner_trans, thinner_append, thinner_none, ReadsLess, plain_thins, on_next, on_leaves, on_restarts, on_nothing, if_thins, loop_thins, block_thins, KeepsIntervals, thinner_body, or_both}
+use Rattle.mv_fold.specs.Opened.{blocked, looped}
+use Rattle.mv_fold.proofs.Opening.{Opens, blocked_is, looped_is}
+use Rattle.mv_fold.proofs.OpenedThinner.{block_opens, loop_opens}
 use Rattle.std.proofs.lemmas.Bool.{or_right, or_left}
 use Rattle.mv_num.proofs.Booleans.{or_cases, from_falsity}
 use Rattle.std.proofs.lemmas.Map.Views.{exact_unsigned_eq}
@@ -304,6 +307,9 @@ choice_thin None x a b ha hb = if_thins every x (simple_tree x) a (simple_code a
 choice_thin (Some zero) x a b ha hb = second_thin x a b (simple_code b) hb
 choice_thin (Some (suc n)) x a b ha hb = first_thin x a b (simple_code a) ha
 
+open_thin : Opens Thinner
+open_thin = record { same = code_same; block = λ front end e. block_opens every front (code_same front) e end; loop = λ front n e. loop_opens every front (code_same front) e n }
+
 thin_layer : (x : Stm-F Stm) → StmChildren IsThin x → Thinner (roll-Stm x ∷ []) (simple_layer (map-Stm Stm (List Stm) simple_stm x))
 thin_layer (stm.Set t v) h = thin_one (stm.Set t v) (stm.Set t (simple_tree v)) (next_thins (v ∷ []) (simple_tree v ∷ []) (Some t) (one_less v))
 thin_layer (stm.SetGlobal g v) h = thin_one (stm.SetGlobal g v) (stm.SetGlobal g (simple_tree v)) (next_thins (v ∷ []) (simple_tree v ∷ []) None (one_less v))
@@ -313,8 +319,8 @@ thin_layer (stm.Read t a i) h = thin_one (stm.Read t a i) (stm.Read t a (simple_
 thin_layer (stm.Write a i v) h = thin_one (stm.Write a i v) (stm.Write a (simple_tree i) (simple_tree v)) (next_thins (i ∷ v ∷ []) (simple_tree i ∷ simple_tree v ∷ []) None (two_less i v))
 thin_layer (stm.Zero l) h = same (roll-Stm (stm.Zero l))
 thin_layer (stm.If x a b) h = choice_thin (constant (simple_tree x)) x a b (code_thin a h.0) (code_thin b h.1)
-thin_layer (stm.Loop b) h = loop_thins every b (simple_code b) (code_thin b h)
-thin_layer (stm.Block b) h = block_thins every b (simple_code b) (code_thin b h)
+thin_layer (stm.Loop b) h = thinner_trans every (roll-Stm (stm.Loop b) ∷ []) (roll-Stm (stm.Loop (simple_code b)) ∷ []) (looped (simple_code b)) (loop_thins every b (simple_code b) (code_thin b h)) (looped_is Thinner open_thin (simple_code b))
+thin_layer (stm.Block b) h = thinner_trans every (roll-Stm (stm.Block b) ∷ []) (roll-Stm (stm.Block (simple_code b)) ∷ []) (blocked (simple_code b)) (block_thins every b (simple_code b) (code_thin b h)) (blocked_is Thinner open_thin (simple_code b))
 thin_layer (stm.Break n) h = same (roll-Stm (stm.Break n))
 thin_layer (stm.Back n) h = same (roll-Stm (stm.Back n))
 thin_layer (stm.Call r f args) h = thin_one (stm.Call r f args) (stm.Call r (simple_callee f) (map simple_tree args)) (next_thins (callee_trees f ++ args) (callee_trees (simple_callee f) ++ map simple_tree args) r (call_less f args))

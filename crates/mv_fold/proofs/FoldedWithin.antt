@@ -23,6 +23,8 @@ use Rattle.mv_fold.specs.Simple.{constant, one_or, two_or, simple_node, simple_t
 use Rattle.mv_fold.specs.Needed.{needed_layer, needed_stm, needed_code}
 use Rattle.mv_fold.specs.Shortened.{shortened}
 use Rattle.mv_fold.specs.Folded.{simple_body, IsNoGreater}
+use Rattle.mv_fold.specs.Opened.{leave, from_outside}
+use Rattle.mv_fold.proofs.Opening.{Opens, blocked_is, looped_is}
 use Rattle.mv_fold.proofs.SimpleKept.{nodes_some, simple_tree_roll, each_simple}
 use Rattle.mv_fold.proofs.NeededEquations.{each_left}
 use Rattle.mv_fold.proofs.Shortening.{shortened_is}
@@ -227,6 +229,24 @@ callee_among (callee.Direct f) = none_among []
 callee_among (callee.Through t) = none_among []
 callee_among (callee.Switched g) = λ k c. c
 
+-- the statements of a loop or block alone, with a jump at their end or none
+end_within : (front : List Stm) (end : Option ℕ) → Within (front ++ leave end) (front ++ leave (from_outside end))
+end_within front None = less_refl _
+end_within front (Some zero) = within_append front front (leave (Some 0)) [] (less_refl _) (less_nothing _)
+end_within front (Some (suc n)) = within_append front front (leave (Some (suc n))) (leave (Some n)) (less_refl _) (leaf (stm.Break (suc n)) (stm.Break n) (less_refl _) (omega arith) (omega arith) (none_among []))
+
+contents_within : (x : Stm-F Stm) (b c : List Stm) → layer_amount x ≡ with (record { nodes = 0; depth = 0; reads = []; statements = 1; calls = 0; arrays = [] }) (amount b) → Within b c → Within (roll-Stm x ∷ []) c
+contents_within x b c e h =
+    let one : Amount = record { nodes = 0; depth = 0; reads = []; statements = 1; calls = 0; arrays = [] } in
+    within_many x c (subst (Less (amount c)) (sym e) (less_trans (amount c) (amount b) (with one (amount b)) h (less_right one (amount b))))
+
+open_within : Opens Within
+open_within = record {
+  same = λ xs. less_refl _;
+  block = λ front end e. contents_within (stm.Block (front ++ leave end)) (front ++ leave end) (front ++ leave (from_outside end)) (block_amount (front ++ leave end)) (end_within front end);
+  loop = λ front n e. contents_within (stm.Loop (front ++ leave (Some n))) (front ++ leave (Some n)) (front ++ leave (from_outside (Some n))) (loop_amount (front ++ leave (Some n))) (end_within front (Some n));
+}
+
 within_layer : (x : Stm-F Stm) → StmChildren IsWithin x → Within (roll-Stm x ∷ []) (simple_layer (map-Stm Stm (List Stm) simple_stm x))
 within_layer (stm.Set t v) h = leaf (stm.Set t v) (stm.Set t (simple_tree v)) (one_less v) (omega arith) (omega arith) (none_among [])
 within_layer (stm.SetGlobal g v) h = leaf (stm.SetGlobal g v) (stm.SetGlobal g (simple_tree v)) (one_less v) (omega arith) (omega arith) (none_among [])
@@ -236,8 +256,8 @@ within_layer (stm.Read t r i) h = leaf (stm.Read t r i) (stm.Read t r (simple_tr
 within_layer (stm.Write r i v) h = leaf (stm.Write r i v) (stm.Write r (simple_tree i) (simple_tree v)) (two_less i v) (omega arith) (omega arith) (none_among [])
 within_layer (stm.Zero l) h = less_refl _
 within_layer (stm.If t a b) h = choice_within (constant (simple_tree t)) t a b (code_within a h.0) (code_within b h.1)
-within_layer (stm.Loop b) h = inside (stm.Loop b) (stm.Loop (simple_code b)) b (simple_code b) (loop_amount b) (loop_amount (simple_code b)) (code_within b h)
-within_layer (stm.Block b) h = inside (stm.Block b) (stm.Block (simple_code b)) b (simple_code b) (block_amount b) (block_amount (simple_code b)) (code_within b h)
+within_layer (stm.Loop b) h = less_trans _ _ _ (looped_is Within open_within (simple_code b)) (inside (stm.Loop b) (stm.Loop (simple_code b)) b (simple_code b) (loop_amount b) (loop_amount (simple_code b)) (code_within b h))
+within_layer (stm.Block b) h = less_trans _ _ _ (blocked_is Within open_within (simple_code b)) (inside (stm.Block b) (stm.Block (simple_code b)) b (simple_code b) (block_amount b) (block_amount (simple_code b)) (code_within b h))
 within_layer (stm.Break n) h = less_refl _
 within_layer (stm.Back n) h = less_refl _
 within_layer (stm.Call r f args) h = leaf (stm.Call r f args) (stm.Call r (simple_callee f) (map simple_tree args)) (call_less f args) (omega arith) (omega arith) (callee_among f)
@@ -295,6 +315,7 @@ short_within temps = shortened_is temps Within (record {
   both = λ xs ys zs h k. less_trans _ _ _ k h;
   behind = λ s xs ys h. within_append (s ∷ []) (s ∷ []) xs ys (less_refl _) h;
   leave = λ n. less_nothing _;
+  unread = λ t v. less_nothing _;
   stored = λ t g v lt. pair_within (stm.Set t v) (stm.SetGlobal g (temp t)) (stm.SetGlobal g v) (less_refl _);
   returned = λ t v lt. pair_within (stm.Set t v) (stm.Return (temp t)) (stm.Return v) (less_refl _);
 })

@@ -135,6 +135,11 @@ module _ (temps : ℕ) (setting : Setting) (frame : Frame) where
   leave n bound st room =
       subst (λ r. KeepsCall (call_from r) (call_from (in_order [] bound st))) (sym (one_meaning setting frame (stm.Break n) bound st)) (record { same = refl; cheaper = omega arith })
 
+  unread : (t : ℕ) (v : Tree) → KeepsEnd (set t v ∷ []) []
+  unfolding KeepsEnd
+  unread t v bound st room =
+      subst (λ r. KeepsCall (call_from r) (call_from (in_order [] bound st))) (sym (one_meaning setting frame (stm.Set t v) bound st)) (record { same = refl; cheaper = omega arith })
+
   -- a set and another statement, one after the other
   two : (t : ℕ) (v : Tree) (y : Stm-F Stm) (bound : Bound) (st : State) →
       code_meaning setting frame (set t v ∷ roll-Stm y ∷ []) bound st ≡ spend (8 + 3 * nodes v) (layer_means setting frame y bound (record st { temps = slice_set st.temps t (value setting.numbers frame.bound v st.temps st.world.globals) }))
@@ -169,7 +174,7 @@ module _ (temps : ℕ) (setting : Setting) (frame : Frame) where
   end_kept : (code : List Stm) (bound : Bound) (st : State) → temps ≤ length st.temps →
       KeepsCall (call_from (code_meaning setting frame code bound st)) (call_from (code_meaning setting frame (shortened temps code) bound st))
   unfolding KeepsEnd
-  end_kept = shortened_is temps KeepsEnd (record { same = same; both = both; behind = behind; leave = leave; stored = stored; returned = returned })
+  end_kept = shortened_is temps KeepsEnd (record { same = same; both = both; behind = behind; leave = leave; unread = unread; stored = stored; returned = returned })
 
 -- ---- bodies
 

@@ -60,6 +60,10 @@ leave : (n : ℕ) → Thin (roll-Stm (stm.Break n) ∷ []) []
 unfolding Thin
 leave n = (false ∷ [], record { live = λ t e. from_falsity e; marks = λ t. subst (λ (f : ℕ → Flow). Covers (false ∷ []) ((f t).marks nowhere) []) (sym (flow_one every (stm.Break n))) tt })
 
+unread : (u : ℕ) (v : Tree) → Thin (set u v ∷ []) []
+unfolding Thin
+unread u v = (false ∷ [], record { live = λ t e. from_falsity e; marks = λ t. subst (λ (f : ℕ → Flow). Covers (false ∷ []) ((f t).marks nowhere) []) (sym (flow_one every (stm.Set u v))) tt })
+
 -- ---- two statements as one
 
 abbrev pair : Stm-F Stm → Stm-F Stm → ℕ → Flow
@@ -104,7 +108,7 @@ returned t v = pair_thin (stm.Set t v) (stm.Return (temp t)) (stm.Return v) (rec
 -- ---- bodies
 
 short_thinner : (temps : ℕ) (code : List Stm) → Thin code (shortened temps code)
-short_thinner temps = shortened_is temps Thin (record { same = kept; both = both; behind = behind; leave = leave; stored = λ t g v lt. stored t g v; returned = λ t v lt. returned t v })
+short_thinner temps = shortened_is temps Thin (record { same = kept; both = both; behind = behind; leave = leave; unread = unread; stored = λ t g v lt. stored t g v; returned = λ t v lt. returned t v })
 
 thin_body : (b : Body) (code : List Stm) → Thin b.code code → KeepsIntervals every b (record b { code = code })
 unfolding Thin

@@ -10,8 +10,8 @@ use Rattle.mv_ir.specs.declared.stm.Stm.TheOpen.{Stm-F}
 use Rattle.mv_ir.specs.declared.stm.Stm.TheOpen as stm
 use Rattle.mv_ir.specs.declared.stm.Stm.TheViews.{roll-Stm, roll-out-Stm}
 use Rattle.mv_ir.specs.Rolled.{temp, set, set_global, return_with}
-use Rattle.mv_fold.specs.Shortened.{layer_leaves, leaves, without_leave, layer_is_temp, is_temp, where_true, layer_taking, taking, layer_as_one, as_one, or_both, in_front, carried, shortened}
-use Rattle.mv_fold.proofs.Ends.{leaves_roll, is_temp_roll, taking_roll, as_one_roll}
+use Rattle.mv_fold.specs.Shortened.{layer_idles, idles, unless_idle, without_idle, layer_is_temp, is_temp, where_true, layer_taking, taking, layer_as_one, as_one, or_both, in_front, carried, shortened}
+use Rattle.mv_fold.proofs.Ends.{idles_roll, is_temp_roll, taking_roll, as_one_roll}
 use Rattle.std.proofs.lemmas.Map.Views.{exact_unsigned_eq}
 
 -- a relation of code at the end of a body with so many temporaries
@@ -20,37 +20,41 @@ pub record Shortens (temps : ℕ) (P : List Stm → List Stm → Type 0) : Type 
   pub both : (xs ys zs : List Stm) → P xs ys → P ys zs → P xs zs
   pub behind : (s : Stm) (xs ys : List Stm) → P xs ys → P (s ∷ xs) (s ∷ ys)
   pub leave : (n : ℕ) → P (roll-Stm (stm.Break n) ∷ []) []
+  pub unread : (t : ℕ) (v : Tree) → P (set t v ∷ []) []
   pub stored : (t g : ℕ) (v : Tree) → t < temps → P (set t v ∷ set_global g (temp t) ∷ []) (set_global g v ∷ [])
   pub returned : (t : ℕ) (v : Tree) → t < temps → P (set t v ∷ return_with (temp t) ∷ []) (return_with v ∷ [])
 
 module _ (temps : ℕ) (P : List Stm → List Stm → Type 0) (h : Shortens temps P) where
-  -- ---- a jump that leaves
+  -- ---- a statement that does nothing at the end
 
-  leave_rolled : (x : Stm-F Stm) → layer_leaves x ≡ true → P (roll-Stm x ∷ []) []
-  leave_rolled (stm.Break n) e = h.leave n
-  leave_rolled (stm.Set t v) e = let k : false ≡ true = e in absurd (cc)
-  leave_rolled (stm.SetGlobal g v) e = let k : false ≡ true = e in absurd (cc)
-  leave_rolled (stm.Divide t o a b) e = let k : false ≡ true = e in absurd (cc)
-  leave_rolled (stm.Check a i) e = let k : false ≡ true = e in absurd (cc)
-  leave_rolled (stm.Read t a i) e = let k : false ≡ true = e in absurd (cc)
-  leave_rolled (stm.Write a i v) e = let k : false ≡ true = e in absurd (cc)
-  leave_rolled (stm.Zero l) e = let k : false ≡ true = e in absurd (cc)
-  leave_rolled (stm.If t a b) e = let k : false ≡ true = e in absurd (cc)
-  leave_rolled (stm.Loop b) e = let k : false ≡ true = e in absurd (cc)
-  leave_rolled (stm.Block b) e = let k : false ≡ true = e in absurd (cc)
-  leave_rolled (stm.Back n) e = let k : false ≡ true = e in absurd (cc)
-  leave_rolled (stm.Call r f args) e = let k : false ≡ true = e in absurd (cc)
-  leave_rolled (stm.Known r k args) e = let k : false ≡ true = e in absurd (cc)
-  leave_rolled (stm.Return v) e = let k : false ≡ true = e in absurd (cc)
+  idle_rolled : (x : Stm-F Stm) → layer_idles x ≡ true → P (roll-Stm x ∷ []) []
+  idle_rolled (stm.Break n) e = h.leave n
+  idle_rolled (stm.Set t v) e = h.unread t v
+  idle_rolled (stm.SetGlobal g v) e = let k : false ≡ true = e in absurd (cc)
+  idle_rolled (stm.Divide t o a b) e = let k : false ≡ true = e in absurd (cc)
+  idle_rolled (stm.Check a i) e = let k : false ≡ true = e in absurd (cc)
+  idle_rolled (stm.Read t a i) e = let k : false ≡ true = e in absurd (cc)
+  idle_rolled (stm.Write a i v) e = let k : false ≡ true = e in absurd (cc)
+  idle_rolled (stm.Zero l) e = let k : false ≡ true = e in absurd (cc)
+  idle_rolled (stm.If t a b) e = let k : false ≡ true = e in absurd (cc)
+  idle_rolled (stm.Loop b) e = let k : false ≡ true = e in absurd (cc)
+  idle_rolled (stm.Block b) e = let k : false ≡ true = e in absurd (cc)
+  idle_rolled (stm.Back n) e = let k : false ≡ true = e in absurd (cc)
+  idle_rolled (stm.Call r f args) e = let k : false ≡ true = e in absurd (cc)
+  idle_rolled (stm.Known r k args) e = let k : false ≡ true = e in absurd (cc)
+  idle_rolled (stm.Return v) e = let k : false ≡ true = e in absurd (cc)
 
-  leave_gone : (s : Stm) (c : Bool) → leaves s ≡ c → P (s ∷ []) (cond c [] (s ∷ []))
-  leave_gone s false e = h.same (s ∷ [])
-  leave_gone s true e = subst (λ u. P (u ∷ []) []) (roll-out-Stm s) (leave_rolled (out-Stm s) (sym (leaves_roll (out-Stm s)) ∙ ap leaves (roll-out-Stm s) ∙ e))
+  idle_gone : (s : Stm) (c : Bool) → idles s ≡ c → P (s ∷ []) (cond c [] (s ∷ []))
+  idle_gone s false e = h.same (s ∷ [])
+  idle_gone s true e = subst (λ u. P (u ∷ []) []) (roll-out-Stm s) (idle_rolled (out-Stm s) (sym (idles_roll (out-Stm s)) ∙ ap idles (roll-out-Stm s) ∙ e))
 
-  leave_is : (code : List Stm) → P code (without_leave code)
-  leave_is [] = h.same []
-  leave_is (s ∷ []) = leave_gone s (leaves s) refl
-  leave_is (s ∷ t ∷ ss) = h.behind s (t ∷ ss) (without_leave (t ∷ ss)) (leave_is (t ∷ ss))
+  unless_is : (s : Stm) (rest : List Stm) → P (s ∷ rest) (unless_idle s rest)
+  unless_is s [] = idle_gone s (idles s) refl
+  unless_is s (t ∷ ss) = h.same (s ∷ t ∷ ss)
+
+  idle_is : (code : List Stm) → P code (without_idle code)
+  idle_is [] = h.same []
+  idle_is (s ∷ ss) = h.both (s ∷ ss) (s ∷ without_idle ss) (unless_idle s (without_idle ss)) (h.behind s ss (without_idle ss) (idle_is ss)) (unless_is s (without_idle ss))
 
   -- ---- a temporary
 
@@ -135,4 +139,4 @@ module _ (temps : ℕ) (P : List Stm → List Stm → Type 0) (h : Shortens temp
   carried_is (s ∷ ss) = h.both (s ∷ ss) (s ∷ carried temps ss) (in_front temps s (carried temps ss)) (h.behind s ss (carried temps ss) (carried_is ss)) (front_is s (carried temps ss))
 
   pub shortened_is : (code : List Stm) → P code (shortened temps code)
-  shortened_is code = h.both code (without_leave code) (shortened temps code) (leave_is code) (carried_is (without_leave code))
+  shortened_is code = h.both code (without_idle code) (shortened temps code) (idle_is code) (carried_is (without_idle code))

@@ -1,5 +1,6 @@
 -- Folding keeps bodies well formed.
 use Rattle.std.proofs.Common.{arith, ◌≡◌, ℕ, zero, suc, Bool, true, false, cond, ◌&&◌, List, [], ◌∷◌, ◌++◌, length, map, Option, Some, None, refl, sym, ◌∙◌, ap, subst, Contains, nat_lt, nat_eq}
+use Rattle.std.proofs.lemmas.Bool.{lt-ltb, ltb-true}
 use Rattle.mv_ir.specs.declared.tree.Tree.{Tree}
 use Rattle.mv_ir.specs.declared.stm.Array.{Array}
 use Rattle.mv_ir.specs.declared.stm.Callee.{Callee}
@@ -22,6 +23,9 @@ use Rattle.mv_fold.specs.Simple.{constant, simple_tree, jumps, ended, simple_cal
 use Rattle.mv_fold.specs.Needed.{needed_layer, needed_stm, needed_code}
 use Rattle.mv_fold.specs.Shortened.{shortened}
 use Rattle.mv_fold.specs.Folded.{simple_body, IsNoGreater}
+use Rattle.mv_fold.specs.Opened.{most_levels, leave, from_outside}
+use Rattle.mv_fold.proofs.Opening.{Opens, blocked_is, looped_is}
+use Rattle.mv_fold.proofs.OpenedTargets.{same_targets}
 use Rattle.mv_fold.proofs.Reached.{cons_head, cons_tail}
 use Rattle.mv_fold.proofs.SimpleKept.{each_simple}
 use Rattle.mv_fold.proofs.NeededEquations.{each_left}
@@ -205,6 +209,39 @@ callee_named_simple (callee.Direct f) = refl
 callee_named_simple (callee.Through t) = refl
 callee_named_simple (callee.Switched g) = refl
 
+-- seen from around a loop or block
+abbrev inside : Bool → Facts → Facts
+inside loop a = record { targets = λ r. a.targets (loop ∷ r); arguments = a.arguments; named = a.named }
+
+nearer : (n k : ℕ) → nat_lt (suc n) (suc k) ≡ true → nat_lt n k ≡ true
+nearer n k e = lt-ltb n k (omega (arith, ltb-true (suc n) (suc k) e))
+
+leave_kept : (loop : Bool) (end : Option ℕ) → Keep (inside loop (facts (leave end))) (facts (leave (from_outside end)))
+leave_kept loop None = record { targets = λ r e. refl; arguments = λ e. refl; named = λ p e. refl }
+leave_kept loop (Some zero) = record { targets = λ r e. refl; arguments = λ e. refl; named = λ p e. refl }
+leave_kept loop (Some (suc n)) =
+    subst (λ a. Keep (inside loop a) (facts (leave (Some n)))) (sym (facts_one (stm.Break (suc n)))) (subst (Keep (inside loop (layer_facts (stm.Break (suc n))))) (sym (facts_one (stm.Break n))) (record {
+      targets = λ r e. nearer n (length r) e;
+      arguments = λ e. e;
+      named = λ p e. e;
+    }))
+
+front_kept : (loop : Bool) (front : List Stm) → most_levels front ≡ 0 → Keep (inside loop (facts front)) (facts front)
+front_kept loop front e = record { targets = λ r h. same_targets front e r (loop ∷ r) ∙ h; arguments = λ h. h; named = λ p h. h }
+
+contents_kept : (loop : Bool) (front : List Stm) (end : Option ℕ) → most_levels front ≡ 0 → Keep (inside loop (facts (front ++ leave end))) (facts (front ++ leave (from_outside end)))
+contents_kept loop front end e =
+    subst (λ a. Keep (inside loop a) (facts (front ++ leave (from_outside end)))) (sym (facts_append front (leave end)))
+    (subst (Keep (both (inside loop (facts front)) (inside loop (facts (leave end))))) (sym (facts_append front (leave (from_outside end))))
+    (keep_both (inside loop (facts front)) (facts front) (inside loop (facts (leave end))) (facts (leave (from_outside end))) (front_kept loop front e) (leave_kept loop end)))
+
+open_kept : Opens Kept
+open_kept = record {
+  same = λ xs. keep_refl (facts xs);
+  block = λ front end e. kept_many (stm.Block (front ++ leave end)) (front ++ leave (from_outside end)) (contents_kept false front end e);
+  loop = λ front n e. kept_many (stm.Loop (front ++ leave (Some n))) (front ++ leave (from_outside (Some n))) (contents_kept true front (Some n) e);
+}
+
 kept_layer : (x : Stm-F Stm) → StmChildren IsKept x → Kept (roll-Stm x ∷ []) (simple_layer (map-Stm Stm (List Stm) simple_stm x))
 kept_layer (stm.Set t v) h = alike (stm.Set t v) (stm.Set t (simple_tree v)) refl
 kept_layer (stm.SetGlobal g v) h = alike (stm.SetGlobal g v) (stm.SetGlobal g (simple_tree v)) refl
@@ -214,8 +251,8 @@ kept_layer (stm.Read t r i) h = alike (stm.Read t r i) (stm.Read t r (simple_tre
 kept_layer (stm.Write r i v) h = alike (stm.Write r i v) (stm.Write r (simple_tree i) (simple_tree v)) refl
 kept_layer (stm.Zero l) h = keep_refl _
 kept_layer (stm.If t a b) h = choice_kept (constant (simple_tree t)) t a b (code_kept a h.0) (code_kept b h.1)
-kept_layer (stm.Loop b) h = loop_kept b (simple_code b) (code_kept b h)
-kept_layer (stm.Block b) h = block_kept b (simple_code b) (code_kept b h)
+kept_layer (stm.Loop b) h = keep_trans _ _ _ (loop_kept b (simple_code b) (code_kept b h)) (looped_is Kept open_kept (simple_code b))
+kept_layer (stm.Block b) h = keep_trans _ _ _ (block_kept b (simple_code b) (code_kept b h)) (blocked_is Kept open_kept (simple_code b))
 kept_layer (stm.Break n) h = keep_refl _
 kept_layer (stm.Back n) h = keep_refl _
 kept_layer (stm.Call r f args) h = with_arguments (stm.Call r f args) (stm.Call r (simple_callee f) (map simple_tree args)) (λ n. nat_lt n 9) (callee_named f) (length args) (length (map simple_tree args)) refl
@@ -274,6 +311,7 @@ short_kept temps = shortened_is temps Kept (record {
   both = λ xs ys zs. keep_trans (facts xs) (facts ys) (facts zs);
   behind = λ s xs ys h. kept_append (s ∷ []) (s ∷ []) xs ys (keep_refl _) h;
   leave = λ n. kept_nothing (alone (stm.Break n));
+  unread = λ t v. kept_nothing (alone (stm.Set t v));
   stored = λ t g v lt. pair_kept (stm.Set t v) (stm.SetGlobal g (temp t)) (stm.SetGlobal g v) refl;
   returned = λ t v lt. pair_kept (stm.Set t v) (stm.Return (temp t)) (stm.Return v) refl;
 })

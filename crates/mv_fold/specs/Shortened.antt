@@ -1,5 +1,5 @@
--- The end of a body's code. Behind it nothing follows, so a jump that leaves the body does nothing there, and a temporary that the last statement stores or
--- returns is read nowhere else: the value that the set before puts into it takes its place.
+-- The end of a body's code. Behind it nothing follows, so a jump that leaves the body does nothing there, nor does a set, and a temporary that the last statement
+-- stores or returns is read nowhere else: the value that the set before puts into it takes its place.
 use Rattle.std.specs.Prelude.{ℕ, Bool, true, false, cond, eqb, ltb, List, [], ◌∷◌, Option, Some, None}
 use Rattle.mv_ir.specs.declared.tree.Tree.{Tree, out-Tree}
 use Rattle.mv_ir.specs.declared.tree.Tree.TheOpen.{Tree-F}
@@ -9,20 +9,25 @@ use Rattle.mv_ir.specs.declared.stm.Stm.TheOpen.{Stm-F}
 use Rattle.mv_ir.specs.declared.stm.Stm.TheOpen as stm
 use Rattle.mv_ir.specs.declared.stm.Stm.TheViews.{roll-Stm}
 
--- ---- without a jump that ends it
+-- ---- without what does nothing at its end
 
-abbrev pub layer_leaves : {A : Type 0} → Stm-F A → Bool
-layer_leaves (stm.Break n) = true
-layer_leaves _ = false
+abbrev pub layer_idles : {A : Type 0} → Stm-F A → Bool
+layer_idles (stm.Break n) = true
+layer_idles (stm.Set t v) = true
+layer_idles _ = false
 
--- whether it leaves what stands around it
-unfoldable pub leaves : Stm → Bool
-leaves s = layer_leaves (out-Stm s)
+-- whether it does nothing where nothing follows
+unfoldable pub idles : Stm → Bool
+idles s = layer_idles (out-Stm s)
 
-abbrev pub without_leave : List Stm → List Stm
-without_leave [] = []
-without_leave (s ∷ []) = cond (leaves s) [] (s ∷ [])
-without_leave (s ∷ t ∷ ss) = s ∷ without_leave (t ∷ ss)
+abbrev pub unless_idle : Stm → List Stm → List Stm
+unless_idle s [] = cond (idles s) [] (s ∷ [])
+unless_idle s (t ∷ ss) = s ∷ t ∷ ss
+
+-- as often as it can be done, from the end on
+abbrev pub without_idle : List Stm → List Stm
+without_idle [] = []
+without_idle (s ∷ ss) = unless_idle s (without_idle ss)
 
 -- ---- without a temporary that it stores or returns
 
@@ -71,4 +76,4 @@ carried temps (s ∷ ss) = in_front temps s (carried temps ss)
 -- ---- both
 
 abbrev pub shortened : ℕ → List Stm → List Stm
-shortened temps code = carried temps (without_leave code)
+shortened temps code = carried temps (without_idle code)

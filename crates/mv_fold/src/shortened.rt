@@ -1,6 +1,7 @@
-// The end of a body's code, where nothing follows: without a jump that leaves the body, and without a temporary that the last statement stores or returns.
+// The end of a body's code, where nothing follows: without the jumps that leave the body and the sets at it, and without a temporary that the last statement
+// stores or returns.
 ghost use Rattle.std.specs.Prelude.{◌≡◌, ◌<◌, IfOk};
-ghost use Rattle.mv_fold.specs.Shortened.{leaves, without_leave, is_temp, taking, as_one, carried, shortened};
+ghost use Rattle.mv_fold.specs.Shortened.{idles, without_idle, is_temp, taking, as_one, carried, shortened};
 
 use crate::unneeded::copy_tree;
 use mv_ir::stm::Stm;
@@ -8,13 +9,14 @@ use mv_ir::tree::Tree;
 use mv_num::list::List;
 use std::alloc::{AllocError, Global};
 
-#[tactic(auto, using(crate::proofs::Ends::leaving))]
-fn leaves(stm: &Stm) -> bool
-    ensures { result ≡ leaves stm.now }
+// Whether a statement does nothing where nothing follows.
+#[tactic(auto, using(crate::proofs::Ends::idling))]
+fn idles(stm: &Stm) -> bool
+    ensures { result ≡ idles stm.now }
 {
     match stm {
         Stm::Break(_) => true,
-        Stm::Set(_, _) => false,
+        Stm::Set(_, _) => true,
         Stm::SetGlobal(_, _) => false,
         Stm::Divide(_, _, _, _) => false,
         Stm::Check(_, _) => false,
@@ -31,13 +33,17 @@ fn leaves(stm: &Stm) -> bool
     }
 }
 
-fn without_leave(code: List<Stm>) -> List<Stm>
-    ensures { result ≡ without_leave code }
+// Code without the statements at its end that do nothing there.
+fn without_idle(code: List<Stm>) -> List<Stm>
+    ensures { result ≡ without_idle code }
 {
     let mut stms = code.into_vec();
-    let count = stms.len();
-    if count > 0 && leaves(&stms[count - 1]) {
-        stms.truncate(count - 1);
+    while stms.len() > 0 {
+        let last = stms.len() - 1;
+        if !idles(&stms[last]) {
+            return List::from_vec(stms);
+        }
+        stms.truncate(last);
     }
     List::from_vec(stms)
 }
@@ -144,5 +150,5 @@ fn carried(alloc: Global, temps: u32, code: List<Stm>) -> Result<List<Stm>, Allo
 pub fn shortened(alloc: Global, temps: u32, code: List<Stm>) -> Result<List<Stm>, AllocError>
     ensures { IfOk result (λ short. short ≡ shortened temps code) }
 {
-    carried(alloc, temps, without_leave(code))
+    carried(alloc, temps, without_idle(code))
 }

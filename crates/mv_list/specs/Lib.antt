@@ -1,4 +1,5 @@
 pub mod Bindings
 pub mod Changes
+pub mod Events
 pub mod Listing
 pub mod Numbers

@@ -26,7 +26,7 @@ fn binding_at(bound: &[Binding], number: usize) -> Binding
 
 /// Adds the values of a function's switches.
 #[tactic(auto, unfolding(crate::specs::Bindings::held_text))]
-fn push_held(
+pub(crate) fn push_held(
     alloc: Global,
     out: &mut Vec<u8>,
     image: &Image,

@@ -1,7 +1,7 @@
-//! What is printed of an image: its tables, what its functions are bound to, and the words of its text that were changed.
+//! What is printed of an image: its tables, what its functions are bound to, the words of its text that were changed, and the log of a run.
 //!
-//! - `listing`, `bindings` and `patched` give exactly the texts that `specs/Listing.antt`, `specs/Bindings.antt` and
-//!   `specs/Changes.antt` say. They ask nothing of what is handed in: a function without a binding counts as free, and a
+//! - `listing`, `bindings`, `patched` and `events` give exactly the texts that `specs/Listing.antt`, `specs/Bindings.antt`, `specs/Changes.antt` and
+//!   `specs/Events.antt` say. They ask nothing of what is handed in: a function without a binding counts as free, and a
 //!   word that a machine doesn't hold as 0.
 //! - `patched` sets beside the image's text what loads give. `loads_give_the_text`: where the text of a memory consists of
 //!   words of 32 bits, that is the text.
@@ -13,6 +13,7 @@ mod bound;
 mod changed;
 mod functions;
 mod lines;
+mod logged;
 mod names;
 mod numbers;
 mod parts;
@@ -22,3 +23,4 @@ mod switches;
 pub use bound::bindings;
 pub use changed::{loads_give_the_text, patched};
 pub use lines::listing;
+pub use logged::events;

@@ -2,6 +2,7 @@ pub mod Turns
 pub mod Moved
 pub mod Calls
 pub mod Walks
+pub mod Logged
 pub mod Resumed
 pub mod Starts
 pub mod Storing

@@ -14,8 +14,8 @@ use Rattle.mv_probe.specs.Ways.{Way, Follows, way_after}
 use Rattle.mv_machine.specs.declared.machine.Stopped.{Stopped}
 use Rattle.mv_machine.specs.declared.machine.Stopped.TheVariants as answer
 use Rattle.mv_machine.specs.Runs.{Stop, Going, Exit, Trap, Fault, State, Request, Reads, Writes, request_of, bytes_to_come, stopped, choices_at, fetched_step, turn, runs_from, executed}
-use Rattle.mv_machine.specs.Snapshots.{Snapshot, resumed, Under, Asks, Reached, Whole, Broken, Answered, WantsMemory, Ran, Unless, is_input_fault, is_output_fault}
-use Rattle.mv_machine.specs.Moves.{Seen, shown, Meets, Moves, Called, Wanting, Turns, Goes, Walked, FaultAt, input_failed, output_failed}
+use Rattle.mv_machine.specs.Snapshots.{Snapshot, resumed, Under, Asks, Reached, Whole, Broken, Answered, Counts, WantsMemory, Ran, Unless, last_of, is_input_fault, is_output_fault}
+use Rattle.mv_machine.specs.Moves.{Seen, shown, Meets, Moves, Called, Wanting, Turns, Goes, Walked, executed_of, FaultAt, input_failed, output_failed}
 use Rattle.mv_machine.proofs.Turns.{turn_by, turn_faults, runs_more, adds_by, executed_more, runs_over, executed_over, runs_append, IsOver}
 use Rattle.mv_machine.proofs.Moved.{SoFar, way_more, under_more, Joins, meets_more}
 
@@ -81,11 +81,11 @@ fault_stays x y pick why Told m =
     let same : turn s pick ≡ stopped s (Fault why) = turn_faults s pick why refl (ap (λ (e : State). e.stop) at) in
     (ap (λ (e : State). e.pc) (sym at ∙ same), ap (λ (e : State). e.room) (sym at ∙ same))
 
-unless : (o : Option Stopped) (X : Type 0) → X → Unless o X
+pub unless : (o : Option Stopped) (X : Type 0) → X → Unless o X
 unless None X h = h
 unless (Some last) X h = tt
 
-module _ (was is : Snapshot) (x y : Seen) (a : IsSeen was x) (b : IsSeen is y) (rows : is.image ≡ was.image) (way way' : Option Way) (A B : Type 0) {P : Type 0} (Tell : P → P → List Event → Type 0) (joins : (k l m : P) → Joins (Tell k l) (Tell l m) (Tell k m)) (p q : P) (steps : ℕ) where
+module _ (was is : Snapshot) (x y : Seen) (a : IsSeen was x) (b : IsSeen is y) (rows : is.image ≡ was.image) (way way' : Option Way) (A B : Type 0) {P : Type 0} (Tell : P → P → List Event → Type 0) (joins : (k l m : P) → Joins (Tell k l) (Tell l m) (Tell k m)) (p q : P) (steps count : ℕ) where
   abbrev Told : List Event → Type 0
   Told = Tell p q
 
@@ -93,7 +93,7 @@ module _ (was is : Snapshot) (x y : Seen) (a : IsSeen was x) (b : IsSeen is y) (
   At later e stop = Reached e stop is (bytes_to_come later) x.written y.written Told
 
   abbrev Runs : Stopped → Type 0
-  Runs r = Ran steps r was is x.actions x.left y.left x.written y.written way way' A B Told
+  Runs r = Ran steps r count was is x.actions x.left y.left x.written y.written way way' A B Told
 
   from_meets : (f : State → State) (P : State → Type 0) (stop : Stop) (Q : List ℕ → State → Type 0) → Meets P f x y stop Told → ((later : List ℕ) (s : State) → P s → At later (f s) stop → Q later s) →
       OnInput x.left y.left (λ taken later. Q later (resumed was (bytes_to_come (taken ++ later)) x.actions))
@@ -108,13 +108,13 @@ module _ (was is : Snapshot) (x y : Seen) (a : IsSeen was x) (b : IsSeen is y) (
   )
 
   -- the steps were used up
-  pub all_steps : Goes steps x y way way' Told → Runs answer.Steps
-  all_steps g = record {
+  pub all_steps : count ≡ steps → Goes steps x y way way' Told → Runs answer.Steps
+  all_steps counted g = record {
     image = rows;
     picks = g.0;
     way_is = g.2 ∙ ap (λ (n : ℕ). option_map (λ w. way_after w n) way) (sym g.1);
-    run = from_meets (λ s. runs_from s g.0 steps) (SoFar way g.0 steps) Going (λ later s. Under way s g.0 × Answered answer.Steps steps s g.0 (At later) A B) g.3
-        (λ later s p r. (p.0, record { reached = r; picked = p.1 ∙ sym g.1 }));
+    run = from_meets (λ s. runs_from s g.0 steps) (SoFar way g.0 steps) Going (λ later s. Under way s g.0 × Answered answer.Steps steps s g.0 (At later) A B × Counts answer.Steps steps s g.0 count) g.3
+        (λ later s p r. (p.0, record { reached = r; picked = p.1 ∙ sym g.1 }, p.1 ∙ sym counted));
   }
 
   -- an instruction ended the run
@@ -144,48 +144,52 @@ module _ (was is : Snapshot) (x y : Seen) (a : IsSeen was x) (b : IsSeen is y) (
       picked = executed_to_end s stop over r.stopped ∙ p.1 ∙ sym len;
     }
 
-    ended : (stop : Stop) (r : Stopped) → IsOver stop → Moves (λ s. turn s pick) mid y stop (Tell l q) → ((later : List ℕ) (s : State) → Whole s all steps (At later) stop → Answered r steps s all (At later) A B) → Runs r
-    ended stop r over t answers = record {
+    ended : (stop : Stop) (r : Stopped) → IsOver stop → Moves (λ s. turn s pick) mid y stop (Tell l q) → ((later : List ℕ) (s : State) → Whole s all steps (At later) stop → Answered r steps s all (At later) A B)
+        → ((s : State) → executed s all steps ≡ count → Counts r steps s all count) → count ≡ n + 1 → Runs r
+    ended stop r over t answers counts counted = record {
       image = rows;
       picks = all;
       way_is = way_all;
-      run = from_meets (λ s. runs_from s all (n + 1)) (SoFar way all (n + 1)) stop (λ later s. Under way s all × Answered r steps s all (At later) A B)
+      run = from_meets (λ s. runs_from s all (n + 1)) (SoFar way all (n + 1)) stop (λ later s. Under way s all × Answered r steps s all (At later) A B × Counts r steps s all count)
           (meets_more x mid y stop way v way' (Tell p l) (Tell l q) Told (joins p l q) g.0 pick n g.1 g.2 follows g.3 t)
-          (λ later s p e. (p.0, answers later s (whole stop over later s p e)));
+          (λ later s p e.
+          let w = whole stop over later s p e in
+          (p.0, answers later s w, counts s (w.picked ∙ len ∙ sym counted)));
     }
 
-    pub ended_at : (status : ℕ) → Moves (λ s. turn s pick) mid y (Exit status) (Tell l q) → Runs (answer.Ended status)
-    ended_at status t = ended (Exit status) (answer.Ended status) tt t (λ later s w. w)
+    pub ended_at : (status : ℕ) → Moves (λ s. turn s pick) mid y (Exit status) (Tell l q) → count ≡ n + 1 → Runs (answer.Ended status)
+    ended_at status t = ended (Exit status) (answer.Ended status) tt t (λ later s w. w) (λ s c. c)
 
-    pub trapped_at : (code : ℕ) → Moves (λ s. turn s pick) mid y (Trap code) (Tell l q) → Runs (answer.Trapped code)
-    trapped_at code t = ended (Trap code) (answer.Trapped code) tt t (λ later s w. w)
+    pub trapped_at : (code : ℕ) → Moves (λ s. turn s pick) mid y (Trap code) (Tell l q) → count ≡ n + 1 → Runs (answer.Trapped code)
+    trapped_at code t = ended (Trap code) (answer.Trapped code) tt t (λ later s w. w) (λ s c. c)
 
-    pub fault_at : (pc : ℕ) (why : Cause) → pc ≡ y.pc → Moves (λ s. turn s pick) mid y (Fault why) (Tell l q) → Runs (answer.Fault pc why)
+    pub fault_at : (pc : ℕ) (why : Cause) → pc ≡ y.pc → Moves (λ s. turn s pick) mid y (Fault why) (Tell l q) → count ≡ n + 1 → Runs (answer.Fault pc why)
     fault_at pc why e t = ended (Fault why) (answer.Fault pc why) tt t (λ later s w.
         let end = runs_from s all steps in
         let still = fault_stays mid y pick why (Tell l q) t in
-        let count : choices_at end ≡ length (choices mid.room.held mid.pc) = choices_same end mid (sym w.reached.pc ∙ b.pc ∙ still.0) (sym w.reached.memory ∙ b.room ∙ still.1) in
-        record { reached = w.reached; place = sym w.reached.pc ∙ b.pc ∙ sym e; picked = omega (arith, w.picked, count, below) })
+        let some : choices_at end ≡ length (choices mid.room.held mid.pc) = choices_same end mid (sym w.reached.pc ∙ b.pc ∙ still.0) (sym w.reached.memory ∙ b.room ∙ still.1) in
+        record { reached = w.reached; place = sym w.reached.pc ∙ b.pc ∙ sym e; picked = omega (arith, w.picked, some, below) }) (λ s c. c)
 
     -- nothing more was told
     still_told : Tell l q [] → Meets (SoFar way g.0 n) (λ s. runs_from s g.0 n) x mid Going Told
     still_told quiet = (g.3.0, g.3.1, g.3.2, subst Told (append-nil g.3.1) (joins p l q g.3.1 [] g.3.3 quiet), g.3.4)
 
     -- an instruction was fetched and not carried out
-    broken : (r : Stopped) (Why : State → ℕ → Type 0) → y ≡ mid → Tell l q [] → ((e : State) → e.regs ≡ mid.regs → e.pc ≡ mid.pc → e.room ≡ mid.room → Why e pick) → ((later : List ℕ) (s : State) → Broken s all steps (At later) Why → Answered r steps s all (At later) A B) → Runs r
-    broken r Why still quiet why answers = record {
+    broken : (r : Stopped) (Why : State → ℕ → Type 0) → y ≡ mid → Tell l q [] → ((e : State) → e.regs ≡ mid.regs → e.pc ≡ mid.pc → e.room ≡ mid.room → Why e pick) → ((later : List ℕ) (s : State) → Broken s all steps (At later) Why → Answered r steps s all (At later) A B)
+        → ((s : State) → count + 1 ≡ length all → Counts r steps s all count) → count ≡ n → Runs r
+    broken r Why still quiet why answers counts counted = record {
       image = rows;
       picks = all;
       way_is = way_all;
-      run = from_meets (λ s. runs_from s g.0 n) (SoFar way g.0 n) Going (λ later s. Under way s all × Answered r steps s all (At later) A B)
+      run = from_meets (λ s. runs_from s g.0 n) (SoFar way g.0 n) Going (λ later s. Under way s all × Answered r steps s all (At later) A B × Counts r steps s all count)
           (subst (λ (z : Seen). Meets (SoFar way g.0 n) (λ s. runs_from s g.0 n) x z Going Told) (sym still) (still_told quiet))
           (λ later s p e.
           let same_state : runs_from s all n ≡ runs_from s g.0 n = runs_append s g.0 (pick ∷ []) n (omega (arith, g.1)) in
           let regs : (runs_from s g.0 n).regs ≡ mid.regs = sym e.regs ∙ b.regs ∙ ap (λ (z : Seen). z.regs) still in
           let pc : (runs_from s g.0 n).pc ≡ mid.pc = sym e.pc ∙ b.pc ∙ ap (λ (z : Seen). z.pc) still in
           let room : (runs_from s g.0 n).room ≡ mid.room = sym e.memory ∙ b.room ∙ ap (λ (z : Seen). z.room) still in
-          let count : choices_at (runs_from s g.0 n) ≡ length (choices mid.room.held mid.pc) = choices_same (runs_from s g.0 n) mid pc room in (
-            under_more way v way' s g.0 pick (length (choices mid.room.held mid.pc)) n g.1 g.2 follows count p.0,
+          let some : choices_at (runs_from s g.0 n) ≡ length (choices mid.room.held mid.pc) = choices_same (runs_from s g.0 n) mid pc room in (
+            under_more way v way' s g.0 pick (length (choices mid.room.held mid.pc)) n g.1 g.2 follows some p.0,
             answers later s (record {
               count = n;
               within = lt;
@@ -193,17 +197,18 @@ module _ (was is : Snapshot) (x y : Seen) (a : IsSeen was x) (b : IsSeen is y) (
               picked = sym len;
               cause = subst (λ (t : State). Why t (slice_index all n)) (sym same_state) (subst (λ (k : ℕ). Why (runs_from s g.0 n) k) (sym (get_or_at g.0 pick [] 0 n g.1)) (why (runs_from s g.0 n) regs pc room));
             }),
+            counts s (omega (arith, counted, len)),
           ));
     }
 
-    pub input_fault_at : y ≡ mid → Tell l q [] → Called mid pick Reads → A → Runs answer.InputFault
-    input_fault_at still quiet c rose = broken answer.InputFault (λ e p. Asks e p Reads × A) still quiet (λ e regs pc room. (asks e mid pick Reads regs pc room below c, rose)) (λ later s w. w)
+    pub input_fault_at : y ≡ mid → Tell l q [] → Called mid pick Reads → A → count ≡ n → Runs answer.InputFault
+    input_fault_at still quiet c rose = broken answer.InputFault (λ e p. Asks e p Reads × A) still quiet (λ e regs pc room. (asks e mid pick Reads regs pc room below c, rose)) (λ later s w. w) (λ s e. e)
 
-    pub output_fault_at : y ≡ mid → Tell l q [] → Called mid pick Writes → B → Runs answer.OutputFault
-    output_fault_at still quiet c rose = broken answer.OutputFault (λ e p. Asks e p Writes × B) still quiet (λ e regs pc room. (asks e mid pick Writes regs pc room below c, rose)) (λ later s w. w)
+    pub output_fault_at : y ≡ mid → Tell l q [] → Called mid pick Writes → B → count ≡ n → Runs answer.OutputFault
+    output_fault_at still quiet c rose = broken answer.OutputFault (λ e p. Asks e p Writes × B) still quiet (λ e regs pc room. (asks e mid pick Writes regs pc room below c, rose)) (λ later s w. w) (λ s e. e)
 
-    pub memory_at : y ≡ mid → Tell l q [] → Wanting mid pick → Runs answer.Memory
-    memory_at still quiet w = broken answer.Memory WantsMemory still quiet (λ e regs pc room. wants e mid pick regs pc room below w) (λ later s h. h)
+    pub memory_at : y ≡ mid → Tell l q [] → Wanting mid pick → count ≡ n → Runs answer.Memory
+    memory_at still quiet w = broken answer.Memory WantsMemory still quiet (λ e regs pc room. wants e mid pick regs pc room below w) (λ later s h. h) (λ s e. e)
 
   -- there was no word to fetch
   module _ (n : ℕ) (mid : Seen) (l : P) (v : Option Way) (lt : n < steps) (g : Goes n x mid way v (Tell p l)) (none : length (choices mid.room.held mid.pc) ≡ 0) (still : y ≡ mid) (quiet : Tell l q []) (stays : way' ≡ v) where
@@ -246,48 +251,70 @@ module _ (was is : Snapshot) (x y : Seen) (a : IsSeen was x) (b : IsSeen is y) (
     executed_to_last : (s : State) → (runs_from s g.0 (n + 1)).stop ≡ Fault cause.Fetch → executed s g.0 steps ≡ executed s g.0 (n + 1)
     executed_to_last s e = ap (λ (i : ℕ). executed s g.0 i) rest ∙ executed_over s g.0 (n + 1) (steps - (n + 1)) (over s e)
 
-    pub unfetched_at : Runs (answer.Fault mid.pc cause.Fetch)
-    unfetched_at = record {
+    pub unfetched_at : count ≡ n + 1 → Runs (answer.Fault mid.pc cause.Fetch)
+    unfetched_at counted = record {
       image = rows;
       picks = g.0;
       way_is = stays ∙ g.2 ∙ ap (λ (k : ℕ). option_map (λ w. way_after w k) way) (sym g.1);
-      run = from_meets (λ s. runs_from s g.0 (n + 1)) (SoFar way g.0 (n + 1)) (Fault cause.Fetch) (λ later s. Under way s g.0 × Answered (answer.Fault mid.pc cause.Fetch) steps s g.0 (At later) A B)
+      run = from_meets (λ s. runs_from s g.0 (n + 1)) (SoFar way g.0 (n + 1)) (Fault cause.Fetch) (λ later s. Under way s g.0 × Answered (answer.Fault mid.pc cause.Fetch) steps s g.0 (At later) A B × Counts (answer.Fault mid.pc cause.Fetch) steps s g.0 count)
           (subst (λ (z : Seen). Meets (SoFar way g.0 (n + 1)) (λ s. runs_from s g.0 (n + 1)) x z (Fault cause.Fetch) Told) (sym still) to_fault)
           (λ later s p e.
           let last = to_last s e.stopped in
           let end = runs_from s g.0 steps in
           let pc : end.pc ≡ mid.pc = ap (λ (t : State). t.pc) last ∙ sym e.pc ∙ b.pc ∙ ap (λ (z : Seen). z.pc) still in
           let room : end.room ≡ mid.room = ap (λ (t : State). t.room) last ∙ sym e.memory ∙ b.room ∙ ap (λ (z : Seen). z.room) still in
-          let count : choices_at end ≡ length (choices mid.room.held mid.pc) = choices_same end mid pc room in (
+          let some : choices_at end ≡ length (choices mid.room.held mid.pc) = choices_same end mid pc room in (
             p.0,
             record {
               reached = subst (λ (t : State). At later t (Fault cause.Fetch)) (sym last) e;
               place = pc;
-              picked = omega (arith, executed_to_last s e.stopped, p.1, g.1, count, none);
+              picked = omega (arith, executed_to_last s e.stopped, p.1, g.1, some, none);
             },
+            executed_to_last s e.stopped ∙ p.1 ∙ sym counted,
           ));
     }
 
-  from_turn : (n : ℕ) (mid : Seen) (l : P) (v : Option Way) (r : Stopped) → n < steps → Goes n x mid way v (Tell p l) → FaultAt r y.pc → Turns (Some r) mid y v way' A B (Tell l q) → Runs r
-  from_turn n mid l v r lt g f (inl t) =
+  from_turn : (n fetched : ℕ) (mid : Seen) (l : P) (v : Option Way) (r : Stopped) → n < steps → fetched ≡ n + 1 → count ≡ executed_of (Some r) fetched → Goes n x mid way v (Tell p l) → FaultAt r y.pc
+      → Turns (Some r) mid y v way' A B (Tell l q) → Runs r
+  from_turn n fetched mid l v r lt one counted g f (inl t) =
       let is_fault : r ≡ answer.Fault mid.pc cause.Fetch = ap (λ (o : Option Stopped). unwrap_or o answer.Steps) t.1 in
-      subst (λ (o : Stopped). Runs o) (sym is_fault) (unfetched_at n mid l v lt g t.0 t.2 t.3 t.4)
-  from_turn n mid l v (answer.Ended status) lt g f (inr t) = ended_at n mid l v lt g t.0 t.1 t.2 status t.3
-  from_turn n mid l v (answer.Trapped code) lt g f (inr t) = trapped_at n mid l v lt g t.0 t.1 t.2 code t.3
-  from_turn n mid l v answer.Steps lt g f (inr t) = absurd t.3
-  from_turn n mid l v answer.InputFault lt g f (inr t) = input_fault_at n mid l v lt g t.0 t.1 t.2 t.3.0 t.3.1 t.3.2 t.3.3
-  from_turn n mid l v answer.OutputFault lt g f (inr t) = output_fault_at n mid l v lt g t.0 t.1 t.2 t.3.0 t.3.1 t.3.2 t.3.3
-  from_turn n mid l v (answer.Fault pc why) lt g f (inr t) = fault_at n mid l v lt g t.0 t.1 t.2 pc why f t.3
-  from_turn n mid l v answer.Memory lt g f (inr t) = memory_at n mid l v lt g t.0 t.1 t.2 t.3.0 t.3.1 t.3.2
+      let same : executed_of (Some r) fetched ≡ fetched = ap (λ (o : Stopped). executed_of (Some o) fetched) is_fault in
+      subst (λ (o : Stopped). Runs o) (sym is_fault) (unfetched_at n mid l v lt g t.0 t.2 t.3 t.4 (counted ∙ same ∙ one))
+  from_turn n fetched mid l v (answer.Ended status) lt one counted g f (inr t) = ended_at n mid l v lt g t.0 t.1 t.2 status t.3 (counted ∙ one)
+  from_turn n fetched mid l v (answer.Trapped code) lt one counted g f (inr t) = trapped_at n mid l v lt g t.0 t.1 t.2 code t.3 (counted ∙ one)
+  from_turn n fetched mid l v answer.Steps lt one counted g f (inr t) = absurd t.3
+  from_turn n fetched mid l v answer.InputFault lt one counted g f (inr t) = input_fault_at n mid l v lt g t.0 t.1 t.2 t.3.0 t.3.1 t.3.2 t.3.3 (omega (arith, counted, one))
+  from_turn n fetched mid l v answer.OutputFault lt one counted g f (inr t) = output_fault_at n mid l v lt g t.0 t.1 t.2 t.3.0 t.3.1 t.3.2 t.3.3 (omega (arith, counted, one))
+  from_turn n fetched mid l v (answer.Fault pc why) lt one counted g f (inr t) = fault_at n mid l v lt g t.0 t.1 t.2 pc why f t.3 (counted ∙ one)
+  from_turn n fetched mid l v answer.Memory lt one counted g f (inr t) = memory_at n mid l v lt g t.0 t.1 t.2 t.3.0 t.3.1 t.3.2 (omega (arith, counted, one))
 
-  walked : (r : Option Stopped) → Walked Tell p q steps r x y way way' A B → IfSome r (λ stopped. FaultAt stopped y.pc) → Runs (unwrap_or r answer.Steps)
-  walked None w f = all_steps w
-  walked (Some r) w f = from_turn w.0 w.1 w.2 w.3 r w.4 w.5 f w.6
+  walked : (r : Option Stopped) (fetched : ℕ) → count ≡ executed_of r fetched → Walked Tell p q steps r fetched x y way way' A B → IfSome r (λ stopped. FaultAt stopped y.pc) → Runs (unwrap_or r answer.Steps)
+  walked None fetched counted w f = all_steps (counted ∙ w.0) w.1
+  walked (Some r) fetched counted w f = from_turn w.0 fetched w.1 w.2 w.3 r w.4 w.5 counted w.6 f w.7
 
-  pub ran : (actions : List Action) → x.actions ≡ actions → (r : Option Stopped) (result : Stopped) (last : Option Stopped) → result ≡ unwrap_or r answer.Steps → Walked Tell p q steps r x y way way' A B → IfSome r (λ stopped. FaultAt stopped y.pc)
-      → Unless last (Ran steps result was is actions x.left y.left x.written y.written way way' A B Told)
-  ran actions handed r result last e w f = unless last _
-      (subst (λ (all : List Action). Ran steps result was is all x.left y.left x.written y.written way way' A B Told) handed (subst (λ (o : Stopped). Runs o) (sym e) (walked r w f)))
+  pub ran : (actions : List Action) → x.actions ≡ actions → (r : Option Stopped) (fetched : ℕ) (result : Stopped) → result ≡ unwrap_or r answer.Steps → count ≡ executed_of r fetched
+      → Walked Tell p q steps r fetched x y way way' A B → IfSome r (λ stopped. FaultAt stopped y.pc)
+      → Ran steps result count was is actions x.left y.left x.written y.written way way' A B Told
+  ran actions handed r fetched result e counted w f =
+      subst (λ (all : List Action). Ran steps result count was is all x.left y.left x.written y.written way way' A B Told) handed (subst (λ (o : Stopped). Runs o) (sym e) (walked r fetched counted w f))
+
+abbrev is_fault : Option Stopped → Type 0
+is_fault (Some (answer.Fault pc why)) = Unit {0}
+is_fault _ = ⊥
+
+not_steps : (x y : Seen) (way way' : Option Way) (A B : Type 0) (Told : List Event → Type 0) → Turns (Some answer.Steps) x y way way' A B Told → ⊥
+not_steps x y way way' A B Told (inl t) = subst (λ (r : Option Stopped). is_fault r) (sym t.1) tt
+not_steps x y way way' A B Told (inr t) = t.3
+
+pub last_is : {P : Type 0} (Tell : P → P → List Event → Type 0) (p q : P) (steps : ℕ) (x y : Seen) (way way' : Option Way) (A B : Type 0) (r : Option Stopped) (fetched : ℕ) → Walked Tell p q steps r fetched x y way way' A B → r ≡ last_of (unwrap_or r answer.Steps)
+last_is Tell p q steps x y way way' A B None fetched w = refl
+last_is Tell p q steps x y way way' A B (Some (answer.Ended status)) fetched w = refl
+last_is Tell p q steps x y way way' A B (Some (answer.Trapped code)) fetched w = refl
+last_is Tell p q steps x y way way' A B (Some answer.Steps) fetched w = absurd (not_steps w.1 y w.3 way' A B (Tell w.2 q) w.7)
+last_is Tell p q steps x y way way' A B (Some answer.InputFault) fetched w = refl
+last_is Tell p q steps x y way way' A B (Some answer.OutputFault) fetched w = refl
+last_is Tell p q steps x y way way' A B (Some (answer.Fault pc why)) fetched w = refl
+last_is Tell p q steps x y way way' A B (Some answer.Memory) fetched w = refl
 
 -- the device that the answer of a call of `run` names is the one that the last instruction names
 pub input_count : (r : Option Stopped) (result : Stopped) (before now : ℕ) → result ≡ unwrap_or r answer.Steps → CountAfter (input_failed r) before now → CountAfter (is_input_fault result) before now

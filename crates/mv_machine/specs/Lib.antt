@@ -2,6 +2,7 @@ pub mod Runs
 pub mod Commits
 pub mod Engines
 pub mod Snapshots
+pub mod Logging
 pub mod Moves
 pub mod Actions
 pub mod Acts

@@ -1,5 +1,5 @@
 -- What the code holds of a state, and that what it does to it is what a definition does to the state.
-use Rattle.std.specs.Prelude.{ℕ, zero, suc, ◌+◌, ◌≡◌, ◌%◌, ◌^◌, ◌<◌, ◌⊎◌, ◌∷◌, Bool, false, List, [], ◌++◌, length, map, slice_get, Option, Some, None, option_map, IsSomeAnd, Ok}
+use Rattle.std.specs.Prelude.{ℕ, zero, suc, ◌+◌, ◌-◌, ◌≡◌, ◌%◌, ◌^◌, ◌<◌, ◌⊎◌, ◌∷◌, Bool, false, List, [], ◌++◌, length, map, slice_get, Option, Some, None, option_map, IsSomeAnd, Ok}
 use Rattle.mv_num.specs.Words.{add}
 use Rattle.mv_bindings.specs.declared.binding.Binding.{Binding}
 use Rattle.mv_bindings.specs.declared.action.Action.{Action}
@@ -177,13 +177,28 @@ Goes n x y way way' Told =
     (picks : List ℕ) × (length picks ≡ n) × (way' ≡ option_map (λ w. way_after w n) way)
     × Meets (λ s. Under way s picks × (executed s picks n ≡ n)) (λ s. runs_from s picks n) x y Going Told
 
--- A walk of at most so many instructions: all of them, or some and then one that stopped it. `Told p q events`: probes that were p are q behind
--- these events.
-abbrev pub Walked : {P : Type 0} → (Told : P → P → List Event → Type 0) → (p q : P) → (steps : ℕ) → Option Stopped → Seen → Seen → Option Way → Option Way → (input_rose output_rose : Type 0) → Type 0
-Walked Told p q steps None x y way way' input_rose output_rose = Goes steps x y way way' (Told p q)
-Walked {P} Told p q steps (Some stopped) x y way way' input_rose output_rose =
+-- what was told, and behind a list of events those as well
+abbrev pub WithEvents : {P : Type 0} → (Told : P → P → List Event → Type 0) → (P × List Event) → (P × List Event) → List Event → Type 0
+WithEvents Told was now news = Told was.0 now.0 news × (now.1 ≡ was.1 ++ news)
+
+-- A walk of at most so many instructions, of which so many were fetched: all of them, or some and then one that stopped it. `Told p q events`: probes that were p
+-- are q behind these events.
+abbrev pub Walked : {P : Type 0} → (Told : P → P → List Event → Type 0) → (p q : P) → (steps : ℕ) → Option Stopped → (fetched : ℕ) → Seen → Seen → Option Way → Option Way → (input_rose output_rose : Type 0) → Type 0
+Walked Told p q steps None fetched x y way way' input_rose output_rose = (fetched ≡ steps) × Goes steps x y way way' (Told p q)
+Walked {P} Told p q steps (Some stopped) fetched x y way way' input_rose output_rose =
     (n : ℕ) × (mid : Seen) × (probes : P) × (v : Option Way)
-    × (n < steps) × Goes n x mid way v (Told p probes) × Turns (Some stopped) mid y v way' input_rose output_rose (Told probes q)
+    × (n < steps) × (fetched ≡ n + 1) × Goes n x mid way v (Told p probes) × Turns (Some stopped) mid y v way' input_rose output_rose (Told probes q)
+
+-- how many of the instructions that were fetched were executed: not the one that was not carried out
+abbrev pub executed_of : Option Stopped → (fetched : ℕ) → ℕ
+executed_of None fetched = fetched
+executed_of (Some (answer.Ended status)) fetched = fetched
+executed_of (Some (answer.Trapped code)) fetched = fetched
+executed_of (Some answer.Steps) fetched = fetched
+executed_of (Some (answer.Fault pc why)) fetched = fetched
+executed_of (Some answer.InputFault) fetched = fetched - 1
+executed_of (Some answer.OutputFault) fetched = fetched - 1
+executed_of (Some answer.Memory) fetched = fetched - 1
 
 -- an engine says whether its bindings have another text than those that it had
 abbrev pub TellsOpened : Engine → Engine → Type 0

@@ -89,15 +89,30 @@ Answered answer.InputFault steps s picks at input_rose output_rose = Broken s pi
 Answered answer.OutputFault steps s picks at input_rose output_rose = Broken s picks steps at (λ e pick. Asks e pick Writes × output_rose)
 Answered answer.Memory steps s picks at input_rose output_rose = Broken s picks steps at WantsMemory
 
+-- how many of the instructions were executed: of those that were picked, all but one that was not carried out
+abbrev pub Counts : Stopped → (steps : ℕ) → State → (picks : List ℕ) → (count : ℕ) → Type 0
+Counts (answer.Ended status) steps s picks count = executed s picks steps ≡ count
+Counts (answer.Trapped code) steps s picks count = executed s picks steps ≡ count
+Counts answer.Steps steps s picks count = executed s picks steps ≡ count
+Counts (answer.Fault pc why) steps s picks count = executed s picks steps ≡ count
+Counts answer.InputFault steps s picks count = count + 1 ≡ length picks
+Counts answer.OutputFault steps s picks count = count + 1 ≡ length picks
+Counts answer.Memory steps s picks count = count + 1 ≡ length picks
+
 -- What a call of `run` does on a machine that has not ended: there are picks, those of the oracle's way where it tells one, and bytes that were taken of the
--- source. Whatever may come behind these, the run with these picks on both is the defined one, and leaves what comes behind.
-pub record Ran (steps : ℕ) (answer : Stopped) (was is : Snapshot) (actions : List Action) (left left' written written' : Option (List ℕ)) (way way' : Option Way) (input_rose output_rose : Type 0) (Told : List Event → Type 0) : Type 0 where
+-- source. Whatever may come behind these, the run with these picks on both is the defined one, leaves what comes behind, and has executed so many instructions.
+pub record Ran (steps : ℕ) (answer : Stopped) (count : ℕ) (was is : Snapshot) (actions : List Action) (left left' written written' : Option (List ℕ)) (way way' : Option Way) (input_rose output_rose : Type 0) (Told : List Event → Type 0) : Type 0 where
   pub image : is.image ≡ was.image
   pub picks : List ℕ
   pub way_is : way' ≡ option_map (λ w. way_after w (length picks)) way
   pub run : OnInput left left' (λ taken later.
       let s = resumed was (bytes_to_come (taken ++ later)) actions in
-      Under way s picks × Answered answer steps s picks (λ e stop. Reached e stop is (bytes_to_come later) written written' Told) input_rose output_rose)
+      Under way s picks × Answered answer steps s picks (λ e stop. Reached e stop is (bytes_to_come later) written written' Told) input_rose output_rose
+      × Counts answer steps s picks count)
+
+-- the log is these events, where it was kept
+abbrev pub Logs : Option (List Event) → List Event → Type 0
+Logs log events = IfSome log (λ kept. kept ≡ events)
 
 -- the call goes on only where the run has not ended before
 abbrev pub Unless : Option Stopped → Type 0 → Type 0

@@ -8,7 +8,8 @@
 //!   comes where that many were executed and none ended the run. After a failed read or write the state is the one before
 //!   that call, which is a read or a write, and the count of the source's or the sink's faults rose, by one; with each other
 //!   answer both counts are as before, so a device that failed is asked nothing more. A machine that has ended gives its answer again and does nothing. Each probe that is left was told the log of
-//!   the state, in order, up to the event at which it left. `bindings` and `word` are the state's.
+//!   the state, in order, up to the event at which it left. A report has how many instructions were executed and, where it was asked for and there was memory
+//!   for it, exactly that log. `bindings` and `word` are the state's.
 //! - An order and a poll are part of that definition: with a live frame they change nothing, nor does an order in another
 //!   hart than 0; else the plan of `mv_patch` is in the plan area, the bindings are its own, and the log has an event for
 //!   each that differs. Text is stored by the program alone, but for the words that come with bindings which a poll of
@@ -27,6 +28,7 @@
 mod call;
 mod engine;
 pub mod laws;
+mod logging;
 mod machine;
 mod operator;
 mod patching;
@@ -36,7 +38,7 @@ mod starting;
 mod turning;
 
 pub use engine::Engine;
-pub use machine::{Machine, Stopped};
+pub use machine::{Machine, Report, Stopped};
 pub use operator::Operator;
 pub use patching::{adopt, is_known, refuse};
 pub use turning::turn;

@@ -1,6 +1,7 @@
 //! A machine and its runs.
 
-ghost use Rattle.std.specs.Prelude.{◌≡◌, ◌≤◌, [], Some, None, IfOk, IsTrue, All};
+ghost use Rattle.std.specs.Prelude.{◌≡◌, ◌≤◌, List, [], Some, None, IfOk, IsTrue, All};
+ghost use Rattle.mv_bindings.specs.declared.binding.Event.{Event};
 ghost use Rattle.std.specs.Result.{result_ok};
 ghost use Rattle.mv_fetch.specs.Held.{load};
 ghost use Rattle.mv_io.specs.Outside.{Rose, CountAfter};
@@ -9,13 +10,14 @@ ghost use Rattle.mv_probe.specs.Fates.{Fates};
 ghost use Rattle.mv_machine.specs.Actions.{fits};
 ghost use Rattle.mv_machine.specs.Acts.{polls_of};
 ghost use Rattle.mv_machine.specs.Runs.{first};
-ghost use Rattle.mv_machine.specs.Snapshots.{kept, Ran, Unless, last_of, is_input_fault, is_output_fault};
+ghost use Rattle.mv_machine.specs.Snapshots.{kept, Logs, Ran, Unless, last_of, is_input_fault, is_output_fault};
 
 use crate::engine::Engine;
+use crate::logging::{events_of, log_from};
 use crate::operator::Operator;
 use crate::turning::walk;
 use mv_bindings::action::Action;
-use mv_bindings::binding::Binding;
+use mv_bindings::binding::{Binding, Event};
 use mv_image::Image;
 use mv_io::{Sink, Source};
 use mv_num::list::List;
@@ -41,6 +43,17 @@ pub enum Stopped {
     Fault(u32, Cause),
     /// There was no memory to remember the word that a store into text replaces.
     Memory,
+}
+
+/// What a call of `run` did.
+#[derive(Drop)]
+pub struct Report {
+    /// Why it stopped.
+    pub stopped: Stopped,
+    /// How many instructions were executed: also one that faults, but none that `InputFault`, `OutputFault` or `Memory` names.
+    pub executed: u64,
+    /// The changed bindings in order, where the log was wanted and there was memory for all of it.
+    pub log: Option<List<Event>>,
 }
 
 /// An image, hart 0, its memory and the bindings of the attributed functions, and the last answer where a run has ended.
@@ -75,46 +88,59 @@ impl Machine {
     }
 
     /// Runs so many instructions, or up to the one that ends the run. After `Steps` a further call goes on; after any other answer it gives
-    /// this answer again and does nothing. A poll takes the next of the actions. Each probe is told each changed binding at the environment call
-    /// that changes it, until it leaves.
+    /// this answer again and does nothing, without a log. A poll takes the next of the actions. Each probe is told each changed binding at the environment call
+    /// that changes it, until it leaves. Where the log is wanted, the report has it, unless memory lacked for it.
     pub fn run<I: Source, O: Sink>(
         &mut self,
+        alloc: Global,
+        logs: bool,
         steps: u64,
         source: &mut I,
         sink: &mut O,
         oracle: &mut Box<dyn FetchOracle>,
         probes: &mut Vec<Box<dyn Probe>>,
         actions: &[Action],
-    ) -> Stopped
+    ) -> Report
         requires patient { All (λ probe. IsPatient (hearing (told probe) (patience probe))) probes.old.items }
         requires fit { All (λ action. IsTrue (fits self.old.image.switches action)) actions.now }
 
-        ensures runs { Unless self.old.last (Ran steps result self.old self.new actions.now
+        ensures runs { Unless self.old.last ((events : List Event) × Logs result.log events × Ran steps result.stopped result.executed self.old self.new actions.now
             (I.left source.old) (I.left source.new) (O.written sink.old) (O.written sink.new) (way oracle.old) (way oracle.new)
             (Rose (I.faults source.old) (I.faults source.new)) (Rose (O.faults sink.old) (O.faults sink.new))
-            (λ events. Fates (Becomes (λ probe. object_at probe.ptr probe.vtable) (λ probe. hearing (told probe) (patience probe)) events) probes.old.items probes.new.items)) }
+            (λ news. Fates (Becomes (λ probe. object_at probe.ptr probe.vtable) (λ probe. hearing (told probe) (patience probe)) news) probes.old.items probes.new.items × (events ≡ news))) }
         ensures quiet { self.old.image.functions ≡ [] → probes.new ≡ probes.old }
-        ensures last { self.old.last ≡ None → self.new.last ≡ last_of result }
-        ensures again { (last : Stopped) → self.old.last ≡ Some last → (result ≡ last) × (self.new ≡ self.old) × (source.new ≡ source.old) × (sink.new ≡ sink.old) × (way oracle.new ≡ way oracle.old) × (probes.new ≡ probes.old) }
+        ensures last { self.old.last ≡ None → self.new.last ≡ last_of result.stopped }
+        ensures again { (last : Stopped) → self.old.last ≡ Some last → (result.stopped ≡ last) × (result.executed ≡ 0) × (result.log ≡ None) × (self.new ≡ self.old) × (source.new ≡ source.old) × (sink.new ≡ sink.old) × (way oracle.new ≡ way oracle.old) × (probes.new ≡ probes.old) }
         ensures input { I.faults source.old ≤ I.faults source.new }
         ensures output { O.faults sink.old ≤ O.faults sink.new }
-        ensures reading { CountAfter (is_input_fault result) (I.faults source.old) (I.faults source.new) }
-        ensures writing { CountAfter (is_output_fault result) (O.faults sink.old) (O.faults sink.new) }
+        ensures reading { CountAfter (is_input_fault result.stopped) (I.faults source.old) (I.faults source.new) }
+        ensures writing { CountAfter (is_output_fault result.stopped) (O.faults sink.old) (O.faults sink.new) }
     {
         if let Some(last) = self.last {
-            return last;
+            return Report {
+                stopped: last,
+                executed: 0,
+                log: None,
+            };
         }
         let mut operator = Operator::new(actions);
-        self.last = walk(
+        let mut log = log_from(alloc, logs, &self.engine.bindings);
+        let walked = walk(
             &mut self.engine,
             &mut operator,
+            &mut log,
             steps,
             source,
             sink,
             oracle,
             probes,
         );
-        self.last.unwrap_or(Stopped::Steps)
+        self.last = walked.stopped;
+        Report {
+            stopped: walked.stopped.unwrap_or(Stopped::Steps),
+            executed: walked.executed(),
+            log: events_of(log),
+        }
     }
 
     /// What each attributed function is bound to, in order of declaration.

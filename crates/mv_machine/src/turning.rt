@@ -1,18 +1,22 @@
 //! One instruction after the other.
 
-ghost use Rattle.std.specs.Prelude.{◌≡◌, ◌≤◌, ◌<◌, [], false, All, IfSome};
+ghost use Rattle.std.specs.Prelude.{◌≡◌, ◌≤◌, ◌<◌, [], false, length, All, IfSome, List};
+ghost use Rattle.mv_bindings.specs.declared.binding.Event.{Event};
 ghost use Rattle.mv_fetch.specs.Held.{choices};
 ghost use Rattle.mv_io.specs.Outside.{Rose, CountAfter};
 ghost use Rattle.mv_probe.specs.Ways.{Follows};
 ghost use Rattle.mv_probe.specs.Hearing.{hearing, IsPatient, object_at, Becomes};
 ghost use Rattle.mv_probe.specs.Fates.{Fates};
-ghost use Rattle.mv_machine.specs.Moves.{Fetched, Steps, Strides, Settles, Turns, TellsOpened, Walked, seen, FaultAt, input_failed, output_failed};
+ghost use Rattle.mv_machine.specs.Logging.{Adds, HasCome, Notes};
+ghost use Rattle.mv_machine.specs.Moves.{Fetched, Steps, Strides, Settles, Turns, TellsOpened, Walked, WithEvents, executed_of, seen, FaultAt, input_failed, output_failed};
 
 use crate::call::call;
 use crate::engine::Engine;
+use crate::logging::{Log, note};
 use crate::machine::Stopped;
 use crate::operator::Operator;
 use mv_fetch::Memory;
+use mv_image::facts::within_limits;
 use mv_io::{Sink, Source};
 use mv_probe::{FetchOracle, Probe};
 use mv_rv32::{Cause, Hart, Stepped, step_word};
@@ -154,28 +158,63 @@ pub fn turn<I: Source, O: Sink>(
     settle(stepped, engine, operator, source, sink, probes)
 }
 
-/// So many instructions, and the answer of the run where one of them doesn't go on.
+// Takes what has become of the bindings into the log.
+fn note_bindings(log: &mut Option<Log>, engine: &Engine)
+    requires { IfSome log.old (λ kept. length kept.bindings ≡ length engine.now.image.functions) }
+    ensures { Notes engine.now.bindings log.old log.new }
+{
+    within_limits(&engine.image);
+    note(log, engine.bindings.as_slice());
+}
+
+/// How a walk of instructions ended.
+#[derive(Clone, Copy)]
+pub(crate) struct Halt {
+    /// The answer of the run, where an instruction didn't go on.
+    pub(crate) stopped: Option<Stopped>,
+    /// How many instructions were fetched.
+    pub(crate) fetched: u64,
+}
+
+impl Halt {
+    /// How many instructions were executed: not the one that wasn't carried out.
+    pub(crate) fn executed(&self) -> u64
+        requires { IfSome self.now.stopped (λ stopped. 1 ≤ self.now.fetched) }
+        ensures { result ≡ executed_of self.now.stopped self.now.fetched }
+    {
+        match self.stopped {
+            Some(Stopped::InputFault | Stopped::OutputFault | Stopped::Memory) => self.fetched - 1,
+            _ => self.fetched,
+        }
+    }
+}
+
+/// So many instructions, and the answer of the run where one of them doesn't go on. A log that is kept has the event of each changed binding.
 pub(crate) fn walk<I: Source, O: Sink>(
     engine: &mut Engine,
     operator: &mut Operator,
+    log: &mut Option<Log>,
     steps: u64,
     source: &mut I,
     sink: &mut O,
     oracle: &mut Box<dyn FetchOracle>,
     probes: &mut Vec<Box<dyn Probe>>,
-) -> Option<Stopped>
-    requires { All (λ probe. IsPatient (hearing (told probe) (patience probe))) probes.old.items }
-    ensures walked { Walked (λ was now events. Fates (Becomes (λ probe. object_at probe.ptr probe.vtable) (λ probe. hearing (told probe) (patience probe)) events) was now) probes.old.items probes.new.items
-        steps result (seen engine.old operator.old (I.left source.old) (O.written sink.old)) (seen engine.new operator.new (I.left source.new) (O.written sink.new)) (way oracle.old) (way oracle.new)
+) -> Halt
+    requires patient { All (λ probe. IsPatient (hearing (told probe) (patience probe))) probes.old.items }
+    requires come { HasCome engine.old.bindings log.old }
+    ensures walked { (events : List Event) × Adds events log.old log.new
+        × Walked (WithEvents (λ was now events. Fates (Becomes (λ probe. object_at probe.ptr probe.vtable) (λ probe. hearing (told probe) (patience probe)) events) was now)) (probes.old.items, []) (probes.new.items, events)
+        steps result.stopped result.fetched (seen engine.old operator.old (I.left source.old) (O.written sink.old)) (seen engine.new operator.new (I.left source.new) (O.written sink.new)) (way oracle.old) (way oracle.new)
         (Rose (I.faults source.old) (I.faults source.new)) (Rose (O.faults sink.old) (O.faults sink.new)) }
-    ensures place { IfSome result (λ stopped. FaultAt stopped engine.new.hart.pc) }
+    ensures some { IfSome result.stopped (λ stopped. 1 ≤ result.fetched) }
+    ensures place { IfSome result.stopped (λ stopped. FaultAt stopped engine.new.hart.pc) }
     ensures quiet { engine.old.image.functions ≡ [] → probes.new ≡ probes.old }
     ensures image { engine.new.image ≡ engine.old.image }
     ensures number { engine.new.number ≡ engine.old.number }
     ensures input { I.faults source.old ≤ I.faults source.new }
     ensures output { O.faults sink.old ≤ O.faults sink.new }
-    ensures reading { CountAfter (input_failed result) (I.faults source.old) (I.faults source.new) }
-    ensures writing { CountAfter (output_failed result) (O.faults sink.old) (O.faults sink.new) }
+    ensures reading { CountAfter (input_failed result.stopped) (I.faults source.old) (I.faults source.new) }
+    ensures writing { CountAfter (output_failed result.stopped) (O.faults sink.old) (O.faults sink.new) }
 {
     let mut left = steps;
     while left > 0 {
@@ -184,9 +223,17 @@ pub(crate) fn walk<I: Source, O: Sink>(
             left: behind,
         } = go_on(&mut engine.hart, &mut engine.memory, oracle, left);
         left = behind;
-        if let Some(stopped) = settle(stepped, engine, operator, source, sink, probes) {
-            return Some(stopped);
+        let stopped = settle(stepped, engine, operator, source, sink, probes);
+        note_bindings(log, engine);
+        if let Some(stopped) = stopped {
+            return Halt {
+                stopped: Some(stopped),
+                fetched: steps - left,
+            };
         }
     }
-    None
+    Halt {
+        stopped: None,
+        fetched: steps,
+    }
 }

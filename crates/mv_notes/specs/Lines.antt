@@ -3,10 +3,12 @@ use Rattle.std.specs.Prelude.{ℕ, ◌≡◌, ◌^◌, ◌-◌, Bool, true, fals
 use Rattle.std.specs.Fmt.{decimal, digits, format_spec, padded_integral}
 use Rattle.mv_isa.specs.declared.instr.Cause.{Cause}
 use Rattle.mv_isa.specs.declared.instr.Cause.TheVariants as cause
+use Rattle.mv_bindings.specs.declared.binding.Event.{Event}
 use Rattle.mv_command.specs.declared.command.RunOptions.{RunOptions}
 use Rattle.mv_image.specs.Spelling.{Fields}
 use Rattle.mv_list.specs.Bindings.{bindings_text}
 use Rattle.mv_list.specs.Changes.{patched_text}
+use Rattle.mv_list.specs.Events.{events_text}
 use Rattle.mv_machine.specs.Snapshots.{Snapshot}
 use Rattle.mv_eval.specs.Grown.{Grew, GrewLess}
 use Rattle.mv_io.specs.Outside.{Rose}
@@ -64,11 +66,17 @@ is_silent Done = false
 is_silent (BadLine code line) = false
 is_silent (Differs offset) = false
 
--- The lines that a run is asked for, of its image and of the machine as it stopped: what each attributed function is bound to, and the words of text that
--- are other than the image's.
-abbrev pub asked_lines : RunOptions → Fields → Snapshot → List ℕ
-asked_lines options image machine =
-    (if options.bindings then bindings_text image machine.bindings else []) ++ (if options.words then patched_text image machine.room.held else [])
+-- how many instructions were executed
+abbrev pub stats_line : ℕ → List ℕ
+stats_line count = codes "instructions " ++ (decimal count ++ codes "\n")
+
+-- The lines that a run is asked for, of its image, of the machine as it stopped, of its log and of how many instructions were executed: each changed binding, what
+-- each attributed function is bound to, the words of text that are other than the image's, and the number.
+abbrev pub asked_lines : RunOptions → Fields → Snapshot → (log : List Event) → (count : ℕ) → List ℕ
+asked_lines options image machine log count =
+    (if options.log then events_text image log else []) ++
+    ((if options.bindings then bindings_text image machine.bindings else []) ++
+    ((if options.words then patched_text image machine.room.held else []) ++ (if options.stats then stats_line count else [])))
 
 -- what the notes are owed: the lines that were asked for, and then the last line
 abbrev pub owed : (lines : List ℕ) → Status → List ℕ

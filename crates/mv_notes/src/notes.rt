@@ -1,18 +1,21 @@
 //! What is written to the notes.
 
-ghost use Rattle.std.specs.Prelude.{◌≡◌, ◌++◌, [], IfOk, if◌then◌else◌};
+ghost use Rattle.std.specs.Prelude.{◌≡◌, ◌++◌, List, [], IfOk, if◌then◌else◌, string_bytes};
+ghost use Rattle.mv_bindings.specs.declared.binding.Event.{Event};
 ghost use Rattle.mv_io.specs.Outside.{CountAfter};
 ghost use Rattle.mv_list.specs.Bindings.{bindings_text};
 ghost use Rattle.mv_list.specs.Changes.{patched_text};
-ghost use Rattle.mv_notes.specs.Lines.{asked_lines, names_output, owed, Noted};
+ghost use Rattle.mv_list.specs.Events.{events_text};
+ghost use Rattle.mv_machine.specs.Snapshots.{Logs};
+ghost use Rattle.mv_notes.specs.Lines.{asked_lines, names_output, owed, stats_line, Noted};
 
 use crate::status::Status;
 use mv_command::RunOptions;
 use mv_eval::writing::write_all;
 use mv_image::Image;
 use mv_io::Sink;
-use mv_list::{bindings, patched};
-use mv_machine::Machine;
+use mv_list::{bindings, events, patched};
+use mv_machine::{Machine, Report};
 use std::alloc::{AllocError, Global};
 
 /// What a command came to: its status, and the lines that it was asked for.
@@ -69,18 +72,53 @@ fn word_lines(
     }
 }
 
-/// The lines that a run is asked for, of its image and of the machine as it stopped.
+// The lines of the log, where they are wanted. An error is want of memory, also where the log wasn't kept for it.
+fn log_lines(
+    alloc: Global,
+    wanted: bool,
+    image: &Image,
+    report: &Report,
+) -> Result<Vec<u8>, AllocError>
+    ensures { IfOk result (λ lines. (log : List Event) → Logs report.now.log log → lines.items ≡ (if wanted then events_text image.now log else [])) }
+{
+    if !wanted {
+        return Ok(Vec::new(alloc));
+    }
+    match &report.log {
+        Some(log) => events(alloc, image, log),
+        None => Err(AllocError),
+    }
+}
+
+// The line of the number of instructions, where it is wanted.
+fn stats_lines(alloc: Global, wanted: bool, report: &Report) -> Result<String, AllocError>
+    ensures { IfOk result (λ line. string_bytes line ≡ (if wanted then stats_line report.now.executed else [])) }
+{
+    if wanted {
+        let count = report.executed;
+        format!(in alloc; "instructions {count}\n")
+    } else {
+        Ok(String::new(alloc))
+    }
+}
+
+/// The lines that a run is asked for, of its image, of the machine as it stopped and of what it did.
 pub fn lines_of_run(
     alloc: Global,
     options: &RunOptions,
     image: &Image,
     machine: &Machine,
+    report: &Report,
 ) -> Result<Vec<u8>, AllocError>
-    ensures { IfOk result (λ lines. lines.items ≡ asked_lines options.now image.now machine.now) }
+    ensures { IfOk result (λ lines. (log : List Event) → Logs report.now.log log → lines.items ≡ asked_lines options.now image.now machine.now log report.now.executed) }
 {
-    let mut lines = binding_lines(alloc, options.bindings, image, machine)?;
+    let mut lines = log_lines(alloc, options.log, image, report)?;
+    let bindings = binding_lines(alloc, options.bindings, image, machine)?;
     let words = word_lines(alloc, options.words, image, machine)?;
+    let stats = stats_lines(alloc, options.stats, report)?;
+    lines.extend_from_slice(bindings.as_slice())?;
     lines.extend_from_slice(words.as_slice())?;
+    lines.extend_from_slice(stats.as_bytes())?;
     Ok(lines)
 }
 

@@ -15,3 +15,5 @@ pub mod LinkedParts
 pub mod LinkedTables
 pub mod LinkedCounts
 pub mod CountsOfParts
+pub mod Fronts
+pub mod FrontCounts

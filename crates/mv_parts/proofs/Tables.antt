@@ -10,6 +10,7 @@ use Rattle.mv_linker.specs.declared.parts.PartVariant.{PartVariant}
 use Rattle.mv_lower_spec.specs.Functions.{lower_function}
 use Rattle.mv_variants.specs.declared.variant.Variant.{Variant}
 use Rattle.mv_variants.specs.Variants.{AreVariantsOf, IsLoweredFrom}
+use Rattle.mv_parts.specs.Fronts.{AreFirstTables}
 use Rattle.mv_parts.specs.Numbers.{attributed_numbers}
 use Rattle.mv_parts.specs.Parts.{AreTables, IsPartVariant, IsPartFunction}
 use Rattle.mv_parts.proofs.Lists.{each_push, map_at}
@@ -25,12 +26,8 @@ lowered_from p bodies e f body below is g there =
     same_Some body (lower_function p g) (sym here ∙ ap (λ xs. slice_get xs f) e ∙ map_at (lower_function p) p.functions f g there)
 
 module _ (p : Program) where
-  -- each of some tables has the variants of its function
-  abbrev pub EachTable : List (List Variant) → Type 0
-  EachTable tables = (n f : ℕ) (variants : List Variant) → slice_get (attributed_numbers p) n ≡ Some f → slice_get tables n ≡ Some variants → AreVariantsOf p f variants
-
-  pub table_push : (tables : List (List Variant)) → EachTable tables → (n f : ℕ) → length tables ≡ n → slice_get (attributed_numbers p) n ≡ Some f → (variants : List Variant) →
-      AreVariantsOf p f variants → EachTable (tables ++ variants ∷ [])
+  pub table_push : (tables : List (List Variant)) → AreFirstTables p tables → (n f : ℕ) → length tables ≡ n → slice_get (attributed_numbers p) n ≡ Some f → (variants : List Variant) →
+      AreVariantsOf p f variants → AreFirstTables p (tables ++ variants ∷ [])
   table_push tables each n f count at variants are m k vs there is = each_push P tables variants before last m vs is k there
     where
       P : ℕ → List Variant → Type 0

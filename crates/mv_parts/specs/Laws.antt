@@ -14,7 +14,11 @@ use Rattle.mv_linker.specs.Tables.{site_count}
 use Rattle.mv_link_data.specs.FirstData.{data_words, first_data}
 use Rattle.mv_count_code.specs.Texts as source
 use Rattle.mv_variants.specs.declared.variant.Variant.{Variant}
+use Rattle.mv_variants.specs.declared.size.Size.{Size}
+use Rattle.mv_isa.specs.declared.labelled.Labelled.{Labelled}
+use Rattle.mv_parts.specs.Codes.{AreGenerics, HaveCode}
 use Rattle.mv_parts.specs.Counts.{HaveFewLabels}
+use Rattle.mv_parts.specs.Fronts.{IsSizeOf, PassesFront}
 use Rattle.mv_parts.specs.Parts.{AreCodesOf, ArePartsOf}
 use Rattle.mv_parts.specs.Switches.{HasSwitches, part_switches}
 
@@ -43,3 +47,13 @@ abbrev pub PartsAreCounted : Type 0
 PartsAreCounted =
     (p : Program) → IsWellFormed p → (bodies : List Body) (tables : List (List Variant)) (parts : Parts) →
     AreCodesOf p bodies tables parts.functions parts.attributed → IsCounted p parts
+
+-- The size of the code of functions, and that of it and of the first variants, with the last of which it passes a limit, are within the counts over the source.
+pub record IsSizeCounted (p : Program) (size : Size) : Type 0 where
+  pub words : size.words ≤ source.text_count p
+  pub sites : size.sites ≤ source.site_count p
+
+abbrev pub SizesAreCounted : Type 0
+SizesAreCounted =
+    (p : Program) → IsWellFormed p → (bodies : List Body) (functions : List Labelled) → AreGenerics p bodies → HaveCode p bodies functions →
+    (size : Size) → IsSizeOf functions size → IsSizeCounted p size × ((over : Size) → PassesFront p size over → IsSizeCounted p over)

@@ -3,4 +3,5 @@ pub mod Codes
 pub mod Switches
 pub mod Parts
 pub mod Counts
+pub mod Fronts
 pub mod Laws

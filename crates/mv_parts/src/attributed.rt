@@ -1,13 +1,15 @@
 //! Attributed functions, with their variants.
 
-ghost use Rattle.std.specs.Prelude.{◌≡◌, ◌<◌, ◌≤◌, ◌^◌, [], ◌∷◌, ◌++◌, All, cond, length, map, true, IfOk, OnOk};
+ghost use Rattle.std.specs.Prelude.{◌≡◌, ◌<◌, ◌≤◌, ◌^◌, [], ◌∷◌, ◌++◌, All, cond, length, map, true, IfErr, IfOk, OnOk};
 ghost use Rattle.mv_lower_spec.specs.Functions.{lower_function};
 ghost use Rattle.mv_source_forms.specs.WellFormed.{IsWellFormed};
 ghost use Rattle.mv_ir.specs.Measures.{deepest};
 ghost use Rattle.mv_ir.specs.WellFormed as ir;
 ghost use Rattle.mv_select.specs.Selected.{FitsFrame};
 ghost use Rattle.mv_parts.specs.Numbers as spec;
+ghost use Rattle.mv_variants.specs.Sizes.{Fits, OnLimit};
 ghost use Rattle.mv_parts.specs.Codes.{FramesFit, IsCodeOf};
+ghost use Rattle.mv_parts.specs.Fronts.{HaveRoom, PassesFront};
 ghost use Rattle.mv_parts.specs.Parts.{AreTables, ArePartFunctions, ArePartVariants, FitsVariant, IsPartFunction, IsPartVariant};
 
 use mv_ast::program::{Function, Program};
@@ -22,7 +24,8 @@ use mv_select::error::SelectError;
 use mv_select::inline::inline_of;
 use mv_select::select;
 use mv_variants::bound::{made_bodies_are_variants, rows_lead_to_variants};
-use mv_variants::{Variant, variants_of};
+use mv_variants::size::Size;
+use mv_variants::{Variant, VariantError, variants_of};
 use std::alloc::{AllocError, Global};
 
 /// The numbers of a program's attributed functions, ascending.
@@ -50,22 +53,31 @@ fn push_number(numbers: &mut List<u32>, function: &Function, number: u32) -> Res
     Ok(())
 }
 
-/// The variants of each attributed function, given the numbers of these and the body that each function is lowered to.
+/// The variants of each attributed function, behind code of some size, given the numbers of these functions and the body that each function is lowered to. `Limit`
+/// comes with the first variant whose code there is no room for.
 pub fn tables_of(
     alloc: Global,
     program: &Program,
     numbers: &[u32],
     lowered: &[Body],
-) -> Result<List<List<Variant>>, AllocError>
+    size: Size,
+) -> Result<List<List<Variant>>, VariantError>
     requires formed { IsWellFormed program.now }
     requires numbers { numbers.now ≡ spec.attributed_numbers program.now }
     requires lowered { lowered.now ≡ map (lower_function program.now) program.now.functions }
-    ensures { IfOk result (λ tables. AreTables program.now tables) }
+    requires frames { FramesFit program.now (length program.now.functions) }
+    requires room { Fits size }
+    ensures tables { IfOk result (λ tables. AreTables program.now tables) }
+    ensures room { IfOk result (λ tables. HaveRoom program.now size tables) }
+    ensures limit { IfErr result (λ e. OnLimit e (PassesFront program.now size)) }
 {
+    let mut with = size;
     let mut tables = List::new(alloc);
     for number in numbers {
         let body = &lowered[*number as usize];
-        tables.push(variants_of(alloc, program, *number, body)?)?;
+        let measured = variants_of(alloc, program, *number, body, with)?;
+        with = measured.size;
+        tables.push(measured.variants)?;
     }
     Ok(tables)
 }

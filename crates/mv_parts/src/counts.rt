@@ -1,15 +1,20 @@
-//! How many sites and labels the code of parts has.
+//! How many sites and labels the code of parts has, and how many words that of functions.
 
 ghost use Rattle.std.specs.Prelude.{◌≡◌, ◌+◌, ◌↔◌, sum_by, IsTrue};
 ghost use Rattle.mv_linker.specs.Tables.{site_count};
 ghost use Rattle.mv_parts.specs.Counts.{up_to_greatest, count_in, count_in_variant, count_in_function, count_in_parts, HaveFewLabels};
+ghost use Rattle.mv_parts.specs.Fronts.{IsSizeOf};
 
 use mv_isa::labelled::Labelled;
 use mv_isa::labels::TRAPS;
 use mv_linker::{PartFunction, PartVariant, Parts, slot_count};
+use mv_variants::size::{Size, with_lines};
 
 /// The labels of all code stay below those of the stubs, of which this is the least.
 const STUBS: u64 = TRAPS as u64 + 1;
+
+/// How many words the stubs have.
+const STUB_WORDS: u64 = 29;
 
 /// What is counted of code.
 #[derive(Clone, Copy, Debug, Drop)]
@@ -25,6 +30,20 @@ pub fn site_count(parts: &Parts) -> u64
     ensures { result ≡ up_to_greatest (site_count parts.now) }
 {
     in_parts(Counted::Sites, parts)
+}
+
+/// The size of the code of functions, behind the stubs.
+pub fn size_of(functions: &[Labelled]) -> Size
+    ensures { IsSizeOf functions.now result }
+{
+    let mut size = Size {
+        words: STUB_WORDS,
+        sites: 0,
+    };
+    for code in functions {
+        size = with_lines(size, code.items.as_slice());
+    }
+    size
 }
 
 /// Whether there are numbers for all labels of parts.

@@ -1,4 +1,4 @@
-ghost use Rattle.mv_parts.specs.Laws.{SwitchesAreThere, DataIsCounted, PartsCanBeLinked, PartsAreCounted};
+ghost use Rattle.mv_parts.specs.Laws.{SwitchesAreThere, DataIsCounted, PartsCanBeLinked, PartsAreCounted, SizesAreCounted};
 
 use mv_count_code::code_is_short;
 use mv_link_data::data_law;
@@ -14,12 +14,14 @@ use mv_variants::bound::{
 /// `switches`: its switches are globals, and the words of its data have numbers. `data`: there are as many of these as its globals have. `parts`: where its
 /// tables can be made and there are numbers for all labels, its code, its switches and its data are what the linker asks for. `counts`: it has no more slots
 /// than the calls of attributed functions, once and once more for each assignment; with the entries a plan can patch these; and where its text passes the
-/// limit, so does the count over the source.
+/// limit, so does the count over the source. `sizes`: the size of the functions' code, and that with which a limit is passed by their first variants, are within
+/// these counts too.
 pub fn parts_law()
     ensures switches { SwitchesAreThere }
     ensures data { DataIsCounted }
     ensures parts { PartsCanBeLinked }
     ensures counts { PartsAreCounted }
+    ensures sizes { SizesAreCounted }
 {
     code_is_short();
     data_law();

@@ -20,7 +20,7 @@ use Rattle.mv_machine.specs.declared.machine.Stopped.{Stopped}
 use Rattle.mv_machine.specs.declared.machine.Stopped.TheVariants as answer
 use Rattle.mv_machine.specs.Actions as image_actions
 use Rattle.mv_machine.specs.Acts.{polls_of}
-use Rattle.mv_machine.specs.Runs.{State, Stop, Going, Exit, Trap, Fault, Reads, Writes, bytes_to_come, runs}
+use Rattle.mv_machine.specs.Runs.{State, Stop, Going, Exit, Trap, Reads, Writes, bytes_to_come, runs}
 use Rattle.mv_io.specs.Outside.{AreToldBytes}
 use Rattle.mv_io.proofs.Common.{are_bytes, may_come}
 use Rattle.mv_machine.specs.Snapshots.{Snapshot, Asks, WantsMemory, kept}
@@ -33,7 +33,7 @@ use Rattle.mv_meaning.proofs.Growing.{Begins-trans}
 use Rattle.mv_refine.specs.Environment.{Environment, Wrote}
 use Rattle.mv_build.specs.declared.built.Built.{Built}
 use Rattle.mv_refine.specs.declared.execution.Execution.{Execution}
-use Rattle.mv_refine.specs.Execution.{SameFit, RunsImage, Executes}
+use Rattle.mv_refine.specs.Execution.{SameFit, HeardAs, RunsImage, Executes}
 use Rattle.mv_refine.specs.Run.{IsDone, Stands, StandsBefore, Runs}
 use Rattle.mv_refine.proofs.Cut.{takes_more, outputs_more}
 use Rattle.mv_refine.specs.Meant.{DoesAll, DoesPart, KeepsUp, Does, IsAnswer, Decides}
@@ -221,24 +221,30 @@ module _ (p : Program) (image : Fields) (behaves : BehavesAlways p image) (actio
 
 pub executes : (built : Built) (actions : List Action) (words : All IsOfWord actions) (fit : All (λ a. IsTrue (image_actions.fits built.image.switches a)) actions) (steps : ℕ) (before after : Environment) (Heard : List Event → Type 0) →
     (result : Result Execution AllocError) → RunsImage built.image actions steps before after Heard result → Executes built actions steps before after Heard result
-executes built actions words fit steps before after Heard (Ok e) (picks, (taken, lost, each)) = (
-  picks,
+executes built actions words fit steps before after Heard (Ok e) (log, logs, (picks, (taken, lost, each))) = (
+  log,
+  logs,
   (
-    taken,
-    lost,
-    λ later may.
-        let p = built.program in
-        let image = built.image in
-        let runs = each later may in
-        let are : AreToldBytes before.input.left → All (λ b. b < 2 ^ 8) (taken ++ later) =
-        (λ told. are_bytes before.input.left (taken ++ later) told (may_come before.input.left after.input.left taken later lost may)) in
-        let is : BehavesAlways p image → SameFit p image → AreToldBytes before.input.left → Does p image actions steps before after Heard e.machine taken later e.stopped =
-        (λ behaves same told. does p image behaves actions (words_acts actions words) (fit_program p image same actions fit) steps before after Heard e.machine picks taken later (are told) e.stopped runs) in
-        record {
-          runs = runs;
-          does = is;
-          decides = λ behaves same told. decides p image actions steps before after Heard e.machine taken later e.stopped (is behaves same told);
-        },
+    picks,
+    (
+      taken,
+      lost,
+      λ later may.
+          let p = built.program in
+          let image = built.image in
+          let runs = each later may in
+          let stopped = e.report.stopped in
+          let are : AreToldBytes before.input.left → All (λ b. b < 2 ^ 8) (taken ++ later) =
+          (λ told. are_bytes before.input.left (taken ++ later) told (may_come before.input.left after.input.left taken later lost may)) in
+          let is : BehavesAlways p image → SameFit p image → AreToldBytes before.input.left → Does p image actions steps before after (HeardAs Heard log) e.machine taken later stopped =
+          (λ behaves same told. does p image behaves actions (words_acts actions words) (fit_program p image same actions fit) steps before after (HeardAs Heard log) e.machine picks taken later (are told) stopped runs.0) in
+          record {
+            runs = runs.0;
+            count = runs.1;
+            does = is;
+            decides = λ behaves same told. decides p image actions steps before after (HeardAs Heard log) e.machine taken later stopped (is behaves same told);
+          },
+    ),
   ),
 )
 executes built actions words fit steps before after Heard (Err why) none = none

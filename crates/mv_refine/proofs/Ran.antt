@@ -9,13 +9,13 @@ use Rattle.mv_machine.specs.Acts.{PollActs, polls_of}
 use Rattle.mv_machine.specs.declared.machine.Stopped.{Stopped}
 use Rattle.mv_machine.specs.declared.machine.Stopped.TheVariants as answer
 use Rattle.mv_machine.specs.Runs.{State, Stop, Going, Exit, Trap, Fault, Reads, Writes, bytes_to_come, first, runs}
-use Rattle.mv_machine.specs.Snapshots.{Snapshot, kept, resumed, Under, Asks, WantsMemory, Reached, Whole, Faulted, Broken, Answered, Ran, Unless}
+use Rattle.mv_machine.specs.Snapshots.{Snapshot, kept, resumed, Under, Asks, WantsMemory, Reached, Whole, Faulted, Broken, Answered, Counts, Ran, Unless}
 use Rattle.mv_probe.specs.Ways.{way_after}
 use Rattle.mv_refine.specs.Environment.{Environment, OneRun, ReadFailed, WriteFailed}
 use Rattle.mv_refine.specs.Run.{IsDone, Stands, RanTo, FaultedAt, StandsBefore, Runs}
 use Rattle.mv_machine.proofs.Starts.{first_state}
 
-unless_fresh : (m : Snapshot) (s : State) (ran : Type 0) → m ≡ kept s None → Unless m.last ran → ran
+pub unless_fresh : (m : Snapshot) (s : State) (ran : Type 0) → m ≡ kept s None → Unless m.last ran → ran
 unfolding kept
 unless_fresh m s ran fresh h = rw (ap (λ (k : Snapshot). k.last) fresh) at h
 
@@ -83,18 +83,15 @@ module _ (image : Fields) (polls : PollActs) (before after : Environment) (Told 
 
 -- ---- the answers of the machine
 
-module _ (image : Fields) (actions : List Action) (before after : Environment) (steps : ℕ) (stopped : Stopped) (Told : List Event → Type 0) (was is : Snapshot)
+module _ (image : Fields) (actions : List Action) (before after : Environment) (steps : ℕ) (stopped : Stopped) (count : ℕ) (Told : List Event → Type 0) (was is : Snapshot)
     (fresh : was ≡ kept (first image [] (polls_of [])) None)
-    (unless : Unless was.last (Ran steps stopped was is actions before.input.left after.input.left before.output.written after.output.written before.way after.way
-    (ReadFailed before after) (WriteFailed before after) Told)) where
+    (ran : Ran steps stopped count was is actions before.input.left after.input.left before.output.written after.output.written before.way after.way
+    (ReadFailed before after) (WriteFailed before after) Told) where
   abbrev polls : PollActs
   polls = polls_of actions
 
-  abbrev ran : Ran steps stopped was is actions before.input.left after.input.left before.output.written after.output.written before.way after.way
-      (ReadFailed before after) (WriteFailed before after) Told
-  ran = unless_fresh was (first image [] (polls_of [])) _ fresh unless
-
-  pub made : OneRun before after (λ picks taken later. Runs image (polls_of actions) before after Told is picks taken later steps stopped)
+  pub made : OneRun before after (λ picks taken later.
+      Runs image (polls_of actions) before after Told is picks taken later steps stopped × Counts stopped steps (first image (bytes_to_come (taken ++ later)) (polls_of actions)) picks count)
   made = (
     ran.picks,
     (
@@ -104,8 +101,10 @@ module _ (image : Fields) (actions : List Action) (before after : Environment) (
           let taken = ran.run.0 in
           let r = ran.run.2 later may in
           let input = bytes_to_come (taken ++ later) in
-          let start : resumed was input actions ≡ first image input polls = ap (λ (m : Snapshot). resumed m input actions) fresh ∙ first_state image input actions in
-          runs_by image polls before after Told is ran.picks taken later ran.way_is (subst (λ (s : State). Under before.way s ran.picks) start r.0) steps stopped
-          (subst (λ (s : State). Answered stopped steps s ran.picks (λ e stop. Reached e stop is (bytes_to_come later) before.output.written after.output.written Told) (ReadFailed before after) (WriteFailed before after)) start r.1),
+          let start : resumed was input actions ≡ first image input polls = ap (λ (m : Snapshot). resumed m input actions) fresh ∙ first_state image input actions in (
+            runs_by image polls before after Told is ran.picks taken later ran.way_is (subst (λ (s : State). Under before.way s ran.picks) start r.0) steps stopped
+                (subst (λ (s : State). Answered stopped steps s ran.picks (λ e stop. Reached e stop is (bytes_to_come later) before.output.written after.output.written Told) (ReadFailed before after) (WriteFailed before after)) start r.1),
+            subst (λ (s : State). Counts stopped steps s ran.picks count) start r.2,
+          ),
     ),
   )

@@ -5,7 +5,8 @@
 //!
 //! - *The run* (`specs/Run.antt`): one run of that image by the machine's definition, on the bytes that were taken and whatever may come behind them, is what was done: its stop after the
 //!   given number of instructions is the answer (`Steps` where it goes on), the output grew by what it wrote, it took what
-//!   was taken, each probe was told its log and left exactly where that used up its patience, and the machine
+//!   was taken, each probe was told its log and left exactly where that used up its patience, the report has exactly that log,
+//!   where it was asked for and there was memory for it, and how many instructions were executed, and the machine
 //!   handed back is in its state. A device that failed is asked nothing more: its count of faults is one more, and no
 //!   count rises but that of the device which the answer names. The oracle picked for each instruction that was executed, by its way, and its place
 //!   went on by as many picks. Before a read or a write that failed it is a state after fewer instructions, and the
@@ -50,11 +51,12 @@ use mv_machine::Machine;
 use mv_probe::{FetchOracle, Probe};
 use std::alloc::{AllocError, Global};
 
-/// Runs an image for at most so many instructions. A poll takes the next of the actions, and each probe is told each changed binding. An error is
-/// want of memory for the machine, before the first instruction.
+/// Runs an image for at most so many instructions. A poll takes the next of the actions, and each probe is told each changed binding; where the log is
+/// wanted, the report has it, unless memory lacked for it. An error is want of memory for the machine, before the first instruction.
 pub fn run_image<I: Source, O: Sink>(
     alloc: Global,
     image: &Image,
+    logs: bool,
     steps: u64,
     source: &mut I,
     sink: &mut O,
@@ -70,19 +72,21 @@ pub fn run_image<I: Source, O: Sink>(
         (λ events. Fates (Becomes (λ probe. object_at probe.ptr probe.vtable) (λ probe. hearing (told probe) (patience probe)) events) probes.old.items probes.new.items)
         result }
     ensures later { O.faults sink.old ≤ O.faults sink.new }
-    ensures reading { IfOk result (λ e. CountAfter (is_input_fault e.stopped) (I.faults source.old) (I.faults source.new)) }
-    ensures writing { IfOk result (λ e. CountAfter (is_output_fault e.stopped) (O.faults sink.old) (O.faults sink.new)) }
+    ensures reading { IfOk result (λ e. CountAfter (is_input_fault e.report.stopped) (I.faults source.old) (I.faults source.new)) }
+    ensures writing { IfOk result (λ e. CountAfter (is_output_fault e.report.stopped) (O.faults sink.old) (O.faults sink.new)) }
 {
     let mut machine = Machine::start(alloc, image)?;
-    let stopped = machine.run(steps, source, sink, oracle, probes, actions);
-    Ok(Execution { machine, stopped })
+    let report = machine.run(alloc, logs, steps, source, sink, oracle, probes, actions);
+    Ok(Execution { machine, report })
 }
 
 /// Runs the image of a program for at most so many instructions. A poll takes the next of the actions, and each probe is told each changed
-/// binding. An error is want of memory for the machine, before the first instruction.
+/// binding; where the log is wanted, the report has it, unless memory lacked for it. An error is want of memory for the machine, before the
+/// first instruction.
 pub fn execute<I: Source, O: Sink>(
     alloc: Global,
     built: &Built,
+    logs: bool,
     steps: u64,
     source: &mut I,
     sink: &mut O,
@@ -98,13 +102,14 @@ pub fn execute<I: Source, O: Sink>(
         (λ events. Fates (Becomes (λ probe. object_at probe.ptr probe.vtable) (λ probe. hearing (told probe) (patience probe)) events) probes.old.items probes.new.items)
         result }
     ensures later { O.faults sink.old ≤ O.faults sink.new }
-    ensures reading { IfOk result (λ e. CountAfter (is_input_fault e.stopped) (I.faults source.old) (I.faults source.new)) }
-    ensures writing { IfOk result (λ e. CountAfter (is_output_fault e.stopped) (O.faults sink.old) (O.faults sink.new)) }
+    ensures reading { IfOk result (λ e. CountAfter (is_input_fault e.report.stopped) (I.faults source.old) (I.faults source.new)) }
+    ensures writing { IfOk result (λ e. CountAfter (is_output_fault e.report.stopped) (O.faults sink.old) (O.faults sink.new)) }
 {
     are_of_words(actions);
     run_image(
         alloc,
         &built.image,
+        logs,
         steps,
         source,
         sink,

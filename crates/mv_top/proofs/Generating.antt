@@ -25,6 +25,7 @@ use Rattle.mv_notes.specs.declared.status.Status.TheVariants.{Memory, OutputFaul
 use Rattle.mv_probe.specs.Ways.{Way}
 use Rattle.mv_refine.specs.Environment.{Environment, Reading, Writing, environment}
 use Rattle.mv_refine.specs.Meant as meant
+use Rattle.mv_refine.specs.Execution.{HeardAs}
 use Rattle.mv_refine.specs.Run.{Runs}
 use Rattle.mv_top.specs.Generating as spec
 use Rattle.mv_top.specs.Generating.{is_cut_short, is_summed_up, no_input, plain, summary, GenDoes, RunsPlainly, RunsText, Sums}
@@ -44,23 +45,23 @@ module _ (was is : Writing) (way way' : Option Way) (Heard : List Event → Type
   no_lines : (text lines : List ℕ) (status : Status) → Ran plain text lines status → Ran plain text [] status
   no_lines text lines status (running.unread unused) = running.unread unused
   no_lines text lines status (running.not_run r why unused) = running.not_run r why unused
-  no_lines text lines status (running.ran built actions e good are one) = running.ran built actions e good are one
+  no_lines text lines status (running.ran built actions e log good are one) = running.ran built actions e log good are one
 
   never_fails : Rose 0 0 → ⊥
   never_fails rose = grind (arith, rose)
 
   -- no read fails where there is no input, and the machine never faults
-  stop_is : (p : Program) (image : Fields) (actions : List Action) (steps : ℕ) (machine : Snapshot) (picks taken later : List ℕ) (s : Stopped) →
-      Runs image (polls_of actions) (environment no_input was way) (environment no_input is way') Heard machine picks taken later steps s →
-      meant.Does p image actions steps (environment no_input was way) (environment no_input is way') Heard machine taken later s →
+  stop_is : (p : Program) (image : Fields) (actions : List Action) (steps : ℕ) (log : List Event) (machine : Snapshot) (picks taken later : List ℕ) (s : Stopped) →
+      Runs image (polls_of actions) (environment no_input was way) (environment no_input is way') (HeardAs Heard log) machine picks taken later steps s →
+      meant.Does p image actions steps (environment no_input was way) (environment no_input is way') (HeardAs Heard log) machine taken later s →
       IsTrue (is_summed_up (status_of_stop s) || is_cut_short (status_of_stop s))
-  stop_is p image actions steps machine picks taken later (stop.Ended s) runs does = refl
-  stop_is p image actions steps machine picks taken later (stop.Trapped c) runs does = refl
-  stop_is p image actions steps machine picks taken later stop.Steps runs does = refl
-  stop_is p image actions steps machine picks taken later stop.InputFault runs does = absurd (never_fails runs.1)
-  stop_is p image actions steps machine picks taken later stop.OutputFault runs does = refl
-  stop_is p image actions steps machine picks taken later (stop.Fault pc why) runs does = absurd does
-  stop_is p image actions steps machine picks taken later stop.Memory runs does = absurd does
+  stop_is p image actions steps log machine picks taken later (stop.Ended s) runs does = refl
+  stop_is p image actions steps log machine picks taken later (stop.Trapped c) runs does = refl
+  stop_is p image actions steps log machine picks taken later stop.Steps runs does = refl
+  stop_is p image actions steps log machine picks taken later stop.InputFault runs does = absurd (never_fails runs.1)
+  stop_is p image actions steps log machine picks taken later stop.OutputFault runs does = refl
+  stop_is p image actions steps log machine picks taken later (stop.Fault pc why) runs does = absurd does
+  stop_is p image actions steps log machine picks taken later stop.Memory runs does = absurd does
 
   -- the text that is generated of a number is not refused, and its run no action
   never_refused : TextsHaveImages → (number : ℕ) (r : Refusal) → IsNotRun (generated number) [] r → ⊥
@@ -70,14 +71,14 @@ module _ (was is : Writing) (way way' : Option Way) (Heard : List Event → Type
   pub stands_so : TextsHaveImages → (number : ℕ) (lines : List ℕ) (status : Status) → Ran plain (generated number) lines status → IsTrue (is_summed_up status || is_cut_short status)
   stands_so images number lines status (running.unread unused) = refl
   stands_so images number lines status (running.not_run r why unused) = absurd (never_refused images number r why)
-  stands_so images number lines status (running.ran built actions e good are (picks, (taken, lost, each))) =
+  stands_so images number lines status (running.ran built actions e log good are (picks, (taken, lost, each))) =
       let execution = (each [] refl).0 in
-      stop_is built.program built.image actions DEFAULT_STEPS e.machine picks taken [] e.stopped execution.runs
+      stop_is built.program built.image actions DEFAULT_STEPS log e.machine picks taken [] e.report.stopped execution.runs
       (execution.does good.image.behaves good.image.fits (All-nil (λ b. b < 2 ^ 8)))
 
   -- options that ask for nothing but these items
   abbrev with_items : List Item → RunOptions
-  with_items items = record { steps = DEFAULT_STEPS; items = items; oracle = Oldest; bindings = false; words = false }
+  with_items items = record { steps = DEFAULT_STEPS; items = items; oracle = Oldest; bindings = false; words = false; log = false; stats = false }
 
   module _ (input : Reading) (text : List ℕ) (items : List Item) (none : items ≡ []) where
     pub ran_plainly : (lines : List ℕ) (stands status : Status) → Ran (with_items items) text lines stands → (status ≡ stands) ⊎ (status ≡ Memory) →

@@ -1,5 +1,5 @@
 -- From the answers of the layers to what comes of bytes that are run or shown as an image.
-use Rattle.std.proofs.Common.{ℕ, ◌≡◌, List, [], sym, subst}
+use Rattle.std.proofs.Common.{ℕ, ◌≡◌, List, [], ◌++◌, sym, subst}
 use Rattle.mv_bindings.specs.declared.action.Action.{Action}
 use Rattle.mv_bindings.specs.declared.binding.Event.{Event}
 use Rattle.mv_exec.specs.Loading.{IsLoaded, IsNotLoaded, IsNotRead}
@@ -12,6 +12,7 @@ use Rattle.mv_machine.specs.Acts.{polls_of}
 use Rattle.mv_operator.specs.Operator.{IsImageActions}
 use Rattle.mv_refine.specs.declared.execution.Execution.{Execution}
 use Rattle.mv_refine.specs.Environment.{Environment, OneRun}
+use Rattle.mv_refine.specs.Execution.{HasCount, HeardAs}
 use Rattle.mv_refine.specs.Run.{Runs}
 use Rattle.mv_command.specs.declared.command.RunOptions.{RunOptions}
 use Rattle.mv_notes.specs.Lines.{asked_lines}
@@ -42,11 +43,12 @@ module _ (before after : Environment) (Heard : List Event → Type 0) (options :
   pub not_started : (lines : List ℕ) (status : Status) → lines ≡ [] → status ≡ Memory → Unused before after Heard → Ran lines status
   not_started lines status none same unused = alone Ran lines status Memory none same (executing.unread unused)
 
-  pub ran : (loaded : Loaded) (actions : List Action) (e : Execution) → actions ≡ loaded.actions.items → IsLoaded bytes options.items loaded →
-      OneRun before after (λ picks taken later. Runs loaded.image (polls_of actions) before after Heard e.machine picks taken later options.steps e.stopped) →
-      Ran (asked_lines options loaded.image e.machine) (status_of_stop e.stopped)
-  ran loaded actions e same is runs =
-      executing.ran loaded.image actions e is.image (subst (λ a. IsImageActions loaded.image options.items a) (sym same) is.actions) runs
+  pub ran : (loaded : Loaded) (actions : List Action) (e : Execution) (log : List Event) → actions ≡ loaded.actions.items → IsLoaded bytes options.items loaded →
+      OneRun before after (λ picks taken later. Runs loaded.image (polls_of actions) before after (HeardAs Heard log) e.machine picks taken later options.steps e.report.stopped
+      × HasCount loaded.image actions options.steps picks (taken ++ later) e.report) →
+      Ran (asked_lines options loaded.image e.machine log e.report.executed) (status_of_stop e.report.stopped)
+  ran loaded actions e log same is runs =
+      executing.ran loaded.image actions e log is.image (subst (λ a. IsImageActions loaded.image options.items a) (sym same) is.actions) runs
 
 -- ---- a text of an image
 

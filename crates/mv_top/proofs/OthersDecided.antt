@@ -31,6 +31,7 @@ use Rattle.mv_gen_accepted.specs.Counted.{CountedPassNone}
 use Rattle.mv_machine.specs.declared.machine.Stopped.{Stopped}
 use Rattle.mv_machine.specs.declared.machine.Stopped.TheVariants as stop
 use Rattle.mv_machine.specs.Snapshots.{Snapshot}
+use Rattle.mv_refine.specs.Execution.{HeardAs}
 use Rattle.mv_refine.specs.Run.{Runs}
 use Rattle.mv_top.specs.Decisions.{Ends, Is, IsSummedUp, IsTooLarge, IsWithinLimits, Stands}
 use Rattle.mv_top.specs.Evaluating as evaluating
@@ -83,7 +84,7 @@ module _ (before after : Environment) (no_input_fault : ReadFailed before after 
   exec_bad (executing.no_image c o there unused) code offset bad =
       let same = one_bad bytes c o code offset there bad in inl (λ i. BadImage (same.0 i) (same.1 i))
   exec_bad (executing.wrong_item image item spells wrong unused) code offset bad = absurd (spells_not_bad bytes image code offset spells bad)
-  exec_bad (executing.ran image actions e spells are runs) code offset bad = absurd (spells_not_bad bytes image code offset spells bad)
+  exec_bad (executing.ran image actions e log spells are runs) code offset bad = absurd (spells_not_bad bytes image code offset spells bad)
 
   module _ (image : Fields) (spells : Spells bytes image) where
     pub exec_wrong_item : {lines : List ℕ} {status : Status} → Ran lines status → (item : ℕ) → IsImageFirstWrong image options.items item → Is status (Refused (no_action item))
@@ -92,7 +93,7 @@ module _ (before after : Environment) (no_input_fault : ReadFailed before after 
     exec_wrong_item (executing.wrong_item other n there first unused) item wrong =
         inl (ap (λ k. Refused (no_action k))
         (operator.one_wrong_in image options.items n item (subst (λ z. IsImageFirstWrong z options.items n) (one_image bytes other image there spells) first) wrong))
-    exec_wrong_item (executing.ran other actions e there are runs) item wrong =
+    exec_wrong_item (executing.ran other actions e log there are runs) item wrong =
         absurd (operator.not_both_in image options.items actions item (subst (λ z. IsImageActions z options.items actions) (one_image bytes other image there spells) are) wrong)
 
     pub exec_stands : {lines : List ℕ} {status : Status} → Ran lines status → (actions : List Action) → IsImageActions image options.items actions → Stands status
@@ -100,9 +101,9 @@ module _ (before after : Environment) (no_input_fault : ReadFailed before after 
     exec_stands (executing.no_image c o there unused) actions are = absurd (spells_not_bad bytes image c o spells there)
     exec_stands (executing.wrong_item other n there first unused) actions are =
         absurd (operator.not_both_in image options.items actions n are (subst (λ z. IsImageFirstWrong z options.items n) (one_image bytes other image there spells) first))
-    exec_stands (executing.ran other acts e there are_acts (picks, (taken, lost, each))) actions are =
+    exec_stands (executing.ran other acts e log there are_acts (picks, (taken, lost, each))) actions are =
         let later = some_later after.input.left in
-        stands before after Heard no_input_fault no_output_fault other (polls_of acts) e.machine picks taken later.0 options.steps e.stopped (each later.0 later.1)
+        stands before after (HeardAs Heard log) no_input_fault no_output_fault other (polls_of acts) e.machine picks taken later.0 options.steps e.report.stopped (each later.0 later.1).0
 
 -- ---- a generated program
 
@@ -133,23 +134,23 @@ module _ (before after : Environment) (no_output_fault : WriteFailed before afte
 
   module _ (between : Writing) (latest : between.faults ≤ after.output.faults) where
     -- a run that isn't summed up though no write failed is one for which there was no memory
-    stop_summed : (image : Fields) (actions : List Action) (machine : Snapshot) (picks taken later : List ℕ) (s : Stopped) →
-        Runs image (polls_of actions) (environment no_input before.output before.way) (environment no_input between after.way) Heard machine picks taken later DEFAULT_STEPS s →
+    stop_summed : (image : Fields) (actions : List Action) (log : List Event) (machine : Snapshot) (picks taken later : List ℕ) (s : Stopped) →
+        Runs image (polls_of actions) (environment no_input before.output before.way) (environment no_input between after.way) (HeardAs Heard log) machine picks taken later DEFAULT_STEPS s →
         IsTrue (is_cut_short (status_of_stop s)) → IsSummedUp (status_of_stop s)
-    stop_summed image actions machine picks taken later (stop.Ended s) runs short = inl refl
-    stop_summed image actions machine picks taken later (stop.Trapped c) runs short = inl refl
-    stop_summed image actions machine picks taken later stop.Steps runs short = inl refl
-    stop_summed image actions machine picks taken later stop.InputFault runs short = cc
-    stop_summed image actions machine picks taken later stop.OutputFault runs short = absurd (no_fault_before between latest runs.1)
-    stop_summed image actions machine picks taken later (stop.Fault pc why) runs short = cc
-    stop_summed image actions machine picks taken later stop.Memory runs short = inr refl
+    stop_summed image actions log machine picks taken later (stop.Ended s) runs short = inl refl
+    stop_summed image actions log machine picks taken later (stop.Trapped c) runs short = inl refl
+    stop_summed image actions log machine picks taken later stop.Steps runs short = inl refl
+    stop_summed image actions log machine picks taken later stop.InputFault runs short = cc
+    stop_summed image actions log machine picks taken later stop.OutputFault runs short = absurd (no_fault_before between latest runs.1)
+    stop_summed image actions log machine picks taken later (stop.Fault pc why) runs short = cc
+    stop_summed image actions log machine picks taken later stop.Memory runs short = inr refl
 
     cut_summed : {lines : List ℕ} {ran : Status} → RunDoes (environment no_input before.output before.way) (environment no_input between after.way) Heard plain (generated number) lines ran →
         IsTrue (is_cut_short ran) → IsSummedUp ran
     cut_summed (running.unread unused) short = inr refl
     cut_summed (running.not_run r why unused) short = cc
-    cut_summed (running.ran built actions e good are (picks, (taken, lost, each))) short =
-        stop_summed built.image actions e.machine picks taken [] e.stopped (each [] refl).0.runs short
+    cut_summed (running.ran built actions e log good are (picks, (taken, lost, each))) short =
+        stop_summed built.image actions log e.machine picks taken [] e.report.stopped (each [] refl).0.runs short
 
     summed_up : before.output.faults ≤ between.faults → (ran : Status) →
         RunDoes (environment no_input before.output before.way) (environment no_input between after.way) Heard plain (generated number) [] ran →

@@ -1,7 +1,9 @@
 -- From the parts of a command to what comes of it.
 use Rattle.std.proofs.Common.{ℕ, ◌≡◌, List, [], sym, subst}
-use Rattle.std.specs.Prelude.{Result, Ok, Err, IfOk}
+use Rattle.std.specs.Prelude.{Result, Ok, Err, IfOk, Option}
 use Rattle.std.specs.declared.alloc.AllocError.{AllocError}
+use Rattle.mv_bindings.specs.declared.binding.Event.{Event}
+use Rattle.mv_machine.specs.Snapshots.{Logs}
 use Rattle.mv_notes.specs.declared.notes.Performed.{Performed}
 use Rattle.mv_notes.specs.declared.status.Status.{Status}
 use Rattle.mv_top.specs.Outcomes.{Performs}
@@ -22,3 +24,10 @@ pub with_lines : (Comes : (lines : List ℕ) → Status → Type 0) (lines : Lis
 with_lines Comes lines due came (Ok performed) status same =
     subst (λ (l : List ℕ). Comes l performed.status) (sym same) (subst (λ (s : Status). Comes lines s) (sym status) came)
 with_lines Comes lines due came (Err why) status same = record { lines = lines; status = due; comes = came }
+
+-- the lines that a run is asked for are of its log
+pub with_log : (Comes : (lines : List ℕ) → Status → Type 0) (lines : List Event → List ℕ) (kept : Option (List Event)) (log : List Event) → Logs kept log → (due : Status) → Comes (lines log) due →
+    (result : Result Performed AllocError) → IfOk result (λ performed. performed.status ≡ due) → IfOk result (λ performed. (events : List Event) → Logs kept events → performed.lines.items ≡ lines events) →
+    Performs Comes result
+with_log Comes lines kept log logs due came (Ok performed) status same = with_lines Comes (lines log) due came (Ok performed) status (same log logs)
+with_log Comes lines kept log logs due came (Err why) status same = with_lines Comes (lines log) due came (Err why) status same

@@ -16,6 +16,7 @@ use Rattle.mv_io.proofs.Common.{some_later}
 use Rattle.mv_refine.specs.Environment.{Environment, ReadFailed, WriteFailed}
 use Rattle.mv_refine.specs.Meant as meant
 use Rattle.mv_refine.specs.Meant.{IsAnswer}
+use Rattle.mv_refine.specs.Execution.{HeardAs}
 use Rattle.mv_refine.specs.Run.{Runs}
 use Rattle.mv_image.specs.Spelling.{Fields}
 use Rattle.mv_machine.specs.Snapshots.{Snapshot}
@@ -89,7 +90,7 @@ module _ (before after : Environment) (no_input_fault : ReadFailed before after 
   pub run_refused : {lines : List ℕ} {status : Status} → Ran lines status → (r : Refusal) → IsRefused text r → Is status (Refused r)
   run_refused (running.unread unused) r is = inr refl
   run_refused (running.not_run s none unused) r is = inl (ap Refused (not_run_cause text options.items s r none is))
-  run_refused (running.ran b actions x good are one_run) r is = absurd (not_both text b.program r good.program is)
+  run_refused (running.ran b actions x log good are one_run) r is = absurd (not_both text b.program r good.program is)
 
   module _ (counted : CountedPassNone) (p : Program) (is : IsProgram text p) where
     wrong_cause : (s : Refusal) (item : ℕ) → IsFirstWrong p options.items item → PassesLimit p s ⊎ ((n : ℕ) × IsFirstWrong p options.items n × (s ≡ no_action n)) →
@@ -101,7 +102,7 @@ module _ (before after : Environment) (no_input_fault : ReadFailed before after 
         IsWithinLimits status (Refused (no_action item)) p
     run_wrong_item (running.unread unused) item wrong = inl (inr refl)
     run_wrong_item (running.not_run s none unused) item wrong = wrong_cause s item wrong (limit_or_item text options.items p is s none)
-    run_wrong_item (running.ran b actions x good are one_run) item wrong =
+    run_wrong_item (running.ran b actions x log good are one_run) item wrong =
         absurd (operator.not_both p options.items actions item (subst (λ z. IsActions z options.items actions) (one_program text b.program p good.program is) are) wrong)
 
     module _ (actions : List Action) (are : IsActions p options.items actions) where
@@ -122,24 +123,24 @@ module _ (before after : Environment) (no_input_fault : ReadFailed before after 
           ⊎ OnInput before.input.left after.input.left (λ taken later. (bound : ℕ) (e : End) → Ends p actions (taken ++ later) options.steps bound e → status ≡ status_of_end e))
       run_ended (running.unread unused) told = inl refl
       run_ended (running.not_run s none unused) told = inr (inl (too_large counted text p is s (limit_cause s (limit_or_item text options.items p is s none))))
-      run_ended (running.ran b acts x good are_taken (picks, (taken, lost, each))) told = inr (inr (
+      run_ended (running.ran b acts x log good are_taken (picks, (taken, lost, each))) told = inr (inr (
         taken,
         lost,
         λ later may bound e ends.
             let one : b.program ≡ p = one_program text b.program p good.program is in
             let same : acts ≡ actions = operator.one_list p options.items acts actions (subst (λ z. IsActions z options.items acts) one are_taken) are in
-            let decides : meant.Decides b.program acts options.steps before after (taken ++ later) x.stopped =
+            let decides : meant.Decides b.program acts options.steps before after (taken ++ later) x.report.stopped =
             (each later may).0.decides good.image.behaves good.image.fits told in
-            let here : meant.Decides p actions options.steps before after (taken ++ later) x.stopped =
-            subst (λ a. meant.Decides p a options.steps before after (taken ++ later) x.stopped) same
-            (subst (λ z. meant.Decides z acts options.steps before after (taken ++ later) x.stopped) one decides) in
-            decided (taken ++ later) bound e x.stopped here ends,
+            let here : meant.Decides p actions options.steps before after (taken ++ later) x.report.stopped =
+            subst (λ a. meant.Decides p a options.steps before after (taken ++ later) x.report.stopped) same
+            (subst (λ z. meant.Decides z acts options.steps before after (taken ++ later) x.report.stopped) one decides) in
+            decided (taken ++ later) bound e x.report.stopped here ends,
       ))
 
       -- it stands, or there was no memory, or the program passes a limit
       pub run_stands : {lines : List ℕ} {status : Status} → Ran lines status → Stands status ⊎ IsTooLarge p status
       run_stands (running.unread unused) = inl (inr refl)
       run_stands (running.not_run s none unused) = inr (too_large counted text p is s (limit_cause s (limit_or_item text options.items p is s none)))
-      run_stands (running.ran b acts x good are_taken (picks, (taken, lost, each))) =
+      run_stands (running.ran b acts x log good are_taken (picks, (taken, lost, each))) =
           let later = some_later after.input.left in
-          inl (stands before after Heard no_input_fault no_output_fault b.image (polls_of acts) x.machine picks taken later.0 options.steps x.stopped (each later.0 later.1).0.runs)
+          inl (stands before after (HeardAs Heard log) no_input_fault no_output_fault b.image (polls_of acts) x.machine picks taken later.0 options.steps x.report.stopped (each later.0 later.1).0.runs)

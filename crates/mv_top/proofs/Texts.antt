@@ -17,7 +17,7 @@ use Rattle.mv_refine.specs.BuildError.{BuildError}
 use Rattle.mv_refine.specs.BuildError.TheVariants as build_error
 use Rattle.mv_refine.specs.declared.execution.Execution.{Execution}
 use Rattle.mv_refine.specs.Environment.{Environment, OneRun, Wrote, ReadFailed, WriteFailed}
-use Rattle.mv_refine.specs.Execution.{IsExecution}
+use Rattle.mv_refine.specs.Execution.{HeardAs, IsExecution}
 use Rattle.mv_meaning.specs.declared.meant.End.{End}
 use Rattle.mv_eval.specs.Evaluations.{Evaluates}
 use Rattle.mv_eval.specs.declared.error.EvalError.{EvalError}
@@ -52,18 +52,18 @@ module _ (before after : Environment) (Heard : List Event → Type 0) (options :
   pub not_started : (lines : List ℕ) (status : Status) → lines ≡ [] → status ≡ Memory → Unused before after Heard → Ran lines status
   not_started lines status none same unused = alone Ran lines status Memory none same (running.unread unused)
 
-  pub ran : (prepared : Prepared) (actions : List Action) (e : Execution) → actions ≡ prepared.actions.items → IsPrepared text options.items prepared →
-      OneRun before after (λ picks taken later. IsExecution prepared.built actions options.steps before after Heard picks taken later e) →
-      Ran (asked_lines options prepared.built.image e.machine) (status_of_stop e.stopped)
-  ran prepared actions e same is (picks, (taken, lost, each)) =
-      running.ran prepared.built actions e is.built (subst (λ a. IsActions prepared.built.program options.items a) (sym same) is.actions) (
+  pub ran : (prepared : Prepared) (actions : List Action) (e : Execution) (log : List Event) → actions ≡ prepared.actions.items → IsPrepared text options.items prepared →
+      OneRun before after (λ picks taken later. IsExecution prepared.built actions options.steps before after (HeardAs Heard log) picks taken later e) →
+      Ran (asked_lines options prepared.built.image e.machine log e.report.executed) (status_of_stop e.report.stopped)
+  ran prepared actions e log same is (picks, (taken, lost, each)) =
+      running.ran prepared.built actions e log is.built (subst (λ a. IsActions prepared.built.program options.items a) (sym same) is.actions) (
         picks,
         (
           taken,
           lost,
           λ later may.
               let execution = each later may in
-              (execution, word_lines text prepared.built actions options.steps before after Heard picks taken later e is.built execution),
+              (execution, word_lines text prepared.built actions options.steps before after (HeardAs Heard log) picks taken later e is.built execution),
         ),
       )
 

@@ -53,7 +53,7 @@ module _ (p : Program) (image : Fields) (shows : ShowsBindings p image) (actions
 -- of a source that was built, and an execution of it
 pub word_lines : (text : List ℕ) (built : Built) (actions : List Action) (steps : ℕ) (before after : Environment) (Heard : List Event → Type 0) (picks taken later : List ℕ) (e : Execution) →
     IsBuiltFrom text built → IsExecution built actions steps before after Heard picks taken later e → AreToldBytes before.input.left →
-    CountsOn built.program built.image actions steps e.machine (taken ++ later) e.stopped
+    CountsOn built.program built.image actions steps e.machine (taken ++ later) e.report.stopped
 word_lines text built actions steps before after Heard picks taken later e good is told =
-    counts_on built.program built.image good.image.shows actions steps before after Heard e.machine picks taken later e.stopped is.runs
+    counts_on built.program built.image good.image.shows actions steps before after Heard e.machine picks taken later e.report.stopped is.runs
     (is.does good.image.behaves good.image.fits told)

@@ -22,7 +22,7 @@ summary number status =
 
 -- it is run to the default limit, without an operator
 abbrev pub plain : RunOptions
-plain = record { steps = default_steps; items = []; oracle = Oldest; bindings = false; words = false }
+plain = record { steps = default_steps; items = []; oracle = Oldest; bindings = false; words = false; log = false; stats = false }
 
 -- it has no input, which never fails
 abbrev pub no_input : Reading

@@ -14,7 +14,7 @@ use Rattle.mv_machine.specs.declared.machine.Stopped.TheVariants as stop
 use Rattle.mv_refine.specs.declared.execution.Execution.{Execution}
 use Rattle.mv_io.specs.Outside.{AreToldBytes}
 use Rattle.mv_refine.specs.Environment.{Environment, OneRun}
-use Rattle.mv_refine.specs.Execution.{IsExecution}
+use Rattle.mv_refine.specs.Execution.{HeardAs, IsExecution}
 use Rattle.mv_command.specs.declared.items.Item.{Item}
 use Rattle.mv_command.specs.declared.command.RunOptions.{RunOptions}
 use Rattle.mv_operator.specs.Operator.{IsActions, IsFirstWrong}
@@ -71,16 +71,16 @@ module _ (before after : Environment) (Heard : List Event → Type 0) where
   Unused = (after ≡ before) × Heard []
 
   -- What comes of the run of a text, with the lines that it is asked for: one run of one image that is built of it, by the actions of the operator. That gives
-  -- the status, the lines, what was taken and written, and what the probes were told, and it does what the program means on what was taken and whatever may come
-  -- behind it; and the changed words have as many lines as the source says.
+  -- the status, the lines, what was taken and written, and what the probes were told, which is the log, and it does what the program means on what was taken and
+  -- whatever may come behind it; and the changed words have as many lines as the source says.
   pub data RunDoes (options : RunOptions) (text : List ℕ) : (lines : List ℕ) → Status → Type 0 where
     -- there was no memory to read it as a program, to compile or to load that
     unread : Unused → RunDoes options text [] Memory
     not_run : (r : Refusal) → IsNotRun text options.items r → Unused → RunDoes options text [] (Refused r)
-    ran : (built : Built) (actions : List Action) (e : Execution) → IsBuiltFrom text built → IsActions built.program options.items actions →
-        OneRun before after (λ picks taken later. IsExecution built actions options.steps before after Heard picks taken later e
-        × (AreToldBytes before.input.left → CountsOn built.program built.image actions options.steps e.machine (taken ++ later) e.stopped)) →
-        RunDoes options text (asked_lines options built.image e.machine) (status_of_stop e.stopped)
+    ran : (built : Built) (actions : List Action) (e : Execution) (log : List Event) → IsBuiltFrom text built → IsActions built.program options.items actions →
+        OneRun before after (λ picks taken later. IsExecution built actions options.steps before after (HeardAs Heard log) picks taken later e
+        × (AreToldBytes before.input.left → CountsOn built.program built.image actions options.steps e.machine (taken ++ later) e.report.stopped)) →
+        RunDoes options text (asked_lines options built.image e.machine log e.report.executed) (status_of_stop e.report.stopped)
 
   -- and no count of faults rose but that of the device that the status names
   abbrev pub RunComes : RunOptions → (text lines : List ℕ) → Status → Type 0

@@ -57,6 +57,7 @@ fn exec_loaded<I: Source, O: Sink>(
     match run_image(
         alloc,
         image,
+        options.log,
         options.steps,
         input,
         out,

@@ -100,6 +100,8 @@ fn run_plainly<O: Sink>(
         oracle: Oracle::Oldest,
         bindings: false,
         words: false,
+        log: false,
+        stats: false,
     };
     match run_text(alloc, text, &options, &mut NoInput, out, oracle, probes) {
         Ok(performed) => performed.status,

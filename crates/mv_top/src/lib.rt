@@ -15,8 +15,9 @@
 //!   and variants that it is linked of, and one run of it, on the bytes that were taken from `input` and whatever may come behind them, and by the oracle's way
 //!   where that is told. `Ended`, `Trapped` and `Steps` are how this run stands after N instructions, `out` grew by exactly its output, `input` lost exactly
 //!   what it took, each probe was told exactly its log in order and left exactly where that used up its patience, the others keep their order, and the oracle
-//!   picked by its way for each instruction. The lines of `--bindings` and `--words` are those of its bindings and of its text against the image's. After
-//!   `InputFault` and `OutputFault` it is the same of fewer instructions, before the getchar or the putchar that failed.
+//!   picked by its way for each instruction. The lines of `--bindings` and `--words` are those of its bindings and of its text against the image's, those of
+//!   `--log` are exactly its log, and `--stats` has how many instructions it executed. After `InputFault` and `OutputFault` it is the same of fewer
+//!   instructions, before the getchar or the putchar that failed.
 //! - This image does what the program means with the actions, on each input and whatever the fetches give, also while
 //!   commits, reverts and polls rewrite its text. Where the run has ended, its bindings and its text are the meaning's, and
 //!   each probe heard exactly the meaning's log. `MachineFault` comes of it only where the input tells what is no byte.

@@ -3,7 +3,9 @@
 ghost use Rattle.std.specs.Prelude.{ℕ, ◌≡◌, ◌≤◌, List, All, IfErr, IfOk, IsTrue};
 ghost use Rattle.mv_command.specs.Commands.{Runs};
 ghost use Rattle.mv_command.specs.Items.{Ascend};
+ghost use Rattle.mv_bindings.specs.declared.binding.Event.{Event};
 ghost use Rattle.mv_machine.specs.Actions.{fits};
+ghost use Rattle.mv_machine.specs.Snapshots.{Logs};
 ghost use Rattle.mv_notes.specs.Lines.{asked_lines};
 ghost use Rattle.mv_probe.specs.Fates.{Fates};
 ghost use Rattle.mv_probe.specs.Hearing.{hearing, object_at, Becomes, IsPatient};
@@ -83,11 +85,12 @@ pub(crate) fn finished(
     image: &Image,
     execution: &Execution,
 ) -> Result<Performed, AllocError>
-    ensures status { IfOk result (λ performed. performed.status ≡ status_of_stop execution.now.stopped) }
-    ensures lines { IfOk result (λ performed. performed.lines.items ≡ asked_lines options.now image.now execution.now.machine) }
+    ensures status { IfOk result (λ performed. performed.status ≡ status_of_stop execution.now.report.stopped) }
+    ensures lines { IfOk result (λ performed. (log : List Event) → Logs execution.now.report.log log → performed.lines.items ≡ asked_lines options.now image.now execution.now.machine log execution.now.report.executed) }
 {
-    let lines = lines_of_run(alloc, options, image, &execution.machine)?;
-    let status = status_of_stop(execution.stopped);
+    let Execution { machine, report } = execution;
+    let lines = lines_of_run(alloc, options, image, machine, report)?;
+    let status = status_of_stop(report.stopped);
     Ok(Performed { status, lines })
 }
 
@@ -115,6 +118,7 @@ fn run_prepared<I: Source, O: Sink>(
     match execute(
         alloc,
         built,
+        options.log,
         options.steps,
         input,
         out,

@@ -1,6 +1,6 @@
 -- The variants of a function, from the steps.
-use Rattle.std.proofs.Common.{arith, ◌≡◌, ℕ, ◌<◌, ◌≤◌, List, [], ◌∷◌, length, map, get_or, refl, sym, ◌∙◌, ap, subst}
-use Rattle.std.proofs.lemmas.List.{length-map}
+use Rattle.std.proofs.Common.{arith, ◌≡◌, ℕ, ◌<◌, ◌≤◌, List, [], ◌∷◌, length, map, take, get_or, refl, sym, ◌∙◌, ap, subst}
+use Rattle.std.proofs.lemmas.List.{length-map, take-map}
 use Rattle.mv_ast.specs.declared.program.Program.{Program}
 use Rattle.mv_ast.specs.declared.program.Function.{Function}
 use Rattle.mv_ast.specs.Switches.{switch_domain, switch_global}
@@ -8,10 +8,11 @@ use Rattle.mv_ast.specs.Counts.{product_of}
 use Rattle.mv_clone.specs.Assignments as clone
 use Rattle.mv_ir.specs.declared.body.Body.{Body}
 use Rattle.mv_ir.specs.declared.body.Assignment.{Assignment}
-use Rattle.mv_ir.specs.Combinations.{AreDomains, AreAllCombinations, values_of}
+use Rattle.mv_ir.specs.Combinations.{AreDomains, AreAllCombinations, combinations, values_of}
 use Rattle.mv_ir.specs.Live.{IsWhole}
+use Rattle.mv_ir.specs.Measures.{deepest}
 use Rattle.mv_ir.specs.WellFormed as ir
-use Rattle.mv_lower_spec.specs.Shape.Law.{LoweredAreWhole, LoweredAreWellFormed}
+use Rattle.mv_lower_spec.specs.Shape.Law.{LoweredAreShallow, LoweredAreWhole, LoweredAreWellFormed}
 use Rattle.mv_source_forms.specs.WellFormed.{IsWellFormed}
 use Rattle.mv_merge.specs.declared.rows.Domain.{Domain}
 use Rattle.mv_merge.specs.declared.rows.Bound.{Bound}
@@ -22,6 +23,8 @@ use Rattle.mv_variants.specs.Bound.Led.{AreMade, HaveWords}
 use Rattle.mv_variants.specs.Bound.Switches.{domains_in}
 use Rattle.mv_variants.specs.declared.variant.Variant.{Variant}
 use Rattle.mv_variants.specs.Domains.{switch_kind, domain, domains_or_none, own_domains, AreDomainsOf}
+use Rattle.mv_variants.specs.declared.size.Size.{Size}
+use Rattle.mv_variants.specs.Fronts.{IsFirstOver, PassesUnder, PassesWithin, PassesWithinOf}
 use Rattle.mv_variants.specs.Rows.{AreMergedUnder}
 use Rattle.mv_variants.specs.Variants.{IsLoweredFrom, AreGrouped, AreVariants, AreVariantsOf}
 use Rattle.mv_variants.proofs.Domains.{words_of}
@@ -95,7 +98,31 @@ module _ (p : Program) (formed : IsWellFormed p) (f : ℕ) (a : IsAttributed p f
             grouped = grouped;
           })
 
+    -- the bodies under the first assignments
+    pub first_bodies : (order : values_of all ≡ combinations (clone.domains_of p f)) (body : Body) → IsLoweredFrom p f body → (size over : Size) → PassesUnder body all size over →
+        PassesWithinOf p f size over
+    first_bodies order body lowered size over h k there =
+        let same : g ≡ k = let here = a.there in cc in
+        let is = lowered g a.there in
+        subst (λ (x : Function). PassesWithin p x size over) same (record {
+          earlier = h.earlier;
+          last = h.last;
+          first = record {
+            rows = h.merged.rows;
+            count = h.count;
+            first = h.merged.under.values ∙ sym (take-map (λ (x : Assignment). x.values) h.count all) ∙ ap (take h.count) (order ∙ ap combinations clone_domains);
+            made = subst (λ (b : Body). AreMade b h.merged.rows) is h.merged.under.made;
+            guards = h.guards;
+            grouped = h.merged.grouped;
+            few = omega (arith, h.few, count, product, assignments_are p formed f g a.there a.attributed);
+          };
+          passes = subst (λ (b : Body). IsFirstOver b size h.earlier h.last over) is h.passes;
+        })
+
   -- ---- the body
+
+  pub body_shallow : LoweredAreShallow → (body : Body) → IsLoweredFrom p f body → deepest body.code ≤ 4
+  body_shallow law body lowered = subst (λ (b : Body). deepest b.code ≤ 4) (sym (lowered g a.there)) (law p g)
 
   pub switches_few : (body : Body) → IsLoweredFrom p f body → length body.switches ≤ 6
   switches_few body lowered =

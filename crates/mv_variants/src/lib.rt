@@ -6,7 +6,10 @@
 //! - `variants_of`: of a function and what it is lowered to, the body under each assignment of its switches, bound,
 //!   with numbers carried, folded and with its temporaries renamed, and equal bodies as one, each with the guard rows that lead to it
 //!   (`AreVariantsOf`). By `mv_variants::bound` each means what the function means under its values, and reads none of its
-//!   switches.
+//!   switches. They are made one by one, and a body that equals one before it is dropped at once. `Limit` comes with the first
+//!   whose code, each branch taken for one word, there is no room for behind that of all before (`PassesWithin`), with how much
+//!   code there is then.
+//! - `Size`: how much code there is, and whether an image has room for it (`with_lines`, `fits`).
 //!
 //! Below this, in a module with its own specifications and header:
 //!
@@ -14,49 +17,65 @@
 //!   slots their code has (`rows_lead_to_variants`, `made_bodies_are_variants`, `passes_name_no_more`, `variants_can_be_selected`, `slots_are_counted`).
 #![tactic(auto)]
 
-ghost use Rattle.std.specs.Prelude.{◌≡◌, true, slice_get, IfOk};
+ghost use Rattle.std.specs.Prelude.{◌≡◌, true, slice_get, IfErr, IfOk};
 ghost use Rattle.mv_ast.specs.Counts.{is_attributed};
 ghost use Rattle.mv_source_forms.specs.WellFormed.{IsWellFormed};
-ghost use Rattle.mv_variants.specs.Variants.{IsLoweredFrom, AreVariantsOf};
+ghost use Rattle.mv_variants.specs.Fronts.{AreMeasured, PassesWithinOf};
+ghost use Rattle.mv_variants.specs.Sizes.{Fits, HasSmallFrame, OnLimit};
+ghost use Rattle.mv_variants.specs.Variants.{IsLoweredFrom, AreVariantsOf, bodies_of};
 
 pub mod bound;
 mod domain;
+mod error;
 mod grouping;
 mod making;
+pub mod size;
 mod variant;
 
 use crate::domain::domains_of;
 use crate::grouping::grouped;
-use crate::making::merged_under;
+use crate::making::{Making, merged_under};
+use crate::size::Size;
 pub use domain::switch_kind;
+pub use error::VariantError;
 use mv_ast::program::Program;
 use mv_clone::assignments::assignments;
 use mv_ir::body::Body;
 use mv_lower_spec::shape::lowered_forms_are_right;
 use mv_merge::merge::added_rows_are_merged;
-use mv_num::list::List;
-use std::alloc::{AllocError, Global};
-pub use variant::Variant;
+use std::alloc::Global;
+pub use variant::{Measured, Variant};
 
-/// The variants of the attributed function with a number, given the body that it is lowered to. No two bodies are equal: each is folded and renamed before
-/// it is compared.
+/// The variants of the attributed function with a number, given the body that it is lowered to, behind code of some size. No two bodies are equal: each is folded
+/// and renamed before it is compared. `Limit` comes with the first whose code there is no room for.
 pub fn variants_of(
     alloc: Global,
     program: &Program,
     function: u32,
     body: &Body,
-) -> Result<List<Variant>, AllocError>
+    size: Size,
+) -> Result<Measured, VariantError>
     requires formed { IsWellFormed program.now }
     requires attributed { is_attributed (slice_get program.now.functions function) ≡ true }
     requires lowered { IsLoweredFrom program.now function body.now }
-    ensures { IfOk result (λ variants. AreVariantsOf program.now function variants) }
+    requires frame { HasSmallFrame body.now }
+    requires room { Fits size }
+    ensures variants { IfOk result (λ m. AreVariantsOf program.now function m.variants) }
+    ensures measured { IfOk result (λ m. AreMeasured body.now size (bodies_of m.variants) m.size) }
+    ensures limit { IfErr result (λ e. OnLimit e (PassesWithinOf program.now function size)) }
 {
     lowered_forms_are_right();
     added_rows_are_merged();
     // The values of the domains are words, as the clause says.
     let _domains = domains_of(alloc, program, function)?;
     let all = assignments(alloc, program, function)?;
-    let merged = merged_under(alloc, body, all.as_slice())?;
-    let variants = grouped(alloc, merged)?;
-    Ok(variants)
+    let Making {
+        variants: kept,
+        size: with,
+    } = merged_under(alloc, body, all.as_slice(), size)?;
+    let variants = grouped(alloc, kept)?;
+    Ok(Measured {
+        variants,
+        size: with,
+    })
 }

@@ -1,13 +1,19 @@
 //! A function's body under its assignments.
 
-ghost use Rattle.std.specs.Prelude.{ℕ, ◌≡◌, ◌<◌, ◌≤◌, length, slice_index_or, IfOk};
+ghost use Rattle.std.specs.Prelude.{ℕ, ◌≡◌, ◌<◌, ◌≤◌, length, slice_get, slice_index_or, IfErr, IfOk};
 ghost use Rattle.std.specs.List.{zip};
 ghost use Rattle.mv_ir.specs.declared.body.Assignment.{Assignment};
 ghost use Rattle.mv_ir.specs.Live.{IsWhole};
+ghost use Rattle.mv_ir.specs.Measures.{deepest};
 ghost use Rattle.mv_ir.specs.WellFormed.{IsWellFormed};
 ghost use Rattle.mv_variants.specs.Bound.Meant.{IsMadeUnder};
+ghost use Rattle.mv_variants.specs.Fronts.{AreMeasured, PassesUnder};
 ghost use Rattle.mv_variants.specs.Rows.{AreMergedUnder, IsRowUnder};
+ghost use Rattle.mv_variants.specs.Sizes.{Fits, HasSmallFrame, IfNew, IsSelectable, IsWithBody, IsWithNew, OnLimit};
 
+use crate::bound::made_bodies_are_variants;
+use crate::error::VariantError;
+use crate::size::{Size, fits, with_lines};
 use mv_carry::carry;
 use mv_clone::bind::bind;
 use mv_fold::fold;
@@ -16,31 +22,83 @@ use mv_merge::merge::{add, added_rows_are_merged};
 use mv_merge::rows::{Bound, Variants};
 use mv_num::list::List;
 use mv_regalloc::rename::rename;
+use mv_select::bodies::code_has_words;
+use mv_select::error::SelectError;
+use mv_select::select;
 use std::alloc::{AllocError, Global};
 
-/// The bodies under some assignments, with the row of each. A body that equals one before it is dropped at once, so no more stand than are kept.
+/// The bodies that are kept of a function, with their rows.
+pub(crate) struct Making {
+    pub(crate) variants: Variants,
+    /// How much code there is with theirs.
+    pub(crate) size: Size,
+}
+
+/// The bodies under some assignments, with the row of each, behind code of some size. A body that equals one before it is dropped at once; and with the first
+/// whose code there is no room for, no other is made.
 pub(crate) fn merged_under(
     alloc: Global,
     body: &Body,
     assignments: &[Assignment],
-) -> Result<Variants, AllocError>
+    size: Size,
+) -> Result<Making, VariantError>
     requires formed { IsWellFormed body.now }
     requires whole { IsWhole body.now }
+    requires shallow { deepest body.now.code ≤ 4 }
+    requires frame { HasSmallFrame body.now }
     requires values { (k : ℕ) (d : Assignment) → k < length assignments.now → length body.now.switches ≡ length (slice_index_or assignments.now k d).values }
     requires switches { length body.now.switches ≤ 6 }
     requires few { length assignments.now ≤ 64 }
-    ensures { IfOk result (λ variants. AreMergedUnder body.now assignments.now variants) }
+    requires room { Fits size }
+    ensures merged { IfOk result (λ made. AreMergedUnder body.now assignments.now made.variants) }
+    ensures measured { IfOk result (λ made. AreMeasured body.now size made.variants.bodies made.size) }
+    ensures limit { IfErr result (λ e. OnLimit e (PassesUnder body.now assignments.now size)) }
 {
     added_rows_are_merged();
+    made_bodies_are_variants();
+    let mut with = size;
     let mut variants = Variants {
         bodies: List::new(alloc),
         guards: List::new(alloc),
     };
     for assignment in assignments {
         let row = row_under(alloc, body, assignment)?;
+        let before = variants.bodies.len();
         add(&mut variants, row)?;
+        let grown = with_new(alloc, with, variants.bodies.as_slice(), before)?;
+        if !fits(grown) {
+            return Err(VariantError::Limit(grown));
+        }
+        with = grown;
     }
-    Ok(variants)
+    Ok(Making {
+        variants,
+        size: with,
+    })
+}
+
+// The size of code with that of the body at a place, if there is one.
+fn with_new(alloc: Global, size: Size, bodies: &[Body], place: usize) -> Result<Size, AllocError>
+    requires { IfNew IsSelectable (slice_get bodies.now place) }
+    ensures { IfOk result (IsWithNew size (slice_get bodies.now place)) }
+{
+    match bodies.get(place) {
+        Some(body) => with_body(alloc, size, body),
+        None => Ok(size),
+    }
+}
+
+// The size of code with that of a body more. Its frame is small enough, so selection lacks nothing but memory.
+fn with_body(alloc: Global, size: Size, body: &Body) -> Result<Size, AllocError>
+    requires { IsSelectable body.now }
+    ensures { IfOk result (IsWithBody size body.now) }
+{
+    code_has_words(&body.code);
+    match select(alloc, body, true, 0) {
+        Ok(code) => Ok(with_lines(size, code.items.as_slice())),
+        Err(SelectError::Memory(e)) => Err(e),
+        Err(SelectError::Frame { .. }) => Err(AllocError),
+    }
 }
 
 // The body under an assignment, beside it.

@@ -1,5 +1,6 @@
 use Rattle.std.proofs.Common.{refl}
 use Rattle.std.proofs.lemmas.Result.{err_from_is_err_and}
+use Rattle.mv_build.specs.Compiled.{parts_of}
 use Rattle.mv_build.proofs.Limits.{limit_of}
 use Rattle.mv_build.proofs.Whole.{image_is}
 use Rattle.mv_build.proofs.compiled.Goals as goal
@@ -20,6 +21,6 @@ returns-in_err-image-clause-err c =
     let coded = c.in_ok-generics.field-0 in
     let p = err_from_is_err_and c.from_residual-in_err-image.result c.from_residual-in_err-image.ensures.1 in
     rw (p.1, p.2)
-    (limit_of c.args.program _ c.in_ok-generics.ensures.ok.frames c.in_ok-generics.ensures.ok.alone
+    (limit_of c.args.program (parts_of c.args.program coded.functions coded.attributed) c.in_ok-generics.ensures.ok.frames
     (record { bodies = coded.generics; tables = coded.variants; codes = c.in_ok-generics.ensures.ok.codes; switches = refl; main = refl; globals = refl })
-    c.in_err-image.field-0.0 c.in_err-image.ensures.err)
+    c.in_ok-generics.ensures.ok.within c.in_err-image.field-0.0 c.in_err-image.ensures.err)

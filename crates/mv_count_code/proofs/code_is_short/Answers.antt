@@ -1,6 +1,7 @@
 use Rattle.mv_variants.proofs.OfBound.Patchable.{slots_called}
 use Rattle.mv_count_code.proofs.Sizes.{code_short, lines_short, variants_short, frames_fit, frames_pass, lowered_frames_pass}
 use Rattle.mv_count_code.proofs.Texts.{texts_pass}
+use Rattle.mv_count_code.proofs.Fronts.{fronts_counted}
 use Rattle.mv_count_code.proofs.Sites.{code_slots, slots_counted}
 use Rattle.mv_count_code.proofs.code_is_short.Goals as goal
 
@@ -34,3 +35,9 @@ pub returns-clause-slots : goal.returns-clause-slots
 returns-clause-slots c =
     let counted = c.slots_are_counted.ensures in
     slots_counted (code_slots c.lowered_forms_are_right.ensures.calls counted.renamed counted.own counted.few) counted.patchable slots_called
+
+pub returns-clause-fronts : goal.returns-clause-fronts
+returns-clause-fronts c =
+    let counted = c.slots_are_counted.ensures in
+    fronts_counted (lines_short c.made_bodies_are_variants.ensures.all c.lowered_forms_are_right.ensures.small c.selection_law.ensures.encoded)
+    (code_slots c.lowered_forms_are_right.ensures.calls counted.renamed counted.own counted.few) slots_called

@@ -12,5 +12,4 @@ returns-clause-texts c = texts_counted c.programs_of_texts_are_well_formed.ensur
 
 pub returns-clause-none : goal.returns-clause-none
 returns-clause-none c =
-    pass_none c.programs_of_texts_are_well_formed.ensures c.code_is_short.ensures.lowered c.code_is_short.ensures.lines c.code_is_short.ensures.slots
-    c.parts_law.ensures.counts
+    pass_none c.programs_of_texts_are_well_formed.ensures c.code_is_short.ensures.lowered c.parts_law.ensures.counts c.parts_law.ensures.sizes

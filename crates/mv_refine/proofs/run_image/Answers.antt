@@ -4,11 +4,11 @@ use Rattle.std.proofs.lemmas.Result.{err_from_is_err_and}
 use Rattle.mv_image.specs.Spelling.{Fields}
 use Rattle.mv_machine.specs.Actions.{fits}
 use Rattle.mv_probe.proofs.Logs.{told_nothing}
-use Rattle.mv_refine.proofs.Ran.{made, image_of}
+use Rattle.mv_refine.proofs.Ran.{made, image_of, unless_fresh}
 use Rattle.mv_refine.proofs.run_image.Goals as goal
 
-pub run-stopped-requires-clause-fit : goal.run-stopped-requires-clause-fit
-run-stopped-requires-clause-fit g c =
+pub run-report-requires-clause-fit : goal.run-report-requires-clause-fit
+run-report-requires-clause-fit g c =
     let image = c.args.image.now in
     subst (λ (i : Fields). All (λ action. IsTrue (fits i.switches action)) c.args.actions.now)
     (sym (image_of c.in_ok-machine.machine image c.in_ok-machine.ensures)) c.requires.fit
@@ -19,4 +19,7 @@ returns-in_err-machine-clause-runs g c =
 
 pub returns-clause-runs : goal.returns-clause-runs
 returns-clause-runs g c =
-    made c.args.image.now c.args.actions.now _ _ c.args.steps c.run-stopped.result _ c.in_ok-machine.machine c.run-stopped.new.self c.in_ok-machine.ensures c.run-stopped.ensures.runs
+    let fresh = c.in_ok-machine.ensures in
+    let report = c.run-report.result in
+    let r = unless_fresh c.in_ok-machine.machine _ _ fresh c.run-report.ensures.runs in
+    (r.0, r.1, made c.args.image.now c.args.actions.now _ _ c.args.steps report.stopped report.executed _ c.in_ok-machine.machine c.run-report.new.self fresh r.2)

@@ -1,5 +1,5 @@
 -- Folded code names no more, but for the constants that it computes.
-use Rattle.std.proofs.Common.{◌≡◌, ℕ, zero, suc, Bool, true, false, cond, List, [], ◌∷◌, map, Option, None, Some, sym, subst, refl, ◌∙◌}
+use Rattle.std.proofs.Common.{◌≡◌, ℕ, zero, suc, Bool, true, false, cond, List, [], ◌∷◌, ◌++◌, map, Option, None, Some, sym, subst, refl, ◌∙◌}
 use Rattle.mv_num.specs.declared.kind.Kind.{Kind}
 use Rattle.mv_num.specs.Words as word
 use Rattle.mv_ast.specs.declared.program.Known.{Known}
@@ -20,6 +20,8 @@ use Rattle.mv_ir.specs.Trees.{unary, binary, divide}
 use Rattle.mv_ir.proofs.Induction.{Each, each_append, TreeChildren, tree_ind, StmChildren, stm_ind, stms_ind}
 use Rattle.mv_ir.specs.Rolled.{number, temp}
 use Rattle.mv_fold.specs.Simple.{layer_constant, constant, one_or, two_or, simple_node, simple_tree, jumps, ended, simple_callee, alone, division, choice, simple_layer, simple_stm, simple_code}
+use Rattle.mv_fold.specs.Opened.{leave, from_outside}
+use Rattle.mv_fold.proofs.Opening.{Opens, blocked_is, looped_is}
 use Rattle.mv_fold.specs.Shortened.{shortened}
 use Rattle.mv_fold.specs.Needed.{needed_layer, needed_stm, needed_code}
 use Rattle.mv_fold.specs.Folded.{simple_body}
@@ -125,6 +127,25 @@ module _ (F : ℕ → Type 0) (K : Known → Type 0) (C : ℕ → Type 0) (close
   choice_names (Some zero) t a b h x y = y
   choice_names (Some (suc n)) t a b h x y = x
 
+  abbrev KeepsNames : List Stm → List Stm → Type 0
+  KeepsNames xs ys = CodeNames F K C xs → CodeNames F K C ys
+
+  leave_names : (end : Option ℕ) → CodeNames F K C (leave end)
+  leave_names None = tt
+  leave_names (Some n) = one (stm.Break n) tt
+
+  -- the statements of a loop or block without the jump at their end, and another jump
+  end_names : (front : List Stm) (end end' : Option ℕ) → KeepsNames (front ++ leave end) (front ++ leave end')
+  end_names [] end end' n = leave_names end'
+  end_names (s ∷ front) end end' n = (n.0, end_names front end end' n.1)
+
+  open_names : Opens KeepsNames
+  open_names = record {
+    same = λ xs n. n;
+    block = λ front end e n. end_names front end (from_outside end) (stm_out F K C (stm.Block (front ++ leave end)) n.0);
+    loop = λ front k e n. end_names front (Some k) (from_outside (Some k)) (stm_out F K C (stm.Loop (front ++ leave (Some k))) n.0);
+  }
+
   layer : (x : Stm-F Stm) → StmChildren StmKept x → StmParts F K C x → CodeNames F K C (simple_layer (map-Stm Stm (List Stm) simple_stm x))
   layer (stm.Set t v) h p = one (stm.Set t (simple_tree v)) (tree_kept v p)
   layer (stm.SetGlobal g v) h p = one (stm.SetGlobal g (simple_tree v)) (tree_kept v p)
@@ -135,8 +156,8 @@ module _ (F : ℕ → Type 0) (K : Known → Type 0) (C : ℕ → Type 0) (close
   layer (stm.Write r i v) h p = one (stm.Write r (simple_tree i) (simple_tree v)) (tree_kept i p.0, tree_kept v p.1)
   layer (stm.Zero l) h p = one (stm.Zero l) tt
   layer (stm.If t a b) h p = choice_names (constant (simple_tree t)) (simple_tree t) (simple_code a) (simple_code b) (tree_kept t p.0) (simple a h.0 p.1) (simple b h.1 p.2)
-  layer (stm.Loop b) h p = one (stm.Loop (simple_code b)) (simple b h p)
-  layer (stm.Block b) h p = one (stm.Block (simple_code b)) (simple b h p)
+  layer (stm.Loop b) h p = looped_is KeepsNames open_names (simple_code b) (one (stm.Loop (simple_code b)) (simple b h p))
+  layer (stm.Block b) h p = blocked_is KeepsNames open_names (simple_code b) (one (stm.Block (simple_code b)) (simple b h p))
   layer (stm.Break n) h p = one (stm.Break n) tt
   layer (stm.Back n) h p = one (stm.Back n) tt
   layer (stm.Call r f args) h p = one (stm.Call r (simple_callee f) (map simple_tree args)) (callee_kept f p.0, trees_kept args p.1)
@@ -151,9 +172,6 @@ module _ (F : ℕ → Type 0) (K : Known → Type 0) (C : ℕ → Type 0) (close
 
   -- ---- its end shortened
 
-  abbrev KeepsNames : List Stm → List Stm → Type 0
-  KeepsNames xs ys = CodeNames F K C xs → CodeNames F K C ys
-
   -- a value in place of a temporary
   in_place : (x y z : Stm-F Stm) → (StmParts F K C x → StmParts F K C z) → KeepsNames (roll-Stm x ∷ roll-Stm y ∷ []) (roll-Stm z ∷ [])
   in_place x y z f n = one z (f (stm_out F K C x n.0))
@@ -164,6 +182,7 @@ module _ (F : ℕ → Type 0) (K : Known → Type 0) (C : ℕ → Type 0) (close
     both = λ xs ys zs h k n. k (h n);
     behind = λ s xs ys h n. (n.0, h n.1);
     leave = λ n names. tt;
+    unread = λ t v names. tt;
     stored = λ t g v lt. in_place (stm.Set t v) (stm.SetGlobal g (temp t)) (stm.SetGlobal g v) (λ p. p);
     returned = λ t v lt. in_place (stm.Set t v) (stm.Return (temp t)) (stm.Return v) (λ p. p);
   })

@@ -22,6 +22,8 @@ use Rattle.mv_carry.specs.declared.facts.Reach.TheVariants.{Knowing}
 use Rattle.mv_carry.specs.Carrying.{carried_tree, carried_callee, outermost, carried_code}
 use Rattle.mv_carry.proofs.Structure.{IsClosed, carried_is}
 use Rattle.mv_fold.specs.Simple.{constant, simple_tree, jumps, ended, simple_callee, alone, division, choice, simple_layer, simple_stm, simple_code}
+use Rattle.mv_fold.specs.Opened.{leave, from_outside}
+use Rattle.mv_fold.proofs.Opening.{Opens, blocked_is, looped_is}
 use Rattle.mv_fold.specs.Shortened.{shortened}
 use Rattle.mv_fold.specs.Needed.{needed_layer, needed_stm, needed_code}
 use Rattle.mv_fold.specs.Folded.{simple_body}
@@ -46,7 +48,7 @@ SameGoal (callee.Switched g) (callee.Switched h) = Unit {0}
 SameGoal _ _ = ⊥
 
 -- what a statement counts, by what its parts count: it is the same whatever its trees, temporaries and globals, and no more with parts that count no more,
--- with the parts of a choice alone, and with a value in place of a division
+-- with the parts of a choice, a loop or a block alone, and with a value in place of a division
 pub record Measure (layer : Stm-F ℕ → ℕ) (m : Stm → ℕ) : Type 0 where
   pub roll : (x : Stm-F Stm) → m (roll-Stm x) ≡ layer (map-Stm Stm ℕ m x)
   pub set : (t u : ℕ) (v w : Tree) → layer (stm.Set t v) ≡ layer (stm.Set u w)
@@ -60,6 +62,9 @@ pub record Measure (layer : Stm-F ℕ → ℕ) (m : Stm → ℕ) : Type 0 where
   pub chosen : (t : Tree) (a b : List ℕ) → total a + total b ≤ layer (stm.If t a b)
   pub loop : (a b : List ℕ) → total a ≤ total b → layer (stm.Loop a) ≤ layer (stm.Loop b)
   pub block : (a b : List ℕ) → total a ≤ total b → layer (stm.Block a) ≤ layer (stm.Block b)
+  pub looped : (a : List ℕ) → total a ≤ layer (stm.Loop a)
+  pub blocked : (a : List ℕ) → total a ≤ layer (stm.Block a)
+  pub break : (n k : ℕ) → layer (stm.Break n) ≡ layer (stm.Break k)
   pub call : (r s : Option ℕ) (f g : Callee) (xs ys : List Tree) → SameGoal f g → layer (stm.Call r f xs) ≡ layer (stm.Call s g ys)
   pub known : (r s : Option ℕ) (k : Known) (xs ys : List Tree) → layer (stm.Known r k xs) ≡ layer (stm.Known s k ys)
   pub return : (v w : Tree) → layer (stm.Return v) ≡ layer (stm.Return w)
@@ -238,6 +243,28 @@ module _ {layer : Stm-F ℕ → ℕ} {m : Stm → ℕ} (of : Measure layer m) wh
   choice_no_more (Some zero) t u a b c d h k = omega (arith, of.chosen u c d, k)
   choice_no_more (Some (suc n)) t u a b c d h k = omega (arith, of.chosen u c d, h)
 
+  abbrev NoMore : List Stm → List Stm → Type 0
+  NoMore xs ys = all ys ≤ all xs
+
+  leave_no_more : (end : Option ℕ) → all (leave (from_outside end)) ≤ all (leave end)
+  leave_no_more None = omega arith
+  leave_no_more (Some zero) = omega arith
+  leave_no_more (Some (suc n)) = omega (arith, of.roll (stm.Break (suc n)), of.roll (stm.Break n), of.break (suc n) n)
+
+  -- the statements of a loop or block, with a jump that goes one level less far
+  end_no_more : (front : List Stm) (end : Option ℕ) → all (front ++ leave (from_outside end)) ≤ all (front ++ leave end)
+  end_no_more front end = omega (arith, all_append front (leave end), all_append front (leave (from_outside end)), leave_no_more end)
+
+  contents : (x : Stm-F Stm) (front : List Stm) (end : Option ℕ) → all (front ++ leave end) ≤ own x → NoMore (alone x) (front ++ leave (from_outside end))
+  contents x front end h = omega (arith, h, of.roll x, end_no_more front end)
+
+  open_no_more : Opens NoMore
+  open_no_more = record {
+    same = λ xs. omega arith;
+    block = λ front end e. contents (stm.Block (front ++ leave end)) front end (of.blocked (map m (front ++ leave end)));
+    loop = λ front n e. contents (stm.Loop (front ++ leave (Some n))) front (Some n) (of.looped (map m (front ++ leave (Some n))));
+  }
+
   layer_simple : (x : Stm-F Stm) → StmChildren (Many simple_stm) x → all (simple_layer (map-Stm Stm (List Stm) simple_stm x)) ≤ own x
   layer_simple (stm.Set t v) h = lone (stm.Set t (simple_tree v)) _ (of.set _ _ _ _)
   layer_simple (stm.SetGlobal g v) h = lone (stm.SetGlobal g (simple_tree v)) _ (of.store _ _ _ _)
@@ -247,8 +274,10 @@ module _ {layer : Stm-F ℕ → ℕ} {m : Stm → ℕ} (of : Measure layer m) wh
   layer_simple (stm.Write r i v) h = lone (stm.Write r (simple_tree i) (simple_tree v)) _ (of.write _ _ _ _ _ _)
   layer_simple (stm.Zero l) h = lone (stm.Zero l) _ refl
   layer_simple (stm.If t a b) h = choice_no_more (constant (simple_tree t)) (simple_tree t) t (simple_code a) (simple_code b) (map m a) (map m b) (code_simple a h.0) (code_simple b h.1)
-  layer_simple (stm.Loop b) h = less (stm.Loop (simple_code b)) _ (of.loop _ _ (code_simple b h))
-  layer_simple (stm.Block b) h = less (stm.Block (simple_code b)) _ (of.block _ _ (code_simple b h))
+  layer_simple (stm.Loop b) h =
+      omega (arith, looped_is NoMore open_no_more (simple_code b), less (stm.Loop (simple_code b)) (own (stm.Loop b)) (of.loop _ _ (code_simple b h)))
+  layer_simple (stm.Block b) h =
+      omega (arith, blocked_is NoMore open_no_more (simple_code b), less (stm.Block (simple_code b)) (own (stm.Block b)) (of.block _ _ (code_simple b h)))
   layer_simple (stm.Break n) h = lone (stm.Break n) _ refl
   layer_simple (stm.Back n) h = lone (stm.Back n) _ refl
   layer_simple (stm.Call r f args) h = lone (stm.Call r (simple_callee f) (map simple_tree args)) _ (of.call _ _ _ _ _ _ (simple_goal f))
@@ -257,9 +286,6 @@ module _ {layer : Stm-F ℕ → ℕ} {m : Stm → ℕ} (of : Measure layer m) wh
 
   simple_no_more : (code : List Stm) → all (simple_code code) ≤ all code
   simple_no_more code = code_simple code (stms_ind (Many simple_stm) (stm_ind (Many simple_stm) (λ x h. to_many simple_stm x _ (simple_stm_roll x) (layer_simple x h))) code)
-
-  abbrev NoMore : List Stm → List Stm → Type 0
-  NoMore xs ys = all ys ≤ all xs
 
   -- a statement in place of two, of which the second counts as much
   second : (x y z : Stm-F Stm) → own z ≡ own y → NoMore (roll-Stm x ∷ roll-Stm y ∷ []) (roll-Stm z ∷ [])
@@ -271,6 +297,7 @@ module _ {layer : Stm-F ℕ → ℕ} {m : Stm → ℕ} (of : Measure layer m) wh
     both = λ xs ys zs h k. omega (arith, h, k);
     behind = λ s xs ys h. omega (arith, h);
     leave = λ n. omega arith;
+    unread = λ t v. omega arith;
     stored = λ t g v lt. second (stm.Set t v) (stm.SetGlobal g (temp t)) (stm.SetGlobal g v) (of.store _ _ _ _);
     returned = λ t v lt. second (stm.Set t v) (stm.Return (temp t)) (stm.Return v) (of.return _ _);
   })

@@ -39,6 +39,9 @@ module _ (direct : ℕ → ℕ) (through : ℕ) where
     chosen = λ t a b. omega arith;
     loop = λ a b h. h;
     block = λ a b h. h;
+    looped = λ a. omega arith;
+    blocked = λ a. omega arith;
+    break = λ n k. refl;
     call = λ r s f g xs ys e. same_weight f g e;
     known = λ r s k xs ys. refl;
     return = λ v w. refl;

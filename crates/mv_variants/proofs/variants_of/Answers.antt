@@ -1,8 +1,13 @@
 use Rattle.std.proofs.Common.{◌≡◌, sym, subst, length, get_or, ◌<◌, ◌≤◌, ℕ, List}
+use Rattle.std.proofs.lemmas.Result.{err_from_is_err_and}
 use Rattle.mv_ir.specs.declared.body.Assignment.{Assignment}
+use Rattle.mv_ir.specs.declared.body.Body.{Body}
+use Rattle.mv_variants.specs.Fronts.{AreMeasured, PassesUnder, PassesWithinOf}
+use Rattle.mv_variants.specs.Sizes.{OnLimit}
+use Rattle.mv_variants.proofs.Fronts.{on_limit}
 use Rattle.mv_variants.specs.Rows.{AreMergedUnder}
 use Rattle.mv_variants.proofs.Functions.{attributed_there}
-use Rattle.mv_variants.proofs.Whole.{all_few, are_variants, body_formed, body_whole, domains_apart, switches_few, values_fit}
+use Rattle.mv_variants.proofs.Whole.{all_few, are_variants, body_formed, body_shallow, body_whole, first_bodies, domains_apart, switches_few, values_fit}
 use Rattle.mv_variants.proofs.variants_of.Goals as goal
 
 pub merged_under-requires-clause-formed : goal.merged_under-requires-clause-formed
@@ -36,12 +41,36 @@ merged_under-requires-clause-few c =
     subst (λ (xs : List Assignment). length xs ≤ 64) (sym c.as_slice.ensures)
     (all_few p c.requires.formed c.args.function a all (c.in_ok-all.ensures.every (domains_apart p c.requires.formed c.args.function a)) c.in_ok-all.ensures.count)
 
-pub returns : goal.returns
-returns c =
+pub merged_under-requires-clause-shallow : goal.merged_under-requires-clause-shallow
+merged_under-requires-clause-shallow c =
+    body_shallow c.args.program.now c.requires.formed c.args.function (attributed_there c.args.program.now c.args.function c.requires.attributed) c.lowered_forms_are_right.ensures.shallow
+    c.args.body.now c.requires.lowered
+
+pub returns-clause-variants : goal.returns-clause-variants
+returns-clause-variants c =
     let p = c.args.program.now in
     let a = attributed_there p c.args.function c.requires.attributed in
     let every = c.in_ok-all.ensures.every (domains_apart p c.requires.formed c.args.function a) in
-    let merged = c.in_ok-merged.merged in
+    let merged = c.in_ok-kept.field-0.variants in
     are_variants p c.requires.formed c.args.function a c.in_ok-all.all every c.in_ok-all.ensures.count c.args.body.now c.requires.lowered merged
-    (subst (λ (xs : List Assignment). AreMergedUnder c.args.body.now xs merged) c.as_slice.ensures c.in_ok-merged.ensures) c.added_rows_are_merged.ensures.all
+    (subst (λ (xs : List Assignment). AreMergedUnder c.args.body.now xs merged) c.as_slice.ensures c.in_ok-kept.ensures.merged) c.added_rows_are_merged.ensures.all
     c.in_ok-_domains._domains c.in_ok-_domains.ensures c.in_ok-variants.variants c.in_ok-variants.ensures
+
+pub returns-clause-measured : goal.returns-clause-measured
+returns-clause-measured c =
+    subst (λ (bs : List Body). AreMeasured c.args.body.now c.args.size bs c.in_ok-kept.field-0.size) (sym c.in_ok-variants.ensures.bodies) c.in_ok-kept.ensures.measured
+
+pub returns-in_err-kept-clause-limit : goal.returns-in_err-kept-clause-limit
+returns-in_err-kept-clause-limit c =
+    let p = c.args.program.now in
+    let body = c.args.body.now in
+    let size = c.args.size in
+    let a = attributed_there p c.args.function c.requires.attributed in
+    let all = c.in_ok-all.all in
+    let every = c.in_ok-all.ensures.every (domains_apart p c.requires.formed c.args.function a) in
+    let e = c.in_err-kept.field-0.0 in
+    let q = err_from_is_err_and c.from_residual-in_err-kept.result c.from_residual-in_err-kept.ensures.1 in
+    rw (q.1, q.2)
+    (on_limit (PassesUnder body all size) (PassesWithinOf p c.args.function size)
+    (λ over h. first_bodies p c.requires.formed c.args.function a all every c.in_ok-all.ensures.count c.in_ok-all.ensures.order body c.requires.lowered size over h) e
+    (subst (λ (xs : List Assignment). OnLimit e (PassesUnder body xs size)) c.as_slice.ensures c.in_err-kept.ensures.limit))

@@ -5,9 +5,8 @@ use Rattle.mv_ir.specs.declared.body.Body.{Body}
 use Rattle.mv_lower.proofs.Small.{small_enough}
 use Rattle.mv_select.specs.Bodies.SelectedBodies.{HasWords}
 use Rattle.mv_isa.specs.declared.labelled.Labelled.{Labelled}
-use Rattle.mv_build.specs.Compiled.{OnRefusal}
-use Rattle.mv_build.specs.Sizes.{FitsAlone, PassesAlone}
-use Rattle.mv_build.proofs.Limits.{frame_refused, frames_fit, functions_refused}
+use Rattle.mv_parts.specs.Fronts.{IsSizeOf}
+use Rattle.mv_build.proofs.Limits.{frame_refused, frames_fit, functions_refused, variants_refused}
 use Rattle.mv_build.proofs.code.code_of.Goals as goal
 
 pub lower_each-requires : goal.lower_each-requires
@@ -24,17 +23,31 @@ attributed_code-requires-clause-frames c =
 
 pub returns-clause-ok : goal.returns-clause-ok
 returns-clause-ok c = record {
-  codes = record { generics = c.in_ok-generics.ensures; are_tables = c.in_ok-variants.ensures.tables; code = c.in_ok-functions.ensures.ok; variants = c.in_ok-variants.ensures.parts };
+  codes = record { generics = c.in_ok-generics.ensures; are_tables = c.in_ok-variants.ensures.ok.tables; code = c.in_ok-functions.ensures.ok; variants = c.in_ok-variants.ensures.ok.parts };
   words = subst (λ (bodies : List Body). All (λ (b : Body). HasWords b.code) bodies) c.as_slice-3.ensures c.have_words.ensures;
   frames = frames_fit c.args.program.now c.in_ok-generics.generics c.in_ok-functions.functions c.in_ok-generics.ensures c.in_ok-functions.ensures.ok;
-  alone = subst (FitsAlone c.args.program.now) c.as_slice.ensures c.in_ok-test_functions.ensures.ok;
+  within = record {
+    size = c.size_of-size.result;
+    is = subst (λ (fs : List Labelled). IsSizeOf fs c.size_of-size.result) c.as_slice.ensures c.size_of-size.ensures;
+    within = c.in_ok-test_size.ensures.ok;
+    room = c.in_ok-variants.ensures.ok.room;
+  };
 }
 
-pub returns-in_err-test_functions-clause-err : goal.returns-in_err-test_functions-clause-err
-returns-in_err-test_functions-clause-err c =
-    let p = err_from_is_err_and c.from_residual-in_err-test_functions.result c.from_residual-in_err-test_functions.ensures.1 in
-    let e = c.in_err-test_functions.field-0.0 in
+pub returns-in_err-test_size-clause-err : goal.returns-in_err-test_size-clause-err
+returns-in_err-test_size-clause-err c =
+    let p = err_from_is_err_and c.from_residual-in_err-test_size.result c.from_residual-in_err-test_size.ensures.1 in
     let frames = frames_fit c.args.program.now c.in_ok-generics.generics c.in_ok-functions.functions c.in_ok-generics.ensures c.in_ok-functions.ensures.ok in
+    let is = subst (λ (fs : List Labelled). IsSizeOf fs c.size_of-size.result) c.as_slice.ensures c.size_of-size.ensures in
     rw (p.1, p.2)
-    (functions_refused c.args.program.now c.in_ok-functions.functions c.in_ok-generics.generics frames c.in_ok-generics.ensures c.in_ok-functions.ensures.ok e
-    (subst (λ (fs : List Labelled). OnRefusal e (PassesAlone c.args.program.now fs)) c.as_slice.ensures c.in_err-test_functions.ensures.err))
+    (functions_refused c.args.program.now c.in_ok-generics.generics c.in_ok-functions.functions frames c.in_ok-generics.ensures c.in_ok-functions.ensures.ok c.size_of-size.result is
+    c.in_err-test_size.field-0.0 c.in_err-test_size.ensures.err)
+
+pub returns-in_err-variants-clause-err : goal.returns-in_err-variants-clause-err
+returns-in_err-variants-clause-err c =
+    let p = err_from_is_err_and c.from_residual-in_err-variants.result c.from_residual-in_err-variants.ensures.1 in
+    let frames = frames_fit c.args.program.now c.in_ok-generics.generics c.in_ok-functions.functions c.in_ok-generics.ensures c.in_ok-functions.ensures.ok in
+    let is = subst (λ (fs : List Labelled). IsSizeOf fs c.size_of-size.result) c.as_slice.ensures c.size_of-size.ensures in
+    rw (p.1, p.2)
+    (variants_refused c.args.program.now c.in_ok-generics.generics c.in_ok-functions.functions frames c.in_ok-generics.ensures c.in_ok-functions.ensures.ok c.size_of-size.result is
+    c.in_ok-test_size.ensures.ok c.in_err-variants.field-0.0 c.in_err-variants.ensures.err)

@@ -1,3 +1,4 @@
+use Rattle.mv_parts.proofs.FrontCounts.{sizes_counted}
 use Rattle.mv_parts.proofs.LinkedCode.{Laws}
 use Rattle.mv_parts.proofs.LinkedCounts.{are_counted}
 use Rattle.mv_parts.proofs.LinkedSwitches.{data_counted, switches_there}
@@ -27,3 +28,6 @@ returns-clause-parts c =
 pub returns-clause-counts : goal.returns-clause-counts
 returns-clause-counts c =
     are_counted c.rows_lead_to_variants.ensures.bodies c.rows_lead_to_variants.ensures.groups c.code_is_short.ensures.text c.code_is_short.ensures.slots
+
+pub returns-clause-sizes : goal.returns-clause-sizes
+returns-clause-sizes c = sizes_counted c.rows_lead_to_variants.ensures.groups c.code_is_short.ensures.fronts

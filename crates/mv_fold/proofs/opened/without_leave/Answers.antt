@@ -1,8 +1,8 @@
 use Rattle.std.proofs.Common.{arith, ◌≡◌, suc, ◌-◌, length, true, false, get_or, sym, ◌∙◌, ap}
-use Rattle.mv_fold.specs.Shortened.{leaves, without_leave}
+use Rattle.mv_fold.specs.Opened.{leaves, without_leave}
 use Rattle.mv_fold.proofs.Ends.{leave_last, keep_last, no_last}
-use Rattle.mv_fold.proofs.shortened.without_leave.Goals as goal
-use Rattle.mv_fold.proofs.shortened.without_leave.Goals.{then-count-gt0+then-leaves, else-count-gt0, else-count-gt0-via-then-count-gt0+else-leaves, else-count-gt0-via-else-count-gt0}
+use Rattle.mv_fold.proofs.opened.without_leave.Goals as goal
+use Rattle.mv_fold.proofs.opened.without_leave.Goals.{then-count-gt0+then-leaves, else-count-gt0, else-count-gt0-via-then-count-gt0+else-leaves, else-count-gt0-via-else-count-gt0}
 
 pub returns : goal.returns
 returns c =
