@@ -32,7 +32,7 @@ COMMANDED = [
 ]
 APART = [
     ("6 The work that a meaning counts", [("mv_ast/specs/Names.antt", "names_local"), ("mv_ast/specs/Counts.antt", "patchable"), ("mv_meaning/specs/Meaning.antt", "poll_work")]),
-    ("7 Pointer switches, of which no text has one", [
+    ("7 Pointer switches, of which no image has one", [
         ("mv_ast/specs/Switches.antt", "pointer_number"), ("mv_ast/specs/Switches.antt", "called_word"), ("mv_ast/specs/Switches.antt", "pointer_bindings"),
         ("mv_ast/specs/Orders.antt", "is_pointer_addressed"), ("mv_ast/specs/Orders.antt", "ordered_pointer")]),
 ]

@@ -10,4 +10,5 @@ pub mod Spaces
 pub mod Objects
 pub mod DeclaredObjects
 pub mod Switches
+pub mod Pointers
 pub mod Common

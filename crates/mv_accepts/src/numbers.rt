@@ -2,10 +2,10 @@
 //!
 //! Laws on a unit that `unit_judgement` finds good, and its program.
 //!
-//! - `functions_have_their_numbers`, `objects_have_their_numbers`: the functions, attributed functions, objects and
-//!   switches that the unit's outline has are those of the program, with the same numbers, and each function is defined.
+//! - `functions_have_their_numbers`, `objects_have_their_numbers`: the functions, attributed functions, objects, switches and
+//!   pointer switches that the unit's outline has are those of the program, with the same numbers, and each function is defined.
 
-ghost use Rattle.mv_accepts.specs.Numbers.Numbers.{AttributedAreCounted, FunctionsAreDefined, ItemsAreForeknown, SwitchesAreCounted};
+ghost use Rattle.mv_accepts.specs.Numbers.Numbers.{AttributedAreCounted, FunctionsAreDefined, ItemsAreForeknown, PointersAreCounted, SwitchesAreCounted};
 
 use crate::statements::{good_bodies_are_typed, good_parameters_fit};
 
@@ -17,10 +17,11 @@ pub fn functions_have_their_numbers()
     ensures attributed { AttributedAreCounted }
 {}
 
-/// The objects of a unit whose declarations keep the rules are those that are known from its outline, and its switches those of them that
-/// any declaration marks. The call does nothing: its contract is the law.
+/// The objects of a unit whose declarations keep the rules are those that are known from its outline, its switches those of them that any
+/// declaration marks and that are no pointers, and its pointer switches are pointers. The call does nothing: its contract is the law.
 pub fn objects_have_their_numbers()
-    ensures { SwitchesAreCounted }
+    ensures switches { SwitchesAreCounted }
+    ensures pointers { PointersAreCounted }
 {
     good_bodies_are_typed();
     good_parameters_fit();

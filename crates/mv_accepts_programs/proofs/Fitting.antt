@@ -1,8 +1,9 @@
 -- What the names of a unit's file scope mean is what its program has.
 use Rattle.std.proofs.Common.{◌≡◌, ℕ, ◌<◌, ◌⊎◌, inl, inr, refl, sym, ◌∙◌, ap, subst, Bool, true, false, ◌||◌, nat_eq, nat_lt, List, [], ◌∷◌, length, map, Option, Some, None, slice_get}
-use Rattle.std.specs.Prelude.{All, codes, if◌then◌else◌}
+use Rattle.std.specs.Prelude.{◌+◌, All, codes, if◌then◌else◌}
 use Rattle.std.specs.List.{AllByRecursion}
 use Rattle.std.proofs.lemmas.Bool.{eqb-true}
+use Rattle.std.proofs.lemmas.List.Elements.{recursion_from_All}
 use Rattle.std.proofs.lemmas.List.{length-map}
 use Rattle.std.proofs.lemmas.List.Quantifiers.{position-Some}
 use Rattle.std.proofs.lemmas.Option.{same_Some}
@@ -25,14 +26,14 @@ use Rattle.mv_check_scope.specs.Spaces.{named, or_else, meaning_in}
 use Rattle.mv_check_outline.specs.Names.{same_name, place_of}
 use Rattle.mv_source_forms.specs.Typing.{global_types, IsFunctionOf}
 use Rattle.mv_source_forms.specs.Names.{is_own_switch}
-use Rattle.mv_source_forms.specs.WellFormed.{IsWellFormedSwitch}
+use Rattle.mv_source_forms.specs.WellFormed.{IsWellFormedSwitch, IsWellFormedPointer}
 use Rattle.mv_accepts.specs.Expressions.Soundness.{IsStored, IsMeant, Fits}
 use Rattle.mv_accepts.specs.Bodies.Declared.{IsIn, IsCovered, Covers}
 use Rattle.mv_accepts.specs.Bodies.Formed.{IsScalar, IsArray, IsKindOfOrder, IsShaped, AreShaped}
 use Rattle.mv_types.specs.declared.contents.Contents.{Contents}
 use Rattle.mv_types.specs.declared.contents.Foreknown.{Foreknown}
 use Rattle.mv_types.specs.declared.contents.Object.{Object}
-use Rattle.mv_types.specs.Foreknown.{attributed_number}
+use Rattle.mv_types.specs.Foreknown.{attributed_number, switch_number}
 use Rattle.mv_types.specs.Units.{with_switches}
 use Rattle.mv_accepts.specs.Names.Declared.{IsStill, Extends, IsGlobal, IsDeclared, IsDefinition, IsSound}
 use Rattle.mv_accepts.proofs.OfNames.Named.{same_place}
@@ -93,7 +94,7 @@ kind_known name k h = by (is_named name (codes "getchar")) (is_named name (codes
 
 -- ---- in a program
 
-module _ (k : Foreknown) (c : Contents) (functions : List Function) (main : ℕ) (p : Program) (made : IsMade c functions main p) (all : c.functions ≡ map (λ f. Some f) functions)
+module _ (k : Foreknown) (c : Contents) (functions : List Function) (main : ℕ) (p : Program) (made : IsMade k c functions main p) (all : c.functions ≡ map (λ f. Some f) functions)
     (sound : IsSound k c) where
   global_there : (n : ℕ) (t : CType) (g : Global) → slice_get p.globals n ≡ Some g → g.ctype ≡ t → slice_get (global_types p) n ≡ Some t
   global_there n t g h e = mapped_there (λ (x : Global). x.ctype) p.globals n g h ∙ ap (λ u. Some u) e
@@ -188,9 +189,9 @@ module _ (k : Foreknown) (c : Contents) (functions : List Function) (main : ℕ)
 
     -- ---- what names mean beside their types
 
-    module _ (switches : (name : List ℕ) (n : ℕ) → place_of name k.outline.switches ≡ Some n → nat_lt n (length p.switches) ≡ true)
+    module _ (switches : (name : List ℕ) (n : ℕ) → switch_number k name ≡ Some n → nat_lt n (length p.switches + length p.pointers) ≡ true)
         (attributed : (name : List ℕ) (g n : ℕ) → place_of name k.outline.functions ≡ Some g → attributed_number k name ≡ Some n → nat_lt n (length (attributed_functions p)) ≡ true)
-        (formed : All (IsWellFormedSwitch p) p.switches) where
+        (formed : All (IsWellFormedSwitch p) p.switches) (pointed : All (IsWellFormedPointer p) p.pointers) where
       -- a switch is no array
       scalar_switch : (n size : ℕ) (g : Global) → slice_get p.globals n ≡ Some g → g.size ≡ Some size → (s : ℕ) → s < length p.switches → nat_eq n (switch_global p s) ≡ true → ⊥
       scalar_switch n size g there is s l e =
@@ -212,12 +213,31 @@ module _ (k : Foreknown) (c : Contents) (functions : List Function) (main : ℕ)
           by true e rest = absurd (scalar_switch n size g there is s h.0 e)
           by false e rest = ap (λ b. b || is_among n (map (switch_global p) ss)) e ∙ rest
 
+      -- nor is a pointer switch
+      no_pointer : (n size : ℕ) (g : Global) → slice_get p.globals n ≡ Some g → g.size ≡ Some size → (gs : List ℕ) → AllByRecursion (IsWellFormedPointer p) gs →
+          is_among n gs ≡ false
+      no_pointer n size g there is [] h = refl
+      no_pointer n size g there is (m ∷ ms) h = by (nat_eq n m) refl (no_pointer n size g there is ms h.1)
+        where
+          never : (i : ℕ) → Some i ≡ None → ⊥
+          never i q = absurd (cc)
+
+          clash : nat_eq n m ≡ true → ⊥
+          clash e =
+              let w : IsWellFormedPointer p m = h.0 in
+              let other : g ≡ w.global = same_Some g w.global (sym there ∙ (ap (λ i. slice_get p.globals i) (eqb-true n m e) ∙ w.there)) in
+              never size (sym is ∙ (ap (λ (y : Global). y.size) other ∙ w.scalar))
+
+          by : (b : Bool) → nat_eq n m ≡ b → is_among n ms ≡ false → is_among n (m ∷ ms) ≡ false
+          by true e rest = absurd (clash e)
+          by false e rest = ap (λ b. b || is_among n ms) e ∙ rest
+
       module _ (own : ℕ) (f : Function) (there : slice_get p.functions own ≡ Some f) (numbers : AllByRecursion (λ s. s < length p.switches) f.switches) where
         array_shaped : (s : Storage) (t : CType) (o : IsGlobal before s t) (size : ℕ) → o.object.global.size ≡ Some size → IsArray p own f s
         array_shaped s t o size e =
             let x = still s t o in
             subst (λ (z : Storage). IsArray p own f z) (sym o.global)
-            (ap (λ g. is_own_switch p g o.number) there ∙ no_array o.number size x.0 x.1 (x.3 ∙ e) f.switches numbers, ap (is_among o.number) made.pointers)
+            (ap (λ g. is_own_switch p g o.number) there ∙ no_array o.number size x.0 x.1 (x.3 ∙ e) f.switches numbers, no_pointer o.number size x.0 x.1 (x.3 ∙ e) p.pointers (recursion_from_All (IsWellFormedPointer p) p.pointers pointed))
 
         shaped : (name : List ℕ) (m : Meaning) → IsDeclared k before name m → IsShaped p own f m
         shaped name (meaning.Object v) d =

@@ -1,5 +1,5 @@
 -- Each function of a unit's program is well typed and well formed.
-use Rattle.std.proofs.Common.{◌≡◌, ℕ, ◌<◌, ◌≤◌, refl, sym, ◌∙◌, ap, subst, Bool, true, false, if◌then◌else◌, List, [], length, map, Option, Some, None, slice_get, nat_lt}
+use Rattle.std.proofs.Common.{◌≡◌, ℕ, ◌+◌, ◌<◌, ◌≤◌, refl, sym, ◌∙◌, ap, subst, Bool, true, false, if◌then◌else◌, List, [], length, map, Option, Some, None, slice_get, nat_lt}
 use Rattle.std.specs.Prelude.{All, codes}
 use Rattle.std.specs.List.{AllByRecursion}
 use Rattle.std.proofs.lemmas.Option.{same_Some}
@@ -19,7 +19,7 @@ use Rattle.mv_check_outline.specs.Names.{place_of}
 use Rattle.mv_check_declarations.specs.Parameters.{parameters_judgement}
 use Rattle.mv_check_statements.specs.Statements.{body_judgement}
 use Rattle.mv_source_forms.specs.Typing.{IsIntegerSwitch, IsTypedFunction}
-use Rattle.mv_source_forms.specs.WellFormed.{IsWellFormedSwitch, IsWellFormedFunction}
+use Rattle.mv_source_forms.specs.WellFormed.{IsWellFormedSwitch, IsWellFormedPointer, IsWellFormedFunction}
 use Rattle.mv_accepts.specs.Expressions.Soundness.{Fits}
 use Rattle.mv_accepts.proofs.OfExpressions.Kept.{went_on, same_good}
 use Rattle.mv_accepts.specs.Statements.Bodies.{Keeps}
@@ -32,7 +32,7 @@ use Rattle.mv_check_uses.specs.Uses.{switches_named}
 use Rattle.mv_accepts_programs.specs.OwnSwitches.{OwnSwitchesAreNamed}
 use Rattle.mv_types.specs.declared.contents.Contents.{Contents}
 use Rattle.mv_types.specs.declared.contents.Foreknown.{Foreknown}
-use Rattle.mv_types.specs.Foreknown.{attributed_number, is_attributed}
+use Rattle.mv_types.specs.Foreknown.{attributed_number, is_attributed, switch_number}
 use Rattle.mv_types.specs.Functions.{body_entered, left_with}
 use Rattle.mv_types.specs.Units.{is_main_type, main_of, with_switches}
 use Rattle.mv_accepts.specs.Names.Declared.{IsSound}
@@ -57,7 +57,7 @@ entered_covers locals s attributed h name m q = h name m (sym (entered_means s n
 entered_shaped : (p : Program) (own : ℕ) (f : Function) (s : Scope) (attributed : Bool) → AreShaped p own f s → AreShaped p own f (body_entered attributed s)
 entered_shaped p own f s attributed h name m q = h name m (sym (entered_means s name) ∙ q)
 
-module _ (k : Foreknown) (c : Contents) (functions : List Function) (main : ℕ) (p : Program) (made : IsMade c functions main p) (all : c.functions ≡ map (λ f. Some f) functions)
+module _ (k : Foreknown) (c : Contents) (functions : List Function) (main : ℕ) (p : Program) (made : IsMade k c functions main p) (all : c.functions ≡ map (λ f. Some f) functions)
     (sound : IsSound k c) (were : WereDefined k c) where
   was : (own : ℕ) (f : Function) → slice_get functions own ≡ Some f → WasDefined k c f
   was own f h = were own f (ap (λ fs. slice_get fs own) all ∙ mapped_there (λ (g : Function). Some g) functions own f h)
@@ -115,9 +115,9 @@ module _ (k : Foreknown) (c : Contents) (functions : List Function) (main : ℕ)
 
     -- ---- well-formed functions
 
-    module _ (switches : (name : List ℕ) (n : ℕ) → place_of name k.outline.switches ≡ Some n → nat_lt n (length p.switches) ≡ true)
+    module _ (switches : (name : List ℕ) (n : ℕ) → switch_number k name ≡ Some n → nat_lt n (length p.switches + length p.pointers) ≡ true)
         (attributed : (name : List ℕ) (g n : ℕ) → place_of name k.outline.functions ≡ Some g → attributed_number k name ≡ Some n → nat_lt n (length (attributed_functions p)) ≡ true)
-        (formed : All (IsWellFormedSwitch p) p.switches) (integers : (s : ℕ) → s < length p.switches → IsIntegerSwitch p s)
+        (formed : All (IsWellFormedSwitch p) p.switches) (pointed : All (IsWellFormedPointer p) p.pointers) (integers : (s : ℕ) → s < length p.switches → IsIntegerSwitch p s)
         (law : DefinitionIsFormed) (own_law : OwnSwitchesAreNamed) where
       is_formed : (own : ℕ) (f : Function) → slice_get functions own ≡ Some f → IsFormed p own (with_switches p.switches f)
       is_formed own f h =
@@ -129,7 +129,7 @@ module _ (k : Foreknown) (c : Contents) (functions : List Function) (main : ℕ)
           (entered_covers (λ l. false) w.before.scope d.2 (file_covers k c functions main p made all sound w.before w.sound w.extends))
           (entered_fits p g w.before.scope d.2 (file_fits k c functions main p made all sound w.before w.sound w.extends g))
           (entered_shaped p own g w.before.scope d.2
-          (file_shaped k c functions main p made all sound w.before w.sound w.extends switches attributed formed own g there (numbers f)))
+          (file_shaped k c functions main p made all sound w.before w.sound w.extends switches attributed formed pointed own g there (numbers f)))
 
       pub function_formed : (own : ℕ) (g : Function) → slice_get p.functions own ≡ Some g → IsWellFormedFunction p own g
       function_formed own g h =

@@ -14,7 +14,7 @@ use Rattle.mv_syntax.specs.declared.unit.Unit as tree
 use Rattle.mv_ast.specs.Counts.{elements_of}
 use Rattle.mv_check_expressions.specs.Judged.{Good}
 use Rattle.mv_check_limits.specs.declared.excess.Exceeded.{Exceeded}
-use Rattle.mv_check_limits.specs.Limits.{Limit, first_above, reported, excess, first_some, functions_limit, globals_limit, parameters_limit, switches_limit, values_limit, switches_of_function_limit, assignments_limit, elements_limit, global_sizes, local_sizes}
+use Rattle.mv_check_limits.specs.Limits.{Limit, first_above, reported, excess, first_some, functions_limit, globals_limit, parameters_limit, switches_limit, values_limit, switches_of_function_limit, assignments_limit, elements_limit, pointers_limit, global_sizes, local_sizes}
 use Rattle.mv_check_limits.specs.Ordered.{unit_parameters, global_elements, local_elements, declarator_elements, item_elements, unit_elements, in_text, first_excess}
 use Rattle.mv_check_limits.proofs.Told.{both_none}
 use Rattle.mv_check_rules.specs.Nodes.{Global}
@@ -105,7 +105,7 @@ module _ (u : tree.Unit) (known : ItemsAreForeknown) where
 
   module _ (c : Declarations) (x : Is c) (m : ℕ) where
     abbrev P : Program
-    P = program c m
+    P = program u.items c m
 
     abbrev changed : Function → Function
     changed = with_switches (switches_from 0 c.globals)
@@ -149,7 +149,7 @@ module _ (u : tree.Unit) (known : ItemsAreForeknown) where
   abbrev with_two : Program → Option Exceeded → Option Exceeded → Option Exceeded
   with_two p a b =
       first_some
-      (excess (functions_limit p) ∷ excess (globals_limit p) ∷ a ∷ excess (switches_limit p) ∷ excess (values_limit p) ∷ excess (switches_of_function_limit p) ∷ excess (assignments_limit p) ∷ b ∷ [])
+      (excess (functions_limit p) ∷ excess (globals_limit p) ∷ a ∷ excess (switches_limit p) ∷ excess (values_limit p) ∷ excess (switches_of_function_limit p) ∷ excess (assignments_limit p) ∷ b ∷ excess (pointers_limit p) ∷ [])
 
   excess_told : (p : Program) → (first_above 8 (unit_parameters u) ≡ None → first_above 8 (parameters_limit p).counts ≡ None) →
       (first_above 262144 (unit_elements u p) ≡ None → first_above 262144 (elements_limit p).counts ≡ None) → first_excess u p ≡ first_told u p
@@ -162,4 +162,4 @@ module _ (u : tree.Unit) (known : ItemsAreForeknown) where
       let e = ended u p h in
       let x = sound e.declarations e.judged in
       subst (λ q. first_excess u q ≡ first_told u q) (sym e.is)
-      (excess_told (program e.declarations e.main) (parameters_within e.declarations x e.main) (elements_within e.declarations x e.main 262144))
+      (excess_told (program u.items e.declarations e.main) (parameters_within e.declarations x e.main) (elements_within e.declarations x e.main 262144))

@@ -16,7 +16,7 @@ use Rattle.mv_syntax.specs.declared.unit.EnumSpec.{EnumSpec, fold-EnumSpec}
 use Rattle.mv_syntax.specs.declared.unit.Mark.{Mark, fold-Mark}
 use Rattle.mv_syntax.specs.declared.unit.Member.{Member, fold-Member}
 use Rattle.mv_syntax.specs.declared.unit.Specs.{Specs, fold-Specs}
-use Rattle.mv_check_scope.specs.Conversions.{int, typed, is_integer, is_pointer, promoted}
+use Rattle.mv_check_scope.specs.Conversions.{int, typed, is_void, is_pointer, promoted}
 use Rattle.mv_check_scope.specs.Scoped.{meaning_of}
 use Rattle.mv_check_scope.specs.declared.meaning.Meaning.{Meaning}
 use Rattle.mv_check_scope.specs.declared.meaning.Meaning.TheVariants as meaning
@@ -267,12 +267,12 @@ module _ (g : ℕ) (scope : Scope) where
   element_bare u (seen.Array a) i h = refl
   element_bare u x i h = absurd (cc)
 
-  none_if : (b : Bool) (o : Option ℕ) → o ≡ None → (if b then o else None) ≡ None
-  none_if true o q = q
-  none_if false o q = refl
+  none_if : (b : Bool) (o : Option ℕ) → o ≡ None → (if b then None else o) ≡ None
+  none_if true o q = refl
+  none_if false o q = q
 
   element_switch : (x : Seen) (i : Expr) → is_none (array_of x) ≡ false → switch_of (element_of (array_of x) i) ≡ None
-  element_switch (seen.Array a) i h = none_if (is_integer a.ctype && not a.fixed) None refl
+  element_switch (seen.Array a) i h = none_if (is_void a.ctype || a.fixed) None refl
   element_switch x i h = absurd (cc)
 
   -- ---- calls

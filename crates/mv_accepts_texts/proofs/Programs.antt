@@ -86,19 +86,19 @@ pub record Ends (u : tree.Unit) (p : Program) : Type 0 where
   pub declarations : Declarations
   pub judged : in_order (item u.items) u.items (none_declared u.items) ≡ Good declarations
   pub main : ℕ
-  pub is : p ≡ program declarations main
+  pub is : p ≡ program u.items declarations main
 
 pub ended : (u : tree.Unit) (p : Program) → judged_by_rules u ≡ Good p → Ends u p
 unfolding judged_by_rules
 ended u p h =
-    let s = went_on (in_order (item u.items) u.items (none_declared u.items)) (unit_end u.end) p h in
+    let s = went_on (in_order (item u.items) u.items (none_declared u.items)) (unit_end u.items u.end) p h in
     let c : Declarations = s.0 in
     let m : Option ℕ = main_number c.scope.signatures (meaning_here c.scope (codes "main")) in
     record {
       declarations = c;
       judged = s.1;
       main = unwrap_or m 0;
-      is = (of_good _ (unit_end u.end c) (rules_kept u.end c.scope (node.End m) (program c (unwrap_or m 0))) p s.2).0;
+      is = (of_good _ (unit_end u.items u.end c) (rules_kept u.end c.scope (node.End m) (program u.items c (unwrap_or m 0))) p s.2).0;
     }
 
 -- ---- switches
@@ -199,19 +199,19 @@ module _ (u : tree.Unit) (known : ItemsAreForeknown) where
     abbrev Law : Program → Function → Type 0
     Law p f = f.switches ≡ (if f.attributed then switches_in_text u.items p f.name else [])
 
-    function_law : (m k : ℕ) (f : Function) → slice_get c.functions k ≡ Some (Some f) → Law (program c m) (with_switches (switches_from 0 c.globals) f)
+    function_law : (m k : ℕ) (f : Function) → slice_get c.functions k ≡ Some (Some f) → Law (program u.items c m) (with_switches (switches_from 0 c.globals) f)
     unfolding switches_named
     function_law m k f q = by f.attributed
       where
-        by : (b : Bool) → (if b then switches_named (switches_from 0 c.globals) f.body else []) ≡ (if b then switches_in_text u.items (program c m) f.name else [])
+        by : (b : Bool) → (if b then switches_named (switches_from 0 c.globals) f.body else []) ≡ (if b then switches_in_text u.items (program u.items c m) f.name else [])
         by true = same_numbers _ _ (λ g. body_names k f q g) 0 (switches_from 0 c.globals)
         by false = refl
 
-    program_law : (m : ℕ) → All (Law (program c m)) (program c m).functions
+    program_law : (m : ℕ) → All (Law (program u.items c m)) (program u.items c m).functions
     program_law m =
-        All-from_recursion (Law (program c m)) (program c m).functions
-        (all_mapped (Law (program c m)) (with_switches (switches_from 0 c.globals)) (those_there c.functions)
-        (those_have (λ f. Law (program c m) (with_switches (switches_from 0 c.globals) f)) c.functions (function_law m)))
+        All-from_recursion (Law (program u.items c m)) (program u.items c m).functions
+        (all_mapped (Law (program u.items c m)) (with_switches (switches_from 0 c.globals)) (those_there c.functions)
+        (those_have (λ f. Law (program u.items c m) (with_switches (switches_from 0 c.globals) f)) c.functions (function_law m)))
 
   pub switches_of_text : (p : Program) → judged_by_rules u ≡ Good p → All (λ f. f.switches ≡ (if f.attributed then switches_in_text u.items p f.name else [])) p.functions
   switches_of_text p h =

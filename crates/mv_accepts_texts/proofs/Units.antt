@@ -17,7 +17,7 @@ use Rattle.mv_check_limits.specs.Ordered.{shape_parameters, declarator_parameter
 use Rattle.mv_check_limits.proofs.Forms.{declarator_is, params_are, of_shape, shape_is}
 use Rattle.mv_check_outline.specs.Names.{is_among, same_name}
 use Rattle.mv_check_outline.specs.Outlined as outlined
-use Rattle.mv_check_outline.specs.Outlined.{is_function_form, is_function, name_of}
+use Rattle.mv_check_outline.specs.Outlined.{is_function_form, is_function, declares_pointer, name_of}
 use Rattle.mv_check_rules.specs.Nodes.{Declared, Scalar, Array}
 use Rattle.mv_check_rules.specs.Nodes as node
 use Rattle.mv_check_rules.specs.Rules.{breaches, concluded}
@@ -167,8 +167,8 @@ module _ (items : List Item) (W : Type 0) (ObjectTold FunctionTold : List ℕ �
 
       object_form : is_function d ≡ false → (e : Declared) → ((f : ℕ) → e ≡ node.Declared.Function f → ⊥) → (b : Option Line) → Known b d →
           IfGood (by_form items base a b d name c e) (Is (Behind text b d))
-      object_form f (Scalar t r) other b k = of_object f (Scalar t r) other b k (domain c.scope base.enumeration a)
-      object_form f (Array t r size) other b k = of_object f (Array t r size) other b k (domain c.scope base.enumeration a)
+      object_form f (Scalar t r) other b k = of_object f (Scalar t r) other b k (domain (declares_pointer d) c.scope base.enumeration a)
+      object_form f (Array t r size) other b k = of_object f (Array t r size) other b k (domain (declares_pointer d) c.scope base.enumeration a)
       object_form f (node.Declared.Function g) other b k = absurd (other g refl)
 
       by : (f : Bool) → is_function d ≡ f → Kind f e → (b : Option Line) → Known b d → IfGood (by_form items base a b d name c e) (Is (Behind text b d))

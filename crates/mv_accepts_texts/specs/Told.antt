@@ -4,7 +4,7 @@ use Rattle.mv_ast.specs.declared.program.Program.{Program}
 use Rattle.mv_syntax.specs.declared.unit.Unit as tree
 use Rattle.mv_check_expressions.specs.Judged.{Good}
 use Rattle.mv_check_limits.specs.declared.excess.Exceeded.{Exceeded}
-use Rattle.mv_check_limits.specs.Limits.{Limit, functions_limit, globals_limit, parameters_limit, switches_limit, values_limit, switches_of_function_limit, assignments_limit, elements_limit, excess, first_some}
+use Rattle.mv_check_limits.specs.Limits.{Limit, functions_limit, globals_limit, parameters_limit, switches_limit, values_limit, switches_of_function_limit, assignments_limit, elements_limit, pointers_limit, excess, first_some}
 use Rattle.mv_check_limits.specs.Ordered.{unit_parameters, unit_elements, first_excess}
 use Rattle.mv_check_rules.specs.Units.{judged_by_rules}
 
@@ -24,6 +24,7 @@ told_limits u p =
     switches_of_function_limit p ∷
     assignments_limit p ∷
     told_elements u p ∷
+    pointers_limit p ∷
     []
 
 abbrev pub first_told : tree.Unit → Program → Option Exceeded

@@ -1,11 +1,10 @@
 -- What is compiled of a source's program is what the source is built to.
-use Rattle.std.proofs.Common.{List, ℕ, sym, subst}
+use Rattle.std.proofs.Common.{List, [], ◌∷◌, ℕ, ◌≡◌, ◌≢◌, ◌<◌, length, arith, sym, subst}
 use Rattle.std.specs.Prelude.{Result, Ok, Err, IfOk, IfErr}
 use Rattle.mv_ast.specs.declared.program.Program.{Program}
-use Rattle.mv_accepts_programs.specs.Facts.Laws.{ProgramsHaveTableFacts}
-use Rattle.mv_accepts_programs.specs.Checked.{ProgramsOfTextsAreWellFormed}
-use Rattle.mv_front.proofs.Few.{no_pointers}
 use Rattle.mv_front.specs.Verdicts.{IsProgram}
+use Rattle.mv_front.specs.Refusals.{of_pointers}
+use Rattle.mv_front.specs.declared.refusal.Refusal.{Refusal}
 use Rattle.mv_front.specs.Verdicts as front
 use Rattle.mv_front.specs.declared.refusal.FrontError.{FrontError}
 use Rattle.mv_front.specs.declared.refusal.FrontError.TheVariants as fronting
@@ -13,9 +12,9 @@ use Rattle.mv_build.specs.declared.built.Built.{Built}
 use Rattle.mv_build.specs.declared.error.BuildError.{BuildError}
 use Rattle.mv_build.specs.declared.error.BuildError.TheVariants.{Refused, Memory}
 use Rattle.mv_build.specs.Answers.{IsCause, of_front}
-use Rattle.mv_build.specs.Compiled.{IsSound, IsCompiled, OnRefusal}
+use Rattle.mv_build.specs.Compiled.{IsCompiled, OnRefusal}
 use Rattle.mv_build.specs.Images.{IsImageOf}
-use Rattle.mv_build.specs.Verdicts.{IsBuiltFrom, PassesLimit, refused, over_limit}
+use Rattle.mv_build.specs.Verdicts.{IsBuiltFrom, PassesLimit, has_pointers, refused, over_limit}
 
 -- the cause of a refusal of the front end
 pub front_cause : (text : List ℕ) (e : FrontError) → front.IsCause text e → IsCause text (of_front e)
@@ -23,9 +22,6 @@ front_cause text (fronting.Refused r) h = refused r h
 front_cause text (fronting.Memory e) h = tt
 
 module _ (text : List ℕ) (p : Program) (is : IsProgram text p) where
-  pub sound : ProgramsOfTextsAreWellFormed → ProgramsHaveTableFacts → IsSound p
-  sound formed facts = record { formed = formed text p is; pointers = no_pointers is.unit p is.good; facts = facts text p is }
-
   of_compiled : (b : Built) → IsCompiled p b → IsBuiltFrom text b
   of_compiled b h = record {
     program = subst (IsProgram text) (sym h.program) is;
@@ -40,3 +36,13 @@ module _ (text : List ℕ) (p : Program) (is : IsProgram text p) where
   cause (Ok b) h = h
   cause (Err (Refused r)) h = over_limit p r is h
   cause (Err (Memory e)) h = tt
+
+-- ---- pointer switches
+
+some_there : (xs : List ℕ) → 0 < length xs → xs ≢ []
+some_there [] less = λ e. absurd (omega (arith, less))
+some_there (x ∷ xs) less = λ e. cc
+
+-- a program with pointer switches has no image
+pub no_image : (p : Program) (r : Refusal) → r ≡ of_pointers → 0 < length p.pointers → PassesLimit p r
+no_image p r is some = subst (PassesLimit p) (sym is) (has_pointers (some_there p.pointers some))

@@ -26,6 +26,7 @@ module _ (can_be_linked : PartsCanBeLinked) (leads : RowsLeadToVariants) (tabled
 
   pub image_is : IsImageOf p c.generics c.variants image
   image_is = record {
+    pointers = sound.pointers;
     frames = code.frames;
     data_fits = to.data_fits;
     parts = parts;

@@ -44,35 +44,47 @@ given_domain k s (Some nodes) = and_then (domain k s nodes) (λ values. Good (re
 abbrev pub nothing_holds : Holder
 nothing_holds = record { plainly = false; with_values = false }
 
+-- whether a declarator behind specifiers that say `const`, or don't, declares a `const` object; of a pointer they say nothing
+abbrev pub is_constant_form : {A B C : Type 0} → Bool → Shape-F A B C → Bool
+is_constant_form fixed shape.Plain = fixed
+is_constant_form fixed (shape.Array size) = fixed
+is_constant_form fixed (shape.Function params) = false
+is_constant_form fixed (shape.Pointer constant params) = constant
+is_constant_form fixed (shape.PointerArray constant size params) = constant
+
 abbrev pub is_main : Option (List ℕ) → Bool
 is_main None = false
 is_main (Some name) = is_named name (codes "main")
 
--- a scalar that isn't `const` may have it with and without values, a function other than `main` without
+-- An integer that isn't `const` may have it with and without values; a function pointer that isn't `const`, and a function other than `main`, without.
 abbrev pub shape_holder : {A B C : Type 0} → Bool → Option (List ℕ) → Shape-F A B C → Holder
 shape_holder fixed name shape.Plain = record { plainly = not fixed; with_values = not fixed }
 shape_holder fixed name (shape.Array size) = nothing_holds
 shape_holder fixed name (shape.Function params) = record { plainly = not (is_main name); with_values = false }
-shape_holder fixed name (shape.Pointer constant params) = nothing_holds
+shape_holder fixed name (shape.Pointer constant params) = record { plainly = not fixed; with_values = false }
 shape_holder fixed name (shape.PointerArray constant size params) = nothing_holds
 
--- at file scope alone
+-- at file scope alone, by whether the object is `const`
 abbrev pub holder_of : Position → Bool → Declarator → Holder
 holder_of position.File fixed d = shape_holder fixed d.name (out-Shape d.shape)
 holder_of position.Block fixed d = nothing_holds
 holder_of position.Parameter fixed d = nothing_holds
+
+-- by whether `const` stands among the specifiers before it
+abbrev pub holder_behind : Position → Bool → Declarator → Holder
+holder_behind position fixed d = holder_of position (is_constant_form fixed (out-Shape d.shape)) d
 
 abbrev pub both_hold : Holder → Holder → Holder
 both_hold g h = record { plainly = g.plainly && h.plainly; with_values = g.with_values && h.with_values }
 
 abbrev pub all_hold : Position → Bool → Holder → List Declarator → Holder
 all_hold position fixed h [] = h
-all_hold position fixed h (d ∷ ds) = all_hold position fixed (both_hold h (holder_of position fixed d)) ds
+all_hold position fixed h (d ∷ ds) = all_hold position fixed (both_hold h (holder_behind position fixed d)) ds
 
 -- an attribute among specifiers holds for each declarator of a declaration that has one
 abbrev pub holder_of_all : Position → Bool → List Declarator → Holder
 holder_of_all position fixed [] = nothing_holds
-holder_of_all position fixed (d ∷ ds) = all_hold position fixed (holder_of position fixed d) ds
+holder_of_all position fixed (d ∷ ds) = all_hold position fixed (holder_behind position fixed d) ds
 
 -- ---- attributes
 

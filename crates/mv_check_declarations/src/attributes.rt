@@ -2,7 +2,8 @@
 
 ghost use Rattle.std.specs.Prelude.{◌≡◌, codes, IfOk};
 ghost use Rattle.mv_check_expressions.specs.Judged.{IsJudged};
-ghost use Rattle.mv_check_declarations.specs.Attributes.{with_value, domain, given_domain, is_main, shape_holder, holder_of, holder_of_all, both_hold, nothing_holds, holds, held, switch_kind, attributes};
+ghost use Rattle.mv_syntax.specs.declared.unit.Shape.{out-Shape};
+ghost use Rattle.mv_check_declarations.specs.Attributes.{with_value, domain, given_domain, is_constant_form, is_main, shape_holder, holder_of, holder_behind, holder_of_all, both_hold, nothing_holds, holds, held, switch_kind, attributes};
 
 use crate::constants::is_value_of;
 use crate::value_set::ValueSet;
@@ -119,7 +120,18 @@ pub const NOTHING: Holder = Holder {
     with_values: false,
 };
 
-/// What attributes a declarator may have.
+/// Whether a declarator of a shape declares a `const` object, behind specifiers that say `const` or don't. Of a pointer they say nothing.
+pub fn is_constant(fixed: bool, shape: &Shape) -> bool
+    ensures { result ≡ is_constant_form fixed (out-Shape shape.now) }
+{
+    match shape {
+        Shape::Plain | Shape::Array(_) => fixed,
+        Shape::Function(_) => false,
+        Shape::Pointer(constant, _) | Shape::PointerArray(constant, _, _) => *constant,
+    }
+}
+
+/// What attributes a declarator may have, of a `const` object or another.
 pub fn holder_of(position: Position, fixed: bool, declarator: &Declarator) -> Holder
     ensures { result ≡ holder_of position fixed declarator.now }
 {
@@ -140,9 +152,20 @@ pub fn holder_of(position: Position, fixed: bool, declarator: &Declarator) -> Ho
                     with_values: false,
                 }
             }
-            Shape::Array(_) | Shape::Pointer(_, _) | Shape::PointerArray(_, _, _) => NOTHING,
+            Shape::Pointer(_, _) => Holder {
+                plainly: !fixed,
+                with_values: false,
+            },
+            Shape::Array(_) | Shape::PointerArray(_, _, _) => NOTHING,
         },
     }
+}
+
+// What attributes may stand among the specifiers of a declarator.
+fn holder_behind(position: Position, fixed: bool, declarator: &Declarator) -> Holder
+    ensures { result ≡ holder_behind position fixed declarator.now }
+{
+    holder_of(position, is_constant(fixed, &declarator.shape), declarator)
 }
 
 fn both_hold(g: Holder, h: Holder) -> Holder
@@ -161,9 +184,9 @@ pub fn holder_of_all(position: Position, fixed: bool, declarators: &[Declarator]
     match declarators {
         [] => NOTHING,
         [first, rest @ ..] => {
-            let mut all = holder_of(position, fixed, first);
+            let mut all = holder_behind(position, fixed, first);
             for declarator in rest {
-                all = both_hold(all, holder_of(position, fixed, declarator));
+                all = both_hold(all, holder_behind(position, fixed, declarator));
             }
             all
         }

@@ -38,7 +38,7 @@ abbrev pub known_params : Known → List CType
 known_params known.Putchar = int ∷ []
 known_params _ = []
 
--- the commit and revert of one function and of a switch's functions name it
+-- the commit and revert of one function, of a switch's functions and of a pointer switch name it
 abbrev pub known_arity : Known → ℕ
 known_arity known.Getchar = 0
 known_arity known.Putchar = 1

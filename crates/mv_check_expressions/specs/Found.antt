@@ -120,7 +120,7 @@ abbrev pub named_switch : Option ℕ → Seen
 named_switch None = seen.Value no_value
 named_switch (Some s) = seen.Switch s
 
--- `&` before a function gives a pointer to it; where a function or a switch is named, it names it
+-- `&` before a function gives a pointer to it; where a function, a switch or a pointer switch is named, it names it
 abbrev pub address_of : Use → Seen → Seen
 address_of «use».Function x = x
 address_of «use».Switch x = named_switch (switch_of x)

@@ -57,7 +57,7 @@ returns = 13
 abbrev pub attributes : ℕ
 attributes = 14
 
--- an attributed function assigns to no switch
+-- an attributed function assigns to no switch or pointer switch
 abbrev pub switch_assignments : ℕ
 switch_assignments = 15
 
@@ -65,7 +65,7 @@ switch_assignments = 15
 abbrev pub domains : ℕ
 domains = 16
 
--- the argument of a commit or a revert is an attributed function's name, or `&` and a switch's
+-- the argument of a commit or a revert is an attributed function's name, or `&` and that of a switch or pointer switch
 abbrev pub plan_arguments : ℕ
 plan_arguments = 17
 

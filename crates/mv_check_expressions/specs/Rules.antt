@@ -91,14 +91,14 @@ is_valueless _ _ = false
 abbrev pub breaks_void : Scope → Use → Layer → Bool
 breaks_void scope u layer = is_valueless u (found scope u layer)
 
--- an attributed function assigns to a switch
+-- an attributed function assigns to a switch or a pointer switch
 abbrev pub breaks_switch_assignments : Scope → Layer → Bool
 breaks_switch_assignments scope (what.Assign op a b) = scope.attributed && is_some (switch_of a)
 breaks_switch_assignments scope (what.Before up a) = scope.attributed && is_some (switch_of a)
 breaks_switch_assignments scope (what.After up a) = scope.attributed && is_some (switch_of a)
 breaks_switch_assignments scope _ = false
 
--- the argument of a commit or revert isn't an attributed function's name, or isn't `&` and a switch's name
+-- the argument of a commit or revert isn't an attributed function's name, or isn't `&` and the name of a switch or pointer switch
 abbrev pub is_misnamed : Use → Seen → Bool
 is_misnamed «use».Function x = not (is_attributed x)
 is_misnamed «use».Switch x = not (is_named_switch x)

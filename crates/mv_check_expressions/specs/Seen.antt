@@ -1,5 +1,5 @@
 -- What an expression is found to be, and what is asked of it.
-use Rattle.std.specs.Prelude.{ℕ, Bool, true, false, ◌&&◌, ◌||◌, not, if◌then◌else◌, is_none, is_some, Option, Some, None}
+use Rattle.std.specs.Prelude.{ℕ, Bool, true, false, ◌||◌, not, if◌then◌else◌, is_none, is_some, Option, Some, None}
 use Rattle.mv_ast.specs.declared.program.CType.{CType}
 use Rattle.mv_ast.specs.declared.program.CType.TheVariants.{Void, Pointer}
 use Rattle.mv_ast.specs.declared.program.Expr.{Expr}
@@ -12,7 +12,7 @@ use Rattle.mv_check_scope.specs.declared.meaning.Elements.{Elements}
 use Rattle.mv_check_scope.specs.declared.meaning.Variable.{Variable}
 use Rattle.mv_check_scope.specs.declared.meaning.Meaning.{Meaning}
 use Rattle.mv_check_scope.specs.declared.meaning.Meaning.TheVariants as meaning
-use Rattle.mv_check_scope.specs.Conversions.{int, typed, is_integer, is_void}
+use Rattle.mv_check_scope.specs.Conversions.{int, typed, is_void}
 use Rattle.mv_check_expressions.specs.declared.seen.Object.{Object}
 use Rattle.mv_check_expressions.specs.declared.seen.Seen.{Seen}
 use Rattle.mv_check_expressions.specs.declared.seen.Seen.TheVariants as seen
@@ -63,9 +63,9 @@ abbrev pub is_assignable : Seen → Bool
 is_assignable (seen.Object o) = not (o.fixed || is_void o.ctype)
 is_assignable _ = false
 
--- the switch that an object's name is, where the object is an integer and isn't `const`
+-- the switch or pointer switch that an object's name is, where the object isn't `const`, nor of type `void`
 abbrev pub switch_of : Seen → Option ℕ
-switch_of (seen.Object o) = if is_integer o.ctype && not o.fixed then o.switch else None
+switch_of (seen.Object o) = if is_void o.ctype || o.fixed then None else o.switch
 switch_of _ = None
 
 -- a function of the source, by its name or behind `*`

@@ -28,9 +28,9 @@ pub struct Breaches {
     pub indexed: bool,
     /// `void` is used as a value.
     pub void: bool,
-    /// An attributed function assigns to a switch.
+    /// An attributed function assigns to a switch or a pointer switch.
     pub switch: bool,
-    /// What is named isn't an attributed function, or isn't a switch behind `&`.
+    /// What is named isn't an attributed function, or isn't a switch or pointer switch behind `&`.
     pub named: bool,
     /// A function is used that isn't defined.
     pub undefined: bool,

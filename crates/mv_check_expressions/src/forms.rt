@@ -122,7 +122,7 @@ fn unary_seen(alloc: Global, used: Use, op: u8, operand: Seen) -> Result<Seen, A
 }
 
 /// An operator before its operand (C11 6.5.3.2, 6.5.3.3), of which it must take the type. `&` stands before a function, or
-/// before a switch where one is wanted, and `*` before a function pointer.
+/// before a switch or a pointer switch where one is wanted, and `*` before a function pointer.
 pub fn unary(
     alloc: Global,
     scope: &Scope,
@@ -194,7 +194,7 @@ pub fn choose(
 }
 
 /// An assignment (C11 6.5.16) to an object without `const`. A simple one is of a value that converts to its type, a compound
-/// one of an integer to an integer. In an attributed function the object must be no switch.
+/// one of an integer to an integer. In an attributed function the object must be no switch or pointer switch.
 pub fn assign(
     alloc: Global,
     scope: &Scope,

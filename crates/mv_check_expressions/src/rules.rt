@@ -42,13 +42,13 @@ pub const RETURNS: u8 = 13;
 /// An attribute stands on what may have it, once.
 pub const ATTRIBUTES: u8 = 14;
 
-/// An attributed function assigns to no switch.
+/// An attributed function assigns to no switch or pointer switch.
 pub const SWITCH_ASSIGNMENTS: u8 = 15;
 
 /// The values of a domain are of the switch's type, each once.
 pub const DOMAINS: u8 = 16;
 
-/// The argument of a commit or a revert is an attributed function's name, or `&` and a switch's.
+/// The argument of a commit or a revert is an attributed function's name, or `&` and that of a switch or pointer switch.
 pub const PLAN_ARGUMENTS: u8 = 17;
 
 /// There is an `int main` without parameters.

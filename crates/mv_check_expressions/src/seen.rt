@@ -6,11 +6,11 @@ ghost use Rattle.mv_check_scope.specs.Conversions.{typed, int};
 ghost use Rattle.mv_check_expressions.specs.Seen.{object_at, no_value, number_or_zero, value_of, type_of, array_of, object_of, is_assignable, switch_of, is_function, is_attributed, is_undefined, is_known, seen_as, seen_name};
 
 use mv_ast::program::{CType, Expr, Form, Known, Target};
-use mv_check_scope::convert::{is_integer, is_void};
+use mv_check_scope::convert::is_void;
 use mv_check_scope::meaning::{Elements, Meaning, Routine, Storage};
 use mv_num::kind::Kind;
 
-/// A scalar object (C11 6.3.2.1), with the number of a switch if its name is that of one that is attributed.
+/// A scalar object (C11 6.3.2.1), with the number of a switch or pointer switch if its name is that of one that is attributed.
 #[derive(Drop)]
 pub struct Object {
     pub target: Target,
@@ -34,7 +34,7 @@ pub enum Seen {
     Designator(Expr),
     /// A function that is known without declaration.
     Known(Known),
-    /// A switch behind `&`, where one is named.
+    /// A switch or pointer switch behind `&`, where one is named.
     Switch(u32),
 }
 
@@ -57,7 +57,7 @@ pub enum Use {
     Address,
     /// The name of an attributed function.
     Function,
-    /// A switch that is named behind `&`.
+    /// A switch or pointer switch that is named behind `&`.
     Switch,
 }
 
@@ -167,13 +167,13 @@ pub fn is_assignable(seen: &Seen) -> bool
     }
 }
 
-/// The switch that an expression's name is, if it is one: an integer without `const`.
+/// The switch or pointer switch that an expression's name is, if it is one: no `const` object.
 pub fn switch_of(seen: &Seen) -> Option<u32>
     ensures { result ≡ switch_of seen.now }
 {
     match seen {
         Seen::Object(object) => {
-            if object.fixed || !is_integer(object.ctype) {
+            if is_void(object.ctype) || object.fixed {
                 None
             } else {
                 object.switch

@@ -5,7 +5,7 @@ use Rattle.std.specs.Option.{option_or}
 use Rattle.mv_ast.specs.declared.program.Program.{Program}
 use Rattle.mv_syntax.specs.declared.unit.Unit as unit
 use Rattle.mv_check_limits.specs.declared.excess.Exceeded.{Exceeded}
-use Rattle.mv_check_limits.specs.Limits.{Limit, functions_limit, globals_limit, parameters_limit, switches_limit, values_limit, switches_of_function_limit, assignments_limit, elements_limit, first_above, reported, excess, first_some, first_exceeded}
+use Rattle.mv_check_limits.specs.Limits.{Limit, functions_limit, globals_limit, parameters_limit, switches_limit, values_limit, switches_of_function_limit, assignments_limit, elements_limit, pointers_limit, first_above, reported, excess, first_some, first_exceeded}
 use Rattle.mv_check_limits.specs.Ordered.{unit_parameters, unit_elements, in_text, ordered_parameters, ordered_elements, first_excess}
 use Rattle.mv_check_limits.proofs.Told.{joined_none, none_told}
 
@@ -42,7 +42,8 @@ none_exceeded u p h =
     let e = none_first (excess (values_limit p)) _ d.1 in
     let f = none_first (excess (switches_of_function_limit p)) _ e.1 in
     let g = none_first (excess (assignments_limit p)) _ f.1 in
-    let i = none_first (excess (ordered_elements u p)) [] g.1 in
+    let i = none_first (excess (ordered_elements u p)) _ g.1 in
+    let j = none_first (excess (pointers_limit p)) [] i.1 in
     none_more (excess (functions_limit p)) _ a.0
     (none_more (excess (globals_limit p)) _ b.0
     (none_more (excess (parameters_limit p)) _ (not_told (unit_parameters u) (parameters_limit p) c.0)
@@ -50,7 +51,8 @@ none_exceeded u p h =
     (none_more (excess (values_limit p)) _ e.0
     (none_more (excess (switches_of_function_limit p)) _ f.0
     (none_more (excess (assignments_limit p)) _ g.0
-    (none_more (excess (elements_limit p)) [] (not_told (unit_elements u p) (elements_limit p) i.0) refl)))))))
+    (none_more (excess (elements_limit p)) _ (not_told (unit_elements u p) (elements_limit p) i.0)
+    (none_more (excess (pointers_limit p)) [] j.0 refl))))))))
 
 pub not_exceeded : (l : Limit) → excess l ≡ None → first_above l.greatest l.counts ≡ None
 unfolding excess
@@ -70,7 +72,8 @@ none_in_order u p few h =
     let e = none_first (excess (values_limit p)) _ d.1 in
     let f = none_first (excess (switches_of_function_limit p)) _ e.1 in
     let g = none_first (excess (assignments_limit p)) _ f.1 in
-    let i = none_first (excess (elements_limit p)) [] g.1 in
+    let i = none_first (excess (elements_limit p)) _ g.1 in
+    let j = none_first (excess (pointers_limit p)) [] i.1 in
     none_more (excess (functions_limit p)) _ a.0
     (none_more (excess (globals_limit p)) _ b.0
     (none_more (excess (ordered_parameters u p)) _
@@ -79,5 +82,6 @@ none_in_order u p few h =
     (none_more (excess (values_limit p)) _ e.0
     (none_more (excess (switches_of_function_limit p)) _ f.0
     (none_more (excess (assignments_limit p)) _ g.0
-    (none_more (excess (ordered_elements u p)) []
-    (not_above (ordered_elements u p) (none_told u p (not_exceeded (elements_limit p) i.0))) refl)))))))
+    (none_more (excess (ordered_elements u p)) _
+    (not_above (ordered_elements u p) (none_told u p (not_exceeded (elements_limit p) i.0)))
+    (none_more (excess (pointers_limit p)) [] j.0 refl))))))))

@@ -1,7 +1,7 @@
 -- The limits on a program: what each counts, in order of declaration, and the greatest count that it allows.
 use Rattle.std.specs.Prelude.{ℕ, List, [], ◌∷◌, ◌++◌, map, length, nat_lt, if◌then◌else◌, Option, Some, None}
 use Rattle.std.specs.List.{find, flat_map}
-use Rattle.mv_num.specs.Limits.{function_limit, global_limit, parameter_limit, switch_limit, value_limit, own_switch_limit, assignment_limit, element_limit}
+use Rattle.mv_num.specs.Limits.{function_limit, global_limit, parameter_limit, switch_limit, value_limit, own_switch_limit, assignment_limit, element_limit, pointer_limit}
 use Rattle.mv_ast.specs.declared.program.Program.{Program}
 use Rattle.mv_ast.specs.declared.program.Function.{Function}
 use Rattle.mv_ast.specs.Counts.{assignments, elements_of}
@@ -58,6 +58,9 @@ local_sizes p = flat_map (λ f. map (λ l. elements_of l.size) f.locals) p.funct
 abbrev pub elements_limit : Program → Limit
 elements_limit p = record { number = 8; greatest = element_limit; counts = global_sizes p ++ local_sizes p }
 
+abbrev pub pointers_limit : Program → Limit
+pointers_limit p = record { number = 9; greatest = pointer_limit; counts = length p.pointers ∷ [] }
+
 abbrev pub limits : Program → List Limit
 limits p =
     functions_limit p ∷
@@ -68,6 +71,7 @@ limits p =
     switches_of_function_limit p ∷
     assignments_limit p ∷
     elements_limit p ∷
+    pointers_limit p ∷
     []
 
 -- the first of some counts that is above a bound

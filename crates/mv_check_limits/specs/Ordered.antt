@@ -18,7 +18,7 @@ use Rattle.mv_syntax.specs.declared.unit.Act.TheOpen as act
 use Rattle.mv_ast.specs.Counts.{elements_of}
 use Rattle.mv_check_limits.specs.declared.counts.Counts.{Counts}
 use Rattle.mv_check_limits.specs.declared.excess.Exceeded.{Exceeded}
-use Rattle.mv_check_limits.specs.Limits.{Limit, functions_limit, globals_limit, parameters_limit, switches_limit, values_limit, switches_of_function_limit, assignments_limit, elements_limit, first_above, excess, first_some}
+use Rattle.mv_check_limits.specs.Limits.{Limit, functions_limit, globals_limit, parameters_limit, switches_limit, values_limit, switches_of_function_limit, assignments_limit, elements_limit, pointers_limit, first_above, excess, first_some}
 
 -- ---- parameters: a function, or a pointer to one, is declared before its parameters are
 
@@ -128,6 +128,7 @@ ordered_limits u p =
     switches_of_function_limit p ∷
     assignments_limit p ∷
     ordered_elements u p ∷
+    pointers_limit p ∷
     []
 
 -- the least limit that the program of a unit exceeds, with the first count in the order of the text that exceeds it
@@ -144,8 +145,8 @@ counts_of u p = record {
   switches = length p.switches;
 }
 
--- ---- limits 5 to 8, for which the program itself is looked at
+-- ---- limits 5 to 9, for which the program itself is looked at
 
 abbrev pub exceeded_by_contents : unit.Unit → Program → Option Exceeded
 exceeded_by_contents u p =
-    first_some (map excess (values_limit p ∷ switches_of_function_limit p ∷ assignments_limit p ∷ ordered_elements u p ∷ []))
+    first_some (map excess (values_limit p ∷ switches_of_function_limit p ∷ assignments_limit p ∷ ordered_elements u p ∷ pointers_limit p ∷ []))

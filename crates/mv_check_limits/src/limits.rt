@@ -1,7 +1,7 @@
 // The limits, by their numbers.
 
 ghost use Rattle.std.specs.Prelude.{◌≡◌, None};
-ghost use Rattle.mv_check_limits.specs.Limits.{reported, excess, values_limit, switches_of_function_limit, assignments_limit, exceeded_by_counts};
+ghost use Rattle.mv_check_limits.specs.Limits.{reported, excess, values_limit, switches_of_function_limit, assignments_limit, pointers_limit, exceeded_by_counts};
 ghost use Rattle.mv_check_limits.specs.Ordered.{ordered_elements, first_excess, exceeded_by_contents};
 
 use crate::counts;
@@ -50,7 +50,14 @@ fn elements(unit: &Unit, program: &Program) -> Option<Exceeded>
     reported(8, ordered_elements(unit, program))
 }
 
-// The least of limits 5 to 8 that a program exceeds.
+#[tactic(auto, unfolding(crate::specs::Limits::excess))]
+fn pointers(program: &Program) -> Option<Exceeded>
+    ensures { result ≡ excess (pointers_limit program.now) }
+{
+    reported(9, above(64, program.pointers.len() as u64))
+}
+
+// The least of limits 5 to 9 that a program exceeds.
 fn exceeded_by_contents(unit: &Unit, program: &Program) -> Option<Exceeded>
     ensures { result ≡ exceeded_by_contents unit.now program.now }
 {
@@ -63,7 +70,10 @@ fn exceeded_by_contents(unit: &Unit, program: &Program) -> Option<Exceeded>
     if let Some(excess) = assignments(program) {
         return Some(excess);
     }
-    elements(unit, program)
+    if let Some(excess) = elements(unit, program) {
+        return Some(excess);
+    }
+    pointers(program)
 }
 
 /// The least of limits 1 to 4 that a program with these counts exceeds. What it answers is what `exceeded` does of such a program.

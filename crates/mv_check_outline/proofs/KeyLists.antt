@@ -1,8 +1,8 @@
 -- The keys of a set, and the names that they hold.
-use Rattle.std.proofs.Common.{◌≡◌, ◌∙◌, ℕ, ap, sym, ◌+◌, Bool, true, false, ◌++◌, ◌<◌, length, take, get_or, filter, subst, List, [], ◌∷◌, if◌then◌else◌}
+use Rattle.std.proofs.Common.{◌≡◌, ◌∙◌, ℕ, ap, ap₂, sym, map, ◌+◌, Bool, true, false, ◌++◌, ◌<◌, length, take, get_or, filter, subst, List, [], ◌∷◌, if◌then◌else◌}
 use Rattle.std.specs.declared.vec.Vec.{Vec}
 use Rattle.std.specs.declared.alloc.Global.{Global}
-use Rattle.std.proofs.lemmas.List.{length-map, take_more}
+use Rattle.std.proofs.lemmas.List.{length-map, map-append, take_more}
 use Rattle.std.proofs.lemmas.List.Sums.{fold-append}
 use Rattle.std.proofs.lemmas.List.Elements.{filter-append}
 use Rattle.std.proofs.Math.ListN.{get_or-map}
@@ -38,3 +38,14 @@ kept_more others ks i k lt e s es b eb old new eo c ec en =
   where
     before : List (List ℕ)
     before = each_once (filter (λ n. is_among n others) (take i (names_of ks)))
+
+-- one turn of a loop that finds a number for each name
+pub numbered_more : (f : List ℕ → ℕ) (ks : List (Vec ℕ Global)) (i : ℕ) (k : Vec ℕ Global) → i < length ks → k ≡ get_or ks i k →
+    (s : List ℕ) → s ≡ k.items → (old new : List ℕ) → old ≡ map f (take i (names_of ks)) → (n : ℕ) → n ≡ f s → new ≡ old ++ n ∷ [] →
+    new ≡ map f (take (i + 1) (names_of ks))
+numbered_more f ks i k lt e s es old new eo n en more =
+    more ∙
+    (ap₂ (λ o m. o ++ m ∷ []) eo (en ∙ ap f es) ∙
+    sym (ap (map f) (take_more (names_of ks) i k.items (subst (λ n. i < n) (sym (length-map ks (λ k. k.items))) lt) ∙
+    ap (λ n. take i (names_of ks) ++ n ∷ []) (get_or-map (λ k. k.items) ks i k ∙ sym (ap (λ k. k.items) e))) ∙
+    map-append f (take i (names_of ks)) (k.items ∷ [])))

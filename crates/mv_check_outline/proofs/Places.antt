@@ -1,7 +1,7 @@
 -- The place of a name, by recursion over the names, and what a map with one key more has.
 use Rattle.std.proofs.Common.{◌≡◌, ◌∙◌, ℕ, subst, refl, sym, ap, ap₂, cond, not, nat_lt, ◌+◌, ◌<◌, ◌||◌, Bool, true, false, true≢false, ◌++◌, length, List, [], ◌∷◌, Option, Some, None, IfSome, if◌then◌else◌, arith}
 use Rattle.std.specs.List.{position_or_len}
-use Rattle.std.specs.Option.{is_some}
+use Rattle.std.specs.Option.{is_some, option_or}
 use Rattle.std.specs.Ordering.{is_eq, nat_cmp, eq_by_cmp}
 use Rattle.std.specs.BTreeMap.{is_at}
 use Rattle.std.specs.Map.{KeepsOthers}
@@ -14,7 +14,7 @@ use Rattle.std.specs.Cmp.{eq_by_cmp_equiv}
 use Rattle.std.proofs.lemmas.List.{map-append, length-map}
 use Rattle.std.proofs.lemmas.List.Quantifiers.{position-Some}
 use Rattle.std.proofs.lemmas.Map.Text.{is_eq-slice_cmp}
-use Rattle.mv_check_outline.specs.Names.{same_name, is_among, with_name, place_of, names_of}
+use Rattle.mv_check_outline.specs.Names.{same_name, is_among, with_name, place_of, place_behind, names_of}
 use Rattle.mv_check_outline.specs.Places.{place_in, ArePlaces}
 
 abbrev next : Option ℕ → Option ℕ
@@ -97,6 +97,27 @@ module _ (name : List ℕ) (ns : List (List ℕ)) where
 
   pub grows : None ≡ place_of name ns → ns ++ name ∷ [] ≡ with_name ns name
   grows e = ap (λ (b : Bool). if b then ns else ns ++ name ∷ []) (sym (is_new e))
+
+-- a name among some and others has its place among the first, or behind them
+pub place_of_both : (name : List ℕ) (ms ns : List (List ℕ)) →
+    place_of name (ms ++ ns) ≡ option_or (place_of name ms) (place_behind (length ms) (place_of name ns))
+place_of_both name [] ns = by (place_of name ns)
+  where
+    by : (o : Option ℕ) → o ≡ place_behind 0 o
+    by None = refl
+    by (Some i) = ap (λ k. Some k) (omega arith)
+place_of_both name (m ∷ ms) ns =
+    place_step name m (ms ++ ns) ∙
+    (ap (λ o. cond (same_name name m) (Some 0) (next o)) (place_of_both name ms ns) ∙
+    (by (same_name name m) (place_of name ms) (place_of name ns) ∙
+    ap (λ o. option_or o (place_behind (length (m ∷ ms)) (place_of name ns))) (sym (place_step name m ms))))
+  where
+    by : (b : Bool) (o r : Option ℕ) →
+        cond b (Some 0) (next (option_or o (place_behind (length ms) r))) ≡ option_or (cond b (Some 0) (next o)) (place_behind (length (m ∷ ms)) r)
+    by true o r = refl
+    by false (Some i) r = refl
+    by false None None = refl
+    by false None (Some j) = ap (λ k. Some k) (let e = longer m ms in omega (arith, e))
 
 -- ---- a map that has one key more
 

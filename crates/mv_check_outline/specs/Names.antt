@@ -1,5 +1,5 @@
 -- Lists of names in which each stands once.
-use Rattle.std.specs.Prelude.{ℕ, Bool, List, [], ◌∷◌, ◌++◌, map, fold, Option, filter, position, nat_eq, if◌then◌else◌}
+use Rattle.std.specs.Prelude.{ℕ, ◌+◌, Bool, List, [], ◌∷◌, ◌++◌, map, fold, Option, Some, None, filter, position, unwrap_or, nat_eq, if◌then◌else◌}
 use Rattle.std.specs.List.{list_any}
 use Rattle.std.specs.Cmp.Lexicographic.{pointwise}
 use Rattle.std.specs.declared.vec.Vec.{Vec}
@@ -26,6 +26,15 @@ each_once = with_names []
 -- the place of a name
 abbrev pub place_of : List ℕ → List (List ℕ) → Option ℕ
 place_of name names = position (same_name name) names
+
+-- a place behind so many others
+abbrev pub place_behind : ℕ → Option ℕ → Option ℕ
+place_behind count None = None
+place_behind count (Some n) = Some (count + n)
+
+-- the place of a name among some that have it
+abbrev pub number_in : List (List ℕ) → List ℕ → ℕ
+number_in names name = unwrap_or (place_of name names) 0
 
 -- the names that the keys of a set hold
 abbrev pub names_of : List (Vec ℕ Global) → List (List ℕ)

@@ -24,6 +24,17 @@ is_function_form (form.PointerArray c n params) = false
 abbrev pub is_function : Declarator → Bool
 is_function d = is_function_form (out-Shape d.shape)
 
+-- a pointer to a function, no array of them
+abbrev pub is_pointer_form : {A B C : Type 0} → Shape-F A B C → Bool
+is_pointer_form form.Plain = false
+is_pointer_form (form.Array n) = false
+is_pointer_form (form.Function params) = false
+is_pointer_form (form.Pointer c params) = true
+is_pointer_form (form.PointerArray c n params) = false
+
+abbrev pub declares_pointer : Declarator → Bool
+declares_pointer d = is_pointer_form (out-Shape d.shape)
+
 abbrev pub is_there : {A : Type 0} → Option A → Bool
 is_there None = false
 is_there (Some x) = true
@@ -48,7 +59,8 @@ is_wanted wanted.Functions i d = is_function d
 is_wanted wanted.DefinedFunctions i d = is_function d && is_there i.body
 is_wanted wanted.MarkedFunctions i d = is_function d && is_marked i d
 is_wanted wanted.Objects i d = not (is_function d)
-is_wanted wanted.MarkedObjects i d = not (is_function d) && is_marked i d
+is_wanted wanted.MarkedSwitches i d = not (is_function d) && (not (declares_pointer d) && is_marked i d)
+is_wanted wanted.MarkedPointers i d = declares_pointer d && is_marked i d
 
 -- ---- the names of a unit
 
@@ -66,9 +78,10 @@ names w is = each_once (all_names w is)
 abbrev pub functions : List Item → List (List ℕ)
 functions is = among (names wanted.DefinedFunctions is) (names wanted.Functions is)
 
--- The functions that a unit defines and its objects, and those of them of which any declaration is marked.
+-- The functions that a unit defines and its objects, and those of them of which any declaration is marked: attributed functions, switches and pointer switches.
 pub record IsOutlineOf (items : List Item) (o : Outline) : Type 0 where
   pub defined : o.functions ≡ functions items
   pub attributed : o.attributed ≡ among (names wanted.MarkedFunctions items) o.functions
   pub objects : o.objects ≡ names wanted.Objects items
-  pub switches : o.switches ≡ among (names wanted.MarkedObjects items) o.objects
+  pub switches : o.switches ≡ among (names wanted.MarkedSwitches items) o.objects
+  pub pointers : o.pointers ≡ among (names wanted.MarkedPointers items) o.objects

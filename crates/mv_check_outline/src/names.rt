@@ -1,6 +1,7 @@
-ghost use Rattle.std.specs.Prelude.{◌≡◌, [], ◌∷◌, ◌++◌, ◌<◌, length, false, Some, IfSome, IfOk, OnOk, OnErr};
-ghost use Rattle.mv_check_outline.specs.Names.{is_among, with_name, place_of, among};
+ghost use Rattle.std.specs.Prelude.{◌≡◌, [], ◌∷◌, ◌++◌, ◌<◌, length, map, false, Some, IfSome, IfOk, OnOk, OnErr};
+ghost use Rattle.mv_check_outline.specs.Names.{is_among, with_name, place_of, number_in, among};
 
+use mv_num::list::List;
 use std::alloc::{AllocError, Global};
 use std::collections::BTreeMap;
 use std::marker::Model;
@@ -91,6 +92,27 @@ impl Names {
         ensures within { IfSome result (λ n. n < length self.now) }
     {
         self.places.get(name).copied()
+    }
+
+    // The number of a name that is there. There is no memory for a 2^32nd name.
+    fn short_number_of(&self, name: &[u8]) -> Result<u32, AllocError>
+        ensures { IfOk result (λ number. number ≡ number_in self.now name.now) }
+    {
+        match u32::try_from(self.number_of(name).unwrap_or(0)) {
+            Ok(number) => Ok(number),
+            Err(_) => Err(AllocError),
+        }
+    }
+
+    /// The numbers of the names among others that have them all.
+    pub fn numbers_in(&self, alloc: Global, others: &Names) -> Result<List<u32>, AllocError>
+        ensures { IfOk result (λ numbers. numbers ≡ map (number_in others.now) self.now) }
+    {
+        let mut numbers = List::new(alloc);
+        for name in self.names.as_slice() {
+            numbers.push(others.short_number_of(name.as_slice())?)?;
+        }
+        Ok(numbers)
     }
 
     /// How many names there are.

@@ -14,17 +14,19 @@ pub enum Wanted {
     DefinedFunctions,
     MarkedFunctions,
     Objects,
-    MarkedObjects,
+    MarkedSwitches,
+    MarkedPointers,
 }
 
 /// The functions that a unit defines and its objects, each in order of first declaration, and those of
-/// them of which any declaration has the attribute. A name's place is its number.
+/// them of which any declaration has the attribute: pointers apart from other objects. A name's place is its number.
 #[derive(Drop)]
 pub struct Outline {
     pub functions: Names,
     pub attributed: Names,
     pub objects: Names,
     pub switches: Names,
+    pub pointers: Names,
 }
 
 /// Whether a declarator declares a function.
@@ -33,6 +35,16 @@ pub fn is_function(declarator: &Declarator) -> bool
 {
     match declarator.shape {
         Shape::Function(_) => true,
+        _ => false,
+    }
+}
+
+/// Whether a declarator declares a pointer to a function, and no array of them.
+pub fn declares_pointer(declarator: &Declarator) -> bool
+    ensures { result ≡ spec.declares_pointer declarator.now }
+{
+    match declarator.shape {
+        Shape::Pointer(_, _) => true,
         _ => false,
     }
 }
@@ -62,7 +74,10 @@ fn is_wanted(wanted: Wanted, item: &Item, declarator: &Declarator) -> bool
         Wanted::DefinedFunctions => is_function(declarator) && item.body.is_some(),
         Wanted::MarkedFunctions => is_function(declarator) && is_marked(item, declarator),
         Wanted::Objects => !is_function(declarator),
-        Wanted::MarkedObjects => !is_function(declarator) && is_marked(item, declarator),
+        Wanted::MarkedSwitches => {
+            !is_function(declarator) && !declares_pointer(declarator) && is_marked(item, declarator)
+        }
+        Wanted::MarkedPointers => declares_pointer(declarator) && is_marked(item, declarator),
     }
 }
 
@@ -122,11 +137,13 @@ pub fn outline_of(alloc: Global, unit: &Unit) -> Result<Outline, AllocError>
     let functions = functions_of(alloc, items)?;
     let attributed = names_among(alloc, &functions, Wanted::MarkedFunctions, items)?;
     let objects = all_names(alloc, Wanted::Objects, items)?;
-    let switches = names_among(alloc, &objects, Wanted::MarkedObjects, items)?;
+    let switches = names_among(alloc, &objects, Wanted::MarkedSwitches, items)?;
+    let pointers = names_among(alloc, &objects, Wanted::MarkedPointers, items)?;
     Ok(Outline {
         functions,
         attributed,
         objects,
         switches,
+        pointers,
     })
 }

@@ -18,7 +18,7 @@ use Rattle.mv_check_declarations.specs.Attributes.{with_value, domain_value, giv
 use Rattle.mv_check_declarations.specs.Attributes as code
 use Rattle.mv_check_rules.specs.Nodes.{Bearer}
 use Rattle.mv_check_rules.specs.Nodes as node
-use Rattle.mv_check_rules.specs.Rules.{bears_none, is_empty, is_function, concluded}
+use Rattle.mv_check_rules.specs.Rules.{bears_none, bears_no_values, is_empty, concluded}
 use Rattle.mv_check_rules.specs.Declarations.{Attribution, constant, is_switch, switch_kind, value_concluded, listed_value, attribution, attribute}
 use Rattle.mv_check_rules.proofs.Agreement.{mapped, attribution_of, holder, AttributesAgree}
 use Rattle.mv_check_rules.proofs.Parts.{or_true, then_same, then_mapped, then_to, in_order_same, in_order_mapped, one_rule}
@@ -62,11 +62,12 @@ kind_agrees (b ∷ bs) k = by (list_any (λ x. not (is_switch x)) (b ∷ bs))
     by true = refl
     by false = refl
 
--- what is no switch bears none or is a function
-others : (bs : List Bearer) → list_any (λ b. not (is_switch b)) bs ≡ list_any bears_none bs || list_any is_function bs
+-- what is no switch bears none, or no values
+others : (bs : List Bearer) → list_any (λ b. not (is_switch b)) bs ≡ list_any bears_none bs || list_any bears_no_values bs
 others [] = refl
 others (node.Switch ∷ bs) = others bs
 others (node.Function ∷ bs) = or_true (list_any bears_none bs)
+others (node.PointerSwitch ∷ bs) = or_true (list_any bears_none bs)
 others (b ∷ bs) = refl
 
 by_bearers : (empty none function again valued : Bool) →
@@ -84,16 +85,16 @@ by_bearers false false false false true = refl
 by_bearers false false false false false = refl
 
 misplaced : (bs : List Bearer) (again : Bool) (a : Attribute) →
-    (is_empty bs || list_any bears_none bs || again || (is_some a.values && list_any is_function bs)) ≡ (again || not (code.holds (holder bs) a))
+    (is_empty bs || list_any bears_none bs || again || (is_some a.values && list_any bears_no_values bs)) ≡ (again || not (code.holds (holder bs) a))
 misplaced bs again a =
-    by_bearers (is_empty bs) (list_any bears_none bs) (list_any is_function bs) again (is_some a.values) ∙
+    by_bearers (is_empty bs) (list_any bears_none bs) (list_any bears_no_values bs) again (is_some a.values) ∙
     ap (λ others. again || not (if is_some a.values then not (is_empty bs || others) else not (is_empty bs || list_any bears_none bs))) (sym (others bs))
 
 attribute_held : (bs : List Bearer) (place : Place) (s : Scope) (before : Option Attribute) (a : Attribute) →
     concluded place s (node.Attribute bs (is_some (attribution_of before)) (is_some a.values)) (Some a.values) ≡ mapped attribution_of (held place (holder bs) before a)
 unfolding held
 attribute_held bs place s before a =
-    one_rule place (Some a.values) 14 (is_empty bs || list_any bears_none bs || is_some (attribution_of before) || (is_some a.values && list_any is_function bs)) ∙
+    one_rule place (Some a.values) 14 (is_empty bs || list_any bears_none bs || is_some (attribution_of before) || (is_some a.values && list_any bears_no_values bs)) ∙
     (ap (λ b. if b then Broken place 14 else Good (Some a.values)) (misplaced bs (is_some (attribution_of before)) a) ∙ by before)
   where
     behind : (b : Bool) → (if b then Broken place 14 else Good (Some a.values)) ≡ mapped attribution_of (if b then Broken place 14 else Good (Some a))

@@ -107,7 +107,7 @@ both_hold_all x xs b = λ i. record {
 }
 
 -- an attribute among specifiers may stand on what one may stand on for each declarator
-module _ (p : Position) (fixed : Bool) (bearer : Declarator → Bearer) (one : (d : Declarator) → code.holder_of p fixed d ≡ holder (bearer d ∷ [])) where
+module _ (p : Position) (fixed : Bool) (bearer : Declarator → Bearer) (one : (d : Declarator) → code.holder_behind p fixed d ≡ holder (bearer d ∷ [])) where
   all_more : (x : Bearer) (xs : List Bearer) (ds : List Declarator) → code.all_hold p fixed (holder (x ∷ xs)) ds ≡ holder (x ∷ xs ++ map bearer ds)
   all_more x xs [] = ap (λ l. holder (x ∷ l)) (sym (append-nil xs))
   all_more x xs (d ∷ ds) =

@@ -14,7 +14,7 @@ use Rattle.mv_check_scope.specs.declared.scope.Scope.{Scope}
 use Rattle.mv_check_scope.specs.Domains.{distinct_behind}
 use Rattle.mv_check_expressions.specs.Judged.{Judged, Good, Broken, and_then}
 use Rattle.mv_check_expressions.specs.Judgements.{value_judgement}
-use Rattle.mv_check_outline.specs.Outlined.{is_function_form, name_of}
+use Rattle.mv_check_outline.specs.Outlined.{is_function_form, declares_pointer, name_of}
 use Rattle.mv_check_declarations.specs.declared.attributes.Attribute.{Attribute}
 use Rattle.mv_check_declarations.specs.declared.attributes.Holder.{Holder}
 use Rattle.mv_check_declarations.specs.declared.attributes.Position.TheVariants as position
@@ -22,6 +22,7 @@ use Rattle.mv_check_declarations.specs.declared.declarators.Entity.{Entity}
 use Rattle.mv_check_declarations.specs.declared.declarators.Entity.TheVariants as entity
 use Rattle.mv_check_declarations.specs.declared.globals.Designated.{Designated}
 use Rattle.mv_check_declarations.specs.declared.specifiers.Specified.{Specified}
+use Rattle.mv_check_declarations.specs.Attributes.{is_constant_form}
 use Rattle.mv_check_declarations.specs.Attributes as code_attributes
 use Rattle.mv_check_declarations.specs.Declarators.{designated}
 use Rattle.mv_check_declarations.specs.Globals as code_globals
@@ -69,7 +70,8 @@ held_by_form constant name main e (shape.Function params) = ap (λ m. record { p
     by : (m : Bool) → record { plainly = not m; with_values = false } ≡ holder ((if m then node.Main else node.Function) ∷ [])
     by true = refl
     by false = refl
-held_by_form constant name main e (shape.Pointer fixed params) = refl
+held_by_form true name main e (shape.Pointer fixed params) = refl
+held_by_form false name main e (shape.Pointer fixed params) = refl
 held_by_form constant name main e (shape.PointerArray fixed size params) = refl
 
 pub held_by : (constant : Bool) (d : Declarator) → code_attributes.holder_of position.File constant d ≡ holder (bearer constant d ∷ [])
@@ -82,7 +84,8 @@ same_by_form main true constant shape.Plain h = refl
 same_by_form main false constant shape.Plain h = ap (λ b. if b then node.ConstantObject else node.Switch) (sym h)
 same_by_form main fixed constant (shape.Array size) h = refl
 same_by_form main fixed constant (shape.Function params) h = refl
-same_by_form main fixed constant (shape.Pointer own params) h = refl
+same_by_form main true constant (shape.Pointer own params) h = refl
+same_by_form main false constant (shape.Pointer own params) h = ap (λ b. if b then node.ConstantObject else node.PointerSwitch) (sym h)
 same_by_form main fixed constant (shape.PointerArray own size params) h = refl
 
 abbrev Barred : Bearer → Type 0
@@ -95,20 +98,29 @@ barred_by_form main false true shape.Plain h = (refl, refl)
 barred_by_form main false false shape.Plain h = absurd (true≢false (sym h))
 barred_by_form main fixed constant (shape.Array size) h = (refl, refl)
 barred_by_form main fixed constant (shape.Function params) h = absurd (true≢false (sym h))
-barred_by_form main fixed constant (shape.Pointer own params) h = (refl, refl)
+barred_by_form main true constant (shape.Pointer own params) h = (refl, refl)
+barred_by_form main false true (shape.Pointer own params) h = (refl, refl)
+barred_by_form main false false (shape.Pointer own params) h = absurd (true≢false (sym h))
 barred_by_form main fixed constant (shape.PointerArray own size params) h = (refl, refl)
 
 module _ (items : List Item) (fixed : Bool) where
   abbrev constant : Declarator → Bool
   constant = code.declares_constant (foreknown items)
 
-  same_bearers : (ds : List Declarator) → list_any constant ds ≡ false → map (bearer fixed) ds ≡ bearers items fixed ds
+  -- by the declaration itself
+  abbrev own : Declarator → Bool
+  own d = is_constant_form fixed (out-Shape d.shape)
+
+  abbrev own_bearer : Declarator → Bearer
+  own_bearer d = bearer (own d) d
+
+  same_bearers : (ds : List Declarator) → list_any constant ds ≡ false → map own_bearer ds ≡ bearers items fixed ds
   unfolding foreknown
   same_bearers [] h = refl
   same_bearers (d ∷ ds) h =
-      ap (λ b. b ∷ map (bearer fixed) ds)
-      (same_by_form (is_main d.name) fixed (is_constant_object items (name_of d)) (out-Shape d.shape) (first_false (constant d) (list_any constant ds) h)) ∙
-      ap (λ (bs : List Bearer). bearer (fixed || is_constant_object items (name_of d)) d ∷ bs) (same_bearers ds (second_false (constant d) (list_any constant ds) h))
+      ap (λ b. b ∷ map own_bearer ds)
+      (same_by_form (is_main d.name) (own d) (is_constant_object items (name_of d)) (out-Shape d.shape) (first_false (constant d) (list_any constant ds) h)) ∙
+      ap (λ (bs : List Bearer). bearer (own d || is_constant_object items (name_of d)) d ∷ bs) (same_bearers ds (second_false (constant d) (list_any constant ds) h))
 
   barred : (ds : List Declarator) → list_any constant ds ≡ true →
       (list_any bears_none (bearers items fixed ds) ≡ true) × (list_any (λ b. not (is_switch b)) (bearers items fixed ds) ≡ true)
@@ -120,12 +132,12 @@ module _ (items : List Item) (fixed : Bool) where
           (list_any constant ds ≡ true → (list_any bears_none (bearers items fixed ds) ≡ true) × (list_any (λ b. not (is_switch b)) (bearers items fixed ds) ≡ true)) →
           (list_any bears_none (bearers items fixed (d ∷ ds)) ≡ true) × (list_any (λ b. not (is_switch b)) (bearers items fixed (d ∷ ds)) ≡ true)
       by true e h rest =
-          let x = barred_by_form (is_main d.name) fixed (is_constant_object items (name_of d)) (out-Shape d.shape) e in
+          let x = barred_by_form (is_main d.name) (own d) (is_constant_object items (name_of d)) (out-Shape d.shape) e in
           (ap (λ a. a || list_any bears_none (bearers items fixed ds)) x.0, ap (λ a. a || list_any (λ b. not (is_switch b)) (bearers items fixed ds)) x.1)
       by false e h rest =
           let x = rest h in (
-            ap (λ a. bears_none (bearer (fixed || is_constant_object items (name_of d)) d) || a) x.0 ∙ or_true (bears_none (bearer (fixed || is_constant_object items (name_of d)) d)),
-            ap (λ a. not (is_switch (bearer (fixed || is_constant_object items (name_of d)) d)) || a) x.1 ∙ or_true (not (is_switch (bearer (fixed || is_constant_object items (name_of d)) d))),
+            ap (λ a. bears_none (bearer (own d || is_constant_object items (name_of d)) d) || a) x.0 ∙ or_true (bears_none (bearer (own d || is_constant_object items (name_of d)) d)),
+            ap (λ a. not (is_switch (bearer (own d || is_constant_object items (name_of d)) d)) || a) x.1 ∙ or_true (not (is_switch (bearer (own d || is_constant_object items (name_of d)) d))),
           )
 
   pub held_by_all : (ds : List Declarator) → code_attributes.holder_of_all position.File fixed (code.holders (foreknown items) ds) ≡ holder (bearers items fixed ds)
@@ -138,7 +150,7 @@ module _ (items : List Item) (fixed : Bool) where
             plainly = not ((sym (or_true (is_empty (bearers items fixed ds))) ∙ ap (λ a. is_empty (bearers items fixed ds) || a) (sym x.0)) i);
             with_values = not ((sym (or_true (is_empty (bearers items fixed ds))) ∙ ap (λ a. is_empty (bearers items fixed ds) || a) (sym x.1)) i);
           }
-      by false e = holders_agree position.File fixed (bearer fixed) (held_by fixed) ds ∙ ap holder (same_bearers ds e)
+      by false e = holders_agree position.File fixed own_bearer (λ d. held_by (own d) d) ds ∙ ap holder (same_bearers ds e)
 
 -- ---- domains
 
@@ -154,9 +166,11 @@ default_same s (Some n) = by (slice_get s.enumerations n)
     by None = refl
     by (Some vs) = distinct_same [] vs
 
-domain_same : (s : Scope) (enumeration : Option ℕ) (a : Option Attribute) → code_types.domain_by s enumeration a ≡ domain s enumeration (attribution_of a)
-domain_same s enumeration None = refl
-domain_same s enumeration (Some a) = by a.values
+domain_same : (pointer : Bool) (s : Scope) (enumeration : Option ℕ) (a : Option Attribute) →
+    code_types.domain_by pointer s enumeration a ≡ domain pointer s enumeration (attribution_of a)
+domain_same true s enumeration a = refl
+domain_same false s enumeration None = refl
+domain_same false s enumeration (Some a) = by a.values
   where
     by : (values : Option (List ℕ)) → Some (code_globals.domain_or values (code_globals.default_domain s enumeration)) ≡ Some (unwrap_or values (default_domain s enumeration))
     by None = ap Some (default_same s enumeration)
@@ -187,12 +201,12 @@ module _ (parameters_agree : ParametersAgree) (body_agrees : BodyAgrees) (items 
       nameless_same d.place c.scope c (words_of l) (given constant_expression d.initial c.scope)
   named_agrees (Some name) (entity.Function signature) a c = routine_agrees parameters_agree body_agrees items d name b.ctype signature body c
   named_agrees (Some name) (entity.Scalar t fixed) a c =
-      ap (λ values. object_judgement (foreknown items) d name (code_objects.scalar t) values (is_some body) (contents_of c)) (domain_same c.scope b.enumeration a) ∙
-      scalar_agrees items d name (domain c.scope b.enumeration (attribution_of a)) (is_some body) c t fixed
+      ap (λ values. object_judgement (foreknown items) d name (code_objects.scalar t) values (is_some body) (contents_of c)) (domain_same (declares_pointer d) c.scope b.enumeration a) ∙
+      scalar_agrees items d name (domain (declares_pointer d) c.scope b.enumeration (attribution_of a)) (is_some body) c t fixed
   named_agrees (Some name) (entity.Array t fixed size) a c =
       ap (λ values. object_judgement (foreknown items) d name (code_objects.sized t (code_initials.array_size size d.initial)) values (is_some body) (contents_of c))
-      (domain_same c.scope b.enumeration a) ∙
-      array_agrees items d name (domain c.scope b.enumeration (attribution_of a)) (is_some body) c t fixed size
+      (domain_same (declares_pointer d) c.scope b.enumeration a) ∙
+      array_agrees items d name (domain (declares_pointer d) c.scope b.enumeration (attribution_of a)) (is_some body) c t fixed size
 
   abbrev constant_here : Bool
   constant_here = is_constant_object items (name_of d)

@@ -11,7 +11,7 @@ use Rattle.mv_check_declarations.specs.declared.specifiers.Specified.{Specified}
 use Rattle.mv_check_declarations.specs.Specifiers as code_specifiers
 use Rattle.mv_check_declarations.specs.Turns.{through}
 use Rattle.mv_types.specs.Contents.{in_scope}
-use Rattle.mv_types.specs.Foreknown.{foreknown}
+use Rattle.mv_types.specs.Foreknown.{foreknown, pointers_of}
 use Rattle.mv_types.specs.Units as code
 use Rattle.mv_types.specs.Units.{declarator_judgement, names_judgement, item_judgement, program_judgement, unit_judgement}
 use Rattle.mv_check_rules.specs.Nodes as node
@@ -77,9 +77,9 @@ module _ (items : List Item) where
 pub same_judgement : (u : tree.Unit) → judged_by_rules u ≡ unit_judgement u
 unfolding judged_by_rules unit_judgement foreknown
 same_judgement u =
-    sym (ap (λ j. and_then j (program_judgement u.end)) (through_mapped contents_of (item_judgement (foreknown u.items)) (item u.items) (item_agrees u.items) u.items (none_declared u.items)) ∙
+    sym (ap (λ j. and_then j (program_judgement u.end (pointers_of (foreknown u.items)))) (through_mapped contents_of (item_judgement (foreknown u.items)) (item u.items) (item_agrees u.items) u.items (none_declared u.items)) ∙
     by (in_order (item u.items) u.items (none_declared u.items)))
   where
-    by : (j : Judged Declarations) → and_then (mapped contents_of j) (program_judgement u.end) ≡ and_then j (unit_end u.end)
-    by (Good c) = unit_end_agrees u.end c
+    by : (j : Judged Declarations) → and_then (mapped contents_of j) (program_judgement u.end (pointers_of (foreknown u.items))) ≡ and_then j (unit_end u.items u.end)
+    by (Good c) = unit_end_agrees u.items u.end c
     by (Broken place rule) = refl

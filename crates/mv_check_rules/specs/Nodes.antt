@@ -29,11 +29,11 @@ pub data Enumeration : Type 0 where
 -- what an attribute stands on
 pub data Bearer : Type 0 where
   Switch : Bearer
+  PointerSwitch : Bearer
   Function : Bearer
   Main : Bearer
   Array : Bearer
   ConstantObject : Bearer
-  FunctionPointer : Bearer
   LocalObject : Bearer
   Parameter : Bearer
 

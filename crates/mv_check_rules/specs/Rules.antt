@@ -147,15 +147,18 @@ is_again _ = false
 
 -- ---- what the rules ask of attributes
 
--- an attribute stands on no local, parameter, array, `const` object, function pointer or `main`
+-- an attribute stands on no local, parameter, array, `const` object or `main`
 abbrev pub bears_none : Bearer → Bool
 bears_none node.Switch = false
+bears_none node.PointerSwitch = false
 bears_none node.Function = false
 bears_none _ = true
 
-abbrev pub is_function : Bearer → Bool
-is_function node.Function = true
-is_function _ = false
+-- one with values on no function and no function pointer
+abbrev pub bears_no_values : Bearer → Bool
+bears_no_values node.Function = true
+bears_no_values node.PointerSwitch = true
+bears_no_values _ = false
 
 abbrev pub is_empty : {A : Type 0} → List A → Bool
 is_empty [] = true
@@ -231,9 +234,10 @@ breaks_returns (node.Return t None) = not (is_void t)
 breaks_returns (node.Return t (Some e)) = is_void t
 breaks_returns _ = false
 
--- attributes: an attribute stands on what bears none or on a bare enum, holds more than once for one declarator, or has values on a function
+-- attributes: an attribute stands on what bears none or on a bare enum, holds more than once for one declarator, or has values on a function or a function
+-- pointer
 abbrev pub breaks_attributes : Node → Bool
-breaks_attributes (node.Attribute bearers again valued) = is_empty bearers || list_any bears_none bearers || again || (valued && list_any is_function bearers)
+breaks_attributes (node.Attribute bearers again valued) = is_empty bearers || list_any bears_none bearers || again || (valued && list_any bears_no_values bearers)
 breaks_attributes _ = false
 
 -- domains: a domain value isn't a value of the switch's type, or is repeated

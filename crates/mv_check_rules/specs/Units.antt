@@ -32,8 +32,9 @@ use Rattle.mv_check_scope.specs.Scoped.{start, declared, block_entered, block_le
 use Rattle.mv_check_expressions.specs.Calls.{named_function}
 use Rattle.mv_check_expressions.specs.Judged.{Judged, Good, and_then}
 use Rattle.mv_check_expressions.specs.Judgements.{value_judgement}
-use Rattle.mv_check_outline.specs.Names.{each_once, among, is_among, place_of}
-use Rattle.mv_check_outline.specs.Outlined.{name_of, is_function, is_marked, is_there}
+use Rattle.mv_check_outline.specs.Names.{each_once, among, is_among, place_of, number_in}
+use Rattle.mv_check_outline.specs.Outlined.{name_of, is_function, declares_pointer, is_marked, is_there}
+use Rattle.mv_check_declarations.specs.Attributes.{is_constant_form}
 use Rattle.mv_check_declarations.specs.ValueSets.{with_member}
 use Rattle.mv_types.specs.Foreknown as foreknown
 use Rattle.mv_check_uses.specs.Uses.{switches_named}
@@ -61,8 +62,12 @@ attributed_functions = names_where (λ i d. is_function d && is_marked i d)
 abbrev pub objects : List Item → List (List ℕ)
 objects = names_where (λ i d. not (is_function d))
 
-abbrev pub attributed_objects : List Item → List (List ℕ)
-attributed_objects = names_where (λ i d. not (is_function d) && is_marked i d)
+-- those that have the attribute: integers are switches, and function pointers are pointer switches
+abbrev pub switches : List Item → List (List ℕ)
+switches items = among (names_where (λ i d. not (is_function d) && (not (declares_pointer d) && is_marked i d)) items) (objects items)
+
+abbrev pub pointer_switches : List Item → List (List ℕ)
+pointer_switches items = among (names_where (λ i d. declares_pointer d && is_marked i d) items) (objects items)
 
 -- an object of which a declaration says `const`
 abbrev pub is_constant_object : List Item → List ℕ → Bool
@@ -80,9 +85,13 @@ function_number items name = place_of name (functions items)
 abbrev pub attributed_number : List Item → List ℕ → Option ℕ
 attributed_number items name = if is_attributed items name then Some (unwrap_or (place_of name (among (attributed_functions items) (functions items))) 0) else None
 
--- the number of an object that has the attribute among the switches
+-- the number of an object that has the attribute: the switches come first, and behind them the pointer switches
 abbrev pub switch_number : List Item → List ℕ → Option ℕ
-switch_number items name = place_of name (among (attributed_objects items) (objects items))
+switch_number items name = place_of name (switches items ++ pointer_switches items)
+
+-- the globals that are pointer switches
+abbrev pub pointer_globals : List Item → List ℕ
+pointer_globals items = map (number_in (objects items)) (pointer_switches items)
 
 -- ---- the unit so far
 
@@ -105,7 +114,7 @@ abbrev pub bearer_of_form : {A B C : Type 0} → (main constant : Bool) → Shap
 bearer_of_form main constant shape.Plain = if constant then node.ConstantObject else node.Switch
 bearer_of_form main constant (shape.Array size) = node.Array
 bearer_of_form main constant (shape.Function params) = if main then node.Main else node.Function
-bearer_of_form main constant (shape.Pointer fixed params) = node.FunctionPointer
+bearer_of_form main constant (shape.Pointer fixed params) = if constant then node.ConstantObject else node.PointerSwitch
 bearer_of_form main constant (shape.PointerArray fixed size params) = node.Array
 
 abbrev pub is_main : Option (List ℕ) → Bool
@@ -115,9 +124,9 @@ is_main (Some name) = is_named name (codes "main")
 abbrev pub bearer : (constant : Bool) → Declarator → Bearer
 bearer constant d = bearer_of_form (is_main d.name) constant (out-Shape d.shape)
 
--- An attribute among specifiers stands on all that the declarators declare. An object is `const` by these specifiers or by another declaration.
+-- An attribute among specifiers stands on all that the declarators declare. An object is `const` by this declaration or by another one.
 abbrev pub bearers : List Item → (constant : Bool) → List Declarator → List Bearer
-bearers items constant ds = map (λ d. bearer (constant || is_constant_object items (name_of d)) d) ds
+bearers items constant ds = map (λ d. bearer (is_constant_form constant (out-Shape d.shape) || is_constant_object items (name_of d)) d) ds
 
 -- ---- objects
 
@@ -156,10 +165,11 @@ abbrev pub default_domain : Scope → Option ℕ → List ℕ
 default_domain s None = 0 ∷ 1 ∷ []
 default_domain s (Some n) = distinct (unwrap_or (slice_get s.enumerations n) [])
 
--- the domain of an object that has the attribute
-abbrev pub domain : Scope → Option ℕ → Option Attribution → Option (List ℕ)
-domain s enumeration None = None
-domain s enumeration (Some a) = Some (unwrap_or a (default_domain s enumeration))
+-- the domain of an object that has the attribute; a pointer has none
+abbrev pub domain : (pointer : Bool) → Scope → Option ℕ → Option Attribution → Option (List ℕ)
+domain true s enumeration a = None
+domain false s enumeration None = None
+domain false s enumeration (Some a) = Some (unwrap_or a (default_domain s enumeration))
 
 -- the object that a name means
 abbrev pub global_in : Storage → Option ℕ
@@ -298,7 +308,7 @@ routine items d name result signature b c =
 
 abbrev pub by_form : List Item → Base → Option Attribution → Option Line → Declarator → List ℕ → Declarations → Declared → Judged Declarations
 by_form items base a b d name c (Function signature) = routine items d name base.ctype signature b c
-by_form items base a b d name c e = object items d name e (domain c.scope base.enumeration a) (is_some b) c
+by_form items base a b d name c e = object items d name e (domain (declares_pointer d) c.scope base.enumeration a) (is_some b) c
 
 -- the values of an object are constants
 abbrev pub value_of_form : Declared → Scope → Node → Judged Expr
@@ -358,15 +368,15 @@ module _ {A : Type 0} where
 abbrev pub with_switches : List Switch → program_function.Function → program_function.Function
 with_switches switches f = record f { switches = if f.attributed then switches_named switches f.body else [] }
 
-abbrev pub program : Declarations → (main : ℕ) → Program
-program c main =
+abbrev pub program : List Item → Declarations → (main : ℕ) → Program
+program items c main =
     let switches = switches_from 0 c.globals in
     record {
       signatures = c.scope.signatures;
       globals = map global_of c.globals;
       functions = map (with_switches switches) (those_there c.functions);
       switches = switches;
-      pointers = [];
+      pointers = pointer_globals items;
       main = main;
     }
 
@@ -379,11 +389,11 @@ abbrev pub main_number : List Signature → Option Meaning → Option ℕ
 main_number signatures (Some (meaning.Function f)) = if is_main_type (slice_get signatures f.signature) then f.number else None
 main_number signatures _ = None
 
-abbrev pub unit_end : Place → Declarations → Judged Program
-unit_end place c =
+abbrev pub unit_end : List Item → Place → Declarations → Judged Program
+unit_end items place c =
     let main = main_number c.scope.signatures (meaning_here c.scope (codes "main")) in
-    concluded place c.scope (node.End main) (program c (unwrap_or main 0))
+    concluded place c.scope (node.End main) (program items c (unwrap_or main 0))
 
 -- The program of a unit that breaks no rule, or the first place at which a rule is broken and the least rule that is broken there.
 unfoldable pub judged_by_rules : tree.Unit → Judged Program
-judged_by_rules u = and_then (in_order (item u.items) u.items (none_declared u.items)) (unit_end u.end)
+judged_by_rules u = and_then (in_order (item u.items) u.items (none_declared u.items)) (unit_end u.items u.end)

@@ -9,7 +9,8 @@ pub enum Storage {
     Local(u32),
 }
 
-/// A scalar object. `fixed` says that it is `const`, `switch` is its number among those that are attributed if it is one.
+/// A scalar object. `fixed` says that it is `const`, `switch` is its number among those that are attributed if it is one: the switches,
+/// and behind them the pointer switches.
 #[derive(Clone, Copy, PartialEq, Eq, Debug)]
 pub struct Variable {
     pub storage: Storage,

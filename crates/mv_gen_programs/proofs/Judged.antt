@@ -29,7 +29,7 @@ use Rattle.mv_check_expressions.specs.Judged.{Judged, Good, and_then}
 use Rattle.mv_check_expressions.specs.NeededConstants.{constant_judgement}
 use Rattle.mv_check_expressions.specs.TypeNames.{named_kind}
 use Rattle.mv_check_outline.specs.Names.{is_among, place_of}
-use Rattle.mv_check_outline.specs.Outlined.{is_function}
+use Rattle.mv_check_outline.specs.Outlined.{is_function, declares_pointer}
 use Rattle.mv_check_declarations.specs.declared.attributes.Position.TheVariants as position
 use Rattle.mv_check_declarations.specs.declared.declarators.Entity.TheVariants as entity
 use Rattle.mv_check_declarations.specs.declared.specifiers.Specified.{Specified}
@@ -204,7 +204,7 @@ switches_declared : (count : ℕ) (p : Places) (functions : List (Option Functio
     through (declarator_judgement (known count) switch_int None) (switch_declarators p) (record { scope = file_scope [] []; objects = []; functions = functions })
     ≡ Good (contents_at [] [] switch_objects functions)
 unfolding declarator_judgement named_declarator object_judgement least object_scope objects_behind
-switches_declared count p functions = simp plain_designated
+switches_declared count p functions = simp (plain_designated, shape.outs-Plain, declares_pointer)
 
 pub switches_judged : (count : ℕ) (p : Places) (functions : List (Option Function)) →
     item_judgement (known count) (switch_tree p) (record { scope = file_scope [] []; objects = []; functions = functions }) ≡ Good (contents_at [] [] switch_objects functions)
@@ -229,7 +229,8 @@ object_declared : (count : ℕ) (p : Places) (names : Names) (signatures : List 
     declarator_judgement (known count) plain_int None (plain_declarator (p 1) (codes "acc")) (contents_at names signatures switch_objects functions)
     ≡ Good (contents_at (names ++ (codes "acc", meaning.Object object_variable) ∷ []) signatures all_objects functions)
 unfolding declarator_judgement named_declarator object_judgement least object_scope objects_behind
-object_declared count p names signatures functions fresh = rw (plain_designated int false (file_scope (switch_meanings ++ names) signatures)) (rw fresh refl)
+object_declared count p names signatures functions fresh =
+    rw (plain_designated int false (file_scope (switch_meanings ++ names) signatures)) (rw fresh (rw (shape.outs-Plain, declares_pointer) refl))
 
 pub object_judged : (count : ℕ) (p : Places) (names : Names) (signatures : List Signature) (functions : List (Option Function)) → named (codes "acc") names ≡ None →
     item_judgement (known count) (object_tree p) (contents_at names signatures switch_objects functions)

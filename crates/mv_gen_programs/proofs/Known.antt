@@ -9,7 +9,7 @@ use Rattle.mv_check_outline.specs.declared.outline.Wanted.{Wanted}
 use Rattle.mv_check_outline.specs.declared.outline.Wanted.TheVariants as wanted
 use Rattle.mv_check_outline.specs.Names.{each_once, among, is_among, place_of}
 use Rattle.mv_check_outline.specs.Outlined as outlined
-use Rattle.mv_check_outline.specs.Outlined.{is_function, is_marked}
+use Rattle.mv_check_outline.specs.Outlined.{is_function, declares_pointer, is_marked}
 use Rattle.mv_types.specs.declared.contents.Foreknown.{Foreknown}
 use Rattle.mv_types.specs.declared.foreknown.Said.TheVariants as said
 use Rattle.mv_types.specs.Foreknown.{foreknown, is_constant}
@@ -31,6 +31,7 @@ known count = record {
     attributed = function_names 0 count;
     objects = codes "s0" ∷ codes "s1" ∷ codes "s2" ∷ codes "s3" ∷ codes "acc" ∷ [];
     switches = switch_names;
+    pointers = [];
   };
   attributed = function_names 0 count;
   constants = [];
@@ -44,14 +45,16 @@ of_definition wanted.Functions i = function_name i ∷ []
 of_definition wanted.DefinedFunctions i = function_name i ∷ []
 of_definition wanted.MarkedFunctions i = function_name i ∷ []
 of_definition wanted.Objects i = []
-of_definition wanted.MarkedObjects i = []
+of_definition wanted.MarkedSwitches i = []
+of_definition wanted.MarkedPointers i = []
 
 in_definition : (w : Wanted) (p : Places) (i f j c : ℕ) → outlined.names_in w (definition_tree p i f j c) ≡ of_definition w i
 in_definition wanted.Functions p i f j c = simp (shape.outs-Function, is_function)
 in_definition wanted.DefinedFunctions p i f j c = simp (shape.outs-Function, is_function)
 in_definition wanted.MarkedFunctions p i f j c = simp (shape.outs-Function, is_function, out-roll-Specs, is_marked)
 in_definition wanted.Objects p i f j c = simp (shape.outs-Function, is_function)
-in_definition wanted.MarkedObjects p i f j c = simp (shape.outs-Function, is_function)
+in_definition wanted.MarkedSwitches p i f j c = simp (shape.outs-Function, is_function)
+in_definition wanted.MarkedPointers p i f j c = simp (shape.outs-Function, declares_pointer)
 
 -- of the switches
 abbrev of_switches : Wanted → List (List ℕ)
@@ -59,14 +62,16 @@ of_switches wanted.Functions = []
 of_switches wanted.DefinedFunctions = []
 of_switches wanted.MarkedFunctions = []
 of_switches wanted.Objects = switch_names
-of_switches wanted.MarkedObjects = switch_names
+of_switches wanted.MarkedSwitches = switch_names
+of_switches wanted.MarkedPointers = []
 
 in_switches : (w : Wanted) (p : Places) → outlined.names_in w (switch_tree p) ≡ of_switches w
 in_switches wanted.Functions p = simp (shape.outs-Plain, is_function)
 in_switches wanted.DefinedFunctions p = simp (shape.outs-Plain, is_function)
 in_switches wanted.MarkedFunctions p = simp (shape.outs-Plain, is_function)
 in_switches wanted.Objects p = simp (shape.outs-Plain, is_function)
-in_switches wanted.MarkedObjects p = simp (shape.outs-Plain, is_function, out-roll-Specs, is_marked)
+in_switches wanted.MarkedSwitches p = simp (shape.outs-Plain, is_function, declares_pointer, out-roll-Specs, is_marked)
+in_switches wanted.MarkedPointers p = simp (shape.outs-Plain, declares_pointer)
 
 -- of `acc`
 abbrev of_object : Wanted → List (List ℕ)
@@ -74,14 +79,16 @@ of_object wanted.Functions = []
 of_object wanted.DefinedFunctions = []
 of_object wanted.MarkedFunctions = []
 of_object wanted.Objects = codes "acc" ∷ []
-of_object wanted.MarkedObjects = []
+of_object wanted.MarkedSwitches = []
+of_object wanted.MarkedPointers = []
 
 in_object : (w : Wanted) (p : Places) → outlined.names_in w (object_tree p) ≡ of_object w
 in_object wanted.Functions p = simp (shape.outs-Plain, is_function)
 in_object wanted.DefinedFunctions p = simp (shape.outs-Plain, is_function)
 in_object wanted.MarkedFunctions p = simp (shape.outs-Plain, is_function)
 in_object wanted.Objects p = simp (shape.outs-Plain, is_function)
-in_object wanted.MarkedObjects p = simp (shape.outs-Plain, is_function, out-roll-Specs, is_marked)
+in_object wanted.MarkedSwitches p = simp (shape.outs-Plain, is_function, declares_pointer, out-roll-Specs, is_marked)
+in_object wanted.MarkedPointers p = simp (shape.outs-Plain, declares_pointer)
 
 -- of `main`
 abbrev of_main : Wanted → List (List ℕ)
@@ -89,14 +96,16 @@ of_main wanted.Functions = codes "main" ∷ []
 of_main wanted.DefinedFunctions = codes "main" ∷ []
 of_main wanted.MarkedFunctions = []
 of_main wanted.Objects = []
-of_main wanted.MarkedObjects = []
+of_main wanted.MarkedSwitches = []
+of_main wanted.MarkedPointers = []
 
 in_main : (w : Wanted) (p : Places) (body : Line) → outlined.names_in w (main_tree p body) ≡ of_main w
 in_main wanted.Functions p body = simp (shape.outs-Function, is_function)
 in_main wanted.DefinedFunctions p body = simp (shape.outs-Function, is_function)
 in_main wanted.MarkedFunctions p body = simp (shape.outs-Function, is_function, out-roll-Specs, is_marked)
 in_main wanted.Objects p body = simp (shape.outs-Function, is_function)
-in_main wanted.MarkedObjects p body = simp (shape.outs-Function, is_function)
+in_main wanted.MarkedSwitches p body = simp (shape.outs-Function, is_function)
+in_main wanted.MarkedPointers p body = simp (shape.outs-Function, declares_pointer)
 
 -- nothing is `const`
 constant_definition : (p : Places) (i f j c : ℕ) → types.names_in said.Constant (definition_tree p i f j c) ≡ []
@@ -174,8 +183,11 @@ module _ (p q r m : Places) (seed count : ℕ) (body : Line) where
   objects_are : outlined.all_names wanted.Objects unit_items ≡ switch_names ++ codes "acc" ∷ []
   objects_are = names_are wanted.Objects ∙ ap (λ (ns : List (List ℕ)). switch_names ++ (ns ++ codes "acc" ∷ [])) (none_in wanted.Objects (λ i. refl) 0 count)
 
-  switches_are : outlined.all_names wanted.MarkedObjects unit_items ≡ switch_names
-  switches_are = names_are wanted.MarkedObjects ∙ ap (λ (ns : List (List ℕ)). switch_names ++ (ns ++ [])) (none_in wanted.MarkedObjects (λ i. refl) 0 count)
+  switches_are : outlined.all_names wanted.MarkedSwitches unit_items ≡ switch_names
+  switches_are = names_are wanted.MarkedSwitches ∙ ap (λ (ns : List (List ℕ)). switch_names ++ (ns ++ [])) (none_in wanted.MarkedSwitches (λ i. refl) 0 count)
+
+  pointers_are : outlined.all_names wanted.MarkedPointers unit_items ≡ []
+  pointers_are = names_are wanted.MarkedPointers ∙ ap (λ (ns : List (List ℕ)). ns ++ []) (none_in wanted.MarkedPointers (λ i. refl) 0 count)
 
   constants_are : types.all_names said.Constant unit_items ≡ []
   constants_are =
@@ -183,18 +195,18 @@ module _ (p q r m : Places) (seed count : ℕ) (body : Line) where
       ∙ (constant_definitions q seed 0 count (object_tree r ∷ main_tree m body ∷ [])
       ∙ (ap (λ (ns : List (List ℕ)). ns ++ (types.names_in said.Constant (main_tree m body) ++ [])) (constant_object r) ∙ ap (λ (ns : List (List ℕ)). ns ++ []) (constant_main m body)))
 
-  abbrev outline_of : (functions defined marked objects switches constants : List (List ℕ)) → Foreknown
-  outline_of functions defined marked objects switches constants =
+  abbrev outline_of : (functions defined marked objects switches pointers constants : List (List ℕ)) → Foreknown
+  outline_of functions defined marked objects switches pointers constants =
       let all = among (each_once defined) (each_once functions) in
       record {
-        outline = record { functions = all; attributed = among (each_once marked) all; objects = each_once objects; switches = among (each_once switches) (each_once objects) };
+        outline = record { functions = all; attributed = among (each_once marked) all; objects = each_once objects; switches = among (each_once switches) (each_once objects); pointers = among (each_once pointers) (each_once objects) };
         attributed = each_once marked;
         constants = each_once constants;
       }
 
   foreknown_by : foreknown unit_items ≡
       outline_of (outlined.all_names wanted.Functions unit_items) (outlined.all_names wanted.DefinedFunctions unit_items) (outlined.all_names wanted.MarkedFunctions unit_items)
-      (outlined.all_names wanted.Objects unit_items) (outlined.all_names wanted.MarkedObjects unit_items) (types.all_names said.Constant unit_items)
+      (outlined.all_names wanted.Objects unit_items) (outlined.all_names wanted.MarkedSwitches unit_items) (outlined.all_names wanted.MarkedPointers unit_items) (types.all_names said.Constant unit_items)
   unfolding foreknown
   foreknown_by = refl
 
@@ -202,19 +214,21 @@ module _ (p q r m : Places) (seed count : ℕ) (body : Line) where
   foreknown_is few =
       foreknown_by
       ∙ (ap (λ (ns : List (List ℕ)). outline_of ns (outlined.all_names wanted.DefinedFunctions unit_items) (outlined.all_names wanted.MarkedFunctions unit_items)
-      (outlined.all_names wanted.Objects unit_items) (outlined.all_names wanted.MarkedObjects unit_items) (types.all_names said.Constant unit_items)) functions_are
+      (outlined.all_names wanted.Objects unit_items) (outlined.all_names wanted.MarkedSwitches unit_items) (outlined.all_names wanted.MarkedPointers unit_items) (types.all_names said.Constant unit_items)) functions_are
       ∙ (ap (λ (ns : List (List ℕ)). outline_of (all_functions count) ns (outlined.all_names wanted.MarkedFunctions unit_items)
-      (outlined.all_names wanted.Objects unit_items) (outlined.all_names wanted.MarkedObjects unit_items) (types.all_names said.Constant unit_items)) defined_are
+      (outlined.all_names wanted.Objects unit_items) (outlined.all_names wanted.MarkedSwitches unit_items) (outlined.all_names wanted.MarkedPointers unit_items) (types.all_names said.Constant unit_items)) defined_are
       ∙ (ap (λ (ns : List (List ℕ)). outline_of (all_functions count) (all_functions count) ns
-      (outlined.all_names wanted.Objects unit_items) (outlined.all_names wanted.MarkedObjects unit_items) (types.all_names said.Constant unit_items)) marked_are
+      (outlined.all_names wanted.Objects unit_items) (outlined.all_names wanted.MarkedSwitches unit_items) (outlined.all_names wanted.MarkedPointers unit_items) (types.all_names said.Constant unit_items)) marked_are
       ∙ (ap (λ (ns : List (List ℕ)). outline_of (all_functions count) (all_functions count) (function_names 0 count) ns
-      (outlined.all_names wanted.MarkedObjects unit_items) (types.all_names said.Constant unit_items)) objects_are
+      (outlined.all_names wanted.MarkedSwitches unit_items) (outlined.all_names wanted.MarkedPointers unit_items) (types.all_names said.Constant unit_items)) objects_are
       ∙ (ap (λ (ns : List (List ℕ)). outline_of (all_functions count) (all_functions count) (function_names 0 count) (switch_names ++ codes "acc" ∷ []) ns
-      (types.all_names said.Constant unit_items)) switches_are
-      ∙ (ap (λ (ns : List (List ℕ)). outline_of (all_functions count) (all_functions count) (function_names 0 count) (switch_names ++ codes "acc" ∷ []) switch_names ns) constants_are
-      ∙ settled))))))
+      (outlined.all_names wanted.MarkedPointers unit_items) (types.all_names said.Constant unit_items)) switches_are
+      ∙ (ap (λ (ns : List (List ℕ)). outline_of (all_functions count) (all_functions count) (function_names 0 count) (switch_names ++ codes "acc" ∷ []) switch_names ns
+      (types.all_names said.Constant unit_items)) pointers_are
+      ∙ (ap (λ (ns : List (List ℕ)). outline_of (all_functions count) (all_functions count) (function_names 0 count) (switch_names ++ codes "acc" ∷ []) switch_names [] ns) constants_are
+      ∙ settled)))))))
     where
-      settled : outline_of (all_functions count) (all_functions count) (function_names 0 count) (switch_names ++ codes "acc" ∷ []) switch_names [] ≡ known count
+      settled : outline_of (all_functions count) (all_functions count) (function_names 0 count) (switch_names ++ codes "acc" ∷ []) switch_names [] [] ≡ known count
       settled = rw (all_once count few, functions_once count few) (rw (functions_defined count few) (rw (functions_marked count few) refl))
 
 -- what is known of a function

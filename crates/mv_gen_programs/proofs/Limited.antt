@@ -8,7 +8,7 @@ use Rattle.mv_ast.specs.declared.program.Program.{Program}
 use Rattle.mv_ast.specs.Counts.{assignments, product_of, elements_of}
 use Rattle.mv_ast.specs.Switches.{switch_domain}
 use Rattle.mv_check_limits.specs.declared.excess.Exceeded.{Exceeded}
-use Rattle.mv_check_limits.specs.Limits.{Limit, functions_limit, globals_limit, parameters_limit, switches_limit, values_limit, own_switches as counted_switches, switches_of_function_limit, assignments_limit, elements_limit, first_above, reported, excess, first_some, first_exceeded}
+use Rattle.mv_check_limits.specs.Limits.{Limit, functions_limit, globals_limit, parameters_limit, switches_limit, values_limit, own_switches as counted_switches, switches_of_function_limit, assignments_limit, elements_limit, pointers_limit, first_above, reported, excess, first_some, first_exceeded}
 use Rattle.mv_check_limits.proofs.Orders.{none_in_order}
 use Rattle.mv_check_rules.proofs.Units.{same_judgement}
 use Rattle.mv_front.specs.Verdicts.{IsProgram}
@@ -94,11 +94,12 @@ module _ (seed count : ℕ) where
       let g = kept (assignments_limit p) (functions_most 64 (λ f. assignments p f) assignments_most seed 0 count (main_function count ∷ []) (omega arith, tt)) in
       let h = kept (elements_limit p)
       (omega arith, (omega arith, (omega arith, (omega arith, (omega arith, locals_most 0 count (main_function count ∷ []) (omega arith, tt)))))) in
-      eight _ _ _ _ _ _ _ _ a b c d e f g h
+      let i = kept (pointers_limit p) (omega arith, tt) in
+      nine _ _ _ _ _ _ _ _ _ a b c d e f g h i
     where
-      eight : (a b c d e f g h : Option Exceeded) → a ≡ None → b ≡ None → c ≡ None → d ≡ None → e ≡ None → f ≡ None → g ≡ None → h ≡ None →
-          first_some (a ∷ b ∷ c ∷ d ∷ e ∷ f ∷ g ∷ h ∷ []) ≡ None
-      eight a b c d e f g h p q r s t u v w = rw (p, q, r, s, t, u, v, w) refl
+      nine : (a b c d e f g h i : Option Exceeded) → a ≡ None → b ≡ None → c ≡ None → d ≡ None → e ≡ None → f ≡ None → g ≡ None → h ≡ None → i ≡ None →
+          first_some (a ∷ b ∷ c ∷ d ∷ e ∷ f ∷ g ∷ h ∷ i ∷ []) ≡ None
+      nine a b c d e f g h i p q r s t u v w x = rw (p, q, r, s, t, u, v, w, x) refl
 
 -- ---- the program
 

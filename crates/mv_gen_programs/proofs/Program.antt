@@ -26,6 +26,7 @@ use Rattle.mv_check_declarations.specs.Turns.{through}
 use Rattle.mv_check_uses.specs.Uses.{expr_globals, stmt_globals, switches_named, numbers_from, form_layer, target_layer, expr_layer, stmt_layer, arm_layer}
 use Rattle.mv_types.specs.declared.contents.Contents.{Contents}
 use Rattle.mv_types.specs.declared.contents.Foreknown.{Foreknown}
+use Rattle.mv_types.specs.Foreknown.{pointers_of}
 use Rattle.mv_types.specs.Contents.{nothing_declared, present}
 use Rattle.mv_types.specs.Units.{item_judgement, program_of, program_judgement, unit_judgement, with_switches}
 use Rattle.mv_check_scope.specs.Spaces.{named}
@@ -176,7 +177,7 @@ present_all (f ∷ fs) = ap (λ (gs : List Function). f ∷ gs) (present_all fs)
 
 -- ---- the judgement on the unit
 
-program_made : (seed count : ℕ) → program_of (last_contents count (slots (drawn_functions seed 0 count ++ main_function count ∷ []) 0)) count ≡ program_with seed count
+program_made : (seed count : ℕ) → program_of (last_contents count (slots (drawn_functions seed 0 count ++ main_function count ∷ []) 0)) [] count ≡ program_with seed count
 unfolding program_of
 program_made seed count =
     ap (λ (fs : List Function). record { signatures = function_signature ∷ main_signature ∷ []; globals = globals; functions = map (with_switches switches) fs; switches = switches; pointers = []; main = count })
@@ -184,7 +185,7 @@ program_made seed count =
     ∙ ap (λ (fs : List Function). record { signatures = function_signature ∷ main_signature ∷ []; globals = globals; functions = fs; switches = switches; pointers = []; main = count })
     (functions_switches seed 0 count (main_function count ∷ []))
 
-main_found : (seed count : ℕ) (end : Place) (fs : List (Option Function)) → program_judgement end (last_contents count fs) ≡ Good (program_of (last_contents count fs) count)
+main_found : (seed count : ℕ) (end : Place) (fs : List (Option Function)) → program_judgement end [] (last_contents count fs) ≡ Good (program_of (last_contents count fs) [] count)
 unfolding program_judgement
 main_found seed count end fs =
     let e : named (codes "main") (all_meanings count) ≡ Some (meaning.Function (main_routine count)) = other_named 109 (97 ∷ 105 ∷ 110 ∷ []) 0 count (last_meanings count) refl in
@@ -197,8 +198,8 @@ module _ (p q r m : Places) (seed n : ℕ) (few : suc n ≤ 40) (at end : Place)
       let count = suc n in
       let items = unit_items p q r m seed count (line_at at (a.Block (main_lines m count))) in
       let all = slots (drawn_functions seed 0 count ++ main_function count ∷ []) 0 in
-      ap (λ (k : Foreknown). and_then (through (item_judgement k) items (nothing_declared k)) (program_judgement end)) (foreknown_is p q r m seed count (line_at at (a.Block (main_lines m count))) few)
-      ∙ (ap (λ (v : Judged Contents). and_then v (program_judgement end)) (items_judged p q r m seed n few at)
+      ap (λ (k : Foreknown). and_then (through (item_judgement k) items (nothing_declared k)) (program_judgement end (pointers_of k))) (foreknown_is p q r m seed count (line_at at (a.Block (main_lines m count))) few)
+      ∙ (ap (λ (v : Judged Contents). and_then v (program_judgement end [])) (items_judged p q r m seed n few at)
       ∙ (main_found seed count end all ∙ ap Good (program_made seed count)))
 
 -- the program of a generated text

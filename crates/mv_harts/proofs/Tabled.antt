@@ -3,7 +3,6 @@ use Rattle.std.proofs.Common.{◌≡◌, ℕ, ◌+◌, ◌*◌, List, false, tak
 use Rattle.std.specs.Prelude.{sum}
 use Rattle.mv_ast.specs.declared.program.Program.{Program}
 use Rattle.mv_accepts_programs.specs.Checked.{ProgramsOfTextsAreWellFormed}
-use Rattle.mv_front.proofs.Few.{no_pointers}
 use Rattle.mv_source_forms.specs.Names.{global_words}
 use Rattle.mv_image.specs.Faults.{Rules}
 use Rattle.mv_linker.specs.Tables.{data_start}
@@ -39,5 +38,5 @@ runnable laws formed text built is rules = record {
   where
     tabled : IsTabled built.program (layout_of built.program) built.image
     tabled =
-        (laws built.program (formed text built.program is.program) (no_pointers is.program.unit built.program is.program.good) built.generics built.variants is.image.parts is.image.are_parts built.image
+        (laws built.program (formed text built.program is.program) is.image.pointers built.generics built.variants is.image.parts is.image.are_parts built.image
         is.image.linked).tabled (layout_of built.program) (λ x. refl) (λ x. refl)

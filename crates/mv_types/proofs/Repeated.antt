@@ -23,7 +23,7 @@ use Rattle.mv_check_scope.proofs.BoundNames.{named_last, names_kept}
 use Rattle.mv_check_scope.specs.Spaces.{or_else}
 use Rattle.mv_check_expressions.specs.Judged.{Judged, Good, and_then}
 use Rattle.mv_check_outline.specs.Names.{same_name, is_among, with_name}
-use Rattle.mv_check_outline.specs.Outlined.{is_filled, name_of}
+use Rattle.mv_check_outline.specs.Outlined.{is_filled, is_pointer_form, name_of}
 use Rattle.mv_check_declarations.specs.declared.attributes.Attribute.{Attribute}
 use Rattle.mv_check_declarations.specs.declared.attributes.Holder.{Holder}
 use Rattle.mv_check_declarations.specs.declared.attributes.Position.TheVariants as position
@@ -336,7 +336,7 @@ pub record IsBare (body : Option Line) (d : Declarator) : Type 0 where
 
 -- what the specifiers of a declaration give a bare name
 abbrev base_domain : Specified → Contents → Option (List ℕ)
-base_domain b c = domain_by c.scope b.enumeration b.attribute
+base_domain b c = domain_by false c.scope b.enumeration b.attribute
 
 bare_judged : (k : Foreknown) (b : Specified) (body : Option Line) (d : Declarator) (c : Contents) → IsBare body d →
     declarator_judgement k b body d c ≡ object_judgement k d (name_of d) (scalar b.ctype) (base_domain b c) false c
@@ -344,8 +344,16 @@ unfolding declarator_judgement named_declarator
 bare_judged k b body d c h =
     ap (λ x. and_then (definition_parameters d x c.scope) (λ s. and_then (file_declarator (base_of k d b) d s) (λ e. named_declarator k b x d d.name e.1 (in_scope c e.0)))) h.blockless ∙
     (ap (λ x. and_then x (λ e. named_declarator k b None d d.name e.1 (in_scope c e.0))) designates ∙
-    ap (λ x. named_declarator k b None d x (record { entity = entity.Scalar b.ctype (is_fixed k (name_of d)); attribute = b.attribute }) c) h.called)
+    (ap (λ x. named_declarator k b None d x (record { entity = entity.Scalar b.ctype (is_fixed k (name_of d)); attribute = b.attribute }) c) h.called ∙
+    ap (λ x. object_judgement k d (name_of d) (scalar b.ctype) (domain_by x c.scope b.enumeration b.attribute) false c) (no_pointer (out-Shape d.shape) h.plain)))
   where
+    no_pointer : {A B C : Type 0} (x : Shape-F A B C) → is_plain_shape x ≡ true → is_pointer_form x ≡ false
+    no_pointer shape.Plain q = refl
+    no_pointer (shape.Array size) q = absurd (cc)
+    no_pointer (shape.Function params) q = absurd (cc)
+    no_pointer (shape.Pointer constant params) q = absurd (cc)
+    no_pointer (shape.PointerArray constant size params) q = absurd (cc)
+
     designates : file_declarator (base_of k d b) d c.scope ≡ Good (c.scope, record { entity = entity.Scalar b.ctype (is_fixed k (name_of d)); attribute = b.attribute })
     designates =
         ap (λ x. and_then x (λ e. and_then (attributes (holder_of position.File (is_fixed k (name_of d)) d) (scalar_kind b.ctype) e.0 d.marks b.attribute) (λ a. Good (e.0, record { entity = e.1; attribute = a }))))
@@ -371,7 +379,7 @@ is_bare_parts body d h = by (is_plain_shape (out-Shape d.shape)) refl d.name ref
 same_domain_by : (b : Specified) (c e : Contents) → e.scope.enumerations ≡ c.scope.enumerations → base_domain b e ≡ base_domain b c
 same_domain_by b c e q = by b.attribute b.enumeration
   where
-    by : (a : Option Attribute) (n : Option ℕ) → domain_by e.scope n a ≡ domain_by c.scope n a
+    by : (a : Option Attribute) (n : Option ℕ) → domain_by false e.scope n a ≡ domain_by false c.scope n a
     by None n = refl
     by (Some a) None = refl
     by (Some a) (Some n) = ap (λ es. Some (domain_or a.values (values_of_enumeration (slice_get es n)))) q

@@ -9,7 +9,7 @@ use Rattle.mv_types.specs.declared.contents.Completed.{Completed}
 use Rattle.mv_types.specs.Units.{program_of}
 
 abbrev pub completed_program : Completed → Program
-completed_program u = program_of u.contents u.main
+completed_program u = program_of u.contents u.pointers u.main
 
 -- how many parameters a function has; one that isn't defined has none
 abbrev pub params_or_none : Option Function → ℕ

@@ -13,7 +13,6 @@ use Rattle.mv_check_scope.specs.Conversions.{same_type, is_void}
 use Rattle.mv_check_scope.specs.Scoped.{declared}
 use Rattle.mv_check_scope.specs.Spaces.{named}
 use Rattle.mv_check_expressions.specs.Judged.{Judged, Good, and_then}
-use Rattle.mv_check_outline.specs.Names.{place_of}
 use Rattle.mv_check_declarations.specs.declared.attributes.Attribute.{Attribute}
 use Rattle.mv_check_declarations.specs.declared.globals.Words.{Words}
 use Rattle.mv_check_declarations.specs.declared.objects.Breaches.{Breaches}
@@ -22,7 +21,7 @@ use Rattle.mv_check_declarations.specs.Objects.{is_unconverted, breaks_extents, 
 use Rattle.mv_types.specs.declared.contents.Contents.{Contents}
 use Rattle.mv_types.specs.declared.contents.Foreknown.{Foreknown}
 use Rattle.mv_types.specs.declared.contents.Object.{Object}
-use Rattle.mv_types.specs.Foreknown.{is_fixed}
+use Rattle.mv_types.specs.Foreknown.{is_fixed, switch_number}
 
 -- ---- the object that a name means
 
@@ -79,7 +78,7 @@ breaches before objects l values x domain block = record {
 
 abbrev pub object_meaning : Foreknown → List ℕ → ℕ → Local → Option ℕ → Meaning
 object_meaning k name n l None =
-    meaning.Object (record { storage = storage.Global n; ctype = l.ctype; fixed = is_fixed k name; switch = place_of name k.outline.switches })
+    meaning.Object (record { storage = storage.Global n; ctype = l.ctype; fixed = is_fixed k name; switch = switch_number k name })
 object_meaning k name n l (Some size) = meaning.Array (record { storage = storage.Global n; ctype = l.ctype; fixed = is_fixed k name })
 
 -- a name that is new means the next global
@@ -121,10 +120,11 @@ objects_behind objects name (Some m) l words given domain = objects_again object
 
 -- ---- a declarator that designates an object
 
--- the domain of one that has the attribute
-abbrev pub domain_by : Scope → Option ℕ → Option Attribute → Option (List ℕ)
-domain_by s enumeration None = None
-domain_by s enumeration (Some a) = Some (domain_of s enumeration a)
+-- the domain of one that has the attribute; a pointer has none
+abbrev pub domain_by : (pointer : Bool) → Scope → Option ℕ → Option Attribute → Option (List ℕ)
+domain_by true s enumeration a = None
+domain_by false s enumeration None = None
+domain_by false s enumeration (Some a) = Some (domain_of s enumeration a)
 
 -- the words that an object is given, which are judged before its declarator
 abbrev pub object_words : Declarator → Option Meaning → List Object → Local → Option (List ℕ) → (block : Bool) → Scope → Judged (List ℕ)

@@ -34,4 +34,4 @@ pub record IsSettled (t : CType) (domain : Option (List ℕ)) (c : Contents) (na
 
 -- so does each of some names, behind what these specifiers say
 pub record AreSettled (b : Specified) (c : Contents) (names : List (List ℕ)) : Type 0 where
-  pub settled : (name : List ℕ) → is_among name names ≡ true → IsSettled b.ctype (domain_by c.scope b.enumeration b.attribute) c name
+  pub settled : (name : List ℕ) → is_among name names ≡ true → IsSettled b.ctype (domain_by false c.scope b.enumeration b.attribute) c name

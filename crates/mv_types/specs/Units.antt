@@ -19,7 +19,7 @@ use Rattle.mv_check_scope.specs.Conversions.{int, same_signature}
 use Rattle.mv_check_scope.specs.Spaces.{named}
 use Rattle.mv_check_expressions.specs.RuleNumbers as rules
 use Rattle.mv_check_expressions.specs.Judged.{Judged, Good, Broken, and_then}
-use Rattle.mv_check_outline.specs.Outlined.{is_function, is_filled, name_of}
+use Rattle.mv_check_outline.specs.Outlined.{is_function, declares_pointer, is_filled, name_of}
 use Rattle.mv_check_declarations.specs.declared.attributes.Attribute.{Attribute}
 use Rattle.mv_check_declarations.specs.declared.attributes.Position.TheVariants as position
 use Rattle.mv_check_declarations.specs.declared.declarators.Entity.{Entity}
@@ -36,7 +36,7 @@ use Rattle.mv_check_uses.specs.Uses.{switches_named}
 use Rattle.mv_types.specs.declared.contents.Contents.{Contents}
 use Rattle.mv_types.specs.declared.contents.Foreknown.{Foreknown}
 use Rattle.mv_types.specs.Contents.{nothing_declared, in_scope, present, switches_from}
-use Rattle.mv_types.specs.Foreknown.{foreknown, is_fixed}
+use Rattle.mv_types.specs.Foreknown.{foreknown, is_fixed, pointers_of}
 use Rattle.mv_types.specs.Functions.{function_judgement, definition_parameters}
 use Rattle.mv_types.specs.Objects.{object_judgement, domain_by}
 
@@ -44,9 +44,9 @@ use Rattle.mv_types.specs.Objects.{object_judgement, domain_by}
 
 abbrev pub by_entity : Foreknown → Specified → Option Line → Declarator → List ℕ → Entity → Option Attribute → Contents → Judged Contents
 by_entity k b body d name (entity.Function signature) a c = function_judgement k d name b.ctype signature body c
-by_entity k b body d name (entity.Scalar t fixed) a c = object_judgement k d name (scalar t) (domain_by c.scope b.enumeration a) (is_some body) c
+by_entity k b body d name (entity.Scalar t fixed) a c = object_judgement k d name (scalar t) (domain_by (declares_pointer d) c.scope b.enumeration a) (is_some body) c
 by_entity k b body d name (entity.Array t fixed size) a c =
-    object_judgement k d name (sized t (array_size size d.initial)) (domain_by c.scope b.enumeration a) (is_some body) c
+    object_judgement k d name (sized t (array_size size d.initial)) (domain_by (declares_pointer d) c.scope b.enumeration a) (is_some body) c
 
 -- the initial value of a declarator without a name
 abbrev pub nameless_values : Entity → Option Initial → Scope → Judged (Unit {0})
@@ -105,25 +105,26 @@ main_of signatures _ = None
 abbrev pub with_switches : List Switch → Function → Function
 with_switches switches f = record f { switches = if f.attributed then switches_named switches f.body else [] }
 
-unfoldable pub program_of : Contents → ℕ → Program
-program_of c main =
+-- with these pointer switches and this `main`
+unfoldable pub program_of : Contents → List ℕ → ℕ → Program
+program_of c pointers main =
     let switches = switches_from 0 c.objects in
     record {
       signatures = c.scope.signatures;
       globals = map (λ o. o.global) c.objects;
       functions = map (with_switches switches) (present c.functions);
       switches = switches;
-      pointers = [];
+      pointers = pointers;
       main = main;
     }
 
 -- main: there is no `main`
-abbrev pub program_or_broken : Place → Contents → Option ℕ → Judged Program
-program_or_broken place c None = Broken place rules.main
-program_or_broken place c (Some main) = Good (program_of c main)
+abbrev pub program_or_broken : Place → List ℕ → Contents → Option ℕ → Judged Program
+program_or_broken place pointers c None = Broken place rules.main
+program_or_broken place pointers c (Some main) = Good (program_of c pointers main)
 
-unfoldable pub program_judgement : Place → Contents → Judged Program
-program_judgement place c = program_or_broken place c (main_of c.scope.signatures (named (codes "main") c.scope.names.here))
+unfoldable pub program_judgement : Place → List ℕ → Contents → Judged Program
+program_judgement place pointers c = program_or_broken place pointers c (main_of c.scope.signatures (named (codes "main") c.scope.names.here))
 
 -- ---- units
 
@@ -131,4 +132,4 @@ program_judgement place c = program_or_broken place c (main_of c.scope.signature
 unfoldable pub unit_judgement : unit.Unit → Judged Program
 unit_judgement u =
     let k = foreknown u.items in
-    and_then (through (item_judgement k) u.items (nothing_declared k)) (program_judgement u.end)
+    and_then (through (item_judgement k) u.items (nothing_declared k)) (program_judgement u.end (pointers_of k))

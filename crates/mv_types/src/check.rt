@@ -29,8 +29,12 @@ fn within_limits(unit: &Unit, program: Program) -> Result<Program, TypeError>
 fn made(alloc: Global, unit: &Unit, completed: Completed) -> Result<Program, TypeError>
     ensures { IsChecked unit.now (Good (completed_program completed)) result }
 {
-    let Completed { contents, main } = completed;
-    match program_of(alloc, contents, main) {
+    let Completed {
+        contents,
+        pointers,
+        main,
+    } = completed;
+    match program_of(alloc, contents, pointers, main) {
         Ok(program) => within_limits(unit, program),
         Err(error) => Err(TypeError::Memory(error)),
     }

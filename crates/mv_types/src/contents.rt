@@ -7,7 +7,7 @@ use mv_check_scope::domain::Domain;
 use mv_check_scope::scope::Scope;
 use mv_num::list::List;
 
-/// A global so far: whether a declaration has given it an initial value, and its domain if one has the attribute.
+/// A global so far: whether a declaration has given it an initial value, and its domain if it is no pointer and one has the attribute.
 #[derive(Drop)]
 pub struct Object {
     pub global: Global,
@@ -24,14 +24,15 @@ pub struct Contents {
     pub functions: List<Option<Function>>,
 }
 
-/// A unit that breaks no rule: what its declarations come to, and the number of its `main`.
+/// A unit that breaks no rule: what its declarations come to, the globals that are its pointer switches, and the number of its `main`.
 #[derive(Drop)]
 pub struct Completed {
     pub contents: Contents,
+    pub pointers: List<u32>,
     pub main: u32,
 }
 
-/// What is known of a unit's names before its first declaration is judged: which functions and switches it has, the functions of which
+/// What is known of a unit's names before its first declaration is judged: which functions, switches and pointer switches it has, the functions of which
 /// any declaration has the attribute, also of those that aren't defined, and the objects of which any declaration says `const`.
 #[derive(Drop)]
 pub struct Foreknown {

@@ -7,7 +7,7 @@ ghost use Rattle.mv_types.specs.Contents.{IsContinued};
 ghost use Rattle.mv_types.specs.Objects as spec;
 
 use crate::contents::{Contents, Foreknown, Object};
-use crate::foreknown::number_among;
+use crate::foreknown::switch_number;
 use mv_ast::program;
 use mv_ast::program::Local;
 use mv_check_declarations::attributes::Attribute;
@@ -129,7 +129,7 @@ fn object_meaning(
     let storage = Storage::Global(number);
     let ctype = local.ctype;
     let fixed = known.constants.has(name);
-    let switch = number_among(&known.outline.switches, name)?;
+    let switch = switch_number(known, name)?;
     match local.size {
         None => Ok(Meaning::Object(Variable {
             storage,
@@ -252,18 +252,23 @@ fn put_object(
     }
 }
 
-/// The domain of a switch that a declaration gives it, if it has the attribute.
+/// The domain of a switch that a declaration gives it, if it has the attribute. A pointer has none.
 pub fn domain_by(
     alloc: Global,
+    pointer: bool,
     scope: &Scope,
     enumeration: Option<u32>,
     attribute: Option<Attribute>,
 ) -> Result<Option<Domain>, AllocError>
-    ensures { IfOk result (λ domain. domain ≡ spec.domain_by scope.now enumeration attribute) }
+    ensures { IfOk result (λ domain. domain ≡ spec.domain_by pointer scope.now enumeration attribute) }
 {
     match attribute {
         None => Ok(None),
         Some(attribute) => {
+            if pointer {
+                drop(attribute);
+                return Ok(None);
+            }
             let domain = domain_of(alloc, scope, enumeration, attribute)?;
             Ok(Some(domain))
         }

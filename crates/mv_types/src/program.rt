@@ -153,11 +153,16 @@ fn functions_of(
     Ok(done)
 }
 
-/// The program that declarations come to, with this `main`. Each function's own switches are looked for among all of them, and each
+/// The program that declarations come to, with these pointer switches and this `main`. Each function's own switches are looked for among all of them, and each
 /// switch has a list of its own of its values: call it only once there are known to be few.
 #[tactic(auto, unfolding(crate::specs::Units::program_of))]
-pub fn program_of(alloc: Global, contents: Contents, main: u32) -> Result<Program, AllocError>
-    ensures { IfOk result (λ p. p ≡ program_of contents main) }
+pub fn program_of(
+    alloc: Global,
+    contents: Contents,
+    pointers: List<u32>,
+    main: u32,
+) -> Result<Program, AllocError>
+    ensures { IfOk result (λ p. p ≡ program_of contents pointers main) }
 {
     let Contents {
         mut scope,
@@ -166,14 +171,14 @@ pub fn program_of(alloc: Global, contents: Contents, main: u32) -> Result<Progra
     } = contents;
     let signatures = mem::replace(&mut scope.signatures, SignatureList::new(alloc)).into_list();
     drop(scope);
-    let ((signatures, functions), made) = both(
-        (signatures, functions),
+    let ((signatures, functions, pointers), made) = both(
+        (signatures, functions, pointers),
         globals_of(alloc, objects),
     )?;
     let Globals { globals, switches } = made;
     let functions = functions_of(alloc, &switches, functions);
-    let ((signatures, globals, switches), functions) = both(
-        (signatures, globals, switches),
+    let ((signatures, globals, switches, pointers), functions) = both(
+        (signatures, globals, switches, pointers),
         functions,
     )?;
     Ok(Program {
@@ -181,21 +186,30 @@ pub fn program_of(alloc: Global, contents: Contents, main: u32) -> Result<Progra
         globals,
         functions,
         switches,
-        pointers: List::new(alloc),
+        pointers,
         main,
     })
 }
 
 /// What a unit that ends at a place comes to, by what its declarations do. The rule of `main` is broken where it has no `main`.
 #[tactic(auto, unfolding(crate::specs::Units::program_judgement))]
-pub fn complete(place: Place, contents: Contents) -> Result<Completed, RuleError>
-    ensures { IsCompleted (program_judgement place contents) result }
+pub fn complete(
+    place: Place,
+    contents: Contents,
+    pointers: List<u32>,
+) -> Result<Completed, RuleError>
+    ensures { IsCompleted (program_judgement place pointers contents) result }
 {
     match main_of(&contents.scope) {
         None => {
             drop(contents);
+            drop(pointers);
             Err(RuleError::Rule(place, rules::MAIN))
         }
-        Some(main) => Ok(Completed { contents, main }),
+        Some(main) => Ok(Completed {
+            contents,
+            pointers,
+            main,
+        }),
     }
 }

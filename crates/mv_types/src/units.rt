@@ -4,17 +4,18 @@ ghost use Rattle.std.specs.Prelude.{◌≡◌, IfOk, OnOk, None, replicate, true
 ghost use Rattle.std.specs.List.{list_any};
 ghost use Rattle.mv_check_expressions.specs.Judged.{and_then, IsJudged};
 ghost use Rattle.mv_check_declarations.specs.declared.attributes.Position.TheVariants as position;
+ghost use Rattle.mv_check_outline.specs.Outlined.{declares_pointer};
 ghost use Rattle.mv_check_declarations.specs.Specifiers.{specifiers};
 ghost use Rattle.mv_check_declarations.specs.Turns.{through, IsBehind};
 ghost use Rattle.mv_types.specs.Completed.{IsCompleted};
 ghost use Rattle.mv_types.specs.Contents.{nothing_declared, IsContinued};
-ghost use Rattle.mv_types.specs.Foreknown.{is_fixed};
+ghost use Rattle.mv_types.specs.Foreknown.{is_fixed, pointers_of};
 ghost use Rattle.mv_types.specs.Objects.{object_judgement, domain_by};
 ghost use Rattle.mv_types.specs.Repeated.{is_bare, AreSettled};
 ghost use Rattle.mv_types.specs.Units.{base_of, by_entity, nameless_values, named_declarator, declarator_judgement, declares_constant, holders, declares_nothing, names_judgement, item_judgement, program_judgement, unit_judgement};
 
 use crate::contents::{Completed, Contents, Foreknown};
-use crate::foreknown::foreknown_of;
+use crate::foreknown::{foreknown_of, pointers_of};
 use crate::program::complete;
 use crate::{functions, objects};
 use mv_ast::program::{Function, Local};
@@ -27,7 +28,7 @@ use mv_check_declarations::specifiers::{Specified, specifiers};
 use mv_check_expressions::error::RuleError;
 use mv_check_expressions::rules;
 use mv_check_outline::names::Names;
-use mv_check_outline::outline::{is_function, name_of};
+use mv_check_outline::outline::{declares_pointer, is_function, name_of};
 use mv_check_scope::scope::Scope;
 use mv_num::list::List;
 use mv_num::results::both;
@@ -54,9 +55,10 @@ fn declare_object(
     attribute: Option<Attribute>,
     contents: &mut Contents,
 ) -> Result<(), RuleError>
-    ensures { IsContinued (object_judgement known.now declarator.now name.now local (domain_by contents.old.scope enumeration attribute) block contents.old) result contents.new }
+    ensures { IsContinued (object_judgement known.now declarator.now name.now local (domain_by (declares_pointer declarator.now) contents.old.scope enumeration attribute) block contents.old) result contents.new }
 {
-    let domain = objects::domain_by(alloc, &contents.scope, enumeration, attribute)?;
+    let pointer = declares_pointer(declarator);
+    let domain = objects::domain_by(alloc, pointer, &contents.scope, enumeration, attribute)?;
     objects::declare(
         alloc, known, declarator, name, local, domain, block, contents,
     )
@@ -374,12 +376,13 @@ fn nothing_declared(alloc: Global, known: &Foreknown) -> Result<Contents, AllocE
 }
 
 fn judge_known(alloc: Global, known: &Foreknown, unit: &Unit) -> Result<Completed, RuleError>
-    ensures { IsCompleted (and_then (through (item_judgement known.now) unit.now.items (nothing_declared known.now)) (program_judgement unit.now.end)) result }
+    ensures { IsCompleted (and_then (through (item_judgement known.now) unit.now.items (nothing_declared known.now)) (program_judgement unit.now.end (pointers_of known.now))) result }
 {
     let mut contents = nothing_declared(alloc, known)?;
     let judged = judge_items(alloc, known, unit.items.as_slice(), &mut contents);
     let (contents, ()) = both(contents, judged)?;
-    complete(unit.end, contents)
+    let (contents, pointers) = both(contents, pointers_of(alloc, known))?;
+    complete(unit.end, contents, pointers)
 }
 
 /// What a unit comes to, or the first place in it at which a rule is broken.

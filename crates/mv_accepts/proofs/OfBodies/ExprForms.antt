@@ -1,12 +1,12 @@
 -- What a form is found to be has a property where its parts have it: operators, assignments, objects, names.
-use Rattle.std.proofs.Common.{◌≡◌, ℕ, Bool, true, false, ◌&&◌, not, refl, Option, Some, None, nat_eq, if◌then◌else◌, List}
+use Rattle.std.proofs.Common.{◌≡◌, ℕ, Bool, true, false, ◌||◌, refl, Option, Some, None, nat_eq, if◌then◌else◌, List}
 use Rattle.mv_ast.specs.declared.program.CType.{CType}
 use Rattle.mv_ast.specs.declared.program.CType.TheVariants.{Void, Pointer}
 use Rattle.mv_ast.specs.declared.program.Expr.{Expr}
 use Rattle.mv_ast.specs.declared.program.Form.TheVariants as form
 use Rattle.mv_check_scope.specs.declared.meaning.Meaning.{Meaning}
 use Rattle.mv_check_scope.specs.declared.meaning.Meaning.TheVariants as meaning
-use Rattle.mv_check_scope.specs.Conversions.{same_type, is_integer, int, typed, promoted, promotion, converted_to}
+use Rattle.mv_check_scope.specs.Conversions.{same_type, is_void, int, typed, promoted, promotion, converted_to}
 use Rattle.mv_check_scope.specs.Scoped.{meaning_of}
 use Rattle.mv_check_expressions.specs.declared.seen.Object.{Object}
 use Rattle.mv_check_expressions.specs.declared.seen.Seen.{Seen}
@@ -129,11 +129,11 @@ module _ (x : ExprProperty) where
   switch_has (Some n) h = h n refl
 
   switches_has : (y : Seen) → SeenHas y → (n : ℕ) → switch_of y ≡ Some n → NamesSwitch x.scope n
-  switches_has (seen.Object o) h n q = h.1 n (by (is_integer o.ctype && not o.fixed) q)
+  switches_has (seen.Object o) h n q = h.1 n (by (is_void o.ctype || o.fixed) q)
     where
-      by : (b : Bool) → (if b then o.switch else None) ≡ Some n → o.switch ≡ Some n
-      by true q = q
-      by false q = absurd (cc)
+      by : (b : Bool) → (if b then None else o.switch) ≡ Some n → o.switch ≡ Some n
+      by true q = absurd (cc)
+      by false q = q
   switches_has x h n q = absurd (cc)
 
   address_has : (u : Use) (y : Seen) → SeenHas y → SeenHas (address_of u y)

@@ -1,6 +1,6 @@
 -- That known functions are called with their arguments comes from the parts of an expression.
-use Rattle.std.proofs.Common.{◌≡◌, ℕ, ◌+◌, ◌<◌, arith, inl, inr, Bool, true, false, refl, ◌∙◌, List, map, length, nat_eq, nat_lt}
-use Rattle.std.proofs.lemmas.Bool.{and_from, eq-eqb, ltb-true, lt-ltb}
+use Rattle.std.proofs.Common.{◌≡◌, ℕ, ◌+◌, inl, inr, Bool, true, false, refl, ◌∙◌, List, map, length, nat_eq, nat_lt}
+use Rattle.std.proofs.lemmas.Bool.{and_from, eq-eqb}
 use Rattle.std.proofs.lemmas.List.{length-map}
 use Rattle.mv_ast.specs.declared.program.CType.{CType}
 use Rattle.mv_ast.specs.declared.program.Program.{Program}
@@ -53,8 +53,7 @@ module _ (p : Program) where
         let there : nat_lt n (length (attributed_functions p)) ≡ true = shaped h.2.0 (meaning.Function h.2.1) h.2.3 h.2.2 n h.2.4 h.2.5 in
         rw (h.0, h.1) there
     planned_there code n six (inr (inr h)) =
-        let there : n < length p.switches = ltb-true n (length p.switches) ((shaped h.2.0 (meaning.Object h.2.1) h.2.2).1 n h.2.3) in
-        let among : nat_lt n (length p.switches + length p.pointers) ≡ true = lt-ltb n (length p.switches + length p.pointers) (omega arith) in
+        let among : nat_lt n (length p.switches + length p.pointers) ≡ true = (shaped h.2.0 (meaning.Object h.2.1) h.2.2).1 n h.2.3 in
         rw (h.0, h.1) (and_from (nat_lt code 6) (nat_lt n (length p.switches + length p.pointers)) six among)
 
     call_there : (k : Known) (n : ℕ) → NamesKnown s k → IsOrder s k n → known_is_there p (with_index k n) ≡ true

@@ -22,6 +22,7 @@ use Rattle.mv_check_declarations.specs.Initials.{array_size}
 use Rattle.mv_check_declarations.specs.Objects.{scalar, sized}
 use Rattle.mv_source_forms.specs.Typing.{IsFirstValue}
 use Rattle.mv_accepts.specs.Expressions.Soundness.{Fits}
+use Rattle.mv_check_outline.specs.Outlined.{declares_pointer}
 use Rattle.mv_types.specs.declared.contents.Contents.{Contents}
 use Rattle.mv_types.specs.declared.contents.Foreknown.{Foreknown}
 use Rattle.mv_types.specs.declared.contents.Object.{Object}
@@ -83,8 +84,8 @@ module _ (p : Program) (f : Function) (typed : FirstValuesAreTyped) where
   entity_first : (k : Foreknown) (b : Specified) (body : Option Line) (d : Declarator) (name : List ℕ) (e : Entity) (a : Option Attribute) (c : Contents) →
       IfGood (by_entity k b body d name e a c) (Keeps c.objects)
   entity_first k b body d name (entity.Function signature) a c = function_first k d name b.ctype signature body c
-  entity_first k b body d name (entity.Scalar t fixed) a c = object_first k d name (domain_by c.scope b.enumeration a) c (scalar t) (is_some body)
-  entity_first k b body d name (entity.Array t fixed size) a c = object_first k d name (domain_by c.scope b.enumeration a) c (sized t (array_size size d.initial)) (is_some body)
+  entity_first k b body d name (entity.Scalar t fixed) a c = object_first k d name (domain_by (declares_pointer d) c.scope b.enumeration a) c (scalar t) (is_some body)
+  entity_first k b body d name (entity.Array t fixed size) a c = object_first k d name (domain_by (declares_pointer d) c.scope b.enumeration a) c (sized t (array_size size d.initial)) (is_some body)
 
   named_first : (k : Foreknown) (b : Specified) (body : Option Line) (d : Declarator) (name : Option (List ℕ)) (e : Designated) (c : Contents) →
       IfGood (named_declarator k b body d name e c) (Keeps c.objects)
@@ -108,4 +109,4 @@ first_kept typed p f k b body d before after q fits h =
 
 pub globals_first : GlobalsHaveFirstValues
 unfolding program_of
-globals_first p c main h = All-map (λ (g : Global). All (IsFirstValue p g.ctype) g.first) (λ (o : Object). o.global) c.objects h
+globals_first p c pointers main h = All-map (λ (g : Global). All (IsFirstValue p g.ctype) g.first) (λ (o : Object). o.global) c.objects h

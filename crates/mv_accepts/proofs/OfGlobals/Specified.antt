@@ -24,7 +24,7 @@ use Rattle.mv_check_declarations.specs.declared.attributes.Holder.{Holder}
 use Rattle.mv_check_declarations.specs.declared.attributes.Position.TheVariants as position
 use Rattle.mv_check_declarations.specs.declared.specifiers.Said.{Said}
 use Rattle.mv_check_declarations.specs.declared.specifiers.Specified.{Specified}
-use Rattle.mv_check_declarations.specs.Attributes.{shape_holder, holder_of, both_hold, all_hold, holder_of_all, holds, attributes}
+use Rattle.mv_check_declarations.specs.Attributes.{is_constant_form, shape_holder, holder_of, holder_behind, both_hold, all_hold, holder_of_all, holds, attributes}
 use Rattle.mv_check_declarations.specs.Specifiers.{count_before_list, nothing_said, enumeration_of, enum_specifier, enum_specifiers, scalar_kind, kind_of, type_by_rules, specifiers}
 use Rattle.mv_accepts.proofs.OfStatements.Judging.{IfGood, if_any, if_then, if_more, if_through}
 use Rattle.mv_accepts.proofs.OfStatements.NamedTypes.{IsNamed, rules_named, named_is_plain}
@@ -36,12 +36,12 @@ use Rattle.mv_accepts.proofs.OfExpressions.Plain.{IsPlain}
 
 -- ---- what may have an attribute
 
--- a scalar of the type of the specifiers, or a function
+-- a scalar, or a function
 abbrev pub IsHolderShape : {A B C : Type 0} → Shape-F A B C → Type 0
 IsHolderShape shape.Plain = Unit {0}
 IsHolderShape (shape.Array size) = ⊥
 IsHolderShape (shape.Function params) = Unit {0}
-IsHolderShape (shape.Pointer constant params) = ⊥
+IsHolderShape (shape.Pointer constant params) = Unit {0}
 IsHolderShape (shape.PointerArray constant size params) = ⊥
 
 abbrev pub MayHold : Declarator → Type 0
@@ -71,25 +71,27 @@ shape_some fixed name shape.Plain h = tt
 shape_some fixed name (shape.Array size) (inl q) = absurd (cc)
 shape_some fixed name (shape.Array size) (inr q) = absurd (cc)
 shape_some fixed name (shape.Function params) h = tt
-shape_some fixed name (shape.Pointer constant params) (inl q) = absurd (cc)
-shape_some fixed name (shape.Pointer constant params) (inr q) = absurd (cc)
+shape_some fixed name (shape.Pointer constant params) h = tt
 shape_some fixed name (shape.PointerArray constant size params) (inl q) = absurd (cc)
 shape_some fixed name (shape.PointerArray constant size params) (inr q) = absurd (cc)
 
 some_holds : (fixed : Bool) (d : Declarator) → HoldsSome (holder_of position.File fixed d) → MayHold d
 some_holds fixed d h = shape_some fixed d.name (out-Shape d.shape) h
 
+behind_holds : (fixed : Bool) (d : Declarator) → HoldsSome (holder_behind position.File fixed d) → MayHold d
+behind_holds fixed d h = some_holds (is_constant_form fixed (out-Shape d.shape)) d h
+
 all_some : (fixed : Bool) (h : Holder) (ds : List Declarator) → HoldsSome (all_hold position.File fixed h ds) → HoldsSome h × AllByRecursion MayHold ds
 all_some fixed h [] q = (q, tt)
 all_some fixed h (d ∷ ds) q =
-    let r = all_some fixed (both_hold h (holder_of position.File fixed d)) ds q in
-    let b = both_some h (holder_of position.File fixed d) r.0 in
-    (b.0, (some_holds fixed d b.1, r.1))
+    let r = all_some fixed (both_hold h (holder_behind position.File fixed d)) ds q in
+    let b = both_some h (holder_behind position.File fixed d) r.0 in
+    (b.0, (behind_holds fixed d b.1, r.1))
 
 holds_all : (fixed : Bool) (ds : List Declarator) → HoldsSome (holder_of_all position.File fixed ds) → MayAllHold ds
 holds_all fixed [] (inl q) = cc
 holds_all fixed [] (inr q) = cc
-holds_all fixed (d ∷ ds) h = let r = all_some fixed (holder_of position.File fixed d) ds h in (some_holds fixed d r.0, r.1)
+holds_all fixed (d ∷ ds) h = let r = all_some fixed (holder_behind position.File fixed d) ds h in (behind_holds fixed d r.0, r.1)
 
 pub file_holding : (fixed : Bool) (d : Declarator) (a : Attribute) → holds (holder_of position.File fixed d) a ≡ true → MayHold d
 file_holding fixed d a q = some_holds fixed d (holds_some (holder_of position.File fixed d) a q)

@@ -66,10 +66,10 @@ module _ (p : Program) where
       record { switch = x.0; ctype = x.2.ctype; there = x.1; global = x.2.there; integer = x.2.integer }
 
 -- what is so of the objects is so of the program
-pub program_formed : (c : Contents) (main : ℕ) → AreFormed c → HasFormedGlobals (program_of c main)
+pub program_formed : (c : Contents) (pointers : List ℕ) (main : ℕ) → AreFormed c → HasFormedGlobals (program_of c pointers main)
 unfolding program_of
-program_formed c main h =
-    let p : Program = program_of c main in
+program_formed c pointers main h =
+    let p : Program = program_of c pointers main in
     let there : AreThere p 0 c.objects = λ i o q. let e : i ≡ i + 0 = omega arith in subst (λ m. slice_get (map (λ (o : Object). o.global) c.objects) m ≡ Some o.global) e (mapped_there (λ (o : Object). o.global) c.objects i o q) in
     let switches : AllByRecursion (IsFormed p) (switches_from 0 c.objects) = from_formed p 0 c.objects there h in
     record {

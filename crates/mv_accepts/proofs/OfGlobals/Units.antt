@@ -25,12 +25,13 @@ use Rattle.mv_check_declarations.specs.Initials.{array_size, plain_values}
 use Rattle.mv_check_declarations.specs.Objects.{scalar, sized}
 use Rattle.mv_check_declarations.specs.Specifiers.{specifiers}
 use Rattle.mv_check_declarations.specs.Turns.{through}
+use Rattle.mv_check_outline.specs.Outlined.{declares_pointer}
 use Rattle.mv_types.specs.declared.contents.Contents.{Contents}
 use Rattle.mv_types.specs.declared.contents.Foreknown.{Foreknown}
 use Rattle.mv_types.specs.declared.contents.Object.{Object}
 use Rattle.mv_types.specs.declared.functions.Before.{Before}
 use Rattle.mv_types.specs.Contents.{nothing_declared, in_scope}
-use Rattle.mv_types.specs.Foreknown.{foreknown}
+use Rattle.mv_types.specs.Foreknown.{foreknown, pointers_of}
 use Rattle.mv_types.specs.Functions as functions
 use Rattle.mv_types.specs.Functions.{function_of, function_scope, params_of, defined, before_of, rule_of, function_behind, function_judgement, definition_parameters}
 use Rattle.mv_types.specs.Objects.{domain_by}
@@ -81,30 +82,34 @@ module _ (P : List Object → Type 0) where
 abbrev IsEnumerated : Specified → Type 0
 IsEnumerated b = (b.enumeration ≡ None) ⊎ (b.ctype ≡ Scalar Int)
 
-scalar_domain : (b : Specified) (t : CType) (a : Option Attribute) (s : Scope) → IsPlain b.ctype → IsEnumerated b → IsHeld (t ≡ b.ctype) (IsOf b.ctype) a →
-    IsDomainFor (scalar t) (domain_by s b.enumeration a)
-scalar_domain b t None s plain enum h = tt
-scalar_domain b t (Some a) s plain enum h = (
-  subst IsPlain (sym h.0) plain,
-  refl,
-  subst (λ u. IsDomain (IsOf u) (domain_of s b.enumeration a)) (sym h.0) (domain_of_is b.ctype s b.enumeration enum (t ≡ b.ctype) a h),
-)
+-- a pointer has no domain
+scalar_domain : (b : Specified) (pointer : Bool) (t : CType) (a : Option Attribute) (s : Scope) → IsPlain b.ctype → IsEnumerated b →
+    IsHeld (pointer ≡ false → t ≡ b.ctype) (IsOf b.ctype) a → IsDomainFor (scalar t) (domain_by pointer s b.enumeration a)
+scalar_domain b true t a s plain enum h = tt
+scalar_domain b false t None s plain enum h = tt
+scalar_domain b false t (Some a) s plain enum h =
+    let same : t ≡ b.ctype = h.0 refl in (
+      subst IsPlain (sym same) plain,
+      refl,
+      subst (λ u. IsDomain (IsOf u) (domain_of s b.enumeration a)) (sym same) (domain_of_is b.ctype s b.enumeration enum (t ≡ b.ctype) a (same, h.1)),
+    )
 
-array_domain : (b : Specified) (l : Local) (a : Option Attribute) (s : Scope) → IsHeld ⊥ (IsOf b.ctype) a → IsDomainFor l (domain_by s b.enumeration a)
-array_domain b l None s h = tt
-array_domain b l (Some a) s h = absurd h.0
+array_domain : (b : Specified) (pointer : Bool) (l : Local) (a : Option Attribute) (s : Scope) → IsHeld ⊥ (IsOf b.ctype) a → IsDomainFor l (domain_by pointer s b.enumeration a)
+array_domain b true l a s h = tt
+array_domain b false l None s h = tt
+array_domain b false l (Some a) s h = absurd h.0
 
 entity_formed : (k : Foreknown) (b : Specified) (body : Option Line) (d : Declarator) (name : List ℕ) (e : Entity) (a : Option Attribute) (c : Contents) → AreFormed c →
-    IsPlain b.ctype → IsEnumerated b → IsHeld (IsHolderOf b.ctype e) (IsOf b.ctype) a → IfGood (by_entity k b body d name e a c) AreFormed
+    IsPlain b.ctype → IsEnumerated b → IsHeld (IsHolderOf b.ctype (declares_pointer d) e) (IsOf b.ctype) a → IfGood (by_entity k b body d name e a c) AreFormed
 entity_formed k b body d name (entity.Function signature) a c formed plain enum h = function_has (AllByRecursion IsFormedObject) k d name b.ctype signature body c formed
 entity_formed k b body d name (entity.Scalar t fixed) a c formed plain enum h =
-    object_formed k d name (domain_by c.scope b.enumeration a) c formed (scalar t) (is_some body) (scalar_domain b t a c.scope plain enum h)
+    object_formed k d name (domain_by (declares_pointer d) c.scope b.enumeration a) c formed (scalar t) (is_some body) (scalar_domain b (declares_pointer d) t a c.scope plain enum h)
 entity_formed k b body d name (entity.Array t fixed size) a c formed plain enum h =
     let l = sized t (array_size size d.initial) in
-    object_formed k d name (domain_by c.scope b.enumeration a) c formed l (is_some body) (array_domain b l a c.scope h)
+    object_formed k d name (domain_by (declares_pointer d) c.scope b.enumeration a) c formed l (is_some body) (array_domain b (declares_pointer d) l a c.scope h)
 
 named_formed : (k : Foreknown) (b : Specified) (body : Option Line) (d : Declarator) (name : Option (List ℕ)) (e : Designated) (c : Contents) → AreFormed c →
-    IsPlain b.ctype → IsEnumerated b → IsHeld (IsHolderOf b.ctype e.entity) (IsOf b.ctype) e.attribute → IfGood (named_declarator k b body d name e c) AreFormed
+    IsPlain b.ctype → IsEnumerated b → IsHeld (IsHolderOf b.ctype (declares_pointer d) e.entity) (IsOf b.ctype) e.attribute → IfGood (named_declarator k b body d name e c) AreFormed
 unfolding named_declarator
 named_formed k b body d None e c formed plain enum h =
     if_then (λ u. Unit {0}) AreFormed (nameless_values e.entity d.initial c.scope) _ (if_any (nameless_values e.entity d.initial c.scope)) (λ u v. tt)
@@ -115,7 +120,7 @@ declarator_formed : (k : Foreknown) (b : Specified) (body : Option Line) (d : De
 unfolding declarator_judgement
 declarator_formed k b body d c formed plain enum h =
     if_then (λ s. Unit {0}) AreFormed (definition_parameters d body c.scope) _ (if_any (definition_parameters d body c.scope)) (λ s u.
-    if_then (λ (e : Scope × Designated). IsHeld (IsHolderOf b.ctype e.1.entity) (IsOf b.ctype) e.1.attribute) AreFormed (file_declarator (base_of k d b) d s) _
+    if_then (λ (e : Scope × Designated). IsHeld (IsHolderOf b.ctype (declares_pointer d) e.1.entity) (IsOf b.ctype) e.1.attribute) AreFormed (file_declarator (base_of k d b) d s) _
     (file_is (base_of k d b) d s h) (λ e g. named_formed k b body d d.name e.1 (in_scope c e.0) formed plain enum g))
 
 -- ---- declarations
@@ -172,19 +177,19 @@ items_formed k items =
     if_more (Next (nothing_declared k)) AreFormed (through (item_judgement k) items (nothing_declared k)) (λ c f. f tt)
     (if_through (item_judgement k) Next (λ i. Unit {0}) (λ c f. f) (λ c d e f g h. g (f h)) (λ i u c. item_formed k i c) items (each_any items) (nothing_declared k))
 
-main_formed : (place : Place) (c : Contents) (main : Option ℕ) → AreFormed c → IfGood (program_or_broken place c main) HasFormedGlobals
-main_formed place c None h = tt
-main_formed place c (Some main) h = program_formed c main h
+main_formed : (place : Place) (pointers : List ℕ) (c : Contents) (main : Option ℕ) → AreFormed c → IfGood (program_or_broken place pointers c main) HasFormedGlobals
+main_formed place pointers c None h = tt
+main_formed place pointers c (Some main) h = program_formed c pointers main h
 
-end_formed : (place : Place) (c : Contents) → AreFormed c → IfGood (program_judgement place c) HasFormedGlobals
+end_formed : (place : Place) (pointers : List ℕ) (c : Contents) → AreFormed c → IfGood (program_judgement place pointers c) HasFormedGlobals
 unfolding program_judgement
-end_formed place c h = main_formed place c _ h
+end_formed place pointers c h = main_formed place pointers c _ h
 
 unit_formed : (u : unit.Unit) → IfGood (unit_judgement u) HasFormedGlobals
 unfolding unit_judgement
 unit_formed u =
     let k : Foreknown = foreknown u.items in
-    if_then AreFormed HasFormedGlobals (through (item_judgement k) u.items (nothing_declared k)) _ (items_formed k u.items) (λ c h. end_formed u.end c h)
+    if_then AreFormed HasFormedGlobals (through (item_judgement k) u.items (nothing_declared k)) _ (items_formed k u.items) (λ c h. end_formed u.end (pointers_of k) c h)
 
 pub globals_formed : GlobalsAreFormed
 globals_formed u p q = of_good HasFormedGlobals (unit_judgement u) (unit_formed u) p q

@@ -54,10 +54,10 @@ main_found signatures (Some (meaning.Function r)) n h = by (is_main_type (slice_
     by false q g = absurd (cc)
 main_found signatures x n h = absurd (cc)
 
-main_is : (place : Place) (c : Contents) (p : Program) (o : Option ℕ) → program_or_broken place c o ≡ Good p → o ≡ Some p.main
+main_is : (place : Place) (pointers : List ℕ) (c : Contents) (p : Program) (o : Option ℕ) → program_or_broken place pointers c o ≡ Good p → o ≡ Some p.main
 unfolding program_of
-main_is place c p None h = absurd (cc)
-main_is place c p (Some n) h = let q : program_of c n ≡ p = cc in ap (λ (x : Program). Some x.main) q
+main_is place pointers c p None h = absurd (cc)
+main_is place pointers c p (Some n) h = let q : program_of c pointers n ≡ p = cc in ap (λ (x : Program). Some x.main) q
 
 -- ---- the function
 
@@ -76,11 +76,11 @@ module _ (p : Program) (has : HasParameters p) (n : ℕ) (s : ℕ) (g : IsFuncti
   integer : IsInteger t.result → IsInteger g.function.result
   integer h = subst IsInteger (sym (ap (λ (x : Signature). x.result) same) ∙ g.result) h
 
-pub main_typed : (place : Place) (c : Contents) (p : Program) (f : Function) → program_judgement place c ≡ Good p → Fits p f c.scope → HasParameters p → HasTypedMain p
+pub main_typed : (place : Place) (pointers : List ℕ) (c : Contents) (p : Program) (f : Function) → program_judgement place pointers c ≡ Good p → Fits p f c.scope → HasParameters p → HasTypedMain p
 unfolding program_judgement
-main_typed place c p f q fits has =
+main_typed place pointers c p f q fits has =
     let name : List ℕ = codes "main" in
-    let found = main_found c.scope.signatures (named name c.scope.names.here) p.main (main_is place c p (main_of c.scope.signatures (named name c.scope.names.here)) q) in
+    let found = main_found c.scope.signatures (named name c.scope.names.here) p.main (main_is place pointers c p (main_of c.scope.signatures (named name c.scope.names.here)) q) in
     let r : Routine = found.0 in
     let means : meaning_of c.scope name ≡ Some (meaning.Function r) =
     ap (λ o. unless_declared (or_else o (meaning_in c.scope.names.around name)) (known_function name)) found.1 in

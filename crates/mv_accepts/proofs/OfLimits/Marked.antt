@@ -25,7 +25,7 @@ use Rattle.mv_check_declarations.specs.declared.attributes.Position.TheVariants 
 use Rattle.mv_check_declarations.specs.declared.specifiers.Enumeration.{Enumeration}
 use Rattle.mv_check_declarations.specs.declared.specifiers.Said.{Said}
 use Rattle.mv_check_declarations.specs.declared.specifiers.Specified.{Specified}
-use Rattle.mv_check_declarations.specs.Attributes.{given_domain, switch_kind, is_main, shape_holder, holder_of, both_hold, all_hold, holder_of_all, holds, held, attribute, attributes}
+use Rattle.mv_check_declarations.specs.Attributes.{given_domain, switch_kind, is_constant_form, is_main, shape_holder, holder_of, holder_behind, both_hold, all_hold, holder_of_all, holds, held, attribute, attributes}
 use Rattle.mv_check_declarations.specs.Declarators.{designated}
 use Rattle.mv_check_declarations.specs.Globals.{file_declarator}
 use Rattle.mv_check_declarations.specs.Specifiers.{enumeration_of, count_before_list, nothing_said, enum_specifier, enum_specifiers, scalar_kind, kind_of, specifiers}
@@ -155,23 +155,26 @@ holder_none fixed d q =
     by (shape.Function params) g r = (ap not r, refl)
     by x g r = absurd (cc)
 
+behind_none : (fixed : Bool) (d : Declarator) → is_bad d ≡ true → HoldsNone (holder_behind position.File fixed d)
+behind_none fixed d q = holder_none (is_constant_form fixed (out-Shape d.shape)) d q
+
 still_none : (fixed : Bool) (ds : List Declarator) (h : Holder) → HoldsNone h → HoldsNone (all_hold position.File fixed h ds)
 still_none fixed [] h n = n
 still_none fixed (d ∷ ds) h n =
-    let g : Holder = holder_of position.File fixed d in
+    let g : Holder = holder_behind position.File fixed d in
     still_none fixed ds (both_hold h g) (and_left h.plainly g.plainly n.0, and_left h.with_values g.with_values n.1)
 
 among_none : (fixed : Bool) (ds : List Declarator) (h : Holder) → list_any is_bad ds ≡ true → HoldsNone (all_hold position.File fixed h ds)
 among_none fixed [] h q = absurd (cc)
 among_none fixed (d ∷ ds) h q =
-    let g : Holder = holder_of position.File fixed d in
+    let g : Holder = holder_behind position.File fixed d in
     by (is_bad d) refl q (λ r. among_none fixed ds (both_hold h g) r)
   where
-    by : (b : Bool) → is_bad d ≡ b → (b || list_any is_bad ds) ≡ true → (list_any is_bad ds ≡ true → HoldsNone (all_hold position.File fixed (both_hold h (holder_of position.File fixed d)) ds)) →
-        HoldsNone (all_hold position.File fixed (both_hold h (holder_of position.File fixed d)) ds)
+    by : (b : Bool) → is_bad d ≡ b → (b || list_any is_bad ds) ≡ true → (list_any is_bad ds ≡ true → HoldsNone (all_hold position.File fixed (both_hold h (holder_behind position.File fixed d)) ds)) →
+        HoldsNone (all_hold position.File fixed (both_hold h (holder_behind position.File fixed d)) ds)
     by true r z rest =
-        let g : Holder = holder_of position.File fixed d in
-        let n : HoldsNone g = holder_none fixed d r in
+        let g : Holder = holder_behind position.File fixed d in
+        let n : HoldsNone g = behind_none fixed d r in
         still_none fixed ds (both_hold h g) (and_right h.plainly g.plainly n.0, and_right h.with_values g.with_values n.1)
     by false r z rest = rest z
 
@@ -179,9 +182,9 @@ all_none : (fixed : Bool) (ds : List Declarator) → list_any is_bad ds ≡ true
 all_none fixed [] q = absurd (cc)
 all_none fixed (d ∷ ds) q = by (is_bad d) refl q
   where
-    by : (b : Bool) → is_bad d ≡ b → (b || list_any is_bad ds) ≡ true → HoldsNone (all_hold position.File fixed (holder_of position.File fixed d) ds)
-    by true r z = still_none fixed ds (holder_of position.File fixed d) (holder_none fixed d r)
-    by false r z = among_none fixed ds (holder_of position.File fixed d) z
+    by : (b : Bool) → is_bad d ≡ b → (b || list_any is_bad ds) ≡ true → HoldsNone (all_hold position.File fixed (holder_behind position.File fixed d) ds)
+    by true r z = still_none fixed ds (holder_behind position.File fixed d) (behind_none fixed d r)
+    by false r z = among_none fixed ds (holder_behind position.File fixed d) z
 
 holders_none : (k : Foreknown) (fixed : Bool) (ds : List Declarator) → list_any is_bad ds ≡ true → HoldsNone (holder_of_all position.File fixed (holders k ds))
 holders_none k fixed ds q = by (list_any (declares_constant k) ds)

@@ -71,8 +71,8 @@ switches_few n (f ∷ fs) h = by f.attributed (switches_few n fs h.1) h.0
     by true rest k = (k, rest)
     by false rest k = rest
 
-pub within_all : (p : Program) → first_exceeded p ≡ None → length p.pointers ≤ 64 → program_nodes p ≤ 16777216 → IsWithinLimits p
-within_all p h pointers few =
+pub within_all : (p : Program) → first_exceeded p ≡ None → program_nodes p ≤ 16777216 → IsWithinLimits p
+within_all p h few =
     let all = none_exceeded (limits p) h in
     let parameters = parted 8 (map (λ s. length s.params) p.signatures) (map (λ f. f.params) p.functions) all.1.1.0 in
     let sizes = parted 262144 (global_sizes p) (local_sizes p) all.1.1.1.1.1.1.1.0 in
@@ -82,7 +82,7 @@ within_all p h pointers few =
       parameters = all_at_most (λ (f : Function). f.params) 8 p.functions parameters.1;
       pointed_parameters = all_at_most (λ s. length s.params) 8 p.signatures parameters.0;
       switches = (at_most (λ (n : ℕ). n) 64 (length p.switches ∷ []) all.1.1.1.0).0;
-      pointers = pointers;
+      pointers = (at_most (λ (n : ℕ). n) 64 (length p.pointers ∷ []) all.1.1.1.1.1.1.1.1.0).0;
       domains = all_at_most (λ s. length s.values) 16 p.switches all.1.1.1.1.0;
       own_switches = All-from_recursion (λ (g : Function). length g.switches ≤ 6) (filter (λ f. f.attributed) p.functions) (switches_few 6 p.functions (at_most own_switches 6 p.functions all.1.1.1.1.1.0));
       assignments = All-filter (λ (f : Function). f.attributed) (λ g. assignments p g ≤ 64) p.functions (all_at_most (assignments p) 64 p.functions all.1.1.1.1.1.1.0);

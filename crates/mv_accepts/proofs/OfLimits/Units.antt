@@ -24,11 +24,12 @@ use Rattle.mv_check_declarations.specs.Initials.{array_size}
 use Rattle.mv_check_declarations.specs.Objects.{scalar, sized}
 use Rattle.mv_check_declarations.specs.Specifiers.{specifiers}
 use Rattle.mv_check_declarations.specs.Turns.{through}
+use Rattle.mv_check_outline.specs.Outlined.{declares_pointer}
 use Rattle.mv_types.specs.declared.contents.Contents.{Contents}
 use Rattle.mv_types.specs.declared.contents.Foreknown.{Foreknown}
 use Rattle.mv_types.specs.declared.contents.Object.{Object}
 use Rattle.mv_types.specs.Contents.{nothing_declared, in_scope, present, switches_from}
-use Rattle.mv_types.specs.Foreknown.{foreknown}
+use Rattle.mv_types.specs.Foreknown.{foreknown, pointers_of}
 use Rattle.mv_types.specs.Functions.{definition_parameters}
 use Rattle.mv_types.specs.Objects.{domain_by}
 use Rattle.mv_types.specs.Units.{by_entity, nameless_values, named_declarator, base_of, declarator_judgement, holders, declares_nothing, item_judgement, main_of, with_switches, program_of, program_or_broken, program_judgement, unit_judgement}
@@ -49,10 +50,10 @@ module _ (k : Foreknown) (b : Specified) (body : Option Line) where
   entity_adds d name (entity.Function signature) a c = function_adds k d name b.ctype signature body c
   entity_adds d name (entity.Scalar t fixed) a c =
       if_more (Adding c (declarator_nodes d)) (Adding c (size d)) (by_entity k b body d name (entity.Scalar t fixed) a c) (λ x h. omega (arith, h))
-      (object_adds k d name (scalar t) (domain_by c.scope b.enumeration a) (is_some body) c)
+      (object_adds k d name (scalar t) (domain_by (declares_pointer d) c.scope b.enumeration a) (is_some body) c)
   entity_adds d name (entity.Array t fixed n) a c =
       if_more (Adding c (declarator_nodes d)) (Adding c (size d)) (by_entity k b body d name (entity.Array t fixed n) a c) (λ x h. omega (arith, h))
-      (object_adds k d name (sized t (array_size n d.initial)) (domain_by c.scope b.enumeration a) (is_some body) c)
+      (object_adds k d name (sized t (array_size n d.initial)) (domain_by (declares_pointer d) c.scope b.enumeration a) (is_some body) c)
 
   named_adds : (d : Declarator) (name : Option (List ℕ)) (e : Designated) (c : Contents) → IfGood (named_declarator k b body d name e c) (Adding c (size d))
   unfolding named_declarator
@@ -111,27 +112,27 @@ objects_weight : (os : List Object) → length (map (λ (o : Object). o.global) 
 objects_weight [] = refl
 objects_weight (o ∷ os) = omega (arith, objects_weight os, sum_by-cons (λ n. n) (length o.global.first) (map given_words (map (λ (o : Object). o.global) os)))
 
-program_weight : (c : Contents) (main : ℕ) → program_nodes (program_of c main) ≡ weight c
+program_weight : (c : Contents) (pointers : List ℕ) (main : ℕ) → program_nodes (program_of c pointers main) ≡ weight c
 unfolding program_of
-program_weight c main = omega (arith, functions_weight (switches_from 0 c.objects) c.functions, objects_weight c.objects)
+program_weight c pointers main = omega (arith, functions_weight (switches_from 0 c.objects) c.functions, objects_weight c.objects)
 
 abbrev IsSmall : ℕ → Program → Type 0
 IsSmall n p = program_nodes p ≤ 4 * n
 
-program_small : (place : Place) (c : Contents) (n : ℕ) → weight c ≤ 4 * n → IfGood (program_judgement place c) (IsSmall n)
+program_small : (place : Place) (pointers : List ℕ) (c : Contents) (n : ℕ) → weight c ≤ 4 * n → IfGood (program_judgement place pointers c) (IsSmall n)
 unfolding program_judgement
-program_small place c n h = by (main_of c.scope.signatures (named (codes "main") c.scope.names.here))
+program_small place pointers c n h = by (main_of c.scope.signatures (named (codes "main") c.scope.names.here))
   where
-    by : (o : Option ℕ) → IfGood (program_or_broken place c o) (IsSmall n)
+    by : (o : Option ℕ) → IfGood (program_or_broken place pointers c o) (IsSmall n)
     by None = tt
-    by (Some main) = omega (arith, h, program_weight c main)
+    by (Some main) = omega (arith, h, program_weight c pointers main)
 
 unit_small : (u : unit.Unit) → IfGood (unit_judgement u) (IsSmall (unit_nodes u))
 unfolding unit_judgement
 unit_small u =
     let k : Foreknown = foreknown u.items in
     if_then (Adding (nothing_declared k) (total item_nodes u.items)) (IsSmall (unit_nodes u)) (through (item_judgement k) u.items (nothing_declared k)) _ (items_add k u.items (nothing_declared k)) (λ c h.
-    program_small u.end c (unit_nodes u) (omega (arith, h, sum_total item_nodes u.items, none_yet (length k.outline.functions))))
+    program_small u.end (pointers_of k) c (unit_nodes u) (omega (arith, h, sum_total item_nodes u.items, none_yet (length k.outline.functions))))
 
 pub units_small : (u : unit.Unit) (p : Program) → unit_judgement u ≡ Good p → unit_nodes u ≤ 4194304 → program_nodes p ≤ 16777216
 units_small u p q few = let h : IsSmall (unit_nodes u) p = of_good (IsSmall (unit_nodes u)) (unit_judgement u) (unit_small u) p q in omega (arith, h, few)

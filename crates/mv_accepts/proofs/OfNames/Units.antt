@@ -18,7 +18,7 @@ use Rattle.mv_check_scope.specs.declared.meaning.Meaning.{Meaning}
 use Rattle.mv_check_scope.specs.declared.scope.Scope.{Scope}
 use Rattle.mv_check_expressions.specs.Judged.{Good, and_then}
 use Rattle.mv_check_outline.specs.Names.{place_of}
-use Rattle.mv_check_outline.specs.Outlined.{is_function, is_function_form, name_of}
+use Rattle.mv_check_outline.specs.Outlined.{is_function, is_function_form, declares_pointer, name_of}
 use Rattle.mv_check_declarations.specs.declared.attributes.Attribute.{Attribute}
 use Rattle.mv_check_declarations.specs.declared.attributes.Position.TheVariants as position
 use Rattle.mv_check_declarations.specs.declared.declarators.Entity.{Entity}
@@ -140,9 +140,9 @@ module _ (fit : ParametersFit) (grow : BodyGrows) (k : Foreknown) where
       designated d.shape b.ctype fixed s ≡ Good (c.scope, e) → IsListedEntity c.scope.signatures e → d.name ≡ Some name → Known body d →
       IfGood (by_entity k b body d name e a c) (To k c)
   entity_sound b fixed body d name (entity.Scalar t f) a s c q listed named known =
-      object_sound k d name (scalar t) (domain_by c.scope b.enumeration a) (is_some body) c listed
+      object_sound k d name (scalar t) (domain_by (declares_pointer d) c.scope b.enumeration a) (is_some body) c listed
   entity_sound b fixed body d name (entity.Array t f size) a s c q listed named known =
-      object_sound k d name (sized t (array_size size d.initial)) (domain_by c.scope b.enumeration a) (is_some body) c listed
+      object_sound k d name (sized t (array_size size d.initial)) (domain_by (declares_pointer d) c.scope b.enumeration a) (is_some body) c listed
   entity_sound b fixed body d name (entity.Function n) a s c q listed named known =
       let says = shape_says b.ctype fixed s c.scope n d.shape q in
       function_sound fit grow k d name b.ctype n c

@@ -24,9 +24,9 @@ same_names : (switches : List Switch) (fs : List Function) → map (λ f. f.name
 same_names switches [] = refl
 same_names switches (f ∷ fs) = ap (λ xs. f.name ∷ xs) (same_names switches fs)
 
-program_functions : (c : Contents) (main : ℕ) → (program_of c main).functions ≡ map (with_switches (switches_from 0 c.objects)) (present c.functions)
+program_functions : (c : Contents) (pointers : List ℕ) (main : ℕ) → (program_of c pointers main).functions ≡ map (with_switches (switches_from 0 c.objects)) (present c.functions)
 unfolding program_of
-program_functions c main = refl
+program_functions c pointers main = refl
 
 below : (fs : List Function) (n : ℕ) (name : List ℕ) → HasNumber fs n name → nat_lt n (length fs) ≡ true
 below fs n name h = lt-ltb n (length fs) (slice_get_within fs n h.0 h.1)
@@ -43,11 +43,11 @@ module _ (items : List Item) where
   attributed_is : k.outline.attributed ≡ filter (is_attributed k) k.outline.functions
   attributed_is = known_attributed ∙ among_is k.attributed k.outline.functions (known_different items)
 
-  attributed_names : (c : Contents) (main : ℕ) → AreDefined k c → map (λ f. f.name) (attributed_functions (program_of c main)) ≡ k.outline.attributed
-  attributed_names c main d =
+  attributed_names : (c : Contents) (pointers : List ℕ) (main : ℕ) → AreDefined k c → map (λ f. f.name) (attributed_functions (program_of c pointers main)) ≡ k.outline.attributed
+  attributed_names c pointers main d =
       let switches : List Switch = switches_from 0 c.objects in
       let gs : List Function = map (with_switches switches) (present c.functions) in
-      let all : (program_of c main).functions ≡ gs = program_functions c main in
+      let all : (program_of c pointers main).functions ≡ gs = program_functions c pointers main in
       ap (λ fs. map (λ f. f.name) (filter (λ f. f.attributed) fs)) all ∙
       (filter_map (λ f. f.attributed) (is_attributed k) (λ f. f.name) gs
       (all_mapped (λ f. f.attributed ≡ is_attributed k f.name) (with_switches switches) (present c.functions)
@@ -77,11 +77,11 @@ module _ (items : List Item) where
       by true a s = found (place_among name k.outline.attributed different (there (sym a))) s
       by false a s = absurd (cc)
 
-  pub attributed_counted : (c : Contents) (main : ℕ) → AreJudged items c → AreAttributed k (attributed_functions (program_of c main))
-  attributed_counted c main q =
-      let e = attributed_names c main (functions_defined items c q) in
+  pub attributed_counted : (c : Contents) (pointers : List ℕ) (main : ℕ) → AreJudged items c → AreAttributed k (attributed_functions (program_of c pointers main))
+  attributed_counted c pointers main q =
+      let e = attributed_names c pointers main (functions_defined items c q) in
       record {
         named = e;
-        numbered = numbered (attributed_functions (program_of c main)) e;
-        below = λ name g n p r. below (attributed_functions (program_of c main)) n name (numbered (attributed_functions (program_of c main)) e name g n p r);
+        numbered = numbered (attributed_functions (program_of c pointers main)) e;
+        below = λ name g n p r. below (attributed_functions (program_of c pointers main)) n name (numbered (attributed_functions (program_of c pointers main)) e name g n p r);
       }

@@ -20,7 +20,7 @@ use Rattle.mv_check_expressions.specs.Judged.{Judged, Good}
 use Rattle.mv_check_outline.specs.declared.outline.Wanted.TheVariants as wanted
 use Rattle.mv_check_outline.specs.Names.{same_name, is_among, place_of}
 use Rattle.mv_check_outline.specs.Outlined as outlined
-use Rattle.mv_check_outline.specs.Outlined.{is_function, is_there, name_of, all_names, functions}
+use Rattle.mv_check_outline.specs.Outlined.{is_function, declares_pointer, is_there, name_of, all_names, functions}
 use Rattle.mv_check_declarations.specs.declared.attributes.Attribute.{Attribute}
 use Rattle.mv_check_declarations.specs.declared.attributes.Position.TheVariants as position
 use Rattle.mv_check_declarations.specs.declared.declarators.Entity.{Entity}
@@ -204,9 +204,9 @@ module _ (k : Foreknown) (different : Different k.outline.functions) where
   entity_right done b body d name (entity.Function signature) a c h true q g = function_right done d name b.ctype signature body c h g
   entity_right done b body d name (entity.Function signature) a c h false q g = absurd (cc)
   entity_right done b body d name (entity.Scalar t fixed) a c h true q g = absurd (cc)
-  entity_right done b body d name (entity.Scalar t fixed) a c h false q g = object_right done d name (scalar t) (domain_by c.scope b.enumeration a) (is_some body) c h
+  entity_right done b body d name (entity.Scalar t fixed) a c h false q g = object_right done d name (scalar t) (domain_by (declares_pointer d) c.scope b.enumeration a) (is_some body) c h
   entity_right done b body d name (entity.Array t fixed size) a c h true q g = absurd (cc)
-  entity_right done b body d name (entity.Array t fixed size) a c h false q g = object_right done d name (sized t (array_size size d.initial)) (domain_by c.scope b.enumeration a) (is_some body) c h
+  entity_right done b body d name (entity.Array t fixed size) a c h false q g = object_right done d name (sized t (array_size size d.initial)) (domain_by (declares_pointer d) c.scope b.enumeration a) (is_some body) c h
 
   named_right : (done : List (List ℕ)) (b : Specified) (body : Option Line) (d : Declarator) (name : Option (List ℕ)) (e : Designated) (c : Contents) → Right done c →
       (function : Bool) → is_function_entity e.entity ≡ function → (function && is_there body ≡ true → is_among (or_nothing name) names ≡ true) →

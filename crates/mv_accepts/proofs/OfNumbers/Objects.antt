@@ -23,16 +23,16 @@ use Rattle.mv_num.proofs.Lists.{last_there}
 abbrev pub object_name : Object → List ℕ
 object_name o = o.global.name
 
--- The objects whose names are declared so far, in that order, and which of them are marked. Their names mean them.
-pub record AreObjects (xs ys : List (List ℕ)) (space : Names) (objects : List Object) : Type 0 where
+-- The objects whose names are declared so far, in that order, and what being marked or not says of each. Their names mean them.
+pub record AreObjects (R : Object → Bool → Type 0) (xs ys : List (List ℕ)) (space : Names) (objects : List Object) : Type 0 where
   pub means : (name : List ℕ) (m : Meaning) (n : ℕ) → named name space ≡ Some m → number_of m ≡ Some n → (o : Object) × (slice_get objects n ≡ Some o) × (object_name o ≡ name)
   pub have : (n : ℕ) (o : Object) → slice_get objects n ≡ Some o → is_some (named (object_name o) space) ≡ true
   pub all : map object_name objects ≡ each_once xs
-  pub marked : AllByRecursion (λ o. is_some o.domain ≡ is_among (object_name o) ys) objects
+  pub marked : AllByRecursion (λ o. R o (is_among (object_name o) ys)) objects
   pub among : (name : List ℕ) → is_among name ys ≡ true → is_among name xs ≡ true
 
-pub no_objects : AreObjects [] [] [] []
-no_objects = record {
+pub no_objects : (R : Object → Bool → Type 0) → AreObjects R [] [] [] []
+no_objects R = record {
   means = λ name m n h q. absurd (cc);
   have = λ n o h. absurd (cc);
   all = refl;
@@ -52,8 +52,9 @@ there (Some m) h = (m, refl)
 some_there : (o : Option Meaning) (m : Meaning) → o ≡ Some m → is_some o ≡ true
 some_there o m h = ap is_some h
 
-pub others_added : (xs ys : List (List ℕ)) (space later : Names) (objects : List Object) → Adds space later → AreObjects xs ys space objects → AreObjects xs ys later objects
-others_added xs ys space later objects a h = record {
+pub others_added : (R : Object → Bool → Type 0) (xs ys : List (List ℕ)) (space later : Names) (objects : List Object) → Adds space later → AreObjects R xs ys space objects →
+    AreObjects R xs ys later objects
+others_added R xs ys space later objects a h = record {
   means = λ name m n q r. means name m n r (a.new name m q);
   have = λ n o q. let x = there (named (object_name o) space) (h.have n o q) in some_there (named (object_name o) later) x.0 (a.kept (object_name o) x.0 x.1);
   all = h.all;
@@ -110,7 +111,7 @@ either_some (Some d) e = refl
 
 -- ---- a new object
 
-module _ (xs ys : List (List ℕ)) (space : Names) (objects : List Object) (name : List ℕ) (h : AreObjects xs ys space objects) where
+module _ (R : Object → Bool → Type 0) (xs ys : List (List ℕ)) (space : Names) (objects : List Object) (name : List ℕ) (h : AreObjects R xs ys space objects) where
   -- a name that means nothing yet is that of no object
   not_yet : named name space ≡ None → is_among name (each_once xs) ≡ false
   not_yet q = by (is_among name (each_once xs)) refl
@@ -134,15 +135,15 @@ module _ (xs ys : List (List ℕ)) (space : Names) (objects : List Object) (name
           absurd (cc)
       by false r = sym r
 
-  pub one_new : (m : Meaning) (o : Object) (mark : Bool) → named name space ≡ None → number_of m ≡ Some (length objects) → object_name o ≡ name → is_some o.domain ≡ mark →
-      AreObjects (xs ++ name ∷ []) (ys ++ if_marked mark name) (space ++ (name, m) ∷ []) (objects ++ o ∷ [])
-  one_new m o mark q number e domain = record {
+  pub one_new : (m : Meaning) (o : Object) (mark : Bool) → named name space ≡ None → number_of m ≡ Some (length objects) → object_name o ≡ name → R o mark →
+      AreObjects R (xs ++ name ∷ []) (ys ++ if_marked mark name) (space ++ (name, m) ∷ []) (objects ++ o ∷ [])
+  one_new m o mark q number e is = record {
     means = λ n k i r s. means n k i s (named_behind n space name m k r);
     have = λ i x r. have i x (there_before objects o i x r);
     all = map-append object_name objects (o ∷ []) ∙ (ap₂ (λ ns n. ns ++ n ∷ []) h.all e ∙ (sym (ap (λ b. if b then each_once xs else each_once xs ++ name ∷ []) (not_yet q)) ∙ sym (once_last xs name)));
-    marked = all_last (λ x. is_some x.domain ≡ is_among (object_name x) (ys ++ if_marked mark name)) objects o
-        (all_by (λ x. is_some x.domain ≡ is_among (object_name x) (ys ++ if_marked mark name)) objects old)
-        (domain ∙ (sym (among_same ys mark name ∙ ap (λ b. b || mark) (unmarked q)) ∙ ap (λ n. is_among n (ys ++ if_marked mark name)) (sym e)));
+    marked = all_last (λ x. R x (is_among (object_name x) (ys ++ if_marked mark name))) objects o
+        (all_by (λ x. R x (is_among (object_name x) (ys ++ if_marked mark name))) objects old)
+        (subst (R o) (sym (among_same ys mark name ∙ ap (λ b. b || mark) (unmarked q)) ∙ ap (λ n. is_among n (ys ++ if_marked mark name)) (sym e)) is);
     among = λ n r. still_among xs ys mark name n (h.among n) r;
   }
     where
@@ -171,10 +172,10 @@ module _ (xs ys : List (List ℕ)) (space : Names) (objects : List Object) (name
           let clash : true ≡ false = sym (among_here name (each_once xs) i at) ∙ not_yet q in
           absurd (cc)
 
-      old : (i : ℕ) (x : Object) → slice_get objects i ≡ Some x → is_some x.domain ≡ is_among (object_name x) (ys ++ if_marked mark name)
+      old : (i : ℕ) (x : Object) → slice_get objects i ≡ Some x → R x (is_among (object_name x) (ys ++ if_marked mark name))
       old i x r =
-          all_at (λ z. is_some z.domain ≡ is_among (object_name z) ys) objects h.marked i x r ∙
-          sym (among_other (object_name x) ys mark name (other i x r (same_name (object_name x) name) refl))
+          subst (R x) (sym (among_other (object_name x) ys mark name (other i x r (same_name (object_name x) name) refl)))
+          (all_at (λ z. R z (is_among (object_name z) ys)) objects h.marked i x r)
 
   -- ---- one more declaration of an object
 
@@ -201,28 +202,27 @@ module _ (xs ys : List (List ℕ)) (space : Names) (objects : List Object) (name
           let v : Some n ≡ Some i = sym (place_there (each_once xs) (once_different xs) n name known_there) ∙ place_there (each_once xs) (once_different xs) i name there in
           absurd (apart (cc))
 
-      pub one_again : (mark : Bool) → is_some new.domain ≡ (is_some o.domain || mark) →
-          AreObjects (xs ++ name ∷ []) (ys ++ if_marked mark name) space (slice_set objects n new)
-      one_again mark domain = record {
+      pub one_again : (mark : Bool) → ((b : Bool) → R o b → R new (b || mark)) →
+          AreObjects R (xs ++ name ∷ []) (ys ++ if_marked mark name) space (slice_set objects n new)
+      one_again mark is = record {
         means = λ m k i q r.
             let x = h.means m k i q r in
             let y = found i x.0 x.1 in
             (y.0, y.1, y.2 ∙ x.2);
         have = λ i y q. let x = back i y q in ap (λ m. is_some (named m space)) (sym x.2) ∙ h.have i x.0 x.1;
         all = names_same ∙ (h.all ∙ (sym (ap (λ b. if b then each_once xs else each_once xs ++ name ∷ []) (among_here name (each_once xs) n known_there)) ∙ sym (once_last xs name)));
-        marked = all_by (λ x. is_some x.domain ≡ is_among (object_name x) (ys ++ if_marked mark name)) (slice_set objects n new) (λ i x q. by i x (set_there objects n new i x q));
+        marked = all_by (λ x. R x (is_among (object_name x) (ys ++ if_marked mark name))) (slice_set objects n new) (λ i x q. by i x (set_there objects n new i x q));
         among = λ m q. still_among xs ys mark name m (h.among m) q;
       }
         where
-          here : is_some new.domain ≡ is_among (object_name new) (ys ++ if_marked mark name)
+          here : R new (is_among (object_name new) (ys ++ if_marked mark name))
           here =
-              domain ∙
-              (ap (λ b. b || mark) (all_at (λ z. is_some z.domain ≡ is_among (object_name z) ys) objects h.marked n o at ∙ ap (λ z. is_among z ys) e) ∙
-              (sym (among_same ys mark name) ∙ ap (λ z. is_among z (ys ++ if_marked mark name)) (sym (same ∙ e))))
+              subst (R new)
+              (ap (λ z. is_among z ys || mark) e ∙ (sym (among_same ys mark name) ∙ ap (λ z. is_among z (ys ++ if_marked mark name)) (sym (same ∙ e))))
+              (is (is_among (object_name o) ys) (all_at (λ z. R z (is_among (object_name z) ys)) objects h.marked n o at))
 
-          by : (i : ℕ) (x : Object) → ((slice_get objects i ≡ Some x) × (n ≡ i → ⊥)) ⊎ ((n ≡ i) × (new ≡ x)) →
-              is_some x.domain ≡ is_among (object_name x) (ys ++ if_marked mark name)
+          by : (i : ℕ) (x : Object) → ((slice_get objects i ≡ Some x) × (n ≡ i → ⊥)) ⊎ ((n ≡ i) × (new ≡ x)) → R x (is_among (object_name x) (ys ++ if_marked mark name))
           by i x (inl q) =
-              all_at (λ z. is_some z.domain ≡ is_among (object_name z) ys) objects h.marked i x q.0 ∙
-              sym (among_other (object_name x) ys mark name (other_place i x q.0 q.1 (same_name (object_name x) name) refl))
-          by i x (inr q) = subst (λ z. is_some z.domain ≡ is_among (object_name z) (ys ++ if_marked mark name)) q.1 here
+              subst (R x) (sym (among_other (object_name x) ys mark name (other_place i x q.0 q.1 (same_name (object_name x) name) refl)))
+              (all_at (λ z. R z (is_among (object_name z) ys)) objects h.marked i x q.0)
+          by i x (inr q) = subst (λ z. R z (is_among (object_name z) (ys ++ if_marked mark name))) q.1 here

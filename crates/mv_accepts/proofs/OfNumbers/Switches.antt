@@ -23,7 +23,7 @@ use Rattle.mv_types.specs.Contents.{nothing_declared, switch_of, switches_from}
 use Rattle.mv_types.specs.Foreknown.{foreknown}
 use Rattle.mv_types.specs.Units.{item_judgement, program_of}
 use Rattle.mv_accepts.specs.Numbers.Numbers.{AreJudged, IsSwitchOf, AreSwitches}
-use Rattle.mv_accepts.proofs.OfNumbers.DeclaredObjects.{Of, objects_of}
+use Rattle.mv_accepts.proofs.OfNumbers.DeclaredObjects.{Of, HasDomain, switches_of}
 use Rattle.mv_accepts.proofs.OfNumbers.NameLists.{Different, among_here, among_kept, among_once, among_is, once_different, at_place, place_there}
 use Rattle.mv_accepts.proofs.OfNumbers.Objects.{object_name}
 
@@ -57,9 +57,9 @@ module _ (place : List ℕ → Option ℕ) where
         by (Some v) false q r = absurd (cc)
         by (Some v) true q r = ap (λ xs. Some i ∷ xs) r ∙ ap (λ x. x ∷ map place (filter marked (map object_name os))) (sym h.0)
 
-program_switches : (c : Contents) (main : ℕ) → (program_of c main).switches ≡ switches_from 0 c.objects
+program_switches : (c : Contents) (pointers : List ℕ) (main : ℕ) → (program_of c pointers main).switches ≡ switches_from 0 c.objects
 unfolding program_of
-program_switches c main = refl
+program_switches c pointers main = refl
 
 module _ (items : List Item) where
   abbrev k : Foreknown
@@ -69,32 +69,32 @@ module _ (items : List Item) where
   unfolding foreknown
   known_objects = refl
 
-  known_switches : k.outline.switches ≡ among (outlined.names wanted.MarkedObjects items) k.outline.objects
+  known_switches : k.outline.switches ≡ among (outlined.names wanted.MarkedSwitches items) k.outline.objects
   unfolding foreknown
   known_switches = refl
 
   abbrev is_marked : List ℕ → Bool
-  is_marked name = is_among name (outlined.names wanted.MarkedObjects items)
+  is_marked name = is_among name (outlined.names wanted.MarkedSwitches items)
 
   different : Different k.outline.objects
   different = subst Different (sym known_objects) (once_different (all_names wanted.Objects items))
 
   switches_are : k.outline.switches ≡ filter is_marked k.outline.objects
-  switches_are = known_switches ∙ among_is (outlined.names wanted.MarkedObjects items) k.outline.objects different
+  switches_are = known_switches ∙ among_is (outlined.names wanted.MarkedSwitches items) k.outline.objects different
 
   abbrev place : List ℕ → Option ℕ
   place name = place_of name k.outline.objects
 
   globals_are : (os : List Object) → map object_name os ≡ k.outline.objects →
-      AllByRecursion (λ o. is_some o.domain ≡ is_among (object_name o) (all_names wanted.MarkedObjects items)) os →
+      AllByRecursion (λ o. is_some o.domain ≡ is_among (object_name o) (all_names wanted.MarkedSwitches items)) os →
       map global (switches_from 0 os) ≡ map place k.outline.switches
   globals_are os e m =
       counted place is_marked 0 os
       (placed place 0 os (λ j o q.
       place_there k.outline.objects different j (object_name o) (ap (λ ns. slice_get ns j) (sym e) ∙ mapped_there object_name os j o q) ∙
       ap (λ n. Some n) (let r : j ≡ 0 + j = omega arith in r)))
-      (all_more (λ o. is_some o.domain ≡ is_among (object_name o) (all_names wanted.MarkedObjects items)) (λ o. is_some o.domain ≡ is_marked (object_name o))
-      (λ o q. q ∙ sym (among_once (object_name o) (all_names wanted.MarkedObjects items))) os m) ∙
+      (all_more (λ o. is_some o.domain ≡ is_among (object_name o) (all_names wanted.MarkedSwitches items)) (λ o. is_some o.domain ≡ is_marked (object_name o))
+      (λ o q. q ∙ sym (among_once (object_name o) (all_names wanted.MarkedSwitches items))) os m) ∙
       ap (map place) (ap (filter is_marked) e ∙ sym switches_are)
 
   numbered : (switches : List Switch) → map global switches ≡ map place k.outline.switches → (name : List ℕ) (g n : ℕ) → place_of name k.outline.objects ≡ Some g →
@@ -111,23 +111,23 @@ module _ (items : List Item) where
       lt-ltb n (length switches) (slice_get_within switches n x.0 x.1)
 
   marked_are : (os : List Object) → map object_name os ≡ k.outline.objects →
-      AllByRecursion (λ o. is_some o.domain ≡ is_among (object_name o) (all_names wanted.MarkedObjects items)) os →
+      AllByRecursion (λ o. is_some o.domain ≡ is_among (object_name o) (all_names wanted.MarkedSwitches items)) os →
       All (λ o. is_some o.domain ≡ is_among (object_name o) k.outline.switches) os
   marked_are os e m =
       All-from_recursion (λ o. is_some o.domain ≡ is_among (object_name o) k.outline.switches) os
       (all_by (λ o. is_some o.domain ≡ is_among (object_name o) k.outline.switches) os (λ i o q.
       let there : slice_get k.outline.objects i ≡ Some (object_name o) = ap (λ ns. slice_get ns i) (sym e) ∙ mapped_there object_name os i o q in
-      all_at (λ x. is_some x.domain ≡ is_among (object_name x) (all_names wanted.MarkedObjects items)) os m i o q ∙
+      all_at (λ x. is_some x.domain ≡ is_among (object_name x) (all_names wanted.MarkedSwitches items)) os m i o q ∙
       sym (ap (is_among (object_name o)) switches_are ∙
       (among_kept is_marked (object_name o) k.outline.objects ∙
-      (ap₂ (λ a b. a && b) (among_once (object_name o) (all_names wanted.MarkedObjects items)) (among_here (object_name o) k.outline.objects i there) ∙
-      and-true (is_among (object_name o) (all_names wanted.MarkedObjects items)))))))
+      (ap₂ (λ a b. a && b) (among_once (object_name o) (all_names wanted.MarkedSwitches items)) (among_here (object_name o) k.outline.objects i there) ∙
+      and-true (is_among (object_name o) (all_names wanted.MarkedSwitches items)))))))
 
-  pub switches_counted : BodyGrows → ParametersFit → (c : Contents) (main : ℕ) → AreJudged items c → AreSwitches k c (program_of c main).switches
-  switches_counted bodies fit c main q =
+  pub switches_counted : BodyGrows → ParametersFit → (c : Contents) (pointers : List ℕ) (main : ℕ) → AreJudged items c → AreSwitches k c (program_of c pointers main).switches
+  switches_counted bodies fit c pointers main q =
       let xs : List (List ℕ) = all_names wanted.Objects items in
-      let ys : List (List ℕ) = all_names wanted.MarkedObjects items in
-      let h = of_good (Of k bodies fit xs ys) (through (item_judgement k) items (nothing_declared k)) (objects_of k bodies fit items) c q in
+      let ys : List (List ℕ) = all_names wanted.MarkedSwitches items in
+      let h = of_good (Of HasDomain k bodies fit xs ys) (through (item_judgement k) items (nothing_declared k)) (switches_of k bodies fit items) c q in
       let named : map object_name c.objects ≡ k.outline.objects = h.all ∙ sym known_objects in
-      let globals : map global (program_of c main).switches ≡ map place k.outline.switches = ap (map global) (program_switches c main) ∙ globals_are c.objects named h.marked in
-      record { named = named; marked = marked_are c.objects named h.marked; globals = globals; numbered = numbered (program_of c main).switches globals; below = below (program_of c main).switches globals }
+      let globals : map global (program_of c pointers main).switches ≡ map place k.outline.switches = ap (map global) (program_switches c pointers main) ∙ globals_are c.objects named h.marked in
+      record { named = named; marked = marked_are c.objects named h.marked; globals = globals; numbered = numbered (program_of c pointers main).switches globals; below = below (program_of c pointers main).switches globals }

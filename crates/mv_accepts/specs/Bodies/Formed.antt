@@ -1,5 +1,5 @@
 -- The bodies of functions that keep the rules are well formed.
-use Rattle.std.specs.Prelude.{◌≡◌, ℕ, ◌≤◌, true, false, List, length, map, Some, None, nat_lt, slice_get}
+use Rattle.std.specs.Prelude.{◌≡◌, ℕ, ◌+◌, ◌≤◌, true, false, List, length, map, Some, None, nat_lt, slice_get}
 use Rattle.mv_ast.specs.declared.program.Known.{Known}
 use Rattle.mv_ast.specs.declared.program.Known.TheVariants.{Getchar, Putchar, Poll, Plan}
 use Rattle.mv_ast.specs.declared.program.Program.{Program}
@@ -47,9 +47,9 @@ IsKindOfOrder Putchar = Unit {0}
 IsKindOfOrder Poll = Unit {0}
 IsKindOfOrder (Plan code index) = nat_lt code orders.count ≡ true
 
--- the switch that an object is and the number of an attributed function are there
+-- the switch or pointer switch that an object is and the number of an attributed function are there
 abbrev pub IsShaped : Program → ℕ → Function → Meaning → Type 0
-IsShaped p own f (meaning.Object v) = IsScalar f v.storage × ((n : ℕ) → v.switch ≡ Some n → nat_lt n (length p.switches) ≡ true)
+IsShaped p own f (meaning.Object v) = IsScalar f v.storage × ((n : ℕ) → v.switch ≡ Some n → nat_lt n (length p.switches + length p.pointers) ≡ true)
 IsShaped p own f (meaning.Array a) = IsArray p own f a.storage
 IsShaped p own f (meaning.Function r) = (g n : ℕ) → r.number ≡ Some g → r.attributed ≡ Some n → nat_lt n (length (attributed_functions p)) ≡ true
 IsShaped p own f (meaning.Enumerator v) = Unit {0}

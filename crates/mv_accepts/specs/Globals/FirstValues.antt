@@ -36,4 +36,4 @@ FirstValuesAreKept =
 -- What is so of the objects at the end is so of the program's globals.
 abbrev pub GlobalsHaveFirstValues : Type 0
 GlobalsHaveFirstValues =
-    (p : Program) (c : Contents) (main : ℕ) → HaveFirstValues p c → All (λ g. All (IsFirstValue p g.ctype) g.first) (program_of c main).globals
+    (p : Program) (c : Contents) (pointers : List ℕ) (main : ℕ) → HaveFirstValues p c → All (λ g. All (IsFirstValue p g.ctype) g.first) (program_of c pointers main).globals

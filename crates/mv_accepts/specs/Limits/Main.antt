@@ -1,5 +1,5 @@
 -- The function `main` of a unit.
-use Rattle.std.specs.Prelude.{◌≡◌, false, List, codes}
+use Rattle.std.specs.Prelude.{◌≡◌, ℕ, false, List, codes}
 use Rattle.mv_syntax.specs.declared.place.Place.{Place}
 use Rattle.mv_ast.specs.declared.program.Function.{Function}
 use Rattle.mv_ast.specs.declared.program.Program.{Program}
@@ -17,7 +17,7 @@ use Rattle.mv_types.specs.Units.{item_judgement, program_judgement}
 -- where the program has what the names at the end of the unit mean, its `main` has no parameters and gives an integer
 abbrev pub MainIsTyped : Type 0
 MainIsTyped =
-    (place : Place) (c : Contents) (p : Program) (f : Function) → program_judgement place c ≡ Good p → Fits p f c.scope → HasParameters p → HasTypedMain p
+    (place : Place) (pointers : List ℕ) (c : Contents) (p : Program) (f : Function) → program_judgement place pointers c ≡ Good p → Fits p f c.scope → HasParameters p → HasTypedMain p
 
 -- none of its declarations gives it the attribute
 abbrev pub MainIsUnmarked : Type 0

@@ -18,7 +18,7 @@ use Rattle.mv_accepts.specs.Statements.Bodies.{Keeps, AreListed}
 use Rattle.mv_types.specs.declared.contents.Contents.{Contents}
 use Rattle.mv_types.specs.declared.contents.Foreknown.{Foreknown}
 use Rattle.mv_types.specs.declared.contents.Object.{Object}
-use Rattle.mv_types.specs.Foreknown.{attributed_number}
+use Rattle.mv_types.specs.Foreknown.{attributed_number, switch_number}
 
 -- ---- how contents grow
 
@@ -50,7 +50,7 @@ pub record IsGlobal (c : Contents) (s : Storage) (t : CType) : Type 0 where
 
 abbrev pub IsDeclared : Foreknown → Contents → List ℕ → Meaning → Type 0
 IsDeclared k c name (meaning.Object v) =
-    (o : IsGlobal c v.storage v.ctype) × (o.object.global.size ≡ None) × (v.switch ≡ place_of name k.outline.switches)
+    (o : IsGlobal c v.storage v.ctype) × (o.object.global.size ≡ None) × (v.switch ≡ switch_number k name)
 IsDeclared k c name (meaning.Array a) = (o : IsGlobal c a.storage a.ctype) × (size : ℕ) × (o.object.global.size ≡ Some size)
 IsDeclared k c name (meaning.Function r) =
     IsListed c.scope.signatures (Pointer r.signature) × (r.number ≡ place_of name k.outline.functions) × (r.attributed ≡ attributed_number k name)

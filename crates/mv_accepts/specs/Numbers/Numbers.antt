@@ -1,5 +1,6 @@
 -- The numbers that a unit's names have before its first declaration is judged are those that they have in its program.
-use Rattle.std.specs.Prelude.{◌≡◌, ℕ, ◌<◌, true, All, List, map, length, Some, nat_lt, is_some, slice_get}
+use Rattle.std.specs.Prelude.{◌≡◌, ◌≢◌, ℕ, ◌<◌, true, All, AllPairs, List, map, length, Some, None, nat_lt, is_some, slice_get}
+use Rattle.mv_ast.specs.declared.program.CType.TheVariants.{Pointer}
 use Rattle.mv_ast.specs.declared.program.Function.{Function}
 use Rattle.mv_ast.specs.declared.program.Switch.{Switch}
 use Rattle.mv_syntax.specs.declared.unit.Item.{Item}
@@ -11,8 +12,9 @@ use Rattle.mv_check_outline.specs.Names.{is_among, place_of}
 use Rattle.mv_check_outline.specs.Outlined.{is_function, name_of}
 use Rattle.mv_types.specs.declared.contents.Contents.{Contents}
 use Rattle.mv_types.specs.declared.contents.Foreknown.{Foreknown}
+use Rattle.mv_types.specs.declared.contents.Object.{Object}
 use Rattle.mv_types.specs.Contents.{nothing_declared, present}
-use Rattle.mv_types.specs.Foreknown.{foreknown, is_attributed, attributed_number}
+use Rattle.mv_types.specs.Foreknown.{foreknown, is_attributed, attributed_number, pointers_of}
 use Rattle.mv_types.specs.Units.{item_judgement, program_of}
 
 -- what the items of a unit that keep the rules come to
@@ -51,7 +53,8 @@ pub record AreAttributed (k : Foreknown) (functions : List Function) : Type 0 wh
 
 abbrev pub AttributedAreCounted : Type 0
 AttributedAreCounted =
-    (items : List Item) (c : Contents) (main : ℕ) → AreJudged items c → AreAttributed (foreknown items) (attributed_functions (program_of c main))
+    (items : List Item) (c : Contents) (pointers : List ℕ) (main : ℕ) → AreJudged items c →
+    AreAttributed (foreknown items) (attributed_functions (program_of c pointers main))
 
 -- ---- objects
 
@@ -59,7 +62,8 @@ AttributedAreCounted =
 abbrev pub IsSwitchOf : List Switch → ℕ → ℕ → Type 0
 IsSwitchOf switches n global = (s : Switch) × (slice_get switches n ≡ Some s) × (s.global ≡ global)
 
--- The objects are those that are known, in their order. Those that any declaration marks have a domain, and are the switches; a name has its number among them.
+-- The objects are those that are known, in their order. Those that any declaration marks and that are no pointers have a domain, and are the switches; a name has
+-- its number among them.
 pub record AreSwitches (k : Foreknown) (c : Contents) (switches : List Switch) : Type 0 where
   pub named : map (λ o. o.global.name) c.objects ≡ k.outline.objects
   pub marked : All (λ o. is_some o.domain ≡ is_among o.global.name k.outline.switches) c.objects
@@ -69,4 +73,20 @@ pub record AreSwitches (k : Foreknown) (c : Contents) (switches : List Switch) :
 
 abbrev pub SwitchesAreCounted : Type 0
 SwitchesAreCounted =
-    (items : List Item) (c : Contents) (main : ℕ) → AreJudged items c → AreSwitches (foreknown items) c (program_of c main).switches
+    (items : List Item) (c : Contents) (pointers : List ℕ) (main : ℕ) → AreJudged items c → AreSwitches (foreknown items) c (program_of c pointers main).switches
+
+-- the object with a number is a function pointer, and no array
+pub record IsPointerAt (c : Contents) (number : ℕ) : Type 0 where
+  pub object : Object
+  pub there : slice_get c.objects number ≡ Some object
+  pub signature : ℕ
+  pub ctype : object.global.ctype ≡ Pointer signature
+  pub scalar : object.global.size ≡ None
+
+-- The pointer switches are different ones of the objects, each a function pointer.
+pub record ArePointers (k : Foreknown) (c : Contents) : Type 0 where
+  pub each : All (IsPointerAt c) (pointers_of k)
+  pub different : AllPairs (λ g h. g ≢ h) (pointers_of k)
+
+abbrev pub PointersAreCounted : Type 0
+PointersAreCounted = (items : List Item) (c : Contents) → AreJudged items c → ArePointers (foreknown items) c

@@ -1,5 +1,5 @@
 -- Objects and functions have names, and the domains of objects have values, through the declarators of a unit.
-use Rattle.std.proofs.Common.{◌≡◌, ℕ, refl, sym, ◌∙◌, subst, Bool, false, is_some, List, [], length, Option, Some, None, slice_get, unwrap_or}
+use Rattle.std.proofs.Common.{◌≡◌, ℕ, refl, sym, ◌∙◌, subst, Bool, true, false, is_some, List, [], length, Option, Some, None, slice_get, unwrap_or}
 use Rattle.std.specs.List.{AllByRecursion}
 use Rattle.mv_syntax.specs.declared.place.Place.{Place}
 use Rattle.mv_ast.specs.declared.program.CType.{CType}
@@ -34,6 +34,7 @@ use Rattle.mv_accepts.proofs.OfStatements.Lists.{all_at, all_last}
 use Rattle.mv_accepts.proofs.OfStatements.Names.{left_is}
 use Rattle.mv_accepts.proofs.OfStatements.Places.{keeps_same, keeps_joined}
 use Rattle.mv_accepts.proofs.OfExpressions.Plain.{IsPlain}
+use Rattle.mv_check_outline.specs.Outlined.{declares_pointer}
 use Rattle.mv_types.specs.declared.contents.Contents.{Contents}
 use Rattle.mv_types.specs.declared.contents.Foreknown.{Foreknown}
 use Rattle.mv_types.specs.declared.contents.Object.{Object}
@@ -133,9 +134,11 @@ module _ (k : Foreknown) (d : Declarator) (name : List ℕ) (n : IsName name) (d
   unfolding object_judgement
   object_written l block = behind_has l block (named name c.scope.names.here)
 
-domain_some : (s : Scope) (enumeration : Option ℕ) (a : Option Attribute) → IfSome (Has s) enumeration → IfSome IsFilledAttribute a → IfSome HasSome (domain_by s enumeration a)
-domain_some s enumeration None h k = tt
-domain_some s enumeration (Some a) h k = by a.values k
+domain_some : (pointer : Bool) (s : Scope) (enumeration : Option ℕ) (a : Option Attribute) → IfSome (Has s) enumeration → IfSome IsFilledAttribute a →
+    IfSome HasSome (domain_by pointer s enumeration a)
+domain_some true s enumeration a h k = tt
+domain_some false s enumeration None h k = tt
+domain_some false s enumeration (Some a) h k = by a.values k
   where
     by : (o : Option (List ℕ)) → IfSome HasSome o → HasSome (domain_or o (default_domain s enumeration))
     by None f = default_some s enumeration h
@@ -219,9 +222,9 @@ module _ (fit : ParametersFit) (grow : BodyGrows) where
         (c : Contents) → IfSome (Has c.scope) b.enumeration → AreWritten c → IfGood (by_entity k b body d name e a c) (IsWrittenBehind c)
     entity_written b body d name n (entity.Function signature) a f c m h = function_written k name n d b.ctype signature body c h
     entity_written b body d name n (entity.Scalar t fixed) a f c m h =
-        object_written k d name n (domain_by c.scope b.enumeration a) (domain_some c.scope b.enumeration a m f) c h (scalar t) (is_some body)
+        object_written k d name n (domain_by (declares_pointer d) c.scope b.enumeration a) (domain_some (declares_pointer d) c.scope b.enumeration a m f) c h (scalar t) (is_some body)
     entity_written b body d name n (entity.Array t fixed size) a f c m h =
-        object_written k d name n (domain_by c.scope b.enumeration a) (domain_some c.scope b.enumeration a m f) c h (sized t (array_size size d.initial)) (is_some body)
+        object_written k d name n (domain_by (declares_pointer d) c.scope b.enumeration a) (domain_some (declares_pointer d) c.scope b.enumeration a m f) c h (sized t (array_size size d.initial)) (is_some body)
 
     named_written : (b : Specified) (body : Option Line) (d : Declarator) (name : Option (List ℕ)) → ((n : List ℕ) → name ≡ Some n → IsName n) → (e : Designated) →
         IfSome IsFilledAttribute e.attribute → (c : Contents) → IfSome (Has c.scope) b.enumeration → AreWritten c →

@@ -26,7 +26,7 @@ use Rattle.mv_types.specs.declared.contents.Contents.{Contents}
 use Rattle.mv_types.specs.declared.contents.Foreknown.{Foreknown}
 use Rattle.mv_types.specs.declared.contents.Object.{Object}
 use Rattle.mv_types.specs.Contents.{nothing_declared, switches_from}
-use Rattle.mv_types.specs.Foreknown.{foreknown}
+use Rattle.mv_types.specs.Foreknown.{foreknown, pointers_of}
 use Rattle.mv_types.specs.Units.{item_judgement, program_of}
 use Rattle.mv_accepts.specs.Globals.Globals.{HasFormedGlobals, GlobalsAreFormed}
 use Rattle.mv_accepts_programs.specs.Checked.{ProgramsOfTextsAreWellFormed}
@@ -50,16 +50,16 @@ record IsWritten (p : Program) : Type 0 where
   apart : AllPairs AreApart p.switches
   owners : All (IsOwner p.switches) (attributed_functions p)
 
-program_written : (c : Contents) (main : ℕ) → AreWritten c → IsWritten (program_of c main)
+program_written : (c : Contents) (pointers : List ℕ) (main : ℕ) → AreWritten c → IsWritten (program_of c pointers main)
 unfolding program_of
-program_written c main h =
+program_written c pointers main h =
     let ss : List Switch = switches_from 0 c.objects in
     record {
       globals = All-from_recursion (λ (g : Global). IsName g.name) (map (λ (o : Object). o.global) c.objects)
           (all_mapped (λ (g : Global). IsName g.name) (λ (o : Object). o.global) c.objects (all_more IsWrittenObject (λ o. IsName o.global.name) (λ o w. w.0) c.objects h.objects));
       domains = All-from_recursion HasDomain ss (domains_some 0 c.objects h.objects);
       apart = all_apart 0 c.objects;
-      owners = All-from_recursion (IsOwner ss) (attributed_functions (program_of c main)) (owners ss c.functions h.functions);
+      owners = All-from_recursion (IsOwner ss) (attributed_functions (program_of c pointers main)) (owners ss c.functions h.functions);
     }
 
 module _ (p : Program) (w : IsWritten p) (formed : IsWellFormed p) (globals : HasFormedGlobals p) where
@@ -171,4 +171,4 @@ programs_have_facts fit grow globals formed written text p is =
     let a : AreWritten from.0 =
     of_good AreWritten (through (item_judgement k) is.unit.items (nothing_declared k))
     (items_written fit grow k is.unit.items (written text is.unit is.reads.reads)) from.0 from.2 in
-    facts p (subst IsWritten (sym from.4) (program_written from.0 from.1 a)) (formed text p is) (globals is.unit p (sym (same_judgement is.unit) ∙ is.good))
+    facts p (subst IsWritten (sym from.4) (program_written from.0 (pointers_of k) from.1 a)) (formed text p is) (globals is.unit p (sym (same_judgement is.unit) ∙ is.good))

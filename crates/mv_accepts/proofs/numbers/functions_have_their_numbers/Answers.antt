@@ -6,7 +6,7 @@ pub returns-clause-defined : goal.returns-clause-defined
 returns-clause-defined c items d q = functions_defined items d q
 
 pub returns-clause-attributed : goal.returns-clause-attributed
-returns-clause-attributed c items d main q = attributed_counted items d main q
+returns-clause-attributed c items d pointers main q = attributed_counted items d pointers main q
 
 pub returns-clause-known : goal.returns-clause-known
 returns-clause-known c items = items_known items

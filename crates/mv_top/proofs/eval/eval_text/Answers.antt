@@ -1,6 +1,6 @@
-use Rattle.std.proofs.Common.{◌≡◌, length, arith, ap, refl}
+use Rattle.std.proofs.Common.{arith, refl}
 use Rattle.mv_io.proofs.Common.{count_kept}
-use Rattle.mv_front.proofs.Few.{few_functions, no_pointers}
+use Rattle.mv_front.proofs.Few.{few_functions, few_pointers}
 use Rattle.mv_top.proofs.Texts.{evaluation_done, not_evaluated}
 use Rattle.mv_check_limits.proofs.Orders.{none_exceeded}
 use Rattle.mv_top.proofs.eval.eval_text.Goals as goal
@@ -9,9 +9,9 @@ pub eval-requires : goal.eval-requires
 eval-requires g c =
     let p = c.in-Ok.program in
     let is = c.in-Ok.ensures.accepted in
-    let few = few_functions p (none_exceeded is.unit p is.within) in
-    let none : length p.pointers ≡ 0 = ap length (no_pointers is.unit p is.good) in
-    omega (arith, few, none)
+    let functions = few_functions p (none_exceeded is.unit p is.within) in
+    let pointers = few_pointers p (none_exceeded is.unit p is.within) in
+    omega (arith, functions, pointers)
 
 pub returns-in-Ok-clause-does : goal.returns-in-Ok-clause-does
 returns-in-Ok-clause-does g c way =
