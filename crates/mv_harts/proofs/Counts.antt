@@ -1,5 +1,5 @@
 -- A run has as many harts as it began with.
-use Rattle.std.proofs.Common.{◌≡◌, ℕ, zero, suc, ◌-◌, ◌≤◌, Bool, true, false, ◌&&◌, if◌then◌else◌, List, [], ◌∷◌, length, map, set, slice_get, Option, Some, None, refl, sym, ap, ◌∙◌, arith, length-set}
+use Rattle.std.proofs.Common.{◌≡◌, ℕ, zero, suc, ◌-◌, ◌≤◌, Bool, true, false, ◌&&◌, if◌then◌else◌, List, [], ◌∷◌, length, map, set, slice_get, Option, Some, None, refl, ap, ◌∙◌, arith, length-set}
 use Rattle.std.proofs.lemmas.List.{length-map}
 use Rattle.mv_bindings.specs.declared.binding.Binding.{Binding}
 use Rattle.mv_bindings.specs.Acts.{Act, Skip}

@@ -1,24 +1,23 @@
 -- What a group is in which a schedule was run is told of, and all that is promised holds of it.
-use Rattle.std.proofs.Common.{◌≡◌, ℕ, zero, suc, ◌-◌, ◌<◌, ◌≤◌, ◌^◌, Bool, true, List, [], ◌∷◌, length, map, slice_get, take, Option, Some, None, option_and_then, unwrap_or, refl, sym, ap, ◌∙◌, subst, arith}
+use Rattle.std.proofs.Common.{◌≡◌, ℕ, zero, suc, ◌-◌, ◌<◌, ◌≤◌, ◌^◌, Bool, List, [], ◌∷◌, length, map, slice_get, Option, Some, None, option_and_then, unwrap_or, refl, sym, ap, ◌∙◌, subst, arith}
 use Rattle.std.specs.Prelude.{All, Err, IfOk, IsTrue, MatchResult, Ok, Result}
 use Rattle.std.specs.declared.alloc.AllocError.{AllocError}
 use Rattle.std.proofs.lemmas.List.{take_all}
 use Rattle.std.proofs.lemmas.Option.{get_or_from_slice_get, same_Some, slice_get_within}
 use Rattle.mv_ast.specs.declared.program.Program.{Program}
 use Rattle.mv_bindings.specs.declared.action.Action.{Action}
-use Rattle.mv_bindings.specs.Acts.{Act, IsOfWord, act_of}
+use Rattle.mv_bindings.specs.Acts.{IsOfWord, act_of}
 use Rattle.mv_image.specs.Spelling.{Fields}
-use Rattle.mv_isa.specs.declared.instr.Cause.{Cause}
 use Rattle.mv_machine.specs.Actions.{fits}
-use Rattle.mv_machine.specs.Runs.{State, Stop, Fault, bytes_to_come}
+use Rattle.mv_machine.specs.Runs.{State, bytes_to_come}
 use Rattle.mv_harts_runs.specs.Harts.{Hart, Harts}
-use Rattle.mv_harts_runs.specs.Alone.{IsWell, Passes}
+use Rattle.mv_harts_runs.specs.Alone.{IsWell}
 use Rattle.mv_harts_meant.specs.Laws.{ActionsPass, AreBytes, FittingLaw, Means, MeansLaw}
 use Rattle.mv_harts_meant.specs.Runnable.{IsRunnable, fits_in}
 use Rattle.mv_harts_one.specs.declared.seat.Seat.{Seat}
 use Rattle.mv_harts_turns.specs.declared.group.Group.{Group}
 use Rattle.mv_harts_turns.specs.Pairs.{Both, Pairs}
-use Rattle.mv_harts_turns.specs.Groups.{IsSeat, Shows, bindings_of, seat_at}
+use Rattle.mv_harts_turns.specs.Groups.{IsSeat, bindings_of, seat_at}
 use Rattle.mv_harts_turns.specs.Runs.{Broken, Outside, FaultsOfAll, GotAll, Ran, IsReadyFor, bytes_of, harts_of, inputs_of, turns_by}
 use Rattle.mv_harts_turns.proofs.Standing.{faults_told, ran_counts}
 use Rattle.mv_harts.specs.declared.ends.HartEnd.{HartEnd}

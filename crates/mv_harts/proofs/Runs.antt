@@ -1,22 +1,20 @@
 -- A run of harts by the devices of `mvharts` is the one that words ask for.
-use Rattle.std.proofs.Common.{◌≡◌, ℕ, zero, suc, ◌+◌, ◌-◌, ◌<◌, ◌≤◌, false, List, [], ◌∷◌, ◌++◌, length, map, slice_get, Option, Some, None, option_map, option_and_then, unwrap_or, refl, sym, ap, ◌∙◌, subst, arith, ◌⊎◌, inl, inr}
+use Rattle.std.proofs.Common.{◌≡◌, ℕ, zero, suc, ◌+◌, ◌-◌, ◌<◌, ◌≤◌, false, List, [], ◌∷◌, ◌++◌, length, slice_get, Option, Some, None, option_map, option_and_then, unwrap_or, refl, sym, ap, ◌∙◌, subst, arith, ◌⊎◌, inl, inr}
 use Rattle.std.specs.Prelude.{All, Err, IfOk, Ok, Result, Vec}
 use Rattle.std.specs.declared.alloc.AllocError.{AllocError}
 use Rattle.std.specs.declared.alloc.Global.{Global}
 use Rattle.std.proofs.lemmas.Option.{get_or_from_slice_get, none-some, same_Some, slice_get_past, slice_get_within}
 use Rattle.std.proofs.lemmas.Bool.{cases_lt}
-use Rattle.mv_bindings.specs.declared.binding.Binding.{Binding}
 use Rattle.mv_probe.specs.Ways.{Way}
 use Rattle.mv_build.specs.declared.built.Built.{Built}
 use Rattle.mv_machine.specs.Runs.{bytes_to_come}
 use Rattle.mv_harts_runs.specs.Harts.{Hart, Harts, first_harts, harts_after}
-use Rattle.mv_harts_turns.specs.Groups.{bindings_of, hart_at, output, output_of}
-use Rattle.mv_harts_turns.specs.Runs.{GotAll, Outside, bytes_of, harts_of, outside, turns_by}
+use Rattle.mv_harts_turns.specs.Groups.{bindings_of, output, output_of}
+use Rattle.mv_harts_turns.specs.Runs.{Outside, bytes_of, harts_of, outside, turns_by}
 use Rattle.mv_harts_words.specs.Asked.{Asked}
 use Rattle.mv_harts_words.specs.Schedules.{schedule_of}
 use Rattle.mv_harts.specs.declared.devices.OneByte.{OneByte}
 use Rattle.mv_harts.specs.declared.devices.Keeping.{Keeping}
-use Rattle.mv_harts.specs.declared.ends.HartEnd.{HartEnd}
 use Rattle.mv_harts.specs.declared.ends.HartsEnd.{HartsEnd}
 use Rattle.mv_harts.specs.Devices.{first_sources, left_of}
 use Rattle.mv_harts.specs.Ends.{IsEnd}

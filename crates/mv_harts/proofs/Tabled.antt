@@ -1,18 +1,14 @@
 -- The tables of what is built are as several harts ask for.
-use Rattle.std.proofs.Common.{◌≡◌, ℕ, ◌+◌, ◌*◌, List, false, take, refl}
+use Rattle.std.proofs.Common.{◌+◌, ◌*◌, false, take, refl}
 use Rattle.std.specs.Prelude.{sum}
 use Rattle.mv_ast.specs.declared.program.Program.{Program}
 use Rattle.mv_accepts_programs.specs.Checked.{ProgramsOfTextsAreWellFormed}
 use Rattle.mv_source_forms.specs.Names.{global_words}
-use Rattle.mv_image.specs.Faults.{Rules}
 use Rattle.mv_linker.specs.Tables.{data_start}
 use Rattle.mv_link_data.specs.FirstData.{global_sizes}
 use Rattle.mv_select.specs.Calls.Convention.{Layout}
 use Rattle.mv_refine_machine.specs.Commits.Tabled.{IsTabled}
 use Rattle.mv_refine_images.specs.Tables.Laws.{ImagesHaveTables}
-use Rattle.mv_build.specs.Verdicts.{IsBuiltFrom}
-use Rattle.mv_build.specs.declared.built.Built.{Built}
-use Rattle.mv_harts_meant.specs.Runnable.{IsRunnable}
 use Rattle.mv_harts.specs.Runnable.{BuiltAreRunnable}
 
 -- a layout that has the program's globals where they are linked; what else it has is nothing to tables

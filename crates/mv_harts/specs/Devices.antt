@@ -1,8 +1,6 @@
 -- What the harts of `mvharts` read from and write to.
-use Rattle.std.specs.Prelude.{ℕ, zero, suc, ◌+◌, List, [], ◌∷◌, ◌++◌, Option, Some, None, Vec}
-use Rattle.std.specs.declared.alloc.Global.{Global}
+use Rattle.std.specs.Prelude.{ℕ, zero, suc, ◌+◌, List, [], ◌∷◌, ◌++◌, Option, Some, None}
 use Rattle.mv_harts.specs.declared.devices.OneByte.{OneByte}
-use Rattle.mv_harts.specs.declared.devices.Keeping.{Keeping}
 
 -- the byte, if there is one
 abbrev pub byte_list : Option ℕ → List ℕ

@@ -1,5 +1,5 @@
 -- The text of a run of harts.
-use Rattle.std.specs.Prelude.{ℕ, suc, ◌+◌, Bool, true, false, List, [], ◌∷◌, ◌++◌, length, codes}
+use Rattle.std.specs.Prelude.{ℕ, suc, Bool, true, false, List, [], ◌∷◌, ◌++◌, length, codes}
 use Rattle.std.specs.Fmt.{decimal}
 use Rattle.mv_machine.specs.Runs.{Stop, Going, Exit, Trap, Fault}
 use Rattle.mv_harts_runs.specs.Harts.{Hart, Harts}

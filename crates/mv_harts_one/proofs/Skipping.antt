@@ -1,7 +1,6 @@
 -- What a poll that takes nothing is to the hart that its seat is.
-use Rattle.std.proofs.Common.{ℕ, ◌≡◌, ◌+◌, Bool, false, ◌&&◌, not, List, [], ◌∷◌, ◌++◌, append-nil, Option, Some, None, option_map, refl, sym, ap, ◌∙◌}
+use Rattle.std.proofs.Common.{ℕ, ◌≡◌, ◌+◌, false, ◌&&◌, not, List, [], ◌∷◌, ◌++◌, append-nil, Option, Some, None, option_map, refl, sym, ap, ◌∙◌}
 use Rattle.mv_bindings.specs.declared.binding.Binding.{Binding}
-use Rattle.mv_bindings.specs.declared.binding.Event.{Event}
 use Rattle.mv_bindings.specs.Acts.{Skip}
 use Rattle.mv_isa.specs.Encoding.{decode}
 use Rattle.mv_isa.specs.declared.instr.Instr.TheVariants.{Ecall}
@@ -9,7 +8,7 @@ use Rattle.mv_fetch.specs.Held.{choices}
 use Rattle.mv_machine.specs.declared.engine.Engine.{Engine}
 use Rattle.mv_machine.specs.declared.machine.Stopped.{Stopped}
 use Rattle.mv_machine.specs.Runs.{State, Going, answered, refused, bytes_to_come, choices_at, turn}
-use Rattle.mv_machine.specs.Commits.{fetched_instr, is_some_pair}
+use Rattle.mv_machine.specs.Commits.{is_some_pair}
 use Rattle.mv_machine.specs.Moves.{seen, shown, Does}
 use Rattle.mv_harts_runs.specs.Harts.{Hart, AtPoll, place, handed, Move, move}
 use Rattle.mv_harts_runs.proofs.Adopting.{at_call, skipping}

@@ -12,7 +12,6 @@ use Rattle.mv_image.specs.Spelling.{Fields}
 use Rattle.mv_io.proofs.Common.{count_kept}
 use Rattle.mv_probe.specs.Ways.{Way, way_after, next_way}
 use Rattle.mv_machine.specs.declared.machine.Stopped.{Stopped}
-use Rattle.mv_machine.specs.declared.machine.Stopped.TheVariants as answer
 use Rattle.mv_machine.specs.Moves.{input_failed, output_failed}
 use Rattle.mv_machine.specs.Runs as runs
 use Rattle.mv_harts_runs.specs.Harts.{Hart, Harts, Turn, first_harts, others_from, first_of, hart_from, harts_after, turn_of}

@@ -145,3 +145,9 @@ logs_of events was None log none adds e = subst (λ (o : Option (List Event)). L
 logs_of events None (Some now) log none adds e = absurd adds
 logs_of events (Some before) (Some now) log none adds e =
     subst (λ (o : Option (List Event)). Logs o events) (sym e) (adds ∙ ap (λ (es : List Event). es ++ events) none)
+
+-- one that wasn't kept at the start isn't kept at the end
+pub none_kept : (events : List Event) (was is : Option Log) → was ≡ None → Adds events was is → events_of is ≡ None
+none_kept events None None none adds = refl
+none_kept events None (Some now) none adds = absurd adds
+none_kept events (Some before) is none adds = absurd (cc none)

@@ -19,7 +19,7 @@ use Rattle.mv_patch.specs.Orders.{is_known_order, values_of, bindings_after, ans
 use Rattle.mv_patch.specs.Plans.{Planned, plan_between, plan_of}
 use Rattle.mv_patch.specs.Stores.{stored_all}
 use Rattle.mv_machine.specs.Acts.{PollActs}
-use Rattle.mv_machine.specs.Runs.{State, Fault, Request, Exits, Reads, Writes, Traps, Plans, Polls, Unknown, request_of, argument, answered, stopped, live_frames, refused, carried_out, ordered, planned, with_value, flipped, adopts, adopted, act, acted, polled, environment_call, is_going, choices_at, fetched_step, after, turn, runs_from, first, runs}
+use Rattle.mv_machine.specs.Runs.{State, Fault, Request, Exits, Reads, Writes, Traps, Plans, Polls, Unknown, request_of, argument, answered, stopped, live_frames, refused, carried_out, ordered, planned, with_value, flipped, adopts, adopted, acted, polled, environment_call, is_going, choices_at, fetched_step, after, turn, runs_from, first}
 use Rattle.mv_machine.specs.Upgrades.{with_upgraded, UpgradesRunAlike}
 
 -- ---- plans

@@ -1,6 +1,6 @@
 //! The log of a run.
 
-ghost use Rattle.std.specs.Prelude.{◌≡◌, ◌<◌, ◌^◌, [], ◌++◌, length, IfOk, IfSome, OnOk};
+ghost use Rattle.std.specs.Prelude.{◌≡◌, ◌<◌, ◌^◌, [], ◌++◌, length, false, None, IfOk, IfSome, OnOk};
 ghost use Rattle.mv_bindings.specs.Bindings.{events_from};
 ghost use Rattle.mv_machine.specs.Engines.{change};
 ghost use Rattle.mv_machine.specs.Logging.{HasCome, Notes, events_of};
@@ -80,6 +80,7 @@ fn push_changes(
 pub(crate) fn log_from(alloc: Global, wanted: bool, bindings: &List<Binding>) -> Option<Log>
     ensures events { IfSome result (λ log. log.events ≡ []) }
     ensures come { HasCome bindings.now result }
+    ensures unwanted { wanted ≡ false → result ≡ None }
 {
     if wanted {
         Log::start(alloc, bindings).ok()

@@ -1,6 +1,6 @@
 //! A machine and its runs.
 
-ghost use Rattle.std.specs.Prelude.{◌≡◌, ◌≤◌, List, [], Some, None, IfOk, IsTrue, All};
+ghost use Rattle.std.specs.Prelude.{◌≡◌, ◌≤◌, List, [], false, Some, None, IfOk, IsTrue, All};
 ghost use Rattle.mv_bindings.specs.declared.binding.Event.{Event};
 ghost use Rattle.std.specs.Result.{result_ok};
 ghost use Rattle.mv_fetch.specs.Held.{load};
@@ -87,9 +87,9 @@ impl Machine {
         })
     }
 
-    /// Runs so many instructions, or up to the one that ends the run. After `Steps` a further call goes on; after any other answer it gives
-    /// this answer again and does nothing, without a log. A poll takes the next of the actions. Each probe is told each changed binding at the environment call
-    /// that changes it, until it leaves. Where the log is wanted, the report has it, unless memory lacked for it.
+    /// Runs so many instructions, or up to the one that ends the run. After `Steps` a further call goes on; after any other answer it gives this
+    /// answer again and does nothing, without a log. A poll takes the next of the actions. Each probe is told each changed binding at the environment
+    /// call that changes it, until it leaves. Where the log is wanted, the report has it, unless memory lacked for it; else it has none.
     pub fn run<I: Source, O: Sink>(
         &mut self,
         alloc: Global,
@@ -108,6 +108,7 @@ impl Machine {
             (I.left source.old) (I.left source.new) (O.written sink.old) (O.written sink.new) (way oracle.old) (way oracle.new)
             (Rose (I.faults source.old) (I.faults source.new)) (Rose (O.faults sink.old) (O.faults sink.new))
             (λ news. Fates (Becomes (λ probe. object_at probe.ptr probe.vtable) (λ probe. hearing (told probe) (patience probe)) news) probes.old.items probes.new.items × (events ≡ news))) }
+        ensures unwanted { logs ≡ false → result.log ≡ None }
         ensures quiet { self.old.image.functions ≡ [] → probes.new ≡ probes.old }
         ensures last { self.old.last ≡ None → self.new.last ≡ last_of result.stopped }
         ensures again { (last : Stopped) → self.old.last ≡ Some last → (result.stopped ≡ last) × (result.executed ≡ 0) × (result.log ≡ None) × (self.new ≡ self.old) × (source.new ≡ source.old) × (sink.new ≡ sink.old) × (way oracle.new ≡ way oracle.old) × (probes.new ≡ probes.old) }

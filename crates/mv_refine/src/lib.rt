@@ -28,7 +28,7 @@
 //! where its next instruction is a write, one byte more is written behind it.
 #![tactic(auto)]
 
-ghost use Rattle.std.specs.Prelude.{◌≤◌, All, IfOk, IsTrue};
+ghost use Rattle.std.specs.Prelude.{◌≡◌, ◌≤◌, false, None, All, IfOk, IsTrue};
 ghost use Rattle.mv_bindings.specs.Acts.{IsOfWord};
 ghost use Rattle.mv_io.specs.Outside.{CountAfter};
 ghost use Rattle.mv_machine.specs.Actions.{fits};
@@ -51,8 +51,9 @@ use mv_machine::Machine;
 use mv_probe::{FetchOracle, Probe};
 use std::alloc::{AllocError, Global};
 
-/// Runs an image for at most so many instructions. A poll takes the next of the actions, and each probe is told each changed binding; where the log is
-/// wanted, the report has it, unless memory lacked for it. An error is want of memory for the machine, before the first instruction.
+/// Runs an image for at most so many instructions. A poll takes the next of the actions, and each probe is told each changed binding; where the log
+/// is wanted, the report has it, unless memory lacked for it; else it has none. An error is want of memory for the machine, before the first
+/// instruction.
 pub fn run_image<I: Source, O: Sink>(
     alloc: Global,
     image: &Image,
@@ -74,14 +75,15 @@ pub fn run_image<I: Source, O: Sink>(
     ensures later { O.faults sink.old ≤ O.faults sink.new }
     ensures reading { IfOk result (λ e. CountAfter (is_input_fault e.report.stopped) (I.faults source.old) (I.faults source.new)) }
     ensures writing { IfOk result (λ e. CountAfter (is_output_fault e.report.stopped) (O.faults sink.old) (O.faults sink.new)) }
+    ensures unwanted { logs ≡ false → IfOk result (λ e. e.report.log ≡ None) }
 {
     let mut machine = Machine::start(alloc, image)?;
     let report = machine.run(alloc, logs, steps, source, sink, oracle, probes, actions);
     Ok(Execution { machine, report })
 }
 
-/// Runs the image of a program for at most so many instructions. A poll takes the next of the actions, and each probe is told each changed
-/// binding; where the log is wanted, the report has it, unless memory lacked for it. An error is want of memory for the machine, before the
+/// Runs the image of a program for at most so many instructions. A poll takes the next of the actions, and each probe is told each changed binding;
+/// where the log is wanted, the report has it, unless memory lacked for it; else it has none. An error is want of memory for the machine, before the
 /// first instruction.
 pub fn execute<I: Source, O: Sink>(
     alloc: Global,
@@ -104,6 +106,7 @@ pub fn execute<I: Source, O: Sink>(
     ensures later { O.faults sink.old ≤ O.faults sink.new }
     ensures reading { IfOk result (λ e. CountAfter (is_input_fault e.report.stopped) (I.faults source.old) (I.faults source.new)) }
     ensures writing { IfOk result (λ e. CountAfter (is_output_fault e.report.stopped) (O.faults sink.old) (O.faults sink.new)) }
+    ensures unwanted { logs ≡ false → IfOk result (λ e. e.report.log ≡ None) }
 {
     are_of_words(actions);
     run_image(

@@ -1,5 +1,5 @@
 -- The globals and the stack of a program in the machine's memory.
-use Rattle.std.proofs.Common.{◌≡◌, Bool, ⊎_elim, inl, inr, ℕ, ◌+◌, ◌*◌, ◌^◌, ◌<◌, ◌≤◌, true, List, [], Option, Some, sym, ap, arith}
+use Rattle.std.proofs.Common.{◌≡◌, Bool, ⊎_elim, inl, inr, ℕ, ◌+◌, ◌*◌, ◌^◌, ◌<◌, ◌≤◌, true, List, Option, Some, sym, ap, arith}
 use Rattle.std.proofs.lemmas.Bool.{cases_lt, cases_order}
 use Rattle.mv_machine.specs.Acts.{PollActs}
 use Rattle.mv_image.specs.Spelling.{Fields}

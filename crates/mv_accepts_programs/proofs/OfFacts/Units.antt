@@ -1,5 +1,5 @@
 -- The objects and functions that the declarations of a unit come to are written as the grammar has them.
-use Rattle.std.proofs.Common.{ℕ, zero, suc, refl, List, [], replicate, length, Option, None}
+use Rattle.std.proofs.Common.{ℕ, zero, suc, refl, List, replicate, length, Option, None}
 use Rattle.std.specs.List.{AllByRecursion}
 use Rattle.mv_syntax.specs.declared.unit.Declarator.{Declarator}
 use Rattle.mv_syntax.specs.declared.unit.Item.{Item}

@@ -1,5 +1,4 @@
-use Rattle.std.proofs.Common.{◌-◌, ◌+◌, ◌≡◌, List, [], ◌++◌, length, refl, sym, ap, ◌∙◌, subst, arith, None, append-nil}
-use Rattle.mv_bindings.specs.declared.binding.Event.{Event}
+use Rattle.std.proofs.Common.{◌-◌, ◌+◌, [], ◌++◌, length, refl, sym, ap, ◌∙◌, arith, None, append-nil}
 use Rattle.mv_bindings.specs.Bindings.{events_from}
 use Rattle.mv_image.specs.Spelling.{Fields}
 use Rattle.mv_io.specs.Outside.{Rose}

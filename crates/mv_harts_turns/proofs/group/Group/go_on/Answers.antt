@@ -1,4 +1,4 @@
-use Rattle.std.proofs.Common.{◌≡◌, ◌+◌, ◌<◌, ◌≤◌, ◌∙◌, Some, length, take, slice_get, sym, ap, refl, subst, arith}
+use Rattle.std.proofs.Common.{◌≡◌, ◌<◌, ◌≤◌, ◌∙◌, Some, length, take, slice_get, sym, ap, refl, subst, arith}
 use Rattle.std.proofs.lemmas.Option.{slice_get-get_or}
 use Rattle.mv_harts_turns.specs.Runs.{Ran}
 use Rattle.mv_harts_turns.proofs.Running.{advanced_next, advanced_not, ran_all, at_most}

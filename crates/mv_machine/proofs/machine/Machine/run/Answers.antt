@@ -5,7 +5,7 @@ use Rattle.mv_probe.specs.Fates.{Fates}
 use Rattle.mv_probe.proofs.Logs.{told_then}
 use Rattle.mv_machine.specs.Snapshots.{Snapshot}
 use Rattle.mv_machine.specs.Moves.{seen, WithEvents}
-use Rattle.mv_machine.proofs.Logged.{added, logs_of}
+use Rattle.mv_machine.proofs.Logged.{added, logs_of, none_kept}
 use Rattle.mv_machine.proofs.Resumed.{input_count, output_count, ran, unless}
 use Rattle.mv_machine.proofs.machine.Machine.run.Goals as goal
 
@@ -35,6 +35,10 @@ returns-clause-runs g c =
           (λ k l m xs ys before behind. (told_then _ _ xs ys k.0 l.0 m.0 before.0 behind.0, added k.1 l.1 xs ys m.1 before.1 behind.1)) (c.args.probes.now.items, []) (walk.new.probes.items, w.0) c.args.steps c.executed.result
           c.args.actions.now c.new-operator.ensures walk.result.stopped walk.result.fetched c.unwrap_or.result c.unwrap_or.ensures c.executed.ensures w.2 walk.ensures.place,
     )
+
+pub returns-clause-unwanted : goal.returns-clause-unwanted
+returns-clause-unwanted g c unwanted =
+    let walked = c.walk-walked.ensures.walked in c.events_of.ensures ∙ none_kept walked.0 _ _ (c.log_from-log.ensures.unwanted unwanted) walked.1
 
 pub returns-clause-reading : goal.returns-clause-reading
 returns-clause-reading g c = input_count c.walk-walked.result.stopped c.unwrap_or.result _ _ c.unwrap_or.ensures c.walk-walked.ensures.reading
