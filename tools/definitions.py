@@ -20,7 +20,7 @@ TOP = os.path.dirname(os.path.dirname(os.path.realpath(__file__)))
 DOCUMENT = os.path.join(TOP, "docs", "trust.md")
 BEGIN, END = "<!-- definitions -->", "<!-- end of definitions -->"
 # Each part: what it is for, and the definitions at which it begins. The core is what has to be believed for `run`, its first parts for the run of an image that does what a
-# source means; the next two serve one clause alone, or none that is said of a text; an appendix is for who relies on what it says.
+# source means; the next serves one clause alone; an appendix is for who relies on what it says.
 MEANT = [
     ("1 What a program means", [("mv_meaning/specs/Meaning.antt", "mean")]),
     ("2 What a run of an image does", [("mv_machine/specs/Runs.antt", "runs")]),
@@ -32,9 +32,6 @@ COMMANDED = [
 ]
 APART = [
     ("6 The work that a meaning counts", [("mv_ast/specs/Names.antt", "names_local"), ("mv_ast/specs/Counts.antt", "patchable"), ("mv_meaning/specs/Meaning.antt", "poll_work")]),
-    ("7 Pointer switches, of which no image has one", [
-        ("mv_ast/specs/Switches.antt", "pointer_number"), ("mv_ast/specs/Switches.antt", "called_word"), ("mv_ast/specs/Switches.antt", "pointer_bindings"),
-        ("mv_ast/specs/Orders.antt", "is_pointer_addressed"), ("mv_ast/specs/Orders.antt", "ordered_pointer")]),
 ]
 APPENDICES = [
     ("A Which text is which program", [("mv_front/specs/Verdicts.antt", "IsProgram")]),

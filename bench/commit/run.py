@@ -1,10 +1,11 @@
 #!/usr/bin/env python3
-"""What a commit saves and what it costs: run.py [saves|forms|costs]..
+"""What a commit saves and what it costs: run.py [saves|forms|pointers|costs]..
 
 saves: guest instructions of 100,000 calls of an attributed function that tests a switch: free, bound by a commit, and with a constant in the place of the
 switch. The function with the constant keeps its attribute; it is told free and bound as well. One callee is inlined where it is bound, the other is called.
 forms: guest instructions of calls of an attributed function that tests two switches in one of the usual forms: free, bound by a commit, and bound with a body
 whose dead code was left out by hand.
+pointers: guest instructions of calls through a pointer switch: free, bound by a commit, and with direct calls in their place, the pointer switch kept.
 costs: what a commit takes as the sites grow, in guest instructions and in time of the host, where one word of each site changes, and where both do.
 
 Guest instructions are counted by the least step limit that is enough. Time is the processor's, of many commits less that of none, and the least of several runs.
@@ -25,6 +26,13 @@ SITES = (64, 256, 1_024, 4_096, 16_384)
 COMMITTED, RUNS = 2_621_440, 5
 # What the callee does where the switch is on: a store of its parameter is inlined, a sum is not.
 CALLEES = {"inlined": "sum = n;", "called": "sum += n;"}
+
+# What an operation does that is called through a pointer switch.
+OPERATIONS = {
+    "a sum": "sum += n;",
+    "four sums in a loop": "int k; for (k = 0; k < 4; k++) sum += n;",
+    "sixteen sums in a loop": "int k; for (k = 0; k < 16; k++) sum += n;",
+}
 
 # Forms in which a callee tests its switches a and b, and, under values of these, its body without dead code.
 FORMS = (
@@ -124,6 +132,16 @@ def forms(room):
             print(f"by hand {by_hand:.2f}; committed by by hand {bound / by_hand:.3f}", flush=True)
 
 
+def pointers(room):
+    for name, body in OPERATIONS.items():
+        operation = f"int sum; void operation(int n) {{ {body} }} {MARK} void (*through)(int) = operation;"
+        guests = (("", "through(i)"), ("multiverse_commit();", "through(i)"), ("multiverse_commit();", "operation(i)"))
+        texts = (f"{operation} int main(void) {{ int i; {commit} for (i = 0; i < {CALLS}; i++) {call}; }}" for commit, call in guests)
+        free, bound, direct = (instructions(written(room, it)) / CALLS for it in texts)
+        print(f"{name}: guest instructions a turn: through a free pointer switch {free:.2f}, a committed one {bound:.2f}, direct {direct:.2f}; ", end="")
+        print(f"committed by free {bound / free:.3f}, by direct {bound / direct:.3f}", flush=True)
+
+
 def costs(room):
     for name, inlined in (("one word a site", False), ("both words a site", True)):
         before = None
@@ -141,8 +159,8 @@ def main(measures):
     if not os.access(PROGRAM, os.X_OK):
         sys.exit(f"no {PROGRAM}: .ci/run makes it")
     with tempfile.TemporaryDirectory() as room:
-        for measure in measures or ("saves", "forms", "costs"):
-            {"saves": saves, "forms": forms, "costs": costs}[measure](room)
+        for measure in measures or ("saves", "forms", "pointers", "costs"):
+            {"saves": saves, "forms": forms, "pointers": pointers, "costs": costs}[measure](room)
 
 
 if __name__ == "__main__":

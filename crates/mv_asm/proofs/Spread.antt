@@ -4,7 +4,7 @@ use Rattle.std.proofs.lemmas.List.{length-set}
 use Rattle.std.proofs.lemmas.List.Elements.{All-get_or, All-from_get_or}
 use Rattle.std.proofs.lemmas.List.Sums.{sum_by-set}
 use Rattle.mv_isa.specs.declared.labelled.Line.{Line}
-use Rattle.mv_isa.specs.declared.labelled.Line.TheVariants.{Word, Label, Jump, Branch, Entry, Slot}
+use Rattle.mv_isa.specs.declared.labelled.Line.TheVariants.{Word, Label, Jump, Branch, Entry, Slot, Point}
 use Rattle.mv_isa.specs.Code.{line_at, target_index, least_words, greatest_words, IsSizing, SizingFits, Reaches, InReach, offset, place}
 use Rattle.mv_asm.specs.declared.spans.Span.{Span}
 use Rattle.mv_asm.specs.Sizes.{AreOffsets, IsNoLonger}
@@ -93,6 +93,7 @@ reaches_where_short (Jump rd x) at to words l g r one = absurd (omega arith)
 reaches_where_short (Branch funct3 rs1 rs2 x) at to words l g r one = r one
 reaches_where_short (Entry rd x) at to words l g r one = absurd (omega arith)
 reaches_where_short (Slot x) at to words l g r one = absurd (omega arith)
+reaches_where_short (Point a) at to words l g r one = absurd (omega arith)
 
 -- what was made long since a sizing is long in each that fits
 pub record Spread (lines : List Line) (start sizing : List ℕ) (spans : List Span) : Type 0 where

@@ -1,5 +1,5 @@
 -- The limits that a program passes, by the answers of the steps.
-use Rattle.std.proofs.Common.{◌≡◌, ◌⊎◌, inl, inr, ℕ, ◌<◌, ◌≤◌, Bool, true, false, cond, List, [], length, refl, ap₂, subst, sym, ◌∙◌, arith}
+use Rattle.std.proofs.Common.{◌≡◌, ◌⊎◌, inl, inr, ℕ, ◌<◌, ◌≤◌, Bool, true, false, cond, List, length, refl, ap₂, subst, sym, ◌∙◌, arith}
 use Rattle.std.specs.Prelude.{nat_lt}
 use Rattle.std.proofs.lemmas.Bool.{cases_lt, ltb-false, ltb-true}
 use Rattle.mv_ast.specs.declared.program.Program.{Program}
@@ -41,9 +41,9 @@ use Rattle.std.proofs.lemmas.Option.{same_Some}
 
 -- ---- frames
 
-pub frame_refused : (p : Program) → p.pointers ≡ [] → (e : SelectError) → OnFrame e (PassesFirstFrame p) → OnRefusal (of_selecting e) (PassesLimit p)
-frame_refused p none (selecting.Frame f bytes) h = large_frame none f bytes h
-frame_refused p none (selecting.Memory e) h = tt
+pub frame_refused : (p : Program) → (e : SelectError) → OnFrame e (PassesFirstFrame p) → OnRefusal (of_selecting e) (PassesLimit p)
+frame_refused p (selecting.Frame f bytes) h = large_frame f bytes h
+frame_refused p (selecting.Memory e) h = tt
 
 pub frames_fit : (p : Program) (bodies : List Body) (codes : List Labelled) → AreGenerics p bodies → HaveCode p bodies codes → FramesFit p (length p.functions)
 frames_fit p bodies codes generics have f g below there =
@@ -71,15 +71,15 @@ module _ (p : Program) (size : Size) (within : IsWithin p size) where
   varying_refused (varying.Limit over) h = record { over = over; front = h; why = at_limit p over within.data_fits h.past }
   varying_refused (varying.Memory e) h = tt
 
-module _ (p : Program) (none : p.pointers ≡ []) (bodies : List Body) (functions : List Labelled) (frames : FramesFit p (length p.functions))
-    (generics : AreGenerics p bodies) (have : HaveCode p bodies functions) (size : Size) (is : IsSizeOf functions size) where
+module _ (p : Program) (bodies : List Body) (functions : List Labelled) (frames : FramesFit p (length p.functions))
+    (generics : AreGenerics p bodies) (have : HaveCode p bodies functions) (size : Size) (is : IsSizeOf p functions size) where
   -- and so the program passes a limit
   pub functions_refused : (e : BuildError) → OnRefusal e (PassesAt p size) → OnRefusal e (PassesLimit p)
-  functions_refused (Refused r) h = large_functions none bodies functions size r frames generics have is h
+  functions_refused (Refused r) h = large_functions bodies functions size r frames generics have is h
   functions_refused (Memory e) h = tt
 
   pub variants_refused : IsWithin p size → (e : BuildError) → OnRefusal e (PassesVarying p size) → OnRefusal e (PassesLimit p)
-  variants_refused within (Refused r) h = large_variants none bodies functions size h.over r frames generics have is within h.front h.why
+  variants_refused within (Refused r) h = large_variants bodies functions size h.over r frames generics have is within h.front h.why
   variants_refused within (Memory e) h = tt
 
 -- ---- links
@@ -115,10 +115,10 @@ module _ (p : Program) (parts : Parts) where
     refusal_is (Memory e) h = tt
 
   -- and so the program passes it
-  pub limit_of : p.pointers ≡ [] → FramesFit p (length p.functions) → (coded : IsCoded p parts) → IsAllWithin p parts.functions coded.tables → (e : BuildError) → OnRefusal e (PassesWith p parts) →
+  pub limit_of : FramesFit p (length p.functions) → (coded : IsCoded p parts) → IsAllWithin p parts.functions coded.tables → (e : BuildError) → OnRefusal e (PassesWith p parts) →
       OnRefusal e (PassesLimit p)
-  limit_of none frames coded within (Refused r) h = large_parts none parts r frames coded within h
-  limit_of none frames coded within (Memory e) h = tt
+  limit_of frames coded within (Refused r) h = large_parts parts r frames coded within h
+  limit_of frames coded within (Memory e) h = tt
 
 -- ---- parts with their data
 
@@ -145,7 +145,7 @@ module _ (p : Program) (functions : List Labelled) (attributed : List PartFuncti
   module _ (can_be_linked : PartsCanBeLinked) (counts : DataIsCounted) (sound : IsSound p) (coded : IsCoded p (parts_of p functions attributed))
       (fit : IsWithinLimits p (parts_of p functions attributed)) where
     pub linkable : ArePartsOf p coded.bodies coded.tables (parts_of p functions attributed)
-    linkable = can_be_linked p sound.formed sound.facts coded.bodies coded.tables (parts_of p functions attributed) coded.codes refl refl refl fit.labels
+    linkable = can_be_linked p sound.formed sound.facts coded.bodies coded.tables (parts_of p functions attributed) coded.codes refl refl refl refl refl fit.labels fit.data_fits
 
     pub linked_to : (image : Fields) → IsLinkedOf (parts_of p functions attributed) image → IsLinkedTo p (parts_of p functions attributed) image
     linked_to image of = record { data_fits = fit.data_fits; labels = fit.labels; of = of }

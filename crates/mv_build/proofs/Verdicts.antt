@@ -1,10 +1,8 @@
 -- What is compiled of a source's program is what the source is built to.
-use Rattle.std.proofs.Common.{List, [], ◌∷◌, ℕ, ◌≡◌, ◌≢◌, ◌<◌, length, arith, sym, subst}
+use Rattle.std.proofs.Common.{List, ℕ, sym, subst}
 use Rattle.std.specs.Prelude.{Result, Ok, Err, IfOk, IfErr}
 use Rattle.mv_ast.specs.declared.program.Program.{Program}
 use Rattle.mv_front.specs.Verdicts.{IsProgram}
-use Rattle.mv_front.specs.Refusals.{of_pointers}
-use Rattle.mv_front.specs.declared.refusal.Refusal.{Refusal}
 use Rattle.mv_front.specs.Verdicts as front
 use Rattle.mv_front.specs.declared.refusal.FrontError.{FrontError}
 use Rattle.mv_front.specs.declared.refusal.FrontError.TheVariants as fronting
@@ -14,7 +12,7 @@ use Rattle.mv_build.specs.declared.error.BuildError.TheVariants.{Refused, Memory
 use Rattle.mv_build.specs.Answers.{IsCause, of_front}
 use Rattle.mv_build.specs.Compiled.{IsCompiled, OnRefusal}
 use Rattle.mv_build.specs.Images.{IsImageOf}
-use Rattle.mv_build.specs.Verdicts.{IsBuiltFrom, PassesLimit, has_pointers, refused, over_limit}
+use Rattle.mv_build.specs.Verdicts.{IsBuiltFrom, PassesLimit, refused, over_limit}
 
 -- the cause of a refusal of the front end
 pub front_cause : (text : List ℕ) (e : FrontError) → front.IsCause text e → IsCause text (of_front e)
@@ -36,13 +34,3 @@ module _ (text : List ℕ) (p : Program) (is : IsProgram text p) where
   cause (Ok b) h = h
   cause (Err (Refused r)) h = over_limit p r is h
   cause (Err (Memory e)) h = tt
-
--- ---- pointer switches
-
-some_there : (xs : List ℕ) → 0 < length xs → xs ≢ []
-some_there [] less = λ e. absurd (omega (arith, less))
-some_there (x ∷ xs) less = λ e. cc
-
--- a program with pointer switches has no image
-pub no_image : (p : Program) (r : Refusal) → r ≡ of_pointers → 0 < length p.pointers → PassesLimit p r
-no_image p r is some = subst (PassesLimit p) (sym is) (has_pointers (some_there p.pointers some))

@@ -19,22 +19,21 @@ module _ (can_be_linked : PartsCanBeLinked) (leads : RowsLeadToVariants) (tabled
   parts = parts_of p c.functions c.attributed
 
   are : ArePartsOf p c.generics c.variants parts
-  are = can_be_linked p sound.formed sound.facts c.generics c.variants parts code.codes refl refl refl to.labels
+  are = can_be_linked p sound.formed sound.facts c.generics c.variants parts code.codes refl refl refl refl refl to.labels to.data_fits
 
   abbrev built : IsBuilt p image
   built = record { bodies = c.generics; tables = c.variants; parts = parts; are = are; constants = code.words; linked = to.of.linked; rules = to.of.rules }
 
   pub image_is : IsImageOf p c.generics c.variants image
   image_is = record {
-    pointers = sound.pointers;
     frames = code.frames;
     data_fits = to.data_fits;
     parts = parts;
     are_parts = are;
     linked = to.of.linked;
     leads = λ n f g variants number there table. leads p c.generics c.variants parts are image to.of.linked n f g variants (record { number = number; there = there; table = table });
-    behaves = λ bytes polls picks are_bytes of_words fit. (behave p image sound.formed sound.facts.words sound.pointers built bytes polls picks are_bytes of_words fit).0;
-    loads = λ bytes polls picks are_bytes of_words fit. let b = behave p image sound.formed sound.facts.words sound.pointers built bytes polls picks are_bytes of_words fit in (b.1, b.2);
-    fits = (tabled p sound.formed sound.pointers c.generics c.variants parts are image to.of.linked).fits;
+    behaves = λ bytes polls picks are_bytes of_words fit. (behave p image sound.formed sound.facts.words built bytes polls picks are_bytes of_words fit).0;
+    loads = λ bytes polls picks are_bytes of_words fit. let b = behave p image sound.formed sound.facts.words built bytes polls picks are_bytes of_words fit in (b.1, b.2);
+    fits = (tabled p sound.formed c.generics c.variants parts are image to.of.linked).fits;
     shows = show p sound.formed c.generics c.variants parts are image to.of.linked to.of.rules;
   }

@@ -15,7 +15,7 @@ use Rattle.mv_parts.specs.Codes.{FramesFit}
 use Rattle.mv_parts.specs.Counts.{HaveFewLabels}
 use Rattle.mv_parts.specs.Fronts.{HaveRoom, PassesFront}
 use Rattle.mv_parts.specs.Parts.{AreCodesOf, ArePartFunctions, AreTables}
-use Rattle.mv_parts.specs.Switches.{part_switches}
+use Rattle.mv_parts.specs.Switches.{part_switches, part_pointers, part_targets}
 use Rattle.mv_select.specs.Bodies.SelectedBodies.{HasWords}
 use Rattle.mv_variants.specs.declared.size.Size.{Size}
 use Rattle.mv_image.specs.Faults.{Rules}
@@ -29,10 +29,9 @@ use Rattle.mv_build.specs.Errors.{of_linking}
 use Rattle.mv_build.specs.Images.{IsImageOf}
 use Rattle.mv_build.specs.Verdicts.{IsAllWithin, PassesAt}
 
--- a well-formed program without pointer switches, with what tables need to know of it
+-- a well-formed program, with what tables need to know of it
 pub record IsSound (p : Program) : Type 0 where
   pub formed : IsWellFormed p
-  pub pointers : p.pointers ≡ []
   pub facts : HasTableFacts p
 
 -- what a program is compiled to
@@ -64,9 +63,17 @@ pub record PassesVarying (p : Program) (size : Size) (r : Refusal) : Type 0 wher
 
 -- ---- image
 
--- a program's code with its switches and the first words of its globals
+-- a program's code with its switches and pointer switches, what these may be bound to, and the first words of its globals
 abbrev pub parts_of : Program → List Labelled → List PartFunction → Parts
-parts_of p functions attributed = record { functions = functions; main = p.main; globals = first_data p; switches = part_switches p; attributed = attributed }
+parts_of p functions attributed = record {
+  functions = functions;
+  main = p.main;
+  globals = first_data p;
+  switches = part_switches p;
+  attributed = attributed;
+  pointers = part_pointers p;
+  targets = part_targets p;
+}
 
 abbrev pub without_data : Parts → Parts
 without_data parts = record parts { globals = [] }

@@ -1,5 +1,5 @@
 -- What the image of a program is.
-use Rattle.std.specs.Prelude.{ℕ, ◌≡◌, ◌≤◌, ◌<◌, ◌^◌, IsTrue, List, [], length, Some, slice_get, All}
+use Rattle.std.specs.Prelude.{ℕ, ◌≡◌, ◌≤◌, ◌<◌, ◌^◌, IsTrue, List, length, Some, slice_get, All}
 use Rattle.mv_ast.specs.declared.program.Program.{Program}
 use Rattle.mv_ast.specs.declared.program.Function.{Function}
 use Rattle.mv_bindings.specs.declared.action.Action.{Action}
@@ -30,14 +30,13 @@ LoadsOpenly p parts sizing image =
     (bytes : List ℕ) (polls : PollActs) (picks : List ℕ) → All (λ b. b < 2 ^ 8) bytes → All IsActOfWord polls.acts → All (λ a. IsTrue (act_fits p polls.hart a)) polls.acts →
     LoadsWhatIsOpen image (closed image parts sizing p) bytes polls picks × LoadsNoOwnSwitch image bytes polls picks
 
--- The image of a program without pointer switches, of these bodies of its functions and these variants of its attributed ones: frames and data are within
+-- The image of a program, of these bodies of its functions and these variants of its attributed ones: frames and data are within
 -- their limits; the image is linked of the code of the bodies and variants, of the first words of the globals, and of tables; the tables lead from each
 -- assignment of a function to the variant that means what the function means under it. Its run does what the program means, in each hart, on each input,
 -- whatever its polls take that fits, also while commits rewrite its text; no instruction loads what is closed to its place, as a variant's own switch; the
 -- same actions fit the image and the program; and the text of the bindings of the operator's run differs from the image's in as many words as these bindings
 -- owe.
 pub record IsImageOf (p : Program) (bodies : List Body) (tables : List (List Variant)) (image : Fields) : Type 0 where
-  pub pointers : p.pointers ≡ []
   pub frames : FramesFit p (length p.functions)
   pub data_fits : data_words p ≤ data_limit
   pub parts : Parts

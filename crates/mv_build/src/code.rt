@@ -54,7 +54,7 @@ pub(crate) fn code_of(alloc: Global, program: &Program) -> Result<Coded, BuildEr
     let lowered = lower_each(alloc, program)?;
     let generics = generics_of(alloc, program, &lowered.bodies)?;
     let functions = codes_of(alloc, program, &generics)?;
-    let size = size_of(functions.as_slice());
+    let size = size_of(program, functions.as_slice());
     test_size(program, size)?;
     let Varied {
         variants,

@@ -18,7 +18,7 @@ use mv_link_data::{data_words, first_data};
 use mv_linker::{PartFunction, Parts, link};
 use mv_num::list::List;
 use mv_num::{limits, regions};
-use mv_parts::{labels_fit, part_switches, parts_law, site_count};
+use mv_parts::{labels_fit, part_pointers, part_switches, part_targets, parts_law, site_count};
 use std::alloc::{AllocError, Global};
 
 /// How many sites there may be.
@@ -55,13 +55,14 @@ fn parts_without_data(
     requires { HasSwitches program.now }
     ensures { IfOk result (λ parts. parts ≡ without_data (parts_of program.now functions attributed)) }
 {
-    let switches = part_switches(alloc, program)?;
     Ok(Parts {
         functions,
         main: program.main,
         globals: List::new(alloc),
-        switches,
+        switches: part_switches(alloc, program)?,
         attributed,
+        pointers: part_pointers(alloc, program)?,
+        targets: part_targets(alloc, program)?,
     })
 }
 

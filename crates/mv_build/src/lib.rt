@@ -13,12 +13,11 @@
 //!   run's bindings differs from the image's in as many words as these bindings owe by the source, and each has its line
 //!   (`ShowsBindings`).
 //! - Each other answer has its cause, and each cause its answer unless memory is wanting: refusals 1 to 7 are those of
-//!   `mv_front`; 16 is that of each program with pointer switches, of which no image is made yet; 8 names the first function
-//!   whose frame is above 2,032 bytes and its bytes, then 14 the sites above 16,384, then 13 the words of data above 262,144,
-//!   then 9 the words of text above 131,072. These three are first of the code of the functions alone, each branch taken for
-//!   one word; then of that and the variants, of which none is made behind the first with which a limit is passed, so that the
-//!   count is of those up to it; and else of all code, which is linked where it is within the limits. A program that passes
-//!   none has an image.
+//!   `mv_front`; 8 names the first function whose frame is above 2,032 bytes and its bytes, then 14 the sites above 16,384,
+//!   those of pointer switches counted twice, then 13 the words of data above 262,144, then 9 the words of text above
+//!   131,072. These three are first of the code of the functions alone, each branch taken for one word; then of that and
+//!   the variants, of which none is made behind the first with which a limit is passed, so that the count is of those up to
+//!   it; and else of all code, which is linked where it is within the limits. A program that passes none has an image.
 //! - `compiled`: the same from a well-formed program, as `front` gives each.
 //! - The codes and counts of small sources are rows of `mv_test_top`.
 #![tactic(auto)]
@@ -30,7 +29,7 @@ ghost use Rattle.mv_front.specs.Verdicts.{IsProgram, IsRefused};
 ghost use Rattle.mv_source_facts.specs.Facts.{HasTableFacts};
 ghost use Rattle.mv_source_forms.specs.WellFormed.{IsWellFormed};
 ghost use Rattle.mv_build.specs.Answers as answers;
-ghost use Rattle.mv_build.specs.Compiled.{IsCompiled, IsSound, OnRefusal};
+ghost use Rattle.mv_build.specs.Compiled.{IsCompiled, OnRefusal};
 ghost use Rattle.mv_build.specs.Verdicts as spec;
 
 mod built;
@@ -46,7 +45,7 @@ use mv_accepts_programs::facts::programs_of_texts_have_table_facts;
 use mv_accepts_programs::programs_of_texts_are_well_formed;
 use mv_ast::program::Program;
 use mv_count_words::images_show_bindings;
-use mv_front::{Refusal, front, one_verdict};
+use mv_front::{front, one_verdict};
 use mv_parts::parts_law;
 use mv_refine_images::built_programs_behave;
 use mv_refine_images::tables::{images_have_tables, rows_lead_on};
@@ -54,10 +53,10 @@ use std::alloc::Global;
 
 /// The program of a source and its image, or its one refusal.
 ///
-/// The codes are tested in this order: 1 to 7 as `front` of `mv_front` tests them; 16, at 1:1, for a program with pointer switches; 8, with the function's
-/// number as detail and the bytes that it needs, for the first frame above 2,032 bytes; 14 for more than 16,384 sites; 13 for more than 262,144 words of data;
-/// 9 for more than 131,072 words of text, each with their number. For the last three the code of the functions is tested first, with each branch as one word;
-/// then that with each variant more, as far as it fits; and at last all of it, with its branches as they are.
+/// The codes are tested in this order: 1 to 7 as `front` of `mv_front` tests them; 8, with the function's number as detail and the bytes that it needs, for
+/// the first frame above 2,032 bytes; 14 for more than 16,384 sites, those of pointer switches counted twice; 13 for more than 262,144 words of data; 9 for
+/// more than 131,072 words of text, each with their number. For the last three the code of the functions is tested first, with each branch as one word; then
+/// that with each variant more, as far as it fits; and at last all of it, with its branches as they are.
 pub fn build(alloc: Global, text: &[u8]) -> Result<Built, BuildError>
     // Each answer has its cause.
     ensures built { IfOk result (λ b. spec.IsBuiltFrom text.now b) }
@@ -85,19 +84,6 @@ fn verdict(alloc: Global, text: &[u8]) -> Result<Built, BuildError>
 pub fn compiled(alloc: Global, program: Program) -> Result<Built, BuildError>
     requires formed { IsWellFormed program }
     requires facts { HasTableFacts program }
-    ensures ok { IfOk result (λ b. IsCompiled program b) }
-    ensures err { IfErr result (λ e. OnRefusal e (spec.PassesLimit program)) }
-{
-    if program.pointers.len() > 0 {
-        drop(program);
-        return Err(BuildError::Refused(Refusal::of_pointers()));
-    }
-    made(alloc, program)
-}
-
-/// A program without pointer switches with its image, or the limit that it passes.
-fn made(alloc: Global, program: Program) -> Result<Built, BuildError>
-    requires { IsSound program }
     ensures ok { IfOk result (λ b. IsCompiled program b) }
     ensures err { IfErr result (λ e. OnRefusal e (spec.PassesLimit program)) }
 {

@@ -149,9 +149,9 @@ of_runs =
     argument Valued steps (codes "N") (codes "at most N instructions, 1 to 1000000000000; without it 1000000000") ∷
     argument Valued at (codes "LIST") (codes "what the operator does: items POLL:SWITCH=VALUE, with commas between") ∷
     argument Valued oracle (codes "WAY") (codes "which of its words a fetch gives: fresh, oldest, or numbers with commas between; without it oldest") ∷
-    argument Flag bindings [] (codes "notes for each attributed function what it is bound to at the end") ∷
+    argument Flag bindings [] (codes "notes for each attributed function and pointer switch what it is bound to at the end") ∷
     argument Flag words [] (codes "notes each word of text that is another at the end than at the start") ∷
-    argument Flag log [] (codes "notes each change of what an attributed function is bound to") ∷
+    argument Flag log [] (codes "notes each change of what an attributed function or pointer switch is bound to") ∷
     argument Flag stats [] (codes "notes how many instructions were executed") ∷ []
 
 -- each command once

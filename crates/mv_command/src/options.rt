@@ -234,7 +234,7 @@ const RUN_BINDINGS: Argument = Argument {
     kind: Flag,
     name: BINDINGS,
     value: "",
-    about: "notes for each attributed function what it is bound to at the end",
+    about: "notes for each attributed function and pointer switch what it is bound to at the end",
 };
 
 const RUN_WORDS: Argument = Argument {
@@ -248,7 +248,7 @@ const RUN_LOG: Argument = Argument {
     kind: Flag,
     name: LOG,
     value: "",
-    about: "notes each change of what an attributed function is bound to",
+    about: "notes each change of what an attributed function or pointer switch is bound to",
 };
 
 const RUN_STATS: Argument = Argument {
@@ -351,7 +351,7 @@ pub const OLDEST: &str = "oldest";
 /// The greatest number of an oracle.
 pub const MOST_PICK: u64 = 4_294_967_295;
 
-/// Asks for a line for each attributed function with its binding.
+/// Asks for a line for each attributed function and pointer switch with its binding.
 pub const BINDINGS: &str = "bindings";
 
 /// Asks for a line for each word of text that isn't as it was built.

@@ -1,24 +1,24 @@
 -- The code of a program's functions and of the first of their variants, by counts over the source.
 use Rattle.std.proofs.Common.{arith, lit≤, ◌≡◌, ℕ, zero, suc, ◌*◌, ◌≤◌, Bool, true, false, cond, All, List, [], ◌∷◌, length, map, Some, refl, sym, subst}
-use Rattle.std.specs.Prelude.{sum, sum_by, filter, slice_get}
+use Rattle.std.specs.Prelude.{sum, sum_by, filter, nat_lt, slice_get}
 use Rattle.std.proofs.lemmas.List.{length-map}
 use Rattle.std.proofs.lemmas.List.Elements.{All-head, All-tail, All-weaker}
 use Rattle.std.proofs.lemmas.List.Sums.{sum_by-cons}
 use Rattle.std.proofs.Math.Nat.{mul-le-mul_right, mul_comm, suc-mul}
 use Rattle.mv_ast.specs.declared.program.Program.{Program}
 use Rattle.mv_ast.specs.declared.program.Function.{Function}
-use Rattle.mv_ast.specs.Counts.{assignments, calls}
+use Rattle.mv_ast.specs.Counts.{assignments, call_sites}
 use Rattle.mv_ast.specs.Switches.{attributed_functions}
 use Rattle.mv_isa.specs.declared.labelled.Labelled.{Labelled}
 use Rattle.mv_isa.specs.declared.labelled.Line.{Line}
-use Rattle.mv_isa.specs.declared.labelled.Line.TheVariants.{Word, Label, Jump, Branch, Entry, Slot}
+use Rattle.mv_isa.specs.declared.labelled.Line.TheVariants.{Word, Label, Jump, Branch, Entry, Slot, Point}
 use Rattle.mv_isa.specs.Code.{greatest_words, least_words}
 use Rattle.mv_ir.specs.declared.body.Body.{Body}
 use Rattle.mv_source_forms.specs.WellFormed.{IsWellFormed}
 use Rattle.mv_lower_spec.specs.Functions.{lower_function}
 use Rattle.mv_linker.specs.Linked.{stub_lines}
 use Rattle.mv_select.specs.Selected.{selected_lines}
-use Rattle.mv_variants.specs.Bound.Slots.{AtMost, slots}
+use Rattle.mv_variants.specs.Bound.Slots.{AtMost, sites}
 use Rattle.mv_variants.specs.Sizes.{body_sites, body_words, IsMadeAndSelected, line_sites, lines_sites, lines_words}
 use Rattle.mv_count_code.specs.Sizes.{bound, LinesAreShort, words_of}
 use Rattle.mv_count_code.specs.Texts.{HaveCode, IsCodeOf, SitesAreFew, SlotsAreFewInCode}
@@ -40,18 +40,17 @@ least (line ∷ lines) = let rest = least lines in let here = one line in omega 
     one (Branch funct3 rs1 rs2 l) = omega arith
     one (Entry rd f) = omega arith
     one (Slot f) = omega arith
+    one (Point a) = omega arith
 
-sites_are_slots : (lines : List Line) → lines_sites lines ≡ slots lines
-sites_are_slots [] = refl
-sites_are_slots (Word i ∷ lines) = let rest = sites_are_slots lines in omega (arith, rest, sum_by-cons line_sites (Word i) lines)
-sites_are_slots (Label l ∷ lines) = let rest = sites_are_slots lines in omega (arith, rest, sum_by-cons line_sites (Label l) lines)
-sites_are_slots (Jump rd l ∷ lines) = let rest = sites_are_slots lines in omega (arith, rest, sum_by-cons line_sites (Jump rd l) lines)
-sites_are_slots (Branch funct3 a b l ∷ lines) = let rest = sites_are_slots lines in omega (arith, rest, sum_by-cons line_sites (Branch funct3 a b l) lines)
-sites_are_slots (Entry rd f ∷ lines) = let rest = sites_are_slots lines in omega (arith, rest, sum_by-cons line_sites (Entry rd f) lines)
-sites_are_slots (Slot f ∷ lines) = let rest = sites_are_slots lines in omega (arith, rest, sum_by-cons line_sites (Slot f) lines)
+sites_counted : (lines : List Line) → lines_sites lines ≡ sites lines
+sites_counted [] = refl
+sites_counted (Slot f ∷ lines) = let rest = sites_counted lines in omega (arith, rest, sum_by-cons line_sites (Slot f) lines)
+sites_counted (Point a ∷ lines) = let rest = sites_counted lines in omega (arith, rest, sum_by-cons line_sites (Point a) lines)
+sites_counted (line ∷ lines) = let rest = sites_counted lines in omega (arith, rest, sum_by-cons line_sites line lines)
 
-stub_words : lines_words (stub_lines 0) ≤ 400
-stub_words = lit≤ tt
+stub_words : (checks : Bool) → lines_words (stub_lines 0 checks) ≤ 400
+stub_words true = lit≤ tt
+stub_words false = lit≤ tt
 
 -- ---- functions
 
@@ -65,12 +64,12 @@ all_least : (codes : List Labelled) → sum_by least_in codes ≤ sum_by code_wo
 all_least [] = omega arith
 all_least (code ∷ codes) = let rest = all_least codes in let here = least code.items in omega (arith, rest, here, sum_by-cons least_in code codes, sum_by-cons code_words code codes)
 
-all_sites : (codes : List Labelled) → sum_by sites_in codes ≡ sum (map (λ (code : Labelled). slots code.items) codes)
+all_sites : (codes : List Labelled) → sum_by sites_in codes ≡ sum (map (λ (code : Labelled). sites code.items) codes)
 all_sites [] = refl
 all_sites (code ∷ codes) =
     let rest = all_sites codes in
-    let here = sites_are_slots code.items in
-    omega (arith, rest, here, sum_by-cons sites_in code codes, sum_cons (slots code.items) (map (λ (c : Labelled). slots c.items) codes))
+    let here = sites_counted code.items in
+    omega (arith, rest, here, sum_by-cons sites_in code codes, sum_cons (sites code.items) (map (λ (c : Labelled). sites c.items) codes))
 
 -- ---- variants
 
@@ -146,12 +145,12 @@ module _ (short : LinesAreShort) (few_slots : SlotsAreFewInCode) (p : Program) (
       let here = least (selected_lines true b) in
       omega (arith, all, here)
 
-  body_slots : (f : ℕ) (g : Function) → slice_get p.functions f ≡ Some g → (b : Body) → IsMadeAndSelected (lower_function p g) b → body_sites b ≤ calls p g
+  body_slots : (f : ℕ) (g : Function) → slice_get p.functions f ≡ Some g → (b : Body) → IsMadeAndSelected (lower_function p g) b → body_sites b ≤ call_sites p g
   body_slots f g there b m =
       let code : Labelled = record { items = selected_lines true b; labels = 0 } in
       let of : IsCodeOf p g code = record { body = b; of = bound m.values m.made; suitable = m.suitable; fits = m.frame; attributed = true; items = refl } in
       let few = few_slots p f g (record { formed = formed; there = there }) code of in
-      let same = sites_are_slots (selected_lines true b) in
+      let same = sites_counted (selected_lines true b) in
       omega (arith, few, same)
 
   module _ (lists : List (List Body)) (have : HaveVariantBodies p lists) where
@@ -175,11 +174,11 @@ module _ (short : LinesAreShort) (few_slots : SlotsAreFewInCode) (p : Program) (
         let same = sums body_words lists in
         omega (arith, all, same)
 
-    sites_padded : Padded (λ g. calls p g * assignments p g) (attributed_functions p) (map (sum_by body_sites) lists)
+    sites_padded : Padded (λ g. call_sites p g * assignments p g) (attributed_functions p) (map (sum_by body_sites) lists)
     sites_padded =
         let few = have.few in
-        padded (λ g. calls p g * assignments p g) (attributed_functions p) (map (sum_by body_sites) lists) (omega (arith, few, length-map lists (sum_by body_sites)))
-        (λ i g m nth is. let less = together body_sites (calls p) body_slots i g m nth is in omega (arith, less, mul_comm (assignments p g) (calls p g)))
+        padded (λ g. call_sites p g * assignments p g) (attributed_functions p) (map (sum_by body_sites) lists) (omega (arith, few, length-map lists (sum_by body_sites)))
+        (λ i g m nth is. let less = together body_sites (call_sites p) body_slots i g m nth is in omega (arith, less, mul_comm (assignments p g) (call_sites p g)))
 
     module _ (functions : List Labelled) (own : HaveCode p functions) where
       own_short : (f : ℕ) (g : Function) (code : Labelled) → slice_get p.functions f ≡ Some g → slice_get functions f ≡ Some code → code_words code ≤ words_of g
@@ -187,9 +186,9 @@ module _ (short : LinesAreShort) (few_slots : SlotsAreFewInCode) (p : Program) (
           let c = own.each f g code there is in
           subst (λ lines. words lines ≤ words_of g) (sym c.items) (short p f g (record { formed = formed; there = there }) c.body c.of c.suitable c.fits c.attributed)
 
-      own_slots : AtMost (calls p) p.functions (map (λ (code : Labelled). slots code.items) functions)
+      own_slots : AtMost (call_sites p) p.functions (map (λ (code : Labelled). sites code.items) functions)
       own_slots =
-          at_most (calls p) (λ (code : Labelled). slots code.items) p.functions functions own.one_each
+          at_most (call_sites p) (λ (code : Labelled). sites code.items) p.functions functions own.one_each
           (λ f g code there is. few_slots p f g (record { formed = formed; there = there }) code (own.each f g code there is))
 
       pub are_counted : SitesAreFew → AreCounted p functions lists
@@ -201,10 +200,10 @@ module _ (short : LinesAreShort) (few_slots : SlotsAreFewInCode) (p : Program) (
           let same = sums body_sites lists in
           let pad = sites_padded in
           let kept = pad.same in
-          let sites = few_sites p (map (λ (code : Labelled). slots code.items) functions) pad.numbers own_slots pad.few in
+          let counted = few_sites p (map (λ (code : Labelled). sites code.items) functions) pad.numbers own_slots pad.few in
           record {
-            words = omega (arith, all, least, more, stub_words, all_words p p.functions);
-            sites = omega (arith, sites, slots_of, same, kept);
+            words = omega (arith, all, least, more, stub_words (nat_lt 0 (length p.pointers)), all_words p p.functions);
+            sites = omega (arith, counted, slots_of, same, kept);
           }
 
 pub fronts_counted : LinesAreShort → SlotsAreFewInCode → SitesAreFew → FrontsAreCounted

@@ -1,11 +1,11 @@
--- The slots in the code of a program's functions and variants.
+-- The sites in the code of a program's functions and variants.
 use Rattle.std.proofs.Common.{arith, ◌≡◌, ℕ, zero, suc, ◌+◌, ◌*◌, ◌≤◌, Bool, true, false, cond, List, [], ◌∷◌, length, map, Some, refl, sym, subst}
 use Rattle.std.specs.Prelude.{sum, slice_get}
 use Rattle.std.specs.List.{filter}
 use Rattle.std.proofs.Math.Nat.{mul-le-mul_right, mul_comm, suc-mul}
 use Rattle.mv_ast.specs.declared.program.Program.{Program}
 use Rattle.mv_ast.specs.declared.program.Function.{Function}
-use Rattle.mv_ast.specs.Counts.{calls, assignments}
+use Rattle.mv_ast.specs.Counts.{call_sites, assignments}
 use Rattle.mv_ast.specs.Switches.{attributed_functions}
 use Rattle.mv_isa.specs.declared.labelled.Labelled.{Labelled}
 use Rattle.mv_ir.specs.declared.body.Body.{Body}
@@ -13,20 +13,20 @@ use Rattle.mv_select.specs.Functions.Functions.{shape_of}
 use Rattle.mv_select_code.specs.Control.Layouts.{size_in}
 use Rattle.mv_select_code.specs.Trees.Rooms.{place_in}
 use Rattle.mv_lower_spec.specs.Shape.Law.{IsFunctionOf, LoweredCallAsOften}
-use Rattle.mv_variants.specs.Bound.Slots.{slots, AtMost, SlotsAreFew, OwnSlotsAreFew, RenamedSlotsAreFew, SlotsArePatchable}
+use Rattle.mv_variants.specs.Bound.Slots.{sites, AtMost, SlotsAreFew, OwnSlotsAreFew, RenamedSlotsAreFew, SlotsArePatchable}
 use Rattle.mv_select.specs.Selected.{selected_lines}
 use Rattle.mv_count_code.specs.Sizes.{IsBodyOf, renamed, folded, bound}
 use Rattle.mv_count_code.specs.Texts.{SlotsAreFewInCode, AreVariantCodes, slots_in, SlotsAreCounted, SitesAreFew}
 use Rattle.mv_num.proofs.Lists.{sum_cons}
 
 module _ (often : LoweredCallAsOften) (renamed_few : RenamedSlotsAreFew) (folded_few : OwnSlotsAreFew) (bound_few : SlotsAreFew) where
-  body_slots : (p : Program) (f : ℕ) (g : Function) → IsFunctionOf p f g → (b : Body) → IsBodyOf p g b → (attributed : Bool) → slots (selected_lines attributed b) ≤ calls p g
+  body_slots : (p : Program) (f : ℕ) (g : Function) → IsFunctionOf p f g → (b : Body) → IsBodyOf p g b → (attributed : Bool) → sites (selected_lines attributed b) ≤ call_sites p g
   body_slots p f g h b (renamed r) attributed = renamed_few p g (often p f g h) b r (place_in b.rooms) (size_in b.rooms) (shape_of attributed b)
   body_slots p f g h b (folded body i r) attributed = folded_few p g (often p f g h) body b i r (place_in b.rooms) (size_in b.rooms) (shape_of attributed b)
   body_slots p f g h b (bound ps m) attributed = bound_few p g (often p f g h) ps b m (place_in b.rooms) (size_in b.rooms) (shape_of attributed b)
 
   pub code_slots : SlotsAreFewInCode
-  code_slots p f g h code c = subst (λ lines. slots lines ≤ calls p g) (sym c.items) (body_slots p f g h c.body c.of c.attributed)
+  code_slots p f g h code c = subst (λ lines. sites lines ≤ call_sites p g) (sym c.items) (body_slots p f g h c.body c.of c.attributed)
 
 -- ---- sums
 
@@ -62,15 +62,18 @@ one_of (x ∷ gs) n g e = by x.attributed n (λ m d. next x g gs (one_of gs m g 
     by false n rest e = rest n e
 
 pub slots_counted : SlotsAreFewInCode → SlotsArePatchable → SitesAreFew → SlotsAreCounted
-slots_counted few within sites p formed own variants codes variant_codes =
-    let first = at_most (calls p) (λ (code : Labelled). slots code.items) p.functions own codes.one_each (λ f g code there is. few p f g (record { formed = formed; there = there }) code (codes.each f g code there is)) in
-    let second = at_most (λ g. calls p g * assignments p g) slots_in (attributed_functions p) variants variant_codes.one_each (λ n g cs there is. of_variants n g cs there (variant_codes.each n g cs there is)) in
-    (sites p (map (λ (code : Labelled). slots code.items) own) (map slots_in variants) first second, within p (map (λ (code : Labelled). slots code.items) own) (map slots_in variants) first second)
+slots_counted few within in_all p formed own variants codes variant_codes =
+    let own_sites = map (λ (code : Labelled). sites code.items) own in
+    let first =
+    at_most (call_sites p) (λ (code : Labelled). sites code.items) p.functions own codes.one_each (λ f g code there is. few p f g (record { formed = formed; there = there }) code (codes.each f g code there is))
+    in
+    let second = at_most (λ g. call_sites p g * assignments p g) slots_in (attributed_functions p) variants variant_codes.one_each (λ n g cs there is. of_variants n g cs there (variant_codes.each n g cs there is)) in
+    (in_all p own_sites (map slots_in variants) first second, within p own_sites (map slots_in variants) first second)
   where
-    of_variants : (n : ℕ) (g : Function) (cs : List Labelled) → slice_get (attributed_functions p) n ≡ Some g → AreVariantCodes p g cs → slots_in cs ≤ calls p g * assignments p g
+    of_variants : (n : ℕ) (g : Function) (cs : List Labelled) → slice_get (attributed_functions p) n ≡ Some g → AreVariantCodes p g cs → slots_in cs ≤ call_sites p g * assignments p g
     of_variants n g cs there h =
         let (f, at) = one_of p.functions n g there in
-        let each = sum_most (λ (code : Labelled). slots code.items) (calls p g) cs (λ i code e. few p f g (record { formed = formed; there = at }) code (h.each i code e)) in
-        let more : length cs * calls p g ≤ assignments p g * calls p g = mul-le-mul_right (calls p g) h.few in
-        let turned : assignments p g * calls p g ≡ calls p g * assignments p g = mul_comm (assignments p g) (calls p g) in
+        let each = sum_most (λ (code : Labelled). sites code.items) (call_sites p g) cs (λ i code e. few p f g (record { formed = formed; there = at }) code (h.each i code e)) in
+        let more : length cs * call_sites p g ≤ assignments p g * call_sites p g = mul-le-mul_right (call_sites p g) h.few in
+        let turned : assignments p g * call_sites p g ≡ call_sites p g * assignments p g = mul_comm (assignments p g) (call_sites p g) in
         omega (arith, each, more, turned)

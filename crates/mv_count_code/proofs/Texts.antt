@@ -11,11 +11,11 @@ use Rattle.mv_ast.specs.Counts.{nodes, assignments}
 use Rattle.mv_ast.specs.Switches.{attributed_functions}
 use Rattle.mv_isa.specs.declared.labelled.Labelled.{Labelled}
 use Rattle.mv_isa.specs.declared.labelled.Line.{Line}
-use Rattle.mv_isa.specs.declared.labelled.Line.TheVariants.{Word, Label, Jump, Branch, Entry, Slot}
+use Rattle.mv_isa.specs.declared.labelled.Line.TheVariants.{Word, Label, Jump, Branch, Entry, Slot, Point}
 use Rattle.mv_isa.specs.Code.{line_at, greatest_words}
 use Rattle.mv_linker.specs.declared.parts.PartFunction.{PartFunction}
 use Rattle.mv_linker.specs.declared.parts.PartVariant.{PartVariant}
-use Rattle.mv_linker.specs.Linked.{function_variants, variant_codes, codes, relabelled, stub_lines, function_part, function_parts, linked_lines}
+use Rattle.mv_linker.specs.Linked.{function_variants, variant_codes, codes, relabelled, stub_lines, has_pointers, function_part, function_parts, linked_lines}
 use Rattle.mv_count_code.specs.Sizes.{LinesAreShort, words_of}
 use Rattle.mv_count_code.specs.Texts.{IsCodeOf, TextsPass}
 
@@ -48,6 +48,7 @@ relabelled_words first count (line ∷ lines) =
     one (Branch funct3 rs1 rs2 l) = refl
     one (Entry rd f) = refl
     one (Slot f) = refl
+    one (Point a) = refl
 
 abbrev pub code_words : Labelled → ℕ
 code_words code = words code.items
@@ -68,8 +69,9 @@ parts_words f first (code ∷ rest) =
       sum_by-cons code_words code rest,
     )
 
-stub_words : (main : ℕ) → words (stub_lines main) ≤ 400
-stub_words main = lit≤ tt
+stub_words : (main : ℕ) (checks : Bool) → words (stub_lines main checks) ≤ 400
+stub_words main true = lit≤ tt
+stub_words main false = lit≤ tt
 
 -- ---- the code of each function
 
@@ -188,8 +190,8 @@ texts_pass short p formed parts own variants count text =
       all,
       more,
       all_words p p.functions,
-      sum_by-append greatest_words (stub_lines parts.main) (function_parts 0 (length (codes parts)) (codes parts)),
-      stub_words parts.main,
+      sum_by-append greatest_words (stub_lines parts.main (has_pointers parts)) (function_parts 0 (length (codes parts)) (codes parts)),
+      stub_words parts.main (has_pointers parts),
       parts_words 0 (length (codes parts)) (codes parts),
       sum_by-append code_words parts.functions (variant_codes (function_variants parts.attributed)),
     )

@@ -1,5 +1,5 @@
 -- How much code there is of a program's functions and of the first of their variants.
-use Rattle.std.specs.Prelude.{ℕ, ◌+◌, ◌≤◌, ◌≡◌, List, length, All, Some, slice_get, sum_by}
+use Rattle.std.specs.Prelude.{ℕ, ◌+◌, ◌≤◌, ◌≡◌, List, length, nat_lt, All, Some, slice_get, sum_by}
 use Rattle.mv_ast.specs.declared.program.Program.{Program}
 use Rattle.mv_ast.specs.declared.program.Function.{Function}
 use Rattle.mv_ast.specs.Counts.{assignments}
@@ -21,7 +21,7 @@ pub record HaveVariantBodies (p : Program) (lists : List (List Body)) : Type 0 w
 
 -- The words of the stubs, of the functions and of these variants, each branch taken for one, and their sites are no more than the counts over the source.
 pub record AreCounted (p : Program) (functions : List Labelled) (lists : List (List Body)) : Type 0 where
-  pub words : lines_words (stub_lines 0) + sum_by (λ (code : Labelled). lines_words code.items) functions + sum_by (sum_by body_words) lists ≤ text_count p
+  pub words : lines_words (stub_lines 0 (nat_lt 0 (length p.pointers))) + sum_by (λ (code : Labelled). lines_words code.items) functions + sum_by (sum_by body_words) lists ≤ text_count p
   pub sites : sum_by (λ (code : Labelled). lines_sites code.items) functions + sum_by (sum_by body_sites) lists ≤ site_count p
 
 abbrev pub FrontsAreCounted : Type 0

@@ -3,7 +3,7 @@ use Rattle.std.specs.Prelude.{ℕ, ◌+◌, ◌*◌, ◌<◌, ◌≤◌, ◌≡�
 use Rattle.mv_num.specs.Regions.{text_limit}
 use Rattle.mv_ast.specs.declared.program.Program.{Program}
 use Rattle.mv_ast.specs.declared.program.Function.{Function}
-use Rattle.mv_ast.specs.Counts.{nodes, calls, assignments, patchable}
+use Rattle.mv_ast.specs.Counts.{nodes, call_sites, assignments, patchable}
 use Rattle.mv_ast.specs.Switches.{attributed_functions}
 use Rattle.mv_isa.specs.declared.labelled.Labelled.{Labelled}
 use Rattle.mv_isa.specs.Code.{text_start}
@@ -11,7 +11,7 @@ use Rattle.mv_asm.specs.Outcome.{PassesText}
 use Rattle.mv_ir.specs.declared.body.Body.{Body}
 use Rattle.mv_source_forms.specs.WellFormed.{IsWellFormed}
 use Rattle.mv_lower_spec.specs.Shape.Law.{IsFunctionOf}
-use Rattle.mv_variants.specs.Bound.Slots.{slots, AtMost}
+use Rattle.mv_variants.specs.Bound.Slots.{sites, AtMost}
 use Rattle.mv_select.specs.Selected.{IsSuitable, FitsFrame, selected_lines}
 use Rattle.mv_linker.specs.declared.parts.Parts.{Parts}
 use Rattle.mv_linker.specs.declared.parts.PartFunction.{PartFunction}
@@ -57,20 +57,20 @@ TextsPass =
 
 -- ---- sites
 
--- the direct calls of attributed functions, once and once more for each assignment
+-- the direct calls of attributed functions, and twice those through pointer switches, once and once more for each assignment
 abbrev pub site_count : Program → ℕ
-site_count p = sum (map (λ g. calls p g * (1 + assignments p g)) p.functions)
+site_count p = sum (map (λ g. call_sites p g * (1 + assignments p g)) p.functions)
 
--- Where each function's own code has no more slots than calls, and the variants of each attributed one no more than that for each assignment, all have no
+-- Where each function's own code has no more sites than call sites, and the variants of each attributed one no more than that for each assignment, all have no
 -- more than the count.
 abbrev pub SitesAreFew : Type 0
 SitesAreFew =
-    (p : Program) (own variants : List ℕ) → AtMost (calls p) p.functions own → AtMost (λ g. calls p g * assignments p g) (attributed_functions p) variants →
+    (p : Program) (own variants : List ℕ) → AtMost (call_sites p) p.functions own → AtMost (λ g. call_sites p g * assignments p g) (attributed_functions p) variants →
     sum own + sum variants ≤ site_count p
 
--- The code of each body of a function has no more slots than the function has calls of attributed functions.
+-- The code of each body of a function has no more sites than the function has call sites.
 abbrev pub SlotsAreFewInCode : Type 0
-SlotsAreFewInCode = (p : Program) (f : ℕ) (g : Function) → IsFunctionOf p f g → (code : Labelled) → IsCodeOf p g code → slots code.items ≤ calls p g
+SlotsAreFewInCode = (p : Program) (f : ℕ) (g : Function) → IsFunctionOf p f g → (code : Labelled) → IsCodeOf p g code → sites code.items ≤ call_sites p g
 
 -- codes of an attributed function's bodies, no more than it has assignments
 pub record AreVariantCodes (p : Program) (g : Function) (codes : List Labelled) : Type 0 where
@@ -83,9 +83,9 @@ pub record HaveVariantCodes (p : Program) (codes : List (List Labelled)) : Type 
   pub each : (n : ℕ) (g : Function) (cs : List Labelled) → slice_get (attributed_functions p) n ≡ Some g → slice_get codes n ≡ Some cs → AreVariantCodes p g cs
 
 abbrev pub slots_in : List Labelled → ℕ
-slots_in codes = sum (map (λ code. slots code.items) codes)
+slots_in codes = sum (map (λ code. sites code.items) codes)
 
--- The slots in the code of all functions and of all variants are no more than the count, and with the entries no more than a plan can patch.
+-- The sites in the code of all functions and of all variants are no more than the count, and with the entries no more than a plan can patch.
 abbrev pub SlotsAreCounted : Type 0
 SlotsAreCounted =
     (p : Program) → IsWellFormed p → (own : List Labelled) (variants : List (List Labelled)) → HaveCode p own → HaveVariantCodes p variants →

@@ -4,9 +4,9 @@
 //!   folded or not, and renamed: its code has at most `40 * (1 + nodes)` words (`code`, `lines`), with its variants at
 //!   most that once and once more for each assignment (`variants`); its frame is small enough where the declared words
 //!   and 8 for each level of depth are at most 480 (`frames`, `passes`); so where the text of a program is too long, more
-//!   than 131,072 are `400 + 40 * (1 + nodes) * (1 + assignments)`, summed over the functions (`text`); and the slots are
-//!   at most the calls of attributed functions, once and once more for each assignment (`sites`). Both hold of the
-//!   functions with any of their variants (`fronts`).
+//!   than 131,072 are `400 + 40 * (1 + nodes) * (1 + assignments)`, summed over the functions (`text`); and the sites are
+//!   at most the call sites, once and once more for each assignment (`sites`). Both hold of the functions with any of
+//!   their variants (`fronts`).
 //! - A crate of one law, without a test.
 #![tactic(auto)]
 
@@ -25,8 +25,8 @@ use mv_variants::bound::{made_bodies_are_variants, rows_lead_to_variants, slots_
 /// forty more. `lines`: so do the lines of its code, each branch taken for two. `variants`: a function's own body and its variants take together no more
 /// than that once, and once more for each assignment. `frames`: the frame of each body is small enough where the declared words and eight for each level
 /// of the depth are at most 480; `passes`: so where a frame passes the limit these are more, and also where one for all that the lowered code has in use
-/// at one place would (`lowered`). `text`: where the text of a program passes its limit, so does its count over the source. `sites`: all slots are no
-/// more than the calls, once and once more for each assignment. `slots`: so are those of the code of all functions and
+/// at one place would (`lowered`). `text`: where the text of a program passes its limit, so does its count over the source. `sites`: all sites are no
+/// more than the call sites, once and once more for each assignment. `slots`: so are those of the code of all functions and
 /// variants, and with the entries they are no more than a plan can patch. `fronts`: the words of all functions and of the first variants, and their sites, are
 /// no more than the counts either.
 pub fn code_is_short()

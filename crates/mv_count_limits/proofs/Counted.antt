@@ -6,7 +6,7 @@ use Rattle.mv_count_code.specs.Sizes.{LoweredFramesPass}
 use Rattle.mv_linker.specs.declared.parts.Parts.{Parts}
 use Rattle.mv_variants.specs.declared.size.Size.{Size}
 use Rattle.mv_parts.specs.Laws.{IsSizeCounted, PartsAreCounted, SizesAreCounted}
-use Rattle.mv_build.specs.Verdicts.{IsCoded, PassesAt, PassesLimit, PassesWith, has_pointers, large_frame, large_functions, large_parts, large_variants, many_sites, much_data, long_text, too_many_sites, too_many_words, too_much_data}
+use Rattle.mv_build.specs.Verdicts.{IsCoded, PassesAt, PassesLimit, PassesWith, large_frame, large_functions, large_parts, large_variants, many_sites, much_data, long_text, too_many_sites, too_many_words, too_much_data}
 use Rattle.mv_count_limits.specs.Counted.{FramesAreCounted, SitesAreCounted, TextsAreCounted, CountedPassNone}
 
 module _ (formed : ProgramsOfTextsAreWellFormed) where
@@ -39,12 +39,11 @@ module _ (formed : ProgramsOfTextsAreWellFormed) where
           omega (arith, large, small)
 
       by : {s : Refusal} → PassesLimit p s → ⊥
-      by (has_pointers some) = some within.pointers
-      by (large_frame none f bytes h) =
+      by (large_frame f bytes h) =
           let large = frames_counted frames text p is f h.first.function h.first.there h.first.past in
           let small = within.frames f h.first.function h.first.there in
           omega (arith, large, small)
-      by (large_functions none bodies functions size s before generics code of past) = by_size size (sizes p (formed text p is) bodies functions generics code size of).0 past
-      by (large_variants none bodies functions size over s before generics code of fits front past) =
+      by (large_functions bodies functions size s before generics code of past) = by_size size (sizes p (formed text p is) bodies functions generics code size of).0 past
+      by (large_variants bodies functions size over s before generics code of fits front past) =
           by_size over ((sizes p (formed text p is) bodies functions generics code size of).1 over front) past
-      by (large_parts none parts s before coded fits past) = by_parts parts coded past
+      by (large_parts parts s before coded fits past) = by_parts parts coded past

@@ -1,5 +1,5 @@
 -- The limits on what a program is compiled to, by counts over the source.
-use Rattle.std.specs.Prelude.{ℕ, ◌≡◌, ◌<◌, ◌≤◌, List, [], Some, slice_get}
+use Rattle.std.specs.Prelude.{ℕ, ◌≡◌, ◌<◌, ◌≤◌, List, Some, slice_get}
 use Rattle.mv_num.specs.Regions.{text_limit}
 use Rattle.mv_isa.specs.Code.{text_start}
 use Rattle.mv_num.specs.Limits.{slot_limit}
@@ -32,10 +32,9 @@ SitesAreCounted = (text : List ℕ) (p : Program) → IsProgram text p → (part
 abbrev pub TextsAreCounted : Type 0
 TextsAreCounted = (text : List ℕ) (p : Program) → IsProgram text p → (parts : Parts) → IsCoded p parts → (words : ℕ) → PassesText text_start (linked_lines parts) words → text_limit < text_count p
 
--- There are no pointer switches, the declared words of each function and eight for each level of its depth are at most 480, there are few enough words of
--- data, and the counts of sites and of text are within their limits.
+-- The declared words of each function and eight for each level of its depth are at most 480, there are few enough words of data, and the counts of sites and
+-- of text are within their limits.
 pub record IsWithinCounts (p : Program) : Type 0 where
-  pub pointers : p.pointers ≡ []
   pub frames : (f : ℕ) (g : Function) → slice_get p.functions f ≡ Some g → frame_count g ≤ slot_limit
   pub sites : site_count p ≤ site_limit
   pub data_fits : data_words p ≤ data_limit

@@ -1,11 +1,11 @@
 //! Programs that are small by counts over the source pass no limit on what they are compiled to.
 //!
 //! - `counted_programs_pass_no_limit`: refusal 8 never comes for a function where its declared words and 8 for each level
-//!   of its depth are at most 480 (`frames`); 14 never where the direct calls of attributed functions, times
-//!   `1 + assignments`, summed over the functions, are at most 16,384 (`sites`); and 9 never where
-//!   `400 + 40 * (1 + nodes) * (1 + assignments)`, summed over the functions, is at most 131,072 (`texts`). So `build`
-//!   answers a program without pointer switches that is within these counts and has at most 262,144 words of data with an
-//!   image, unless memory is wanting (`none`).
+//!   of its depth are at most 480 (`frames`); 14 never where the direct calls of attributed functions and twice those
+//!   through pointer switches, times `1 + assignments`, summed over the functions, are at most 16,384 (`sites`); and 9
+//!   never where `400 + 40 * (1 + nodes) * (1 + assignments)`, summed over the functions, is at most 131,072 (`texts`). So
+//!   `build` answers a program that is within these counts and has at most 262,144 words of data with an image, unless
+//!   memory is wanting (`none`).
 //! - A crate of one law, without a test.
 #![tactic(auto)]
 
@@ -19,8 +19,7 @@ use mv_parts::parts_law;
 ///
 /// `frames`: of a function whose frame passes the limit, the declared words and eight for each level of its depth are more than 480. `sites`: what a program
 /// is compiled to has at most as many sites as the count over the source; `texts`: where its text passes the limit, so does that count. `none`: a program
-/// without pointer switches that is within these counts, and whose globals have few enough words, passes no limit, so `build` answers it with an image, unless
-/// memory is wanting.
+/// that is within these counts, and whose globals have few enough words, passes no limit, so `build` answers it with an image, unless memory is wanting.
 pub fn counted_programs_pass_no_limit()
     ensures frames { FramesAreCounted }
     ensures sites { SitesAreCounted }

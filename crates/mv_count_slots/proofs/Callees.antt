@@ -17,6 +17,7 @@ use Rattle.mv_lower_spec.specs.Shape.Law.{LoweredCallAsOften}
 use Rattle.mv_regalloc.specs.Intervals.{IsRenamed}
 use Rattle.mv_variants.specs.Bound.Slots.{slot_weight, weight_where, SlotsWeighAsCalls}
 use Rattle.mv_variants.proofs.OfBound.FewSlots.{marked_attributed}
+use Rattle.mv_variants.proofs.OfBound.Weights.{weights}
 use Rattle.mv_select.specs.Selected.{selected_lines}
 use Rattle.mv_count_slots.specs.Calls.{once_for, CalleesHaveSlots}
 use Rattle.mv_count_slots.proofs.Calls.{each_among, other, no_other, same_renamed}
@@ -49,7 +50,7 @@ module _ (p : Program) (g : Function) (weight : ℕ → ℕ) where
   slots_weigh_calls weigh b r attributed =
       weigh (place_in b.rooms) (size_in b.rooms) (is_marked b.marked) (shape_of attributed b) b.code weight
       ∙ ap (λ fs. code_weight (weight_where (is_marked fs) weight) 0 b.code) (ap (λ (x : Body). x.marked) r.changes)
-      ∙ same_renamed (lower_function p g) b r (weight_where marked weight) ∙ sym same_weight
+      ∙ same_renamed (weights (weight_where marked weight) 0) (lower_function p g) b r ∙ sym same_weight
 
 -- the weight of one attributed function
 once_is : (p : Program) (k f : ℕ) → is_attributed (slice_get p.functions k) ≡ true → weight_where (λ j. is_attributed (slice_get p.functions j)) (once_for k) f ≡ once_for k f

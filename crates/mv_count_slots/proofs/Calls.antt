@@ -1,5 +1,5 @@
 -- The slots of a body are the calls of attributed functions in it.
-use Rattle.std.proofs.Common.{arith, ◌≡◌, ℕ, zero, suc, ◌+◌, ◌≤◌, Bool, true, false, cond, eqb, ◌&&◌, List, [], ◌∷◌, refl, sym, ap, ◌∙◌, subst}
+use Rattle.std.proofs.Common.{arith, ◌≡◌, ℕ, zero, suc, ◌+◌, ◌≤◌, Bool, true, false, cond, eqb, ◌&&◌, List, [], ◌∷◌, map, refl, sym, ap, ◌∙◌, subst}
 use Rattle.std.specs.Prelude.{slice_get, nat_eq}
 use Rattle.std.proofs.lemmas.Bool.{eq-eqb, or_right, or_left, and_from}
 use Rattle.std.proofs.lemmas.List.Sums.{sum_by-cons}
@@ -8,8 +8,11 @@ use Rattle.mv_ast.specs.declared.program.Function.{Function}
 use Rattle.mv_ast.specs.Counts.{is_attributed}
 use Rattle.mv_num.specs.Lists.{is_among}
 use Rattle.mv_isa.specs.declared.labelled.Line.{Line}
-use Rattle.mv_isa.specs.declared.labelled.Line.TheVariants.{Word, Label, Jump, Branch, Entry, Slot}
+use Rattle.mv_isa.specs.declared.labelled.Line.TheVariants.{Slot}
 use Rattle.mv_ir.specs.declared.body.Body.{Body}
+use Rattle.mv_ir.specs.declared.stm.Stm.{Stm}
+use Rattle.mv_ir.specs.declared.stm.Stm.TheOpen.{Stm-F}
+use Rattle.mv_ir.specs.Measures.{total}
 use Rattle.mv_ir.proofs.Induction.{Each}
 use Rattle.mv_select_code.specs.Trees.Rooms.{place_in}
 use Rattle.mv_select_code.specs.Control.Layouts.{size_in}
@@ -22,9 +25,9 @@ use Rattle.mv_regalloc.specs.Intervals.{IsRenamed}
 use Rattle.mv_variants.specs.Bound.Slots.{slots, one_each, SlotsAreCalls}
 use Rattle.mv_variants.proofs.OfBound.FewSlots.{Among, marked_attributed}
 use Rattle.mv_variants.proofs.OfBound.Meant.{made}
-use Rattle.mv_variants.proofs.OfBound.Measures.{renamed_same}
+use Rattle.mv_variants.proofs.OfBound.Measures.{Measure, renamed_same}
 use Rattle.mv_variants.proofs.OfBound.Weights.{weights}
-use Rattle.mv_variants.proofs.OfBound.Variants.{made_calls, worked_calls}
+use Rattle.mv_variants.proofs.OfBound.Variants.{made_calls, worked_no_more}
 use Rattle.mv_select.specs.Selected.{selected_lines}
 use Rattle.mv_linker.specs.Tables.{is_slot, slot_count}
 use Rattle.mv_count_code.specs.Sizes.{renamed, folded, bound}
@@ -38,12 +41,8 @@ slot_cons line lines = sum_by-cons (λ (x : Line). cond (is_slot x) 1 0) line li
 
 counted : (lines : List Line) → slot_count lines ≡ slots lines
 counted [] = refl
-counted (Word i ∷ lines) = let rest = counted lines in omega (arith, slot_cons (Word i) lines, rest)
-counted (Label l ∷ lines) = let rest = counted lines in omega (arith, slot_cons (Label l) lines, rest)
-counted (Jump rd l ∷ lines) = let rest = counted lines in omega (arith, slot_cons (Jump rd l) lines, rest)
-counted (Branch funct3 rs1 rs2 l ∷ lines) = let rest = counted lines in omega (arith, slot_cons (Branch funct3 rs1 rs2 l) lines, rest)
-counted (Entry rd f ∷ lines) = let rest = counted lines in omega (arith, slot_cons (Entry rd f) lines, rest)
 counted (Slot f ∷ lines) = let rest = counted lines in omega (arith, slot_cons (Slot f) lines, rest)
+counted (line ∷ lines) = let rest = counted lines in omega (arith, slot_cons line lines, rest)
 
 -- ---- a function that is attributed and called is marked
 
@@ -116,8 +115,8 @@ module _ (p : Program) (g : Function) where
 
 -- ---- laws
 
-pub same_renamed : (body b : Body) (r : IsRenamed body b) (direct : ℕ → ℕ) → code_weight direct 0 b.code ≡ code_weight direct 0 body.code
-same_renamed body b r direct = ap (λ (x : Body). code_weight direct 0 x.code) r.changes ∙ renamed_same (weights direct 0) r.numbers body.code
+pub same_renamed : {layer : Stm-F ℕ → ℕ} {m : Stm → ℕ} → Measure layer m → (body b : Body) → IsRenamed body b → total (map m b.code) ≡ total (map m body.code)
+same_renamed {m = m} of body b r = ap (λ (x : Body). total (map m x.code)) r.changes ∙ renamed_same of r.numbers body.code
 
 module _ (are_calls : SlotsAreCalls) where
   pub marked_slots : MarkedCallsHaveSlots
@@ -131,10 +130,10 @@ module _ (are_calls : SlotsAreCalls) where
       marked_slots attributed b ∙ ap (λ fs. marked_calls fs b.code) marked ∙ same_calls p g b (fewer (one_other p g))
 
   pub attributed_slots : AttributedCallsHaveSlots
-  attributed_slots p g b (renamed r) = slots_of p g b (ap (λ (x : Body). x.marked) r.changes) (λ direct. let same = same_renamed (lower_function p g) b r direct in omega (arith, same))
-  attributed_slots p g b (folded body i r) = slots_of p g b (ap (λ (x : Body). x.marked) r.changes ∙ i.marked) (λ direct. worked_calls direct 0 (lower_function p g) body b i r)
+  attributed_slots p g b (renamed r) = slots_of p g b (ap (λ (x : Body). x.marked) r.changes) (λ direct. let same = same_renamed (weights direct 0) (lower_function p g) b r in omega (arith, same))
+  attributed_slots p g b (folded body i r) = slots_of p g b (ap (λ (x : Body). x.marked) r.changes ∙ i.marked) (λ direct. worked_no_more (weights direct 0) (lower_function p g) body b i r)
   attributed_slots p g b (bound ps m) = slots_of p g b (made ps (lower_function p g) b m).marked (λ direct. made_calls direct 0 ps (lower_function p g) b m)
 
   pub source_slots : LoweredCallAsOften → SourceCallsHaveSlots
   source_slots often p f g h b r attributed =
-      attributed_slots p g b (renamed r) attributed ∙ same_renamed (lower_function p g) b r (attributed_once p) ∙ (often p f g h).attributed
+      attributed_slots p g b (renamed r) attributed ∙ same_renamed (weights (attributed_once p) 0) (lower_function p g) b r ∙ (often p f g h).attributed

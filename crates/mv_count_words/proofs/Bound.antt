@@ -1,8 +1,10 @@
--- Each function that is bound in a state of a run has a variant.
-use Rattle.std.proofs.Common.{arith, ◌≡◌, ℕ, zero, suc, ◌+◌, ◌-◌, ◌^◌, ◌<◌, ◌≤◌, Bool, true, false, ◌&&◌, cond, if◌then◌else◌, nat_eq, min, List, [], ◌∷◌, ◌++◌, length, map, take, drop, replicate, is_some, Option, Some, None, refl, sym, ap, ◌∙◌, subst}
+-- Each function that is bound in a state of a run has a variant, and each pointer switch that is bound a target.
+use Rattle.std.proofs.Common.{arith, ◌≡◌, ℕ, zero, suc, ◌+◌, ◌-◌, ◌^◌, ◌<◌, ◌≤◌, Bool, true, false, ◌&&◌, cond, eqb, if◌then◌else◌, nat_eq, min, List, [], ◌∷◌, ◌++◌, length, map, take, drop, replicate, is_some, Option, Some, None, refl, sym, ap, ◌∙◌, subst}
 use Rattle.std.specs.Prelude.{option_and_then, slice_get}
-use Rattle.std.specs.List.{list_any}
-use Rattle.std.proofs.lemmas.List.{length-map, length-take, length-drop, length-replicate}
+use Rattle.std.specs.List.{list_any, position}
+use Rattle.std.proofs.lemmas.List.{length-append, length-map, length-take, length-drop, length-replicate}
+use Rattle.std.proofs.lemmas.List.Quantifiers.{position-Some}
+use Rattle.std.proofs.Math.Seq.{drop-append_seam}
 use Rattle.std.proofs.lemmas.Option.{slice_get-get_or, slice_get_within, get_or_from_slice_get}
 use Rattle.mv_bindings.specs.declared.action.Action.{Action}
 use Rattle.mv_bindings.specs.declared.action.Action.TheVariants as action
@@ -13,15 +15,17 @@ use Rattle.mv_bindings.specs.Acts.{Act, Skip, Flip, Adopt, act_of}
 use Rattle.mv_descriptors.specs.declared.rows.FunctionRow.{FunctionRow}
 use Rattle.mv_descriptors.specs.declared.rows.GuardRow.{GuardRow}
 use Rattle.mv_descriptors.specs.declared.rows.VariantRow.{VariantRow}
+use Rattle.mv_descriptors.specs.declared.rows.PointerRow.{PointerRow}
+use Rattle.mv_descriptors.specs.declared.rows.TargetRow.{TargetRow}
 use Rattle.mv_descriptors.specs.Guards.{fitting, holds}
 use Rattle.mv_isa.specs.declared.instr.Cause.TheVariants as cause
 use Rattle.mv_fetch.specs.Held.{Held}
-use Rattle.mv_image.specs.Patched.{variants_before, guards_before, kinds_of, fitting_in, fitting_variant, variant_under}
+use Rattle.mv_image.specs.Patched.{variants_before, guards_before, kinds_of, fitting_in, fitting_variant, variant_under, target_under}
 use Rattle.mv_image.specs.Spelling.{Fields}
 use Rattle.mv_image.proofs.RowsFit.{functions_fit}
-use Rattle.mv_patch.specs.Orders.{bound_values, bound_now, next_binding, words_now, word_in, ordered_rows, is_ordered, is_known_order, bindings_after}
+use Rattle.mv_patch.specs.Orders.{binding_count, pointer_bindings, bound_values, bound_now, next_binding, pointer_word, bound_to_target, next_pointer, words_now, word_in, ordered_rows, is_ordered, is_pointer_ordered, is_known_order, bindings_after}
 use Rattle.mv_patch.specs.Plans.{plan_of}
-use Rattle.mv_patch.proofs.Rebinding.{ordered_count}
+use Rattle.mv_patch.proofs.Rebinding.{ordered_count, behind_others}
 use Rattle.mv_machine.specs.Acts.{polls_of}
 use Rattle.mv_machine.specs.Runs.{State, Fault, answered, stopped, live_frames, refused, ordered, planned, acted, polled, with_value, runs_from, first}
 use Rattle.mv_refine_machine.proofs.Keeping.{runs_keep, plans_keep}
@@ -65,6 +69,52 @@ numbered test n k (v ∷ variants) rows e = by (numbered test (suc n) k variants
         let from = rest.from in
         let below = rest.below in record { from = omega (arith, from); below = omega (arith, below) }
 
+-- a row of a table is there
+row_there : {R : Type 0} (rows : List R) (k : ℕ) → k < length rows → is_some (slice_get rows k) ≡ true
+row_there [] k lt = absurd (omega (arith, lt))
+row_there (row ∷ rows) k lt = ap is_some (slice_get-get_or (row ∷ rows) k row lt)
+
+-- ---- bindings one after the other
+
+-- what holds of each binding from a number on
+abbrev AreFrom : (ℕ → Binding → Type 0) → ℕ → List Binding → Type 0
+AreFrom P i [] = Unit {0}
+AreFrom P i (b ∷ bs) = P i b × AreFrom P (suc i) bs
+
+module _ (P : ℕ → Binding → Type 0) where
+  from_append : (i : ℕ) (xs ys : List Binding) → AreFrom P i xs → AreFrom P (i + length xs) ys → AreFrom P i (xs ++ ys)
+  from_append i [] ys h k = let none : i + 0 ≡ i = omega arith in subst (λ n. AreFrom P n ys) none k
+  from_append i (x ∷ xs) ys h k =
+      let next : i + suc (length xs) ≡ suc i + length xs = omega arith in
+      (h.0, from_append (suc i) xs ys h.1 (subst (λ n. AreFrom P n ys) next k))
+
+  from_free : ((i : ℕ) → P i free) → (i k n : ℕ) → AreFrom P i (drop k (replicate n free))
+  from_free each i zero zero = tt
+  from_free each i zero (suc n) = (each i, from_free each (suc i) zero n)
+  from_free each i (suc k) zero = tt
+  from_free each i (suc k) (suc n) = from_free each i k n
+
+  from_at : (i : ℕ) (bs : List Binding) (n : ℕ) (b : Binding) → AreFrom P i bs → slice_get bs n ≡ Some b → P (i + n) b
+  from_at i [] n b are e = absurd (let bad : ⊥ = cc in bad)
+  from_at i (x ∷ bs) zero b are e =
+      let same : x ≡ b = cc in
+      let here : i ≡ i + 0 = omega arith in subst (λ m. P m b) here (subst (P i) same are.0)
+  from_at i (x ∷ bs) (suc n) b are e = let next : suc i + n ≡ i + suc n = omega arith in subst (λ m. P m b) next (from_at (suc i) bs n b are.1 e)
+
+  -- an order keeps it, where what it binds has it
+  ordered_from : {A : Type 0} (addressed : ℕ → A → Bool) (next : ℕ → A → Binding) (i : ℕ) (rows : List A) (old : List Binding) →
+      ((k : ℕ) (row : A) → slice_get rows k ≡ Some row → P (i + k) (next (i + k) row)) → AreFrom P i old → AreFrom P i (ordered_rows addressed next i rows old)
+  ordered_from addressed next i [] old each are = tt
+  ordered_from addressed next i (row ∷ rows) [] each are = tt
+  ordered_from addressed next i (row ∷ rows) (b ∷ old) each are = (
+    by (addressed i row),
+    ordered_from addressed next (suc i) rows old (λ k x e. (let on : i + suc k ≡ suc i + k = omega arith in subst (λ n. P n (next n x)) on (each (suc k) x e))) are.1,
+  )
+    where
+      by : (t : Bool) → P i (if t then next i row else b)
+      by true = let none : i + 0 ≡ i = omega arith in subst (λ n. P n (next n row)) none (each 0 row refl)
+      by false = are.0
+
 module _ (image : Fields) where
   in_table : (f : ℕ) (vs : List ℕ) (o : Option FunctionRow) (k : ℕ) → option_and_then (fitting_in image f vs) o ≡ Some k → k < length image.variants
   in_table f vs None k e = absurd (let bad : ⊥ = cc in bad)
@@ -76,35 +126,24 @@ module _ (image : Fields) where
       let some = length-take row.variants (drop before image.variants) in
       let later = length-drop before image.variants in omega (arith, from, below, some, later)
 
-  row_there : (k : ℕ) → k < length image.variants → is_some (slice_get image.variants k) ≡ true
-  row_there k lt = by image.variants lt
-    where
-      by : (rows : List VariantRow) → k < length rows → is_some (slice_get rows k) ≡ true
-      by [] below = absurd (omega (arith, below))
-      by (row ∷ rows) below = ap is_some (slice_get-get_or (row ∷ rows) k row below)
-
   shown : (f : ℕ) (vs : List ℕ) (o : Option ℕ) → fitting_variant image f vs ≡ o → is_some o ≡ true → is_some (option_and_then (slice_get image.variants) o) ≡ true
   unfolding fitting_variant
   shown f vs None e some = absurd (let bad : false ≡ true = some in cc)
-  shown f vs (Some k) e some = row_there k (in_table f vs (slice_get image.functions f) k e)
+  shown f vs (Some k) e some = row_there image.variants k (in_table f vs (slice_get image.functions f) k e)
 
   under_some : (f : ℕ) (vs : List ℕ) → is_some (fitting_variant image f vs) ≡ true → is_some (variant_under image f (Some vs)) ≡ true
   unfolding variant_under
   under_some f vs some = shown f vs (fitting_variant image f vs) refl some
 
-  -- ---- bindings one after the other
+  -- ---- what is bound
 
   -- a binding that binds a function has a variant of it
   abbrev IsOne : ℕ → Binding → Type 0
   IsOne f b = b.bound ≡ true → is_some (variant_under image f (bound_values b)) ≡ true
 
-  abbrev AreFrom : ℕ → List Binding → Type 0
-  AreFrom f [] = Unit {0}
-  AreFrom f (b ∷ bs) = IsOne f b × AreFrom (suc f) bs
-
-  abbrev HaveFew : List FunctionRow → Type 0
-  HaveFew [] = Unit {0}
-  HaveFew (row ∷ rows) = (row.count ≤ 6) × HaveFew rows
+  -- and one that binds a pointer switch a target
+  abbrev IsLed : Binding → Type 0
+  IsLed b = b.bound ≡ true → is_some (target_under image (bound_values b)) ≡ true
 
   free_one : (f : ℕ) → IsOne f free
   free_one f is = absurd (let bad : false ≡ true = is in cc)
@@ -137,40 +176,72 @@ module _ (image : Fields) where
       by true = now_one held f row few
       by false = free_one f
 
-  ordered_from : (addressed : ℕ → FunctionRow → Bool) (held : Held) (code f : ℕ) (rows : List FunctionRow) (old : List Binding) → HaveFew rows → AreFrom f old →
-      AreFrom f (ordered_rows addressed (next_binding image held code) f rows old)
-  ordered_from addressed held code f [] old few are = tt
-  ordered_from addressed held code f (row ∷ rows) [] few are = tt
-  ordered_from addressed held code f (row ∷ rows) (b ∷ old) few are = (by (addressed f row), ordered_from addressed held code (suc f) rows old few.1 are.1)
+  free_led : IsLed free
+  free_led is = absurd (let bad : false ≡ true = is in cc)
+
+  target_some : (t : ℕ) → t < length image.targets → is_some (target_under image (Some (suc t ∷ []))) ≡ true
+  unfolding target_under
+  target_some t lt =
+      let index : suc t - 1 ≡ t = omega arith in
+      subst (λ n. is_some (slice_get image.targets n) ≡ true) (sym index) (row_there image.targets t lt)
+
+  to_led : (o : Option ℕ) → ((t : ℕ) → o ≡ Some t → t < length image.targets) → IsLed (bound_to_target o)
+  to_led None within = free_led
+  to_led (Some t) within = λ is. subst (λ (o : Option (List ℕ)). is_some (target_under image o) ≡ true) (sym (bound_is (suc t ∷ []) (omega arith))) (target_some t (within t refl))
+
+  next_led : (held : Held) (code q : ℕ) (row : PointerRow) → IsLed (next_pointer image held code q row)
+  next_led held code q row = by (is_commit code)
     where
-      by : (t : Bool) → IsOne f (if t then next_binding image held code f row else b)
-      by true = next_one held code f row few.0
-      by false = are.0
+      first : Option ℕ
+      first = position (λ (target : TargetRow). eqb target.entry (pointer_word held row)) image.targets
 
-  first_from : (f n : ℕ) → AreFrom f (replicate n free)
-  first_from f zero = tt
-  first_from f (suc n) = (free_one f, first_from (suc f) n)
-
-  from_at : (f : ℕ) (bs : List Binding) (n : ℕ) (b : Binding) → AreFrom f bs → slice_get bs n ≡ Some b → IsOne (f + n) b
-  from_at f [] n b are e = absurd (let bad : ⊥ = cc in bad)
-  from_at f (x ∷ bs) zero b are e =
-      let same : x ≡ b = cc in
-      let here : f ≡ f + 0 = omega arith in subst (λ m. IsOne m b) here (subst (IsOne f) same are.0)
-  from_at f (x ∷ bs) (suc n) b are e = let next : suc f + n ≡ f + suc n = omega arith in subst (λ m. IsOne m b) next (from_at (suc f) bs n b are.1 e)
+      by : (b : Bool) → IsLed (if b then bound_to_target first else free)
+      by true = to_led first (λ t e. (position-Some (λ (target : TargetRow). eqb target.entry (pointer_word held row)) image.targets t (record { length = 0; entry = 0 }) e).0)
+      by false = free_led
 
   -- ---- states
 
-  record AreAll (bs : List Binding) : Type 0 where
-    count : length bs ≡ length image.functions
-    each : AreFrom 0 bs
+  abbrev functions : ℕ
+  functions = length image.functions
 
-  module _ (few : HaveFew image.functions) where
+  -- of a number below the functions'
+  abbrev OfFunction : ℕ → Binding → Type 0
+  OfFunction f b = f < functions → IsOne f b
+
+  abbrev OfPointer : ℕ → Binding → Type 0
+  OfPointer q b = IsLed b
+
+  record AreAll (bs : List Binding) : Type 0 where
+    count : length bs ≡ binding_count image
+    of_functions : AreFrom OfFunction 0 bs
+    of_pointers : AreFrom OfPointer 0 (pointer_bindings image bs)
+
+  -- behind the functions nothing is said of them
+  behind : (i : ℕ) (bs : List Binding) → functions ≤ i → AreFrom OfFunction i bs
+  behind i [] le = tt
+  behind i (b ∷ bs) le = (λ lt. absurd (omega (arith, le, lt)), behind (suc i) bs (omega (arith, le)))
+
+  module _ (few : (i : ℕ) (row : FunctionRow) → slice_get image.functions i ≡ Some row → row.count ≤ 6) where
     order_all : (held : Held) (old : List Binding) (code index : ℕ) → AreAll old → AreAll (plan_of image held old code index).bound
     unfolding plan_of bindings_after
-    order_all held old code index all = record {
-      count = ordered_count (is_ordered code index) (next_binding image held code) 0 image.functions old all.count;
-      each = ordered_from (is_ordered code index) held code 0 image.functions old few all.each;
-    }
+    order_all held old code index all =
+        let first : List Binding = ordered_rows (is_ordered code index) (next_binding image held code) 0 image.functions old in
+        let last : List Binding = ordered_rows (is_pointer_ordered image code index) (next_pointer image held code) 0 image.pointers (pointer_bindings image old) in
+        let many = all.count in
+        let size : length first ≡ functions = ordered_count (is_ordered code index) (next_binding image held code) 0 image.functions old (omega (arith, many)) in
+        let rest : length last ≡ length image.pointers =
+        ordered_count (is_pointer_ordered image code index) (next_pointer image held code) 0 image.pointers (pointer_bindings image old) (omega (arith, many, length-drop functions old)) in
+        let pointers : drop functions (first ++ last) ≡ last = ap (λ n. drop n (first ++ last)) (sym size) ∙ drop-append_seam first last in
+        record {
+          count = omega (arith, length-append first last, size, rest);
+          of_functions =
+              from_append OfFunction 0 first last
+              (ordered_from OfFunction (is_ordered code index) (next_binding image held code) 0 image.functions old (λ k row e lt. next_one held code (0 + k) row (few k row e)) all.of_functions)
+              (behind (0 + length first) last (omega (arith, size)));
+          of_pointers =
+              subst (AreFrom OfPointer 0) (sym pointers)
+              (ordered_from OfPointer (is_pointer_ordered image code index) (next_pointer image held code) 0 image.pointers (pointer_bindings image old) (λ k row e. next_led held code (0 + k) row) all.of_pointers);
+        }
 
     abbrev Has : State → Type 0
     Has s = (s.image ≡ image) × AreAll s.bindings × AreOwn s.actions
@@ -198,19 +269,27 @@ module _ (image : Fields) where
     run_has : (input : List (Option ℕ)) (actions : List Action) (picks : List ℕ) (n : ℕ) → Has (runs_from (first image input (polls_of actions)) picks n)
     unfolding first
     run_has input actions picks n =
-        runs_keep Has (plans_keep Has (record { others = λ regs pc room input output stop s h. h; plans = planned_has; polls = polled_has })) (first image input (polls_of actions)) picks n
-        (refl, record { count = length-replicate (length image.functions) free; each = first_from 0 (length image.functions) }, own_actions actions)
-
-few_rows : (image : Fields) (rows : List FunctionRow) → ((i : ℕ) (row : FunctionRow) → slice_get rows i ≡ Some row → row.count ≤ 6) → HaveFew image rows
-few_rows image [] h = tt
-few_rows image (row ∷ rows) h = (h 0 row refl, few_rows image rows (λ i x e. h (suc i) x e))
+        runs_keep Has (plans_keep Has (record { others = λ regs pc room input output stop s h. h; plans = planned_has; polls = polled_has })) (first image input (polls_of actions)) picks n (
+          refl,
+          record {
+            count = length-replicate (binding_count image) free;
+            of_functions = from_free OfFunction (λ f lt. free_one f) 0 0 (binding_count image);
+            of_pointers = from_free OfPointer (λ q. free_led) 0 functions (binding_count image);
+          },
+          own_actions actions,
+        )
 
 pub runs_are_bound : RunsAreBound
 runs_are_bound image r input actions picks n =
-    let few = few_rows image image.functions (λ i row e. few_switches i row e) in
-    let has = run_has image few input actions picks n in record {
-      count = has.1.count;
-      fit = λ f b e. (let same : 0 + f ≡ f = omega arith in subst (λ m. IsOne image m b) same (from_at image 0 (runs_from (first image input (polls_of actions)) picks n).bindings f b has.1.each e));
+    let bs : List Binding = (runs_from (first image input (polls_of actions)) picks n).bindings in
+    let all = (run_has image few_switches input actions picks n).1 in record {
+      count = all.count;
+      fit = λ f b lt e. (let same : 0 + f ≡ f = omega arith in subst (λ m. OfFunction image m b) same (from_at (OfFunction image) 0 bs f b all.of_functions e) lt);
+      led = λ q b e.
+          let within = slice_get_within bs (length image.functions + q) b e in
+          let there : slice_get (pointer_bindings image bs) q ≡ Some b =
+          behind_others (length image.functions) q bs b within ∙ ap Some (get_or_from_slice_get bs (length image.functions + q) b b e) in
+          from_at (OfPointer image) 0 (pointer_bindings image bs) q b all.of_pointers there;
     }
   where
     few_switches : (i : ℕ) (row : FunctionRow) → slice_get image.functions i ≡ Some row → row.count ≤ 6

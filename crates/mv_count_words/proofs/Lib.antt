@@ -4,5 +4,6 @@ pub mod Bound
 pub mod Sites
 pub mod Inlined
 pub mod Told
+pub mod Pointers
 pub mod Owed
 pub mod Whole

@@ -57,7 +57,7 @@ row_at entry number (v ∷ vs) (suc k) row e =
     let next : suc number + k ≡ number + suc k = omega arith in (found.0, found.1, found.2 ∙ ap (λ n. variant_row (entry n) found.0) next)
 
 -- what holds of each variant of each function
-all_variants : (P : PartVariant → Type 0) (attributed : List PartFunction) → ((n : ℕ) (a : PartFunction) → slice_get attributed n ≡ Some a → All P a.variants) → All P (function_variants attributed)
+pub all_variants : (P : PartVariant → Type 0) (attributed : List PartFunction) → ((n : ℕ) (a : PartFunction) → slice_get attributed n ≡ Some a → All P a.variants) → All P (function_variants attributed)
 all_variants P [] h = All-nil P
 all_variants P (a ∷ rest) h = All-append P a.variants (function_variants rest) (h 0 a refl) (all_variants P rest (λ n b e. h (suc n) b e))
 

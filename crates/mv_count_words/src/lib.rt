@@ -1,8 +1,9 @@
 //! How many words of an image's text a run has changed, by the source of the program.
 //!
 //! - `images_show_bindings`: where the text of a program's image is that of the bindings in a state of a run, as many words
-//!   are others than the image's as these bindings owe (`specs/Owed.antt`): none exactly where all functions are free, and
-//!   else at least one for the entry of each bound function, and one for each direct call of it in the program (`counts`).
+//!   are others than the image's as these bindings owe (`specs/Owed.antt`): at least one for the entry of each bound function
+//!   and one for each direct call of it in the program, and four for each call through each bound pointer switch; and none
+//!   where that is none (`counts`).
 //!   So many lines are written of them (`shows`).
 //! - `runs_are_bound`: in each state of a run, one of its variants fits the values to which a function is bound.
 //!   `lines_are_words`: the words that are others than the image's have a line each.
@@ -33,8 +34,8 @@ pub fn lines_are_words()
 }
 
 /// Of the image of a program. `counts`: bindings by which each bound function has a variant change as many words of text as they
-/// owe: none exactly where all functions are free, and else at least one for the entry of each bound function, and one for each
-/// direct call of it. `shows`: so the bindings in any state of a run, and the changed words have a line each. The call does
+/// owe: at least one for the entry of each bound function, one for each direct call of it, and four for each call through each
+/// bound pointer switch; and none where that is none. `shows`: so the bindings in any state of a run, and the changed words have a line each. The call does
 /// nothing: its contract is the law.
 pub fn images_show_bindings()
     ensures counts { ImagesCountWords }

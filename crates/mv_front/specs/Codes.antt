@@ -48,7 +48,3 @@ sites = 14
 -- an item of the operator is no action of the program
 abbrev pub action : ℕ
 action = 15
-
--- it has pointer switches, for which there is no image yet
-abbrev pub pointers : ℕ
-pointers = 16

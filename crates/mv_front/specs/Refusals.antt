@@ -20,10 +20,6 @@ of_rule place rule = record { code = refusals.rule; place = place; detail = rule
 abbrev pub counted : (code detail count : ℕ) → Refusal
 counted code detail count = record { code = code; place = record { line = 0; column = 0 }; detail = detail; count = count }
 
--- a program has pointer switches; the place is the beginning of the text
-abbrev pub of_pointers : Refusal
-of_pointers = at_place refusals.pointers (record { line = 1; column = 1 })
-
 -- ---- the text of a refusal
 
 abbrev pub place_text : Place → List ℕ
@@ -31,7 +27,7 @@ place_text place = decimal place.line ++ (codes ":" ++ decimal place.column)
 
 -- the refusals that name a place alone
 abbrev pub has_place : ℕ → Bool
-has_place code = is_among code (refusals.token ∷ refusals.unsupported ∷ refusals.unit ∷ refusals.nesting ∷ refusals.pointers ∷ [])
+has_place code = is_among code (refusals.token ∷ refusals.unsupported ∷ refusals.unit ∷ refusals.nesting ∷ [])
 
 abbrev pub cause_text : Refusal → List ℕ
 cause_text r =

@@ -2,7 +2,7 @@
 
 ghost use Rattle.std.specs.Prelude.{◌≡◌, Some};
 ghost use Rattle.mv_front.specs.Errors.{of_checking, of_lexing, of_parsing};
-ghost use Rattle.mv_front.specs.Refusals.{at_place, counted, of_pointers, of_rule, refusal_text};
+ghost use Rattle.mv_front.specs.Refusals.{at_place, counted, of_rule, refusal_text};
 
 use mv_lexer::error::LexError;
 use mv_parser::error::ParseError;
@@ -21,9 +21,6 @@ pub struct Refusal {
     pub detail: u32,
     pub count: u64,
 }
-
-/// The beginning of a text.
-const START: Place = Place { line: 1, column: 1 };
 
 /// The place of a refusal that has none.
 const NOWHERE: Place = Place { line: 0, column: 0 };
@@ -53,13 +50,6 @@ impl Refusal {
         }
     }
 
-    /// A program that has pointer switches.
-    pub fn of_pointers() -> Refusal
-        ensures { result ≡ of_pointers }
-    {
-        Refusal::at_place(16, START)
-    }
-
     /// A count that is too great.
     pub fn counted(code: u8, detail: u32, count: u64) -> Refusal
         ensures { result ≡ counted code detail count }
@@ -83,7 +73,7 @@ impl fmt::Display for Refusal {
             detail,
             count,
         } = *self;
-        if code == 1 || code == 2 || code == 4 || code == 5 || code == 16 {
+        if code == 1 || code == 2 || code == 4 || code == 5 {
             return write!(f, "refused {code} {line}:{column}");
         }
         if code == 6 {

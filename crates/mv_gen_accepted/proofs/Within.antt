@@ -1,5 +1,5 @@
 -- Generated texts are within the counts, and so they are refused for no cause.
-use Rattle.std.proofs.Common.{◌≡◌, ℕ, List, refl, subst, arith}
+use Rattle.std.proofs.Common.{◌≡◌, ℕ, List, subst, arith}
 use Rattle.mv_ast.specs.declared.program.Program.{Program}
 use Rattle.mv_front.specs.Verdicts.{IsProgram, IsRefused}
 use Rattle.mv_front.specs.declared.refusal.Refusal.{Refusal}
@@ -11,7 +11,7 @@ use Rattle.mv_gen_programs.proofs.Limited.{is_program}
 use Rattle.mv_gen_programs.proofs.Program.{program}
 
 pub within_counts : (number : ℕ) → IsWithinCounts (program number)
-within_counts number = record { pointers = refl; frames = frames_fit number; sites = sites_fit number; data_fits = omega arith; text = text_fits number }
+within_counts number = record { frames = frames_fit number; sites = sites_fit number; data_fits = omega arith; text = text_fits number }
 
 module _ (one : (text : List ℕ) (p q : Program) → IsProgram text p → IsProgram text q → p ≡ q)
     (not_both : (text : List ℕ) (p : Program) (r : Refusal) → IsProgram text p → IsRefused text r → ⊥) (none : CountedPassNone) where

@@ -1,4 +1,4 @@
--- Counts over the trees of generated programs, form by form.
+-- What folds make of the trees of generated programs, form by form.
 use Rattle.std.proofs.Common.{◌≡◌, ℕ, Bool, List, map, Option, ap, ◌∙◌}
 use Rattle.mv_ast.specs.declared.program.Arm.{Arm, Arm-F, fold-Arm}
 use Rattle.mv_ast.specs.declared.program.Expr.{Expr, Expr-F, fold-Expr, fold_out-Expr}
@@ -14,31 +14,31 @@ use Rattle.mv_ast.specs.declared.program.Target.TheVariants as target
 use Rattle.mv_check_scope.specs.Conversions.{int, typed}
 use Rattle.mv_gen_programs.proofs.Values.{read_local, read_global, constant, binary, choose}
 
--- a count of expressions, from what a form, a target and an expression come to by what stands in them
-module _ (f : Form-F ℕ ℕ ℕ → ℕ) (g : Target-F ℕ ℕ ℕ → ℕ) (h : Expr-F ℕ ℕ ℕ → ℕ) where
-  abbrev pub total : Expr → ℕ
-  total = fold-Expr ℕ ℕ ℕ f g h
+-- what expressions come to, from what a form, a target and an expression come to by what stands in them
+module _ {A : Type 0} (f : Form-F A A A → A) (g : Target-F A A A → A) (h : Expr-F A A A → A) where
+  abbrev pub total : Expr → A
+  total = fold-Expr A A A f g h
 
-  abbrev of_form : Form → ℕ
-  of_form = fold-Form ℕ ℕ ℕ f g h
+  abbrev of_form : Form → A
+  of_form = fold-Form A A A f g h
 
-  abbrev of_target : Target → ℕ
-  of_target = fold-Target ℕ ℕ ℕ f g h
+  abbrev of_target : Target → A
+  of_target = fold-Target A A A f g h
 
-  abbrev layer : Form-F Form Target Expr → ℕ
-  layer x = f (map-Form Form Target Expr ℕ ℕ ℕ of_form of_target total x)
+  abbrev layer : Form-F Form Target Expr → A
+  layer x = f (map-Form Form Target Expr A A A of_form of_target total x)
 
-  abbrev pub of_int : ℕ → ℕ
+  abbrev pub of_int : A → A
   of_int n = h (record { ctype = int; what = n })
 
   by : (w : Form) (x : Form-F Form Target Expr) → out-Form w ≡ x → total (typed int w) ≡ of_int (layer x)
-  by w x e = fold_out-Expr ℕ ℕ ℕ f g h (typed int w) ∙ ap of_int (fold_out-Form ℕ ℕ ℕ f g h w ∙ ap layer e)
+  by w x e = fold_out-Expr A A A f g h (typed int w) ∙ ap of_int (fold_out-Form A A A f g h w ∙ ap layer e)
 
   global_is : (n : ℕ) → of_target (target.Global n) ≡ g (open_form.Global n)
-  global_is n = fold_out-Target ℕ ℕ ℕ f g h (target.Global n) ∙ ap (λ (y : Target-F Form Target Expr). g (map-Target Form Target Expr ℕ ℕ ℕ of_form of_target total y)) (target.outs-Global n)
+  global_is n = fold_out-Target A A A f g h (target.Global n) ∙ ap (λ (y : Target-F Form Target Expr). g (map-Target Form Target Expr A A A of_form of_target total y)) (target.outs-Global n)
 
   local_is : (n : ℕ) → of_target (target.Local n) ≡ g (open_form.Local n)
-  local_is n = fold_out-Target ℕ ℕ ℕ f g h (target.Local n) ∙ ap (λ (y : Target-F Form Target Expr). g (map-Target Form Target Expr ℕ ℕ ℕ of_form of_target total y)) (target.outs-Local n)
+  local_is n = fold_out-Target A A A f g h (target.Local n) ∙ ap (λ (y : Target-F Form Target Expr). g (map-Target Form Target Expr A A A of_form of_target total y)) (target.outs-Local n)
 
   pub of_constant : (n : ℕ) → total (constant n) ≡ of_int (f (open_form.Number n))
   of_constant n = by (form.Number n) _ (form.outs-Number n)

@@ -1,23 +1,29 @@
--- What hart 0 is bound to at any time may be bound: each function is free, or bound to values of its switches' domains.
-use Rattle.std.proofs.Common.{◌≡◌, ◌⊎◌, inl, inr, ℕ, zero, suc, ◌+◌, ◌-◌, ◌*◌, ◌%◌, ◌/◌, ◌^◌, ◌<◌, Bool, true, false, ◌&&◌, cond, eqb, nat_eq, if◌then◌else◌, List, [], ◌∷◌, length, map, replicate, is_some, slice_get, slice_index, unwrap_or, Option, Some, None, Err, refl, sym, ap, ◌∙◌, subst, arith}
-use Rattle.std.specs.List.{All}
+-- What hart 0 is bound to at any time may be bound: each function is free, or bound to values of its switches' domains, and each pointer switch is free, or
+-- bound to a function, which is of its type where all that is logged is.
+use Rattle.std.proofs.Common.{◌≡◌, ◌⊎◌, inl, inr, ℕ, zero, suc, ◌+◌, ◌-◌, ◌*◌, ◌%◌, ◌/◌, ◌^◌, ◌<◌, Bool, true, false, ◌&&◌, cond, eqb, nat_eq, if◌then◌else◌, List, [], ◌∷◌, ◌++◌, length, map, is_some, slice_get, slice_index, unwrap_or, Option, Some, None, Err, refl, sym, ap, ◌∙◌, subst, arith, length-append, length-drop}
+use Rattle.std.specs.Prelude.{◌==◌}
+use Rattle.std.specs.List.{All, position}
 use Rattle.std.specs.Result.{result_ok}
 use Rattle.std.proofs.Math.Nat.{mod-lt}
 use Rattle.std.proofs.lemmas.Bool.{and_from}
-use Rattle.std.proofs.lemmas.List.{drop_all, length-replicate}
+use Rattle.std.proofs.lemmas.List.{length-replicate}
 use Rattle.std.proofs.lemmas.List.Elements.{All-nil, All-cons, All-head, All-tail}
 use Rattle.std.proofs.lemmas.Option.{slice_get_within}
 use Rattle.mv_num.proofs.Lists.{there_at}
+use Rattle.mv_ast.proofs.Common.{get_drop}
 use Rattle.mv_ast.specs.declared.program.Program.{Program}
 use Rattle.mv_ast.specs.declared.program.Function.{Function}
-use Rattle.mv_ast.specs.Bindings.{are_bindings, are_typed_bindings, each_passes, is_typed_binding}
-use Rattle.mv_ast.specs.Switches.{attributed_functions, all_in_domain, pointer_bindings}
+use Rattle.mv_ast.specs.Bindings.{are_bindings, are_typed_bindings, is_typed_binding}
+use Rattle.mv_ast.specs.Switches.{attributed_functions, all_in_domain, pointer_bindings as pointers_of}
 use Rattle.mv_bindings.specs.declared.binding.Binding.{Binding}
+use Rattle.mv_bindings.specs.declared.binding.Event.{Event}
 use Rattle.mv_bindings.specs.Acts.{Act, Skip, Flip, Adopt}
-use Rattle.mv_bindings.specs.Bindings.{bound_to, free}
+use Rattle.mv_bindings.specs.Bindings.{bound_to, events_from, free}
 use Rattle.mv_bindings.specs.OrderNumbers.{is_commit}
 use Rattle.mv_descriptors.specs.declared.rows.SwitchRow.{SwitchRow}
 use Rattle.mv_descriptors.specs.declared.rows.FunctionRow.{FunctionRow}
+use Rattle.mv_descriptors.specs.declared.rows.PointerRow.{PointerRow}
+use Rattle.mv_descriptors.specs.declared.rows.TargetRow.{TargetRow}
 use Rattle.mv_isa.specs.declared.instr.Cause.TheVariants as cause
 use Rattle.mv_isa.specs.Execution.{Outcome, Goes, Calls, Faults, reg}
 use Rattle.mv_isa.specs.Registers.{a1, a7}
@@ -25,14 +31,16 @@ use Rattle.mv_fetch.specs.declared.memory.AccessError.TheVariants.{Misaligned}
 use Rattle.mv_fetch.specs.Held.{Held, Room, found, load, part, present}
 use Rattle.mv_image.specs.Patched.{fitting_variant}
 use Rattle.mv_image.specs.Spelling.{Fields}
-use Rattle.mv_ir_worlds.specs.Fit.{AreBindings, IsFunctionBound, MayBind}
+use Rattle.mv_ir_worlds.specs.Fit.{AreBindings, IsFunctionBound, IsPointerBound, MayBind}
 use Rattle.mv_ir_worlds.specs.Laws.{BindingsAreTold}
 use Rattle.mv_ir_worlds.proofs.Combining.{combination_in, in_combination}
-use Rattle.mv_patch.specs.Orders.{bindings_after, bound_now, first_bindings, is_known_order, is_ordered, next_binding, ordered_rows, word_in}
+use Rattle.mv_meaning_numbering.specs.Laws.{IsTypedEvent}
+use Rattle.mv_patch.specs.Orders.{binding_count, bindings_after, bound_now, bound_to_target, first_bindings, is_known_order, is_ordered, is_pointer_ordered, next_binding, next_pointer, ordered_rows, pointed_now, pointer_bindings, pointer_word, word_in}
 use Rattle.mv_patch.specs.Plans.{plan_of}
 use Rattle.mv_machine.specs.Runs.{State, Stop, Going, Exit, Trap, Fault, Request, Exits, Reads, Writes, Traps, Plans, Polls, Unknown, request_of, argument, answered, stopped, live_frames, refused, carried_out, ordered, planned, with_value, act, acted, polled, environment_call, fetched_step, after, is_going, turn, runs_from, first}
 use Rattle.mv_harts_runs.specs.Harts.{first_of}
 use Rattle.mv_harts_meant.specs.Runnable.{HasFunctions}
+use Rattle.mv_harts_meant.proofs.Rows.{all_before, all_behind, all_pass, all_the_same, events_tell, in_either, position_within, rows_bound, rows_count}
 
 -- ---- what is loaded of a switch is a word
 
@@ -49,36 +57,6 @@ word_small : (held : Held) (row : Option SwitchRow) → word_in held row < 2 ^ 3
 unfolding load
 word_small held None = omega arith
 word_small held (Some row) = loaded_small row.address (eqb (row.address % 4) 0) (present held row.address)
-
--- ---- lists of bindings
-
--- a binding behind an order is one that the order made, of its row, or one that was before
-rows_bound : (addressed : ℕ → FunctionRow → Bool) (next : ℕ → FunctionRow → Binding) (i : ℕ) (rows : List FunctionRow) (bs : List Binding) (n : ℕ) (b : Binding) →
-    slice_get (ordered_rows addressed next i rows bs) n ≡ Some b → ((row : FunctionRow) × (slice_get rows n ≡ Some row) × (b ≡ next (n + i) row)) ⊎ (slice_get bs n ≡ Some b)
-rows_bound addressed next i [] bs n b e = absurd (cc)
-rows_bound addressed next i (row ∷ rows) [] n b e = absurd (cc)
-rows_bound addressed next i (row ∷ rows) (c ∷ bs) zero b e = by_test (addressed i row) e
-  where
-    by_test : (z : Bool) → Some (if z then next i row else c) ≡ Some b → ((r : FunctionRow) × (Some row ≡ Some r) × (b ≡ next (0 + i) r)) ⊎ (Some c ≡ Some b)
-    by_test true h = inl (row, refl, (let s : b ≡ next i row = cc in s) ∙ ap (λ (k : ℕ). next k row) (let z : i ≡ 0 + i = omega arith in z))
-    by_test false h = inr h
-rows_bound addressed next i (row ∷ rows) (c ∷ bs) (suc n) b e = by_case (rows_bound addressed next (suc i) rows bs n b e)
-  where
-    by_case : ((r : FunctionRow) × (slice_get rows n ≡ Some r) × (b ≡ next (n + suc i) r)) ⊎ (slice_get bs n ≡ Some b)
-        → ((r : FunctionRow) × (slice_get rows n ≡ Some r) × (b ≡ next (suc n + i) r)) ⊎ (slice_get bs n ≡ Some b)
-    by_case (inl x) = inl (x.0, x.1, x.2 ∙ ap (λ (k : ℕ). next k x.0) (let z : n + suc i ≡ suc n + i = omega arith in z))
-    by_case (inr h) = inr h
-
-rows_count : (addressed : ℕ → FunctionRow → Bool) (next : ℕ → FunctionRow → Binding) (i : ℕ) (rows : List FunctionRow) (bs : List Binding) →
-    length bs ≡ length rows → length (ordered_rows addressed next i rows bs) ≡ length rows
-rows_count addressed next i [] bs e = refl
-rows_count addressed next i (row ∷ rows) [] e = absurd (omega (arith, e))
-rows_count addressed next i (row ∷ rows) (b ∷ bs) e = ap suc (rows_count addressed next (suc i) rows bs (omega (arith, e)))
-
-all_the_same : (count n : ℕ) (b c : Binding) → slice_get (replicate count b) n ≡ Some c → c ≡ b
-all_the_same zero n b c e = absurd (cc)
-all_the_same (suc count) zero b c e = cc
-all_the_same (suc count) (suc n) b c e = all_the_same count n b c e
 
 -- ---- of an image with a program's functions
 
@@ -130,27 +108,91 @@ module _ (p : Program) (image : Fields) (tables : HasFunctions p image) where
     function_at : (n : ℕ) (row : FunctionRow) → slice_get image.functions n ≡ Some row → (g : Function) × (slice_get (attributed_functions p) n ≡ Some g)
     function_at n row here = let within = slice_get_within image.functions n row here in there_at (attributed_functions p) n (omega (arith, within, tables.count))
 
-    -- an order leaves bindings that may be
-    ordered_fits : (code index : ℕ) (bs : List Binding) → AreBindings p bs → AreBindings p (bindings_after image held code index bs)
-    unfolding bindings_after
-    ordered_fits code index bs are = record {
-      count = let no_more = ap length tables.no_pointers in
-          let same = rows_count (is_ordered code index) (next_binding image held code) 0 image.functions bs (let n = are.count in omega (arith, n, no_more, tables.count)) in omega (arith, same, no_more, tables.count);
-      bound = λ n b e is. by_case n b is (rows_bound (is_ordered code index) (next_binding image held code) 0 image.functions bs n b e);
-    }
+    -- a pointer switch is bound to a target, which is a function
+    target_fits : (q g : ℕ) → slice_get p.pointers q ≡ Some g → (o : Option ℕ) → ((t : ℕ) → o ≡ Some t → t < length image.targets) → (b : Binding) → b ≡ bound_to_target o → b.bound ≡ true →
+        (vs : List ℕ) × (b ≡ bound_to vs) × IsPointerBound p g vs
+    target_fits q g there None within b e is = absurd (let wrong : b.bound ≡ false = ap (λ (x : Binding). x.bound) e in cc)
+    target_fits q g there (Some t) within b e is =
+        let some = slice_get_within p.pointers q g there in
+        let all = tables.targets (omega (arith, some)) in
+        let below = within t refl in
+        (suc t ∷ [], e, (t, omega (arith, below, all), refl))
+
+    abbrev is_pointed : PointerRow → TargetRow → Bool
+    is_pointed row target = target.entry == pointer_word held row
+
+    pointer_fits : (code q g : ℕ) (row : PointerRow) → slice_get p.pointers q ≡ Some g → (b : Binding) → b ≡ next_pointer image held code q row → b.bound ≡ true →
+        (vs : List ℕ) × (b ≡ bound_to vs) × IsPointerBound p g vs
+    pointer_fits code q g row there b e is = by_code (is_commit code) e
       where
-        by_case : (n : ℕ) (b : Binding) → b.bound ≡ true → ((row : FunctionRow) × (slice_get image.functions n ≡ Some row) × (b ≡ next_binding image held code (n + 0) row)) ⊎ (slice_get bs n ≡ Some b) →
-            (vs : List ℕ) × (b ≡ bound_to vs) × MayBind p n vs
-        by_case n b is (inl x) =
-            let g = function_at n x.0 x.1 in
-            let made = next_fits code n g.0 x.0 g.1 x.1 b (x.2 ∙ ap (λ (k : ℕ). next_binding image held code k x.0) (let z : n + 0 ≡ n = omega arith in z)) is in
-            (made.0, made.1, inl (g.0, g.1, made.2))
-        by_case n b is (inr h) = are.bound n b h is
+        by_code : (z : Bool) → b ≡ (if z then pointed_now image held row else free) → (vs : List ℕ) × (b ≡ bound_to vs) × IsPointerBound p g vs
+        by_code true h = target_fits q g there (position (is_pointed row) image.targets) (position_within (is_pointed row) image.targets) b h is
+        by_code false h = absurd (let wrong : b.bound ≡ false = ap (λ (x : Binding). x.bound) h in cc)
+
+    pointer_at : (q : ℕ) (row : PointerRow) → slice_get image.pointers q ≡ Some row → (g : ℕ) × (slice_get p.pointers q ≡ Some g)
+    pointer_at q row here = let within = slice_get_within image.pointers q row here in there_at p.pointers q (omega (arith, within, tables.pointers))
+
+    -- an order leaves bindings that may be
+    module _ (code index : ℕ) (bs : List Binding) (are : AreBindings p bs) where
+      functions : List Binding
+      functions = ordered_rows (is_ordered code index) (next_binding image held code) 0 image.functions bs
+
+      pointers : List Binding
+      pointers = ordered_rows (is_pointer_ordered image code index) (next_pointer image held code) 0 image.pointers (pointer_bindings image bs)
+
+      functions_count : length functions ≡ length image.functions
+      unfolding functions
+      functions_count = rows_count (is_ordered code index) (next_binding image held code) 0 image.functions bs (let n = are.count in omega (arith, n, tables.count))
+
+      pointers_count : length pointers ≡ length image.pointers
+      unfolding pointers
+      pointers_count =
+          rows_count (is_pointer_ordered image code index) (next_pointer image held code) 0 image.pointers (pointer_bindings image bs)
+          (let n = are.count in omega (arith, n, tables.count, tables.pointers, length-drop (length image.functions) bs))
+
+      function_left : (n : ℕ) (b : Binding) → b.bound ≡ true → slice_get functions n ≡ Some b → (vs : List ℕ) × (b ≡ bound_to vs) × MayBind p n vs
+      unfolding functions
+      function_left n b is e = by_case (rows_bound (is_ordered code index) (next_binding image held code) 0 image.functions bs n b e)
+        where
+          by_case : ((row : FunctionRow) × (slice_get image.functions n ≡ Some row) × (b ≡ next_binding image held code (n + 0) row)) ⊎ (slice_get bs n ≡ Some b) →
+              (vs : List ℕ) × (b ≡ bound_to vs) × MayBind p n vs
+          by_case (inl x) =
+              let g = function_at n x.0 x.1 in
+              let made = next_fits code n g.0 x.0 g.1 x.1 b (x.2 ∙ ap (λ (k : ℕ). next_binding image held code k x.0) (let z : n + 0 ≡ n = omega arith in z)) is in
+              (made.0, made.1, inl (g.0, g.1, made.2))
+          by_case (inr h) = are.bound n b h is
+
+      pointer_left : (n q : ℕ) (b : Binding) → b.bound ≡ true → n ≡ length functions + q → slice_get pointers q ≡ Some b → (vs : List ℕ) × (b ≡ bound_to vs) × MayBind p n vs
+      unfolding pointers
+      pointer_left n q b is at e = by_case (rows_bound (is_pointer_ordered image code index) (next_pointer image held code) 0 image.pointers (pointer_bindings image bs) q b e)
+        where
+          place : n ≡ length image.functions + q
+          place = at ∙ ap (λ k. k + q) functions_count
+
+          by_case : ((row : PointerRow) × (slice_get image.pointers q ≡ Some row) × (b ≡ next_pointer image held code (q + 0) row)) ⊎ (slice_get (pointer_bindings image bs) q ≡ Some b) →
+              (vs : List ℕ) × (b ≡ bound_to vs) × MayBind p n vs
+          by_case (inl x) =
+              let g = pointer_at q x.0 x.1 in
+              let made = pointer_fits code q g.0 x.0 g.1 b x.2 is in
+              (made.0, made.1, inr (q, g.0, omega (arith, place, tables.count), g.1, made.2))
+          by_case (inr h) = are.bound n b (ap (slice_get bs) place ∙ sym (get_drop (length image.functions) q bs) ∙ h) is
+
+      ordered_fits : AreBindings p (bindings_after image held code index bs)
+      unfolding bindings_after functions pointers
+      ordered_fits = record {
+        count = omega (arith, length-append functions pointers, functions_count, pointers_count, tables.count, tables.pointers);
+        bound = λ n b e is. by_case n b is (in_either functions pointers n b e);
+      }
+        where
+          by_case : (n : ℕ) (b : Binding) → b.bound ≡ true → (slice_get functions n ≡ Some b) ⊎ ((q : ℕ) × (n ≡ length functions + q) × (slice_get pointers q ≡ Some b)) →
+              (vs : List ℕ) × (b ≡ bound_to vs) × MayBind p n vs
+          by_case n b is (inl h) = function_left n b is h
+          by_case n b is (inr h) = pointer_left n h.0 b is h.1 h.2
 
   first_fits : AreBindings p (first_bindings image)
   first_fits = record {
-    count = let no_more = ap length tables.no_pointers in let same = length-replicate (length image.functions) free in omega (arith, same, no_more, tables.count);
-    bound = λ n b e is. absurd (let wrong : b.bound ≡ false = ap (λ (x : Binding). x.bound) (all_the_same (length image.functions) n free b e) in cc);
+    count = let same = length-replicate (binding_count image) free in omega (arith, same, tables.count, tables.pointers);
+    bound = λ n b e is. absurd (let wrong : b.bound ≡ false = ap (λ (x : Binding). x.bound) (all_the_same (binding_count image) n free b e) in cc);
   }
 
   -- ---- a run in which no poll adopts
@@ -158,28 +200,55 @@ module _ (p : Program) (image : Fields) (tables : HasFunctions p image) where
   abbrev IsOwn : Act → Type 0
   IsOwn a = (bs : List Binding) → a ≡ Adopt bs → ⊥
 
+  -- where all that is logged is of a pointer switch's type, so is what it is bound to now
+  abbrev AreTyped : List Event → List Binding → Type 0
+  AreTyped log bs = All (IsTypedEvent p) log → (n : ℕ) (b : Binding) → slice_get bs n ≡ Some b → IsTypedEvent p (record { function = n; binding = b })
+
   record IsBound (s : State) : Type 0 where
     same : s.image ≡ image
     acts : All IsOwn s.actions
     bindings : AreBindings p s.bindings
+    typed : AreTyped s.log s.bindings
+
+  free_typed : (n : ℕ) (b : Binding) → b ≡ free → IsTypedEvent p (record { function = n; binding = b })
+  free_typed n b e q g at there = ap (is_typed_binding p g) e
+
+  bound_typed : (log : List Event) (old new : List Binding) → AreBindings p old → AreBindings p new → AreTyped log old → AreTyped (log ++ events_from 0 old new) new
+  bound_typed log old new was are typed all n b there = by_case (events_tell (IsTypedEvent p) 0 old new (omega (arith, was.count, are.count)) (all_behind (IsTypedEvent p) log (events_from 0 old new) all) n b there)
+    where
+      by_case : (slice_get old n ≡ Some b) ⊎ IsTypedEvent p (record { function = 0 + n; binding = b }) → IsTypedEvent p (record { function = n; binding = b })
+      by_case (inl h) = typed (all_before (IsTypedEvent p) log (events_from 0 old new) all) n b h
+      by_case (inr h) = subst (λ (k : ℕ). IsTypedEvent p (record { function = k; binding = b })) (let z : 0 + n ≡ n = omega arith in z) h
 
   either : (b : Bool) (x y : State) → IsBound x → IsBound y → IsBound (if b then x else y)
   either true x y h k = h
   either false x y h k = k
 
   module _ (s : State) (is : IsBound s) where
-    -- what changes neither bindings nor acts
-    as_before : (t : State) → t.image ≡ s.image → t.actions ≡ s.actions → t.bindings ≡ s.bindings → IsBound t
-    as_before t i a b = record { same = i ∙ is.same; acts = subst (All IsOwn) (sym a) is.acts; bindings = subst (AreBindings p) (sym b) is.bindings }
+    -- what changes neither bindings nor the log nor acts
+    as_before : (t : State) → t.image ≡ s.image → t.actions ≡ s.actions → t.bindings ≡ s.bindings → t.log ≡ s.log → IsBound t
+    as_before t i a b l = record {
+      same = i ∙ is.same;
+      acts = subst (All IsOwn) (sym a) is.acts;
+      bindings = subst (AreBindings p) (sym b) is.bindings;
+      typed = subst (AreTyped t.log) (sym b) (subst (λ log. AreTyped log s.bindings) (sym l) is.typed);
+    }
 
     refused_bound : (acts : List Act) (answer : ℕ) → All IsOwn acts → IsBound (refused (record s { actions = acts }) answer)
     unfolding answered
-    refused_bound acts answer all = record { same = is.same; acts = all; bindings = is.bindings }
+    refused_bound acts answer all = record { same = is.same; acts = all; bindings = is.bindings; typed = is.typed }
 
     carried_bound : (room held : Room) (acts : List Act) (code index answer : ℕ) → All IsOwn acts → IsBound (carried_out (record s { room = room; actions = acts }) (plan_of s.image held.held s.bindings code index) answer)
     unfolding answered plan_of
-    carried_bound room held acts code index answer all =
-        record { same = is.same; acts = all; bindings = subst (λ (f : Fields). AreBindings p (bindings_after f held.held code index s.bindings)) (sym is.same) (ordered_fits held.held code index s.bindings is.bindings) }
+    carried_bound room held acts code index answer all = record {
+      same = is.same;
+      acts = all;
+      bindings = are;
+      typed = bound_typed s.log s.bindings (bindings_after s.image held.held code index s.bindings) is.bindings are is.typed;
+    }
+      where
+        are : AreBindings p (bindings_after s.image held.held code index s.bindings)
+        are = subst (λ (f : Fields). AreBindings p (bindings_after f held.held code index s.bindings)) (sym is.same) (ordered_fits held.held code index s.bindings is.bindings)
 
     act_bound : (a : Act) (later : List Act) → IsOwn a → All IsOwn later → IsBound (act a (record s { actions = later }))
     act_bound Skip later own all = refused_bound later 0 all
@@ -193,24 +262,24 @@ module _ (p : Program) (image : Fields) (tables : HasFunctions p image) where
 
     call_bound : (request : Request) → IsBound (environment_call request s)
     unfolding answered planned polled
-    call_bound Exits = as_before (environment_call Exits s) refl refl refl
-    call_bound Reads = as_before (environment_call Reads s) refl refl refl
-    call_bound Writes = as_before (environment_call Writes s) refl refl refl
-    call_bound Traps = as_before (environment_call Traps s) refl refl refl
+    call_bound Exits = as_before (environment_call Exits s) refl refl refl refl
+    call_bound Reads = as_before (environment_call Reads s) refl refl refl refl
+    call_bound Writes = as_before (environment_call Writes s) refl refl refl refl
+    call_bound Traps = as_before (environment_call Traps s) refl refl refl refl
     call_bound Plans =
         let code = argument s in
         let index = reg s.regs a1 in
         let refusal = refused_bound s.actions (2 ^ 32 - 1) is.acts in
         either (is_known_order s.image code index) (if nat_eq s.hart 0 && nat_eq (live_frames s) 0 then ordered s code index else refused s (2 ^ 32 - 1)) (stopped s (Fault cause.Call))
         (either (nat_eq s.hart 0 && nat_eq (live_frames s) 0) (ordered s code index) (refused s (2 ^ 32 - 1)) (carried_bound s.room s.room s.actions code index (plan_of s.image s.room.held s.bindings code index).answer is.acts) refusal)
-        (as_before (stopped s (Fault cause.Call)) refl refl refl)
+        (as_before (stopped s (Fault cause.Call)) refl refl refl refl)
     call_bound Polls = either (nat_eq (live_frames s) 0) (acted s s.actions) (refused s 0) (acted_bound s.actions refl) (refused_bound s.actions 0 is.acts)
-    call_bound Unknown = as_before (environment_call Unknown s) refl refl refl
+    call_bound Unknown = as_before (environment_call Unknown s) refl refl refl refl
 
     after_bound : (o : Outcome Room) → IsBound (after o s)
-    after_bound (Goes regs pc room) = as_before (after (Goes regs pc room) s) refl refl refl
+    after_bound (Goes regs pc room) = as_before (after (Goes regs pc room) s) refl refl refl refl
     after_bound Calls = call_bound (request_of (reg s.regs a7))
-    after_bound (Faults why) = as_before (after (Faults why) s) refl refl refl
+    after_bound (Faults why) = as_before (after (Faults why) s) refl refl refl refl
 
     by_stop : (stop : Stop) (t : State) → IsBound t → IsBound (if is_going stop then t else s)
     by_stop Going t h = h
@@ -229,22 +298,21 @@ module _ (p : Program) (image : Fields) (tables : HasFunctions p image) where
 
   first_bound : (h : ℕ) (input : List (Option ℕ)) (acts : List Act) → All IsOwn acts → IsBound (first_of h image input acts)
   unfolding first
-  first_bound h input acts all = record { same = refl; acts = all; bindings = first_fits }
+  first_bound h input acts all =
+      record { same = refl; acts = all; bindings = first_fits; typed = λ logged n b e. free_typed n b (all_the_same (binding_count image) n free b e) }
 
   -- ---- as tests
 
-  no_types : (ps : List ℕ) (bs : List Binding) → ps ≡ [] → bs ≡ [] → each_passes (is_typed_binding p) ps bs ≡ true
-  no_types ps bs e f = ap (λ (xs : List ℕ). each_passes (is_typed_binding p) xs bs) e ∙ ap (each_passes (is_typed_binding p) []) f
+  typed_now : (bs : List Binding) → AreBindings p bs → ((n : ℕ) (b : Binding) → slice_get bs n ≡ Some b → IsTypedEvent p (record { function = n; binding = b })) → are_typed_bindings p bs ≡ true
+  typed_now bs are typed =
+      all_pass (is_typed_binding p) p.pointers (pointers_of p bs) (omega (arith, are.count, length-drop (length (attributed_functions p)) bs))
+      (λ q g b there is. typed (length (attributed_functions p) + q) b (sym (get_drop (length (attributed_functions p)) q bs) ∙ is) q g refl there)
 
-  typed : (bs : List Binding) → AreBindings p bs → are_typed_bindings p bs ≡ true
-  typed bs are =
-      let no_more = ap length tables.no_pointers in
-      no_types p.pointers (pointer_bindings p bs) tables.no_pointers (drop_all (length (attributed_functions p)) bs (let n = are.count in omega (arith, n, no_more)))
-
-  -- what a run without adopts is bound to at any time passes both tests
+  -- what a run without adopts is bound to at any time passes both tests, where all that it logs has the types of pointer switches
   pub run_passes : BindingsAreTold → (h : ℕ) (input : List (Option ℕ)) (acts : List Act) → All IsOwn acts → (picks : List ℕ) (n : ℕ) →
+      All (IsTypedEvent p) (runs_from (first_of h image input acts) picks n).log →
       (are_bindings p (runs_from (first_of h image input acts) picks n).bindings && are_typed_bindings p (runs_from (first_of h image input acts) picks n).bindings) ≡ true
-  run_passes told h input acts all picks n =
-      let are = (runs_bound (first_of h image input acts) (first_bound h input acts all) picks n).bindings in
+  run_passes told h input acts all picks n logged =
+      let bound = runs_bound (first_of h image input acts) (first_bound h input acts all) picks n in
       let bs = (runs_from (first_of h image input acts) picks n).bindings in
-      and_from (are_bindings p bs) (are_typed_bindings p bs) ((told p bs).1 are) (typed bs are)
+      and_from (are_bindings p bs) (are_typed_bindings p bs) ((told p bs).1 bound.bindings) (typed_now bs bound.bindings (bound.typed logged))

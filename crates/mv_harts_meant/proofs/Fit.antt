@@ -17,6 +17,7 @@ use Rattle.mv_image.specs.Spelling.{Fields}
 use Rattle.mv_image.specs.WellFormed.{FitsSwitch}
 use Rattle.mv_ir_worlds.specs.Laws.{BindingsAreTold}
 use Rattle.std.proofs.lemmas.Option.{get_or_from_slice_get, slice_get_within}
+use Rattle.mv_meaning_numbering.specs.Laws.{IsTypedEvent, PointersAreLoggedTyped}
 use Rattle.mv_patch.specs.Orders.{values_of}
 use Rattle.mv_machine.specs.Actions.{fits}
 use Rattle.mv_refine_machine.specs.Stores.Laws.{RoomsAreWhole, TextsOfImages}
@@ -24,6 +25,7 @@ use Rattle.mv_harts_runs.specs.Alone.{Fitting, Passes, alone}
 use Rattle.mv_harts_meant.specs.Runnable.{IsRunnable, is_act_of_word, fits_in}
 use Rattle.mv_harts_meant.specs.Laws.{AreBytes, inputs_of}
 use Rattle.mv_harts_meant.proofs.Bound.{run_passes}
+use Rattle.mv_harts_meant.proofs.Rows.{all_before}
 use Rattle.mv_harts_meant.proofs.Lone.{behaves_alone}
 
 one_of_all : {X : Type 0} (P : X → Type 0) (xs : List X) → All P xs → (i : ℕ) (x : X) → slice_get xs i ≡ Some x → P x
@@ -60,15 +62,22 @@ own p (a ∷ acts) all =
 
 -- ---- the law
 
-module _ (formats : RulesAreTables) (told : BindingsAreTold) (rooms : RoomsAreWhole) (texts : TextsOfImages) (p : Program) (image : Fields) (runs : IsRunnable p image) (bytes : ℕ → List ℕ) (are : AreBytes bytes) where
+module _ (formats : RulesAreTables) (told : BindingsAreTold) (logged : PointersAreLoggedTyped) (rooms : RoomsAreWhole) (texts : TextsOfImages) (p : Program) (image : Fields) (runs : IsRunnable p image) (bytes : ℕ → List ℕ) (are : AreBytes bytes) where
   adopted : (h n : ℕ) (acts : List Act) → All (Passes (fits_in p) 0) acts → Passes (fits_in p) (suc h) (Adopt (alone 0 image (inputs_of bytes 0) acts n).bindings)
   adopted h n acts all =
       let other : not (nat_eq (suc h) 0) ≡ true = ap not (ne_eqb (suc h) 0 (λ e. omega (arith, e))) in
-      let both = run_passes p image runs.tables told 0 (inputs_of bytes 0) acts (own p acts all) [] n in
+      let both = run_passes p image runs.tables told 0 (inputs_of bytes 0) acts (own p acts all) [] n log in
       and_from (act_fits p (suc h) (Adopt bs)) true (and_from (not (nat_eq (suc h) 0)) (are_bindings p bs && are_typed_bindings p bs) other both) refl
     where
       bs : List Binding
       bs = (alone 0 image (inputs_of bytes 0) acts n).bindings
+
+      -- what hart 0 logs is the beginning of what is meant
+      log : All (IsTypedEvent p) (alone 0 image (inputs_of bytes 0) acts n).log
+      log =
+          let begins = ((runs.behaves (bytes 0) (record { hart = 0; acts = acts }) [] (are 0) (all_of_words p 0 acts all) (all_fit p 0 acts all)).within n).log in
+          all_before (IsTypedEvent p) (alone 0 image (inputs_of bytes 0) acts n).log begins.0
+          (subst (All (IsTypedEvent p)) begins.1 (logged p 0 (bytes 0) acts n runs.typed (all_fit p 0 acts all)))
 
   pub fitting : Fitting image (inputs_of bytes) (Passes (fits_in p))
   fitting = record {

@@ -3,3 +3,4 @@ mod Lone
 mod Fit
 mod Meant
 mod Picks
+mod Rows

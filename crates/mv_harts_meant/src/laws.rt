@@ -5,6 +5,7 @@ ghost use Rattle.mv_harts_meant.specs.Laws.{ActionsPass, FittingLaw, MeansLaw, P
 use mv_harts_runs::harts_are_right;
 use mv_image::facts::format_law;
 use mv_ir_worlds::fit_worlds_law;
+use mv_meaning_numbering::pointer_types_law;
 use mv_refine_machine::stores::{text_between_law, texts_of_images_law};
 
 /// Each hart of a program's image, run alone, is right for all acts that fit it, and what hart 0 is bound to at any time fits each other hart.
@@ -16,6 +17,7 @@ pub fn fitting_law()
 {
     format_law();
     fit_worlds_law();
+    pointer_types_law();
     text_between_law();
     texts_of_images_law();
 }

@@ -2,6 +2,7 @@
 
 ghost use Rattle.std.specs.Prelude.{◌≡◌, ◌+◌, ◌<◌, ◌^◌, ℕ, [], List, None, length, option_map, IfOk, OnOk};
 ghost use Rattle.mv_bindings.specs.Acts.{Act};
+ghost use Rattle.mv_patch.specs.Orders.{binding_count};
 ghost use Rattle.mv_machine.specs.Runs.{bytes_to_come};
 ghost use Rattle.mv_harts_runs.specs.Harts.{Hart, first_of, hart_from, is_on, shared};
 ghost use Rattle.mv_harts_one.specs.Seats.{Sits, adopted, store_as};
@@ -79,7 +80,7 @@ impl Seat {
 
     /// Takes on the bindings of a commit of hart 0, of which text has the words: the answer to its poll, where it was freed.
     pub fn adopt(&mut self, bindings: &List<Binding>)
-        requires count { length bindings.now ≡ length self.old.engine.image.functions }
+        requires count { length bindings.now ≡ binding_count self.old.engine.image }
         requires on { self.old.stop ≡ None }
         requires room { self.old.instructions + 1 < 2 ^ 64 }
         ensures adopts { (number : ℕ) (bytes : List ℕ) (o : Hart) (taken : List Act) → Sits number self.old bytes o → Sits number self.new bytes (adopted o bindings.now taken) }

@@ -6,6 +6,7 @@ use Rattle.mv_bindings.specs.declared.binding.Binding.{Binding}
 use Rattle.mv_bindings.specs.declared.action.Action.{Action}
 use Rattle.mv_bindings.specs.Acts.{Act}
 use Rattle.mv_image.specs.Spelling.{Fields}
+use Rattle.mv_patch.specs.Orders.{binding_count}
 use Rattle.mv_machine.specs.Runs.{State}
 use Rattle.mv_harts_runs.specs.Harts.{Hart, Harts, Store, is_in_text, is_on, told}
 use Rattle.mv_harts_runs.specs.Alone.{IsRight, IsWell, IsBehind, Stands, StandsBy, adopts_of}
@@ -35,8 +36,8 @@ count_few : (seat : Seat) (o : Hart) (k : ℕ) → o.count ≡ seat.instructions
 count_few seat o k e few lt = omega (arith, e, few, lt)
 
 -- the last commit is that of hart 0's bindings
-last_is : (commits : List Committed) (before : List (List Binding)) (bs : List Binding) (functions : ℕ) → before ++ bs ∷ [] ≡ bindings_of commits → length bs ≡ functions → IsLast commits functions
-last_is commits before bs functions e len =
+last_is : (commits : List Committed) (before : List (List Binding)) (bs : List Binding) (n : ℕ) → before ++ bs ∷ [] ≡ bindings_of commits → length bs ≡ n → IsLast commits n
+last_is commits before bs n e len =
     let more : length before + 1 ≡ length commits = sym (length-append before (bs ∷ [])) ∙ ap length e ∙ length_map (λ (c : Committed). c.all) commits in
     record {
       some = omega arith;
@@ -56,8 +57,8 @@ module _ (image : Fields) (input : ℕ → List (Option ℕ)) (actions : List Ac
       let by : StandsBy image input o.mode (suc n) o hs.leader.state hs.under hs.commits = subst (λ g. Stands image input g (suc n) o hs.leader.state hs.under hs.commits) going stands in
       let behind : IsBehind image input (suc n) o hs.leader.state hs.under hs.commits = subst (λ q. StandsBy image input q (suc n) o hs.leader.state hs.under hs.commits) (is.sits.mode ∙ ap mode_of freed) by in
       let bindings : hs.leader.state.bindings ≡ group.leader.engine.bindings = ap (λ (s : State). s.bindings) h.leader.sits.state in
-      let functions : length group.leader.engine.image.functions ≡ length seat.engine.image.functions = ap (λ (f : Fields). length f.functions) (h.leader.same_image ∙ sym is.same_image) in
-      last_is group.commits (adopts_of o.taken) hs.leader.state.bindings (length seat.engine.image.functions) (behind.adopted ∙ h.commits) (ap length bindings ∙ group.leader.engine.ready.count ∙ functions)
+      let all : binding_count group.leader.engine.image ≡ binding_count seat.engine.image = ap binding_count (h.leader.same_image ∙ sym is.same_image) in
+      last_is group.commits (adopts_of o.taken) hs.leader.state.bindings (binding_count seat.engine.image) (behind.adopted ∙ h.commits) (ap length bindings ∙ group.leader.engine.ready.count ∙ all)
 
   pub is_ready : IsRight image input Fits hs → Shows image actions bytes group hs → (k : ℕ) → asked hs ≤ k → k + 1 < 2 ^ 64 → IsReady group
   is_ready right h k few lt = record {

@@ -6,6 +6,7 @@ use Rattle.mv_bindings.specs.declared.action.Action.{Action}
 use Rattle.mv_bindings.specs.Acts.{Act, Adopt, act_of}
 use Rattle.mv_image.specs.Spelling.{Fields}
 use Rattle.mv_io.specs.Outside.{CountAfter, Rose}
+use Rattle.mv_patch.specs.Orders.{binding_count}
 use Rattle.mv_probe.specs.Ways.{Way, way_after}
 use Rattle.mv_machine.specs.declared.machine.Stopped.{Stopped}
 use Rattle.mv_machine.specs.declared.machine.Stopped.TheVariants as answer
@@ -77,13 +78,13 @@ pub record HaveExecuted (group : Group) (most : ℕ) : Type 0 where
   pub others : (n : ℕ) (seat : Seat) → slice_get group.others.items n ≡ Some seat → seat.instructions ≤ most
 
 -- there is a last commit, which has so many bindings
-pub record IsLast (commits : List Committed) (functions : ℕ) : Type 0 where
+pub record IsLast (commits : List Committed) (count : ℕ) : Type 0 where
   pub some : 0 < length commits
-  pub complete : (c : Committed) → slice_get commits (length commits - 1) ≡ Some c → length c.all ≡ functions
+  pub complete : (c : Committed) → slice_get commits (length commits - 1) ≡ Some c → length c.all ≡ count
 
--- a freed hart has bindings to adopt, one for each function
+-- a freed hart has bindings to adopt, one for each function and pointer switch
 abbrev pub CanAdopt : List Committed → Seat → Type 0
-CanAdopt commits seat = seat.stop ≡ None → seat.mode ≡ mode.Freed → IsLast commits (length seat.engine.image.functions)
+CanAdopt commits seat = seat.stop ≡ None → seat.mode ≡ mode.Freed → IsLast commits (binding_count seat.engine.image)
 
 -- each hart can have a turn
 pub record IsReady (group : Group) : Type 0 where

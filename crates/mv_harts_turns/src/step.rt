@@ -4,6 +4,7 @@ ghost use Rattle.std.specs.Prelude.{◌≡◌, ◌≤◌, ◌<◌, ℕ, Some, No
 ghost use Rattle.mv_bindings.specs.declared.binding.Binding.{Binding};
 ghost use Rattle.mv_bindings.specs.Acts.{act_of};
 ghost use Rattle.mv_image.specs.Spelling.{Fields};
+ghost use Rattle.mv_patch.specs.Orders.{binding_count};
 ghost use Rattle.mv_probe.specs.Ways.{way_after, Follows};
 ghost use Rattle.mv_harts_runs.specs.Harts.{Hart, move, last_of};
 ghost use Rattle.mv_harts_one.specs.Seats.{is_under, mode_of};
@@ -77,7 +78,7 @@ pub(crate) fn adopt(
 ) -> Result<(), AllocError>
     requires on { seat.old.stop ≡ None }
     requires few { CanCount seat.old }
-    requires ready { IsLast commits.now (length seat.old.engine.image.functions) }
+    requires ready { IsLast commits.now (binding_count seat.old.engine.image) }
     ensures adopts { OnOk result ((image : Fields) (number : ℕ) (bytes : List ℕ) (o : Hart) →
         IsSeat image (bindings_of commits.now) number bytes seat.old o → IsSeat image (bindings_of commits.now) number bytes seat.new (adopts_last o (last_of (bindings_of commits.now)))) }
     ensures way { way oracle.new ≡ option_map (λ w. way_after w 1) (way oracle.old) }

@@ -1,17 +1,20 @@
--- Entries and sites don't overlap.
-use Rattle.std.proofs.Common.{◌≡◌, ℕ, zero, suc, ◌+◌, ◌-◌, ◌<◌, ◌≤◌, ◌⊎◌, Bool, true, false, ◌||◌, eqb, ltb, leb, List, length, get_or, subst, arith, inl, inr}
+-- Entries, sites and pointer sites don't overlap.
+use Rattle.std.proofs.Common.{◌≡◌, ℕ, zero, suc, ◌+◌, ◌-◌, ◌*◌, ◌/◌, ◌<◌, ◌≤◌, ◌⊎◌, Bool, true, false, ◌||◌, eqb, ltb, leb, List, length, get_or, slice_index, ap, sym, ◌∙◌, subst, arith, inl, inr}
 use Rattle.std.proofs.lemmas.Bool.{cases_lt, leb-true, ltb-true, ne_eqb}
 use Rattle.mv_descriptors.specs.Guards.{each_below}
 use Rattle.mv_descriptors.proofs.Below.{each_of}
 use Rattle.mv_descriptors.specs.declared.rows.FunctionRow.{FunctionRow}
 use Rattle.mv_descriptors.specs.declared.rows.SiteRow.{SiteRow}
+use Rattle.mv_descriptors.specs.declared.rows.PointerRow.{PointerRow}
 use Rattle.mv_descriptors.specs.declared.rows.PointRow.{PointRow}
 use Rattle.mv_descriptors.specs.declared.rows.TargetRow.{TargetRow}
 use Rattle.mv_image.specs.Places.{function_rows, site_rows, point_rows, target_rows, site_field, point_field, target_field, entry_of}
 use Rattle.mv_image.specs.Rules.{function_fits, site_fits, point_fits, target_fits, is_outside, is_outside_four, stands_free}
+use Rattle.mv_image.specs.Jumps.{slot_words}
 use Rattle.mv_image.specs.Spelling.{Fields}
 use Rattle.mv_image.specs.Faults.{Rules, image_words}
 use Rattle.mv_image.proofs.RowReads.{function_rule, site_rule, point_rule, target_rule}
+use Rattle.mv_image.proofs.RowsFit.{sites_fit, points_fit}
 use Rattle.mv_image.proofs.RowsStand.{counts_of, function_is, site_is, point_is, target_is, image_fits}
 use Rattle.mv_num.proofs.Booleans.{and_right, and_left, or_cases}
 
@@ -130,3 +133,32 @@ site_outside_point a r j k d e hj hk =
     let free = point_free ws k (point_rule ws k 0 (image_fits a r) (omega (arith, n.points, hk)) (omega arith)) in
     outside_four (point_field ws k 0) (site_field ws j 0) _ _ (point_is a r k 0 e hk (omega arith)) (site_is a r j 0 d hj (omega arith))
     (each_of (λ i. is_outside_four (point_field ws k 0) (site_field ws i 0)) (site_rows ws) j (omega (arith, n.sites, hj)) (no_site_within ws (point_field ws k 0) free))
+
+-- the first word of a pointer site is no NOP
+no_nop : (check at pointer : ℕ) → slice_index (slot_words check at pointer) 0 ≡ 19 → ⊥
+unfolding slot_words
+no_nop check at pointer e = omega (arith, e)
+
+-- So the second word of a site is no word of a pointer site either.
+pub site_beside_point : (a : Fields) → Rules a → (j k : ℕ) (d : SiteRow) (e : PointRow) → j < length a.sites → k < length a.points
+    → ((get_or a.sites j d).address + 8 ≤ (get_or a.points k e).address) ⊎ ((get_or a.points k e).address + 16 ≤ (get_or a.sites j d).address)
+site_beside_point a r j k d e hj hk =
+    let site : ℕ = (get_or a.sites j d).address in
+    let point : ℕ = (get_or a.points k e).address in
+    let here = sites_fit a r j d hj in
+    let there = points_fit a r k e hk in
+    let four = here.address.aligned in
+    let other_four = there.address.aligned in
+    elim (site_outside_point a r j k d e hj hk) [
+      | inl before ↦ elim (cases_lt point (site + 8)) [
+        | inl within ↦
+            let same : point ≡ site + 4 = omega (arith, before, within, four, other_four) in
+            let words = ap (λ (x : ℕ). slice_index a.text ((x - 4096) / 4)) same in
+            let pointer : PointerRow = record { length = 0; address = 0 } in
+            let none : point + 4 * 0 ≡ point = omega arith in
+            absurd (no_nop a.check point (get_or a.pointers (get_or a.points k e).pointer pointer).address
+            (sym (there.slot 0 pointer (omega arith)) ∙ ap (λ (x : ℕ). slice_index a.text ((x - 4096) / 4)) none ∙ words ∙ here.pad))
+        | inr clear ↦ inl clear
+      ]
+      | inr behind ↦ inr behind
+    ]

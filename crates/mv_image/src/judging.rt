@@ -8,6 +8,7 @@ ghost use Rattle.mv_image.specs.Spelling.{filled};
 ghost use Rattle.mv_image.specs.Faults.{FirstFault, Spelled};
 
 use crate::fault::ImageError;
+use crate::header::NAMES;
 use crate::places::{first_cursor, first_owners, word, words_end};
 use crate::rules::{name_fits, word_fits};
 
@@ -60,7 +61,7 @@ pub(crate) fn first_fault(words: &[u32], bytes: &[u8]) -> Option<ImageError>
         return Some(ImageError::Truncated(4 * words.len() as u64));
     }
     let base = 4 * end;
-    let names = (word(words, 10) as usize + 3) / 4 * 4;
+    let names = (word(words, NAMES) as usize + 3) / 4 * 4;
     let there = (bytes.len() - base).min(names);
     if let Some(j) = first_bad_name(words, bytes, there) {
         return Some(ImageError::BadField((base + j) as u64));

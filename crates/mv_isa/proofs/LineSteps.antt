@@ -9,7 +9,7 @@ use Rattle.mv_num.proofs.Signed.{word_of_is}
 use Rattle.mv_isa.specs.declared.instr.Instr.{Instr}
 use Rattle.mv_isa.specs.declared.instr.Instr.TheVariants.{Lui, Jal, Beq, Bne, Blt, Bge, Bltu, Bgeu, Addi}
 use Rattle.mv_isa.specs.declared.labelled.Line.{Line}
-use Rattle.mv_isa.specs.declared.labelled.Line.TheVariants.{Word, Label, Jump, Branch, Entry, Slot}
+use Rattle.mv_isa.specs.declared.labelled.Line.TheVariants.{Word, Label, Jump, Branch, Entry, Slot, Point}
 use Rattle.mv_isa.specs.Execution.{Access, Goes, reg, put, upper, sets, jumps, branches, execute, decoded, step}
 use Rattle.mv_isa.specs.Code.{LineFits, IsPlace, IsCondition, distance, nop, branch_instr, inverse, upper_part, lower_part}
 use Rattle.mv_isa.specs.Standing.{InstrStands, ShortBranch, LongBranch, LineStands}
@@ -181,6 +181,7 @@ module _ {M : Type 0} (access : Access M) (m : M) where
       stands_steps regs at _ s.call ∙ jal_leads regs 1 at (entry l) (omega (arith, a.1)) (omega (arith, t.1)) t.2,
       λ regs'. stands_steps regs' (at + 4) _ s.rest ∙ nop_leads regs' (at + 4) (omega (arith, a.1)) ∙ ap (λ pc. Goes regs' pc m) (omega (arith, s.end_is)),
     )
+    line_runs place entry at end (Point p) s f a t regs r = tt
 
 pub lines_run : (M : Type 0) → LinesRun M
 lines_run M access text m place entry at end line = line_runs access m text place entry at end line

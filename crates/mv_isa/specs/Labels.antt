@@ -5,6 +5,10 @@ use Rattle.std.specs.Prelude.{ℕ, ◌+◌}
 abbrev pub trap_label : ℕ → ℕ
 trap_label c = 4294967289 + c
 
+-- the label of the stub that tests the pointer of a call through a pointer switch, and whether a call is left
+abbrev pub check_label : ℕ
+check_label = 4294967294
+
 -- the label of the stub that carries out orders and polls
 abbrev pub commit_label : ℕ
 commit_label = 4294967295

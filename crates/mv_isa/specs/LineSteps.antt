@@ -2,10 +2,11 @@
 use Rattle.std.specs.Prelude.{ℕ, ◌+◌, ◌==◌, ◌≡◌, ◌⊎◌, Bool, true, false, not, if◌then◌else◌, List, length, Option}
 use Rattle.mv_num.specs.Words.{lt_s, lt_u}
 use Rattle.mv_isa.specs.declared.labelled.Line.{Line}
-use Rattle.mv_isa.specs.declared.labelled.Line.TheVariants.{Word, Label, Jump, Branch, Entry, Slot}
+use Rattle.mv_isa.specs.declared.labelled.Line.TheVariants.{Word, Label, Jump, Branch, Entry, Slot, Point}
 use Rattle.mv_isa.specs.Execution.{Access, Goes, reg, put, execute, step}
 use Rattle.mv_isa.specs.Code.{LineFits, IsPlace}
 use Rattle.mv_isa.specs.Standing.{LineStands}
+use Rattle.mv_isa.specs.Labels.{check_label}
 use Rattle.mv_isa.specs.Registers.{ra}
 
 -- the conditions of branches over two words, by funct3 (RISC-V unprivileged ISA, 2.5.2)
@@ -24,6 +25,7 @@ named place entry at (Jump rd l) = place l
 named place entry at (Branch funct3 rs1 rs2 l) = place l
 named place entry at (Entry rd l) = entry l
 named place entry at (Slot l) = entry l
+named place entry at (Point a) = place check_label
 named place entry at _ = at
 
 module _ {M : Type 0} (access : Access M) (text : ℕ → Option ℕ) (m : M) where
@@ -46,6 +48,8 @@ module _ {M : Type 0} (access : Access M) (text : ℕ → Option ℕ) (m : M) wh
   LineRuns at end to regs (Entry rd l) = (mid : List ℕ) × Leads regs at mid (at + 4) × Leads mid (at + 4) (put regs rd to) end
   -- a call that returns to the NOP after it, which leads to the next item
   LineRuns at end to regs (Slot l) = Leads regs at (put regs ra (at + 4)) to × ((regs' : List ℕ) → Leads regs' (at + 4) regs' end)
+  -- nothing is said of a call through a pointer: its words may be patched, and one of them loads
+  LineRuns at end to regs (Point a) = Unit {0}
 
 -- each item that stands in a text does this, whatever memory is
 abbrev pub LinesRun : Type 0 → Type 0

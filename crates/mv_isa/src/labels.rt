@@ -3,5 +3,8 @@
 /// The label of the stub of trap c, 1 to 4, is this and c.
 pub const TRAPS: u32 = 4_294_967_289;
 
+/// The label of the stub to which a call through a pointer switch jumps while that is free.
+pub const CHECK: u32 = 4_294_967_294;
+
 /// The label of the stub that carries out orders and polls.
 pub const COMMIT: u32 = 4_294_967_295;

@@ -1,12 +1,13 @@
--- Sums over functions, sites and addresses.
-use Rattle.std.proofs.Common.{◌≡◌, ◌≢◌, ℕ, suc, ◌+◌, ◌<◌, ◌≤◌, Bool, true, false, if◌then◌else◌, eqb, ltb, List, [], ◌∷◌, length, map, get_or, refl, sym, ap, ◌∙◌, subst, arith}
+-- Sums over functions, sites, pointer sites and addresses.
+use Rattle.std.proofs.Common.{◌≡◌, ◌≢◌, ℕ, suc, ◌+◌, ◌*◌, ◌<◌, ◌≤◌, ◌++◌, Bool, true, false, if◌then◌else◌, eqb, ltb, List, [], ◌∷◌, length, map, get_or, refl, sym, ap, ◌∙◌, subst, arith}
 use Rattle.std.proofs.lemmas.Bool.{cond_both, eqb-true, ne_eqb}
 use Rattle.std.proofs.lemmas.List.{length-append}
 use Rattle.mv_descriptors.specs.declared.rows.FunctionRow.{FunctionRow}
 use Rattle.mv_descriptors.specs.declared.rows.SiteRow.{SiteRow}
+use Rattle.mv_descriptors.specs.declared.rows.PointRow.{PointRow}
 use Rattle.mv_patch.specs.Pairs.{pair_of}
-use Rattle.mv_patch.specs.Tables.{site_words, merged_behind, merged, word_of, change, pairs_at}
-use Rattle.mv_link_changes.specs.Changed.{sites_of, sum_from}
+use Rattle.mv_patch.specs.Tables.{site_words, point_words, merged_behind, merged, word_of, change, pairs_at}
+use Rattle.mv_link_changes.specs.Changed.{sites_of, points_of, sum_from}
 
 abbrev pub total : {R : Type 0} → (R → ℕ) → List R → ℕ
 total g [] = 0
@@ -17,6 +18,16 @@ total_least h g d [] le = omega arith
 total_least h g d (x ∷ xs) le =
     let here : h x ≤ g x = le 0 (omega arith) in
     let rest = total_least h g d xs (λ i lt. le (suc i) (omega (arith, lt))) in omega (arith, here, rest)
+
+pub total_none : (g : ℕ → ℕ) (xs : List ℕ) → ((i : ℕ) → i < length xs → g (get_or xs i 0) ≡ 0) → total g xs ≡ 0
+total_none g [] none = refl
+total_none g (x ∷ xs) none =
+    let here : g x ≡ 0 = none 0 (omega arith) in
+    let rest = total_none g xs (λ i lt. none (suc i) (omega (arith, lt))) in omega (arith, here, rest)
+
+total_four : {R : Type 0} (g : R → ℕ) (xs : List R) → total (λ x. 4 * g x) xs ≡ 4 * total g xs
+total_four g [] = refl
+total_four g (x ∷ xs) = let rest = total_four g xs in omega (arith, rest)
 
 -- ---- the pairs at addresses, and addresses that are merged
 
@@ -54,7 +65,15 @@ pub sites_total : (g : ℕ → ℕ) (sites : List SiteRow) → total (λ (site :
 sites_total g [] = omega arith
 sites_total g (site ∷ sites) = let rest = sites_total g sites in omega (arith, rest)
 
--- ---- sums over the numbers of functions
+-- the sum over the four words of a pointer site
+abbrev pub four : (ℕ → ℕ) → PointRow → ℕ
+four g point = g point.address + (g (point.address + 4) + (g (point.address + 8) + g (point.address + 12)))
+
+pub points_total : (g : ℕ → ℕ) (points : List PointRow) → total (four g) points ≡ total g (point_words points)
+points_total g [] = refl
+points_total g (point ∷ points) = let rest = points_total g points in omega (arith, rest)
+
+-- ---- sums over the numbers of functions, or of pointer switches
 
 pub functions_least : (h : ℕ → ℕ) (g : FunctionRow → ℕ) (d : FunctionRow) (f : ℕ) (rows : List FunctionRow) → ((i : ℕ) → i < length rows → h (f + i) ≤ g (get_or rows i d)) → sum_from h f rows ≤ total g rows
 functions_least h g d f [] le = omega arith
@@ -65,15 +84,19 @@ functions_least h g d f (row ∷ rows) le =
     (λ i lt. (let on : f + suc i ≡ suc f + i = omega arith in subst (λ (k : ℕ). h k ≤ g (get_or rows i d)) on (le (suc i) (omega (arith, lt))))) in
     omega (arith, here, rest)
 
-sum_least : (h k : ℕ → ℕ) (f : ℕ) (rows : List FunctionRow) → ((i : ℕ) → h i ≤ k i) → sum_from h f rows ≤ sum_from k f rows
+sum_least : {A : Type 0} (h k : ℕ → ℕ) (f : ℕ) (rows : List A) → ((i : ℕ) → h i ≤ k i) → sum_from h f rows ≤ sum_from k f rows
 sum_least h k f [] le = omega arith
 sum_least h k f (row ∷ rows) le = let here = le f in let rest = sum_least h k (suc f) rows le in omega (arith, here, rest)
 
-sum_both : (h k : ℕ → ℕ) (f : ℕ) (rows : List FunctionRow) → sum_from (λ i. h i + k i) f rows ≡ sum_from h f rows + sum_from k f rows
+sum_both : {A : Type 0} (h k : ℕ → ℕ) (f : ℕ) (rows : List A) → sum_from (λ i. h i + k i) f rows ≡ sum_from h f rows + sum_from k f rows
 sum_both h k f [] = refl
 sum_both h k f (row ∷ rows) = let rest = sum_both h k (suc f) rows in omega (arith, rest)
 
--- ---- a test of functions, and the sites of those that pass it
+sum_four : {A : Type 0} (h : ℕ → ℕ) (f : ℕ) (rows : List A) → sum_from (λ i. 4 * h i) f rows ≡ 4 * sum_from h f rows
+sum_four h f [] = refl
+sum_four h f (row ∷ rows) = let rest = sum_four h (suc f) rows in omega (arith, rest)
+
+-- ---- a test of numbers
 
 never : (b : Bool) → ◌≡◌ {A = ℕ} (if b then 0 else 0) 0
 never true = refl
@@ -83,12 +106,9 @@ module _ (test : ℕ → Bool) where
   abbrev pub passes : ℕ → ℕ
   passes f = if test f then 1 else 0
 
-  -- one, where a function that passes has a number
+  -- one, where a number that passes is the one
   abbrev hit : (s i : ℕ) → ℕ
   hit s i = if test i then (if eqb s i then 1 else 0) else 0
-
-  abbrev sites_where : List SiteRow → ℕ → ℕ
-  sites_where sites i = if test i then sites_of i sites else 0
 
   miss : (s i : ℕ) → s ≢ i → hit s i ≡ 0
   miss s i ne = ap (λ (b : Bool). if test i then (if b then 1 else 0) else 0) (ne_eqb s i ne) ∙ never (test i)
@@ -101,13 +121,13 @@ module _ (test : ℕ → Bool) where
       by_tests true false = omega arith
       by_tests false c = omega arith
 
-  misses : (s f : ℕ) (rows : List FunctionRow) → s < f → sum_from (hit s) f rows ≡ 0
+  misses : {A : Type 0} (s f : ℕ) (rows : List A) → s < f → sum_from (hit s) f rows ≡ 0
   misses s f [] lt = refl
   misses s f (row ∷ rows) lt =
       let here = miss s f (λ e. omega (arith, e, lt)) in
       let rest = misses s (suc f) rows (omega (arith, lt)) in omega (arith, here, rest)
 
-  hits : (s f : ℕ) (rows : List FunctionRow) → sum_from (hit s) f rows ≤ passes s
+  hits : {A : Type 0} (s f : ℕ) (rows : List A) → sum_from (hit s) f rows ≤ passes s
   hits s f [] = omega arith
   hits s f (row ∷ rows) = by_test (hits s (suc f) rows) (eqb s f) refl
     where
@@ -119,33 +139,58 @@ module _ (test : ℕ → Bool) where
       by_test later false e =
           let here : hit s f ≡ 0 = ap (λ (b : Bool). if test f then (if b then 1 else 0) else 0) e ∙ never (test f) in omega (arith, here, later)
 
-  split : (site : SiteRow) (sites : List SiteRow) (i : ℕ) → sites_where (site ∷ sites) i ≤ hit site.function i + sites_where sites i
-  split site sites i = by_test (test i)
-    where
-      by_test : (b : Bool) → (if b then sites_of i (site ∷ sites) else 0) ≤ (if b then (if eqb site.function i then 1 else 0) else 0) + (if b then sites_of i sites else 0)
-      by_test true = omega arith
-      by_test false = omega arith
+  -- ---- rows that each are of a number, and how many of some are of one
 
-  nothing : (f : ℕ) (rows : List FunctionRow) → sum_from (sites_where []) f rows ≡ 0
-  nothing f [] = refl
-  nothing f (row ∷ rows) = let rest = nothing (suc f) rows in let here = never (test f) in omega (arith, here, rest)
+  module _ (R : Type 0) (key : R → ℕ) (count : ℕ → List R → ℕ) (none : (i : ℕ) → count i [] ≡ 0)
+      (more : (i : ℕ) (x : R) (xs : List R) → count i (x ∷ xs) ≡ (if eqb (key x) i then 1 else 0) + count i xs) where
+    abbrev counted : List R → ℕ → ℕ
+    counted xs i = if test i then count i xs else 0
 
-  sites_least : (f : ℕ) (rows : List FunctionRow) (sites : List SiteRow) → sum_from (sites_where sites) f rows ≤ total (λ (site : SiteRow). passes site.function) sites
-  sites_least f rows [] = let e = nothing f rows in omega (arith, e)
-  sites_least f rows (site ∷ sites) =
-      let parts = sum_least (sites_where (site ∷ sites)) (λ i. hit site.function i + sites_where sites i) f rows (split site sites) in
-      let both = sum_both (hit site.function) (sites_where sites) f rows in
-      let first = hits site.function f rows in
-      let rest = sites_least f rows sites in omega (arith, parts, both, first, rest)
+    split : (x : R) (xs : List R) (i : ℕ) → counted (x ∷ xs) i ≤ hit (key x) i + counted xs i
+    split x xs i = by_test (test i)
+      where
+        by_test : (b : Bool) → (if b then count i (x ∷ xs) else 0) ≤ (if b then (if eqb (key x) i then 1 else 0) else 0) + (if b then count i xs else 0)
+        by_test true = omega (arith, more i x xs)
+        by_test false = omega arith
+
+    nothing : {A : Type 0} (f : ℕ) (rows : List A) → sum_from (counted []) f rows ≡ 0
+    nothing f [] = refl
+    nothing f (row ∷ rows) =
+        let rest = nothing (suc f) rows in
+        let here : counted [] f ≡ 0 = ap {B = ℕ} (λ (n : ℕ). if test f then n else 0) (none f) ∙ never (test f) in omega (arith, here, rest)
+
+    -- those of numbers that pass
+    counted_least : {A : Type 0} (f : ℕ) (rows : List A) (xs : List R) → sum_from (counted xs) f rows ≤ total (λ (x : R). passes (key x)) xs
+    counted_least f rows [] = let e = nothing f rows in omega (arith, e)
+    counted_least f rows (x ∷ xs) =
+        let parts = sum_least (counted (x ∷ xs)) (λ i. hit (key x) i + counted xs i) f rows (split x xs) in
+        let both = sum_both (hit (key x)) (counted xs) f rows in
+        let first = hits (key x) f rows in
+        let rest = counted_least f rows xs in omega (arith, parts, both, first, rest)
 
   -- the functions that pass, and their sites
   pub each_least : (sites : List SiteRow) (f : ℕ) (rows : List FunctionRow)
       → sum_from (λ i. if test i then 1 + sites_of i sites else 0) f rows ≤ sum_from passes f rows + total (λ (site : SiteRow). passes site.function) sites
   each_least sites f rows =
-      let parts = sum_least (λ i. if test i then 1 + sites_of i sites else 0) (λ i. passes i + sites_where sites i) f rows (λ i. by_test i (test i)) in
-      let both = sum_both passes (sites_where sites) f rows in
-      let rest = sites_least f rows sites in omega (arith, parts, both, rest)
+      let of_sites : ℕ → ℕ = λ i. if test i then sites_of i sites else 0 in
+      let parts = sum_least (λ i. if test i then 1 + sites_of i sites else 0) (λ i. passes i + of_sites i) f rows (λ i. by_test i (test i)) in
+      let both = sum_both passes of_sites f rows in
+      let rest = counted_least SiteRow (λ (site : SiteRow). site.function) sites_of (λ i. refl) (λ i x xs. refl) f rows sites in omega (arith, parts, both, rest)
     where
       by_test : (i : ℕ) (b : Bool) → (if b then 1 + sites_of i sites else 0) ≤ (if b then 1 else 0) + (if b then sites_of i sites else 0)
+      by_test i true = omega arith
+      by_test i false = omega arith
+
+  -- the pointer sites of the pointer switches that pass, four times
+  pub through_least : {A : Type 0} (points : List PointRow) (q : ℕ) (rows : List A)
+      → sum_from (λ i. if test i then 4 * points_of i points else 0) q rows ≤ total (λ (point : PointRow). 4 * passes point.pointer) points
+  through_least points q rows =
+      let of_points : ℕ → ℕ = λ i. if test i then points_of i points else 0 in
+      let parts = sum_least (λ i. if test i then 4 * points_of i points else 0) (λ i. 4 * of_points i) q rows (λ i. by_test i (test i)) in
+      let fours = sum_four of_points q rows in
+      let all = total_four (λ (point : PointRow). passes point.pointer) points in
+      let rest = counted_least PointRow (λ (point : PointRow). point.pointer) points_of (λ i. refl) (λ i x xs. refl) q rows points in omega (arith, parts, fours, all, rest)
+    where
+      by_test : (i : ℕ) (b : Bool) → (if b then 4 * points_of i points else 0) ≤ 4 * (if b then points_of i points else 0)
       by_test i true = omega arith
       by_test i false = omega arith

@@ -11,8 +11,8 @@ use Rattle.mv_isa.specs.Code.{IsSizing, line_at, text_start}
 use Rattle.mv_asm.specs.Outcome.{AreWordsUnder}
 use Rattle.mv_linker.specs.declared.parts.Parts.{Parts}
 use Rattle.mv_linker.specs.declared.parts.PartFunction.{PartFunction}
-use Rattle.mv_linker.specs.Linked.{codes, relabelled, linked_lines, first_label, AreParts}
-use Rattle.mv_linker.specs.Tables.{attributed_numbers, is_slot, BeginsWithWords, FitsPartFunction, FitTables}
+use Rattle.mv_linker.specs.Linked.{codes, relabelled, linked_lines, has_pointers, first_label, AreParts}
+use Rattle.mv_linker.specs.Tables.{attributed_numbers, is_slot, is_point, BeginsWithWords, FitsPartFunction, FitTables}
 use Rattle.mv_linker.specs.Laws.{StandFrom, FunctionStands}
 use Rattle.mv_linker.proofs.Entered as entered
 use Rattle.mv_linker.proofs.Entered.{index_behind, has_line}
@@ -110,7 +110,7 @@ module _ (parts : Parts) (sizing words : List ℕ) (s : IsAssembled parts sizing
   open linked_text parts sizing words use {lines, at, all, entry, index}
 
   module _ (f : ℕ) (code : Labelled) (found : slice_get all f ≡ Some code) where
-    pub stands : FunctionStands lines all f code
+    pub stands : FunctionStands lines (has_pointers parts) all f code
     stands = function_law parts s.are f code found
 
     pub entry_is : entry f ≡ at (index f)
@@ -154,6 +154,9 @@ module _ (parts : Parts) (sizing words : List ℕ) (s : IsAssembled parts sizing
     pub first_no_slot : is_slot (line_at lines (index f + 1)) ≡ false
     first_no_slot = entered.first_no_slot parts s.are sizing words s.fits s.under f b.code b.found b.begins
 
+    pub first_no_point : is_point (line_at lines (index f + 1)) ≡ false
+    first_no_point = entered.first_no_point parts s.are sizing words s.fits s.under f b.code b.found b.begins
+
     -- the entry is an address of it
     pub entry_of : IsOf text_start lines sizing (index f + 1) (entry f)
     entry_of =
@@ -164,9 +167,9 @@ module _ (parts : Parts) (sizing words : List ℕ) (s : IsAssembled parts sizing
     pub first_in : (g : ℕ) (code : Labelled) → slice_get all g ≡ Some code → index g ≤ index f + 1 → index f + 1 < index g + 1 + length code.items → f ≡ g
     first_in g code found from below =
         elim (cases_lt f g) [
-          | inl lt ↦ absurd (let behind = index_behind all f g b.code b.found lt (let w = slice_get_within all g code found in omega (arith, w)) in omega (arith, behind, has_line b.code.items b.begins.some, from))
+          | inl lt ↦ absurd (let behind = index_behind (has_pointers parts) all f g b.code b.found lt (let w = slice_get_within all g code found in omega (arith, w)) in omega (arith, behind, has_line b.code.items b.begins.some, from))
           | inr ge ↦ elim (cases_lt g f) [
-            | inl lt ↦ absurd (let behind = index_behind all g f code found lt (let w = slice_get_within all f b.code b.found in omega (arith, w)) in omega (arith, behind, below))
+            | inl lt ↦ absurd (let behind = index_behind (has_pointers parts) all g f code found lt (let w = slice_get_within all f b.code b.found in omega (arith, w)) in omega (arith, behind, below))
             | inr ge' ↦ omega (arith, ge, ge')
           ]
         ]

@@ -1,6 +1,8 @@
 pub mod Found
 pub mod Codes
 pub mod Rows
+pub mod Points
+pub mod InCodes
 pub mod Kept
 pub mod Renamed
 pub mod Facts

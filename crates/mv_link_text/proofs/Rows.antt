@@ -1,56 +1,24 @@
 -- What the rows of a linked image say of an address: it is the entry of an attributed function, or a word of a slot.
-use Rattle.std.proofs.Common.{◌≡◌, ℕ, zero, suc, ◌+◌, ◌<◌, Bool, true, false, cond, eqb, List, [], ◌∷◌, Option, Some, None, length, get_or, slice_get, refl, sym, ap, ◌∙◌, subst, arith, eq-eqb}
+use Rattle.std.proofs.Common.{◌≡◌, ℕ, ◌+◌, ◌<◌, Bool, true, eqb, List, Option, Some, None, length, get_or, slice_get, refl, sym, ap, ◌∙◌, subst, arith, eq-eqb}
 use Rattle.std.specs.List.{find}
 use Rattle.std.proofs.lemmas.Bool.{eqb-true, ne_eqb}
 use Rattle.std.proofs.lemmas.List.{length-map, get_or-map}
 use Rattle.std.proofs.lemmas.List.Quantifiers.{position-Some}
 use Rattle.mv_descriptors.specs.declared.rows.FunctionRow.{FunctionRow}
 use Rattle.mv_descriptors.specs.declared.rows.SiteRow.{SiteRow}
-use Rattle.mv_isa.specs.declared.labelled.Line.{Line}
-use Rattle.mv_isa.specs.declared.labelled.Line.TheVariants.{Word, Label, Jump, Branch, Entry, Slot}
+use Rattle.mv_isa.specs.declared.labelled.Line.TheVariants.{Label, Slot}
 use Rattle.mv_isa.specs.Code.{line_at, least_words, text_start}
 use Rattle.mv_image.specs.Patched.{entry_at, site_at, site_before}
 use Rattle.mv_linker.specs.declared.parts.Parts.{Parts}
-use Rattle.mv_linker.specs.Tables.{function_row, sites_from, place_among, is_slot, CallsAmong}
-use Rattle.mv_linker.proofs.Sited.{row_at, lines_call, among, site_is}
-use Rattle.mv_link_text.proofs.Found.{found_told}
+use Rattle.mv_linker.specs.Tables.{function_row, place_among, CallsAmong}
+use Rattle.mv_linker.proofs.Sited.{called, row_at, sites_are_rows, lines_call, among, site_is}
+use Rattle.mv_link_text.proofs.Found.{found_told, row_found}
 use Rattle.mv_linker.proofs.LinkedText.{linked_text}
 use Rattle.mv_linker.proofs.Tabled.{no_function}
 use Rattle.mv_linker.proofs.Lines.{one_line, begins, slot_size}
 use Rattle.mv_link_text.proofs.Codes.{IsAssembled, IsBegun, own, number_is, number_within, own_is, attributed_begun, one_number, entry_of, first_in}
 use Rattle.mv_num.proofs.Lists.{position_at}
 use Rattle.mv_linker.proofs.Entered.{has_line}
-
--- ---- a test that the site of some slot passes finds a site
-
-module _ (at : ℕ → ℕ) (ns : List ℕ) (test : SiteRow → Bool) where
-  behind : (x : Line) (ls : List Line) (k j f : ℕ) → is_slot x ≡ false → j < length (x ∷ ls) → line_at (x ∷ ls) j ≡ Slot f → test (row_at at ns (k + j) f) ≡ true →
-      ((i : ℕ) → i < length ls → line_at ls i ≡ Slot f → test (row_at at ns (suc k + i) f) ≡ true → ⊥) → ⊥
-  behind x ls k zero f plain below line t rest = let bad : false ≡ true = sym plain ∙ ap is_slot line in cc
-  behind x ls k (suc j) f plain below line t rest =
-      let same : k + suc j ≡ suc k + j = omega arith in rest j (omega (arith, below)) line (subst (λ i. test (row_at at ns i f) ≡ true) same t)
-
-  found_here : (row : SiteRow) (rows : List SiteRow) → test row ≡ true → find test (row ∷ rows) ≡ None → ⊥
-  found_here row rows t none = let bad : Some row ≡ None = ap (λ b. cond b (Some row) (find test rows)) (sym t) ∙ none in cc
-
-  found_later : (g : ℕ) (ls : List Line) (k : ℕ) → (find test (sites_from at ns (suc k) ls) ≡ None → ⊥) → (b : Bool) → test (row_at at ns k g) ≡ b → find test (sites_from at ns k (Slot g ∷ ls)) ≡ None → ⊥
-  found_later g ls k rest true u none = found_here (row_at at ns k g) (sites_from at ns (suc k) ls) u none
-  found_later g ls k rest false u none = rest (ap (λ b. cond b (Some (row_at at ns k g)) (find test (sites_from at ns (suc k) ls))) (sym u) ∙ none)
-
-  pub slot_found : (ls : List Line) (k j f : ℕ) → j < length ls → line_at ls j ≡ Slot f → test (row_at at ns (k + j) f) ≡ true → find test (sites_from at ns k ls) ≡ None → ⊥
-  slot_found [] k j f below line t none = omega (arith, below)
-  slot_found (Word i ∷ ls) k j f below line t none = behind (Word i) ls k j f refl below line t (λ i b l u. slot_found ls (suc k) i f b l u none)
-  slot_found (Label l ∷ ls) k j f below line t none = behind (Label l) ls k j f refl below line t (λ i b l u. slot_found ls (suc k) i f b l u none)
-  slot_found (Jump rd l ∷ ls) k j f below line t none = behind (Jump rd l) ls k j f refl below line t (λ i b l u. slot_found ls (suc k) i f b l u none)
-  slot_found (Branch funct3 x y l ∷ ls) k j f below line t none = behind (Branch funct3 x y l) ls k j f refl below line t (λ i b l u. slot_found ls (suc k) i f b l u none)
-  slot_found (Entry rd l ∷ ls) k j f below line t none = behind (Entry rd l) ls k j f refl below line t (λ i b l u. slot_found ls (suc k) i f b l u none)
-  slot_found (Slot g ∷ ls) k zero f below line t none =
-      let same : g ≡ f = cc in
-      let here : k + 0 ≡ k = omega arith in
-      found_here (row_at at ns k g) (sites_from at ns (suc k) ls) (subst (λ h. test (row_at at ns k h) ≡ true) (sym same) (subst (λ i. test (row_at at ns i f) ≡ true) here t)) none
-  slot_found (Slot g ∷ ls) k (suc j) f below line t none =
-      let same : k + suc j ≡ suc k + j = omega arith in
-      found_later g ls k (slot_found ls (suc k) j f (omega (arith, below)) line (subst (λ i. test (row_at at ns i f) ≡ true) same t)) (test (row_at at ns k g)) refl none
 
 -- ---- the rows of an image
 
@@ -179,7 +147,9 @@ module _ (parts : Parts) (sizing words : List ℕ) (s : IsAssembled parts sizing
   unfolding site_at
   site_there k f below line none =
       let first : 0 + k ≡ k = omega arith in
-      slot_found at numbers (λ (site : SiteRow). eqb site.address (at k)) lines 0 k f below line (eq-eqb (at (0 + k)) (at k) (ap at first)) none
+      let test = λ (site : SiteRow). eqb site.address (at k) in
+      row_found SiteRow (row_at at numbers) called test lines 0 k f below (ap called line) (eq-eqb (at (0 + k)) (at k) (ap at first))
+      (ap (find test) (sym (sites_are_rows at numbers lines 0)) ∙ none)
 
   -- the site of a slot is found at it
   pub site_found : (k f : ℕ) → k < length lines → line_at lines k ≡ Slot f → site_at image (at k) ≡ Some (row_at at numbers k f)

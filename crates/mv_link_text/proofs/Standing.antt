@@ -1,5 +1,5 @@
 -- Stubs and codes are placed in the text of a linked image.
-use Rattle.std.proofs.Common.{◌≡◌, ℕ, ◌+◌, ◌*◌, ◌-◌, ◌/◌, ◌<◌, ◌≤◌, List, [], ◌∷◌, Some, map, length, get_or, slice_get, All, refl, sym, ap, ◌∙◌, subst, arith}
+use Rattle.std.proofs.Common.{◌≡◌, ℕ, ◌+◌, ◌*◌, ◌-◌, ◌/◌, ◌<◌, ◌≤◌, Bool, true, false, List, [], ◌∷◌, Some, map, length, get_or, slice_get, All, refl, sym, ap, ◌∙◌, subst, arith}
 use Rattle.std.proofs.lemmas.List.{length-map, get_or-map}
 use Rattle.std.proofs.lemmas.List.Elements.{All-get_or, All-tail, All-from_recursion}
 use Rattle.std.proofs.lemmas.List.Sums.{sum_by_more_le}
@@ -7,7 +7,7 @@ use Rattle.std.proofs.lemmas.Option.{slice_get_within, get_or_from_slice_get}
 use Rattle.mv_isa.specs.declared.instr.Instr.{Instr}
 use Rattle.mv_isa.specs.declared.labelled.Labelled.{Labelled}
 use Rattle.mv_isa.specs.declared.labelled.Line.{Line}
-use Rattle.mv_isa.specs.declared.labelled.Line.TheVariants.{Word, Label, Jump, Branch, Entry, Slot}
+use Rattle.mv_isa.specs.declared.labelled.Line.TheVariants.{Word, Label, Jump, Branch, Entry, Slot, Point}
 use Rattle.mv_isa.specs.Code.{CodeFits, StandsOnce, line_at, text_start}
 use Rattle.mv_image.specs.Spelling.{Fields}
 use Rattle.mv_select_code.specs.Control.Labels.{OwnLabels}
@@ -15,7 +15,7 @@ use Rattle.mv_select_code.specs.Control.Placed.{Text, Placed}
 use Rattle.mv_refine_machine.specs.Assembled.{HasWords, IsOnlyLabel}
 use Rattle.mv_refine_machine.specs.MachineRuns.{machine_text}
 use Rattle.mv_linker.specs.declared.parts.Parts.{Parts}
-use Rattle.mv_linker.specs.Linked.{codes, IsFunction, NamesAreThere, relabelled, start_lines, trap_lines, commit_lines, commit_instrs, first_label, trap_label, commit_label, trap_index, commit_index, stub_count}
+use Rattle.mv_linker.specs.Linked.{codes, has_pointers, IsFunction, NamesAreThere, relabelled, start_lines, trap_lines, commit_lines, check_lines, commit_instrs, first_label, trap_label, check_label, commit_label, trap_index, commit_index, check_index, stub_count}
 use Rattle.mv_linker.specs.Laws.{StandFrom}
 use Rattle.mv_linker.proofs.Entered.{index_behind}
 use Rattle.mv_link_text.specs.Text.{StubsArePlaced, IsPlacedCode}
@@ -40,6 +40,15 @@ pub has_words : (image : Fields) (words : List ℕ) → image.text ≡ words →
 has_words image words text_is k word found =
     let here : k ≡ (text_start - 0x1000) / 4 + k = omega arith in
     subst (λ i. slice_get image.text i ≡ Some word) here (ap (λ (ws : List ℕ). slice_get ws k) text_is ∙ found)
+
+-- the stubs have so many lines, and those of the check stub
+stubs_many : (checks : Bool) → 34 ≤ stub_count checks
+stubs_many true = omega arith
+stubs_many false = omega arith
+
+stubs_with : (checks : Bool) → checks ≡ true → check_index + length check_lines ≤ stub_count checks
+stubs_with true e = omega arith
+stubs_with false e = absurd (let bad : ⊥ = cc in bad)
 
 module _ (laws : Laws) (parts : Parts) (sizing words : List ℕ) (s : IsAssembled parts sizing words) where
   open linked_text parts sizing words use {lines, at, entry, numbers, image, index}
@@ -68,21 +77,21 @@ module _ (laws : Laws) (parts : Parts) (sizing words : List ℕ) (s : IsAssemble
 
   -- ---- stubs
 
-  stubs_few : stub_count ≡ 34
-  stubs_few = refl
+  abbrev checks : Bool
+  checks = has_pointers parts
 
-  stub_never : (k : ℕ) → k < stub_count → Never k
-  stub_never k below n f is same = omega (arith, below, same, stubs_few)
+  stub_never : (k : ℕ) → k < stub_count checks → Never k
+  stub_never k below n f is same = omega (arith, below, same)
 
-  module _ (k : ℕ) (part : List Line) (stand : StandFrom lines k part) (few : k + length part ≤ stub_count) (only : All (IsOnlyLabel lines) part) where
+  module _ (k : ℕ) (part : List Line) (stand : StandFrom lines k part) (few : k + length part ≤ stub_count checks) (only : All (IsOnlyLabel lines) part) where
     stub_placed : IsHere part (at k) (at (k + length part))
     stub_placed = part_placed k part stand (λ j lt. stub_never (k + j) (omega (arith, lt, few))) (λ j lt. All-get_or (IsOnlyLabel lines) part j (Label 0) lt only)
 
     before_codes : (f : ℕ) → f < length (codes parts) → at (k + length part) ≤ entry f
-    before_codes f below = ends_before parts sizing words s (k + length part) f below (omega (arith, few, stubs_few))
+    before_codes f below = ends_before parts sizing words s (k + length part) f below (omega (arith, few))
 
   start_placed : IsHere (start_lines parts.main) (at 0) (at (0 + length (start_lines parts.main)))
-  start_placed = stub_placed 0 (start_lines parts.main) (laws.stubs_stand parts s.are).0 (omega arith) (All-from_recursion (IsOnlyLabel lines) (start_lines parts.main) (tt, (tt, (tt, (tt, (tt, tt))))))
+  start_placed = stub_placed 0 (start_lines parts.main) (laws.stubs_stand parts s.are).0 (omega (arith, stubs_many checks)) (All-from_recursion (IsOnlyLabel lines) (start_lines parts.main) (tt, (tt, (tt, (tt, (tt, tt))))))
 
   abbrev trap_end : ℕ → ℕ
   trap_end c = at (trap_index c + length (trap_lines c))
@@ -92,13 +101,13 @@ module _ (laws : Laws) (parts : Parts) (sizing words : List ℕ) (s : IsAssemble
     trap_only = All-from_recursion (IsOnlyLabel lines) (trap_lines c) (((laws.stubs_stand parts s.are).1 c from to).label, (tt, (tt, (tt, tt))))
 
     trap_placed : IsHere (trap_lines c) (at (trap_index c)) (trap_end c)
-    trap_placed = stub_placed (trap_index c) (trap_lines c) ((laws.stubs_stand parts s.are).1 c from to).stub (omega (arith, to)) trap_only
+    trap_placed = stub_placed (trap_index c) (trap_lines c) ((laws.stubs_stand parts s.are).1 c from to).stub (omega (arith, to, stubs_many checks)) trap_only
 
     trap_here : IsHere (trap_lines c) (entry (trap_label c)) (trap_end c)
     trap_here = subst (λ a. IsHere (trap_lines c) a (trap_end c)) (sym trap_placed.1.label) trap_placed
 
     trap_before : (f : ℕ) → f < length (codes parts) → trap_end c ≤ entry f
-    trap_before = before_codes (trap_index c) (trap_lines c) ((laws.stubs_stand parts s.are).1 c from to).stub (omega (arith, to)) trap_only
+    trap_before = before_codes (trap_index c) (trap_lines c) ((laws.stubs_stand parts s.are).1 c from to).stub (omega (arith, to, stubs_many checks)) trap_only
 
   abbrev commit_end : ℕ
   commit_end = at (commit_index + length commit_lines)
@@ -109,7 +118,7 @@ module _ (laws : Laws) (parts : Parts) (sizing words : List ℕ) (s : IsAssemble
       ((laws.stubs_stand parts s.are).2.label, (tt, (tt, (tt, (tt, (tt, (tt, (tt, (tt, (tt, (tt, (tt, (tt, tt)))))))))))))
 
   commit_placed : IsHere commit_lines (at commit_index) commit_end
-  commit_placed = stub_placed commit_index commit_lines (laws.stubs_stand parts s.are).2.stub (omega arith) commit_only
+  commit_placed = stub_placed commit_index commit_lines (laws.stubs_stand parts s.are).2.stub (omega (arith, stubs_many checks)) commit_only
 
   commit_here : IsHere commit_lines (entry commit_label) commit_end
   commit_here = subst (λ a. IsHere commit_lines a commit_end) (sym commit_placed.1.label) commit_placed
@@ -121,6 +130,22 @@ module _ (laws : Laws) (parts : Parts) (sizing words : List ℕ) (s : IsAssemble
       let size : commit_end ≡ mid + 4 * length commit_instrs = words_size text entry entry commit_instrs mid commit_end commit_here.2 in
       omega (arith, label, size)
 
+  abbrev check_end : ℕ
+  check_end = at (check_index + length check_lines)
+
+  module _ (has : checks ≡ true) where
+    check_only : All (IsOnlyLabel lines) check_lines
+    check_only = All-from_recursion (IsOnlyLabel lines) check_lines (((laws.stubs_stand parts s.are).3 has).label, (tt, (tt, (tt, (tt, (tt, (tt, tt)))))))
+
+    check_placed : IsHere check_lines (at check_index) check_end
+    check_placed = stub_placed check_index check_lines ((laws.stubs_stand parts s.are).3 has).stub (stubs_with checks has) check_only
+
+    check_here : IsHere check_lines (entry check_label) check_end
+    check_here = subst (λ a. IsHere check_lines a check_end) (sym check_placed.1.label) check_placed
+
+    check_before : (f : ℕ) → f < length (codes parts) → check_end ≤ entry f
+    check_before = before_codes check_index check_lines ((laws.stubs_stand parts s.are).3 has).stub (stubs_with checks has) check_only
+
   pub stubs_are_placed : StubsArePlaced parts image sizing
   stubs_are_placed = record {
     start_ends = at (0 + length (start_lines parts.main));
@@ -130,9 +155,12 @@ module _ (laws : Laws) (parts : Parts) (sizing words : List ℕ) (s : IsAssemble
     commit_ends = commit_end;
     commit = commit_here;
     commit_size = commit_size;
-    start_before = before_codes 0 (start_lines parts.main) (laws.stubs_stand parts s.are).0 (omega arith) (All-from_recursion (IsOnlyLabel lines) (start_lines parts.main) (tt, (tt, (tt, (tt, (tt, tt))))));
+    start_before = before_codes 0 (start_lines parts.main) (laws.stubs_stand parts s.are).0 (omega (arith, stubs_many checks)) (All-from_recursion (IsOnlyLabel lines) (start_lines parts.main) (tt, (tt, (tt, (tt, (tt, tt))))));
     traps_before = λ c f from to. trap_before c from to f;
-    commit_before = before_codes commit_index commit_lines (laws.stubs_stand parts s.are).2.stub (omega arith) commit_only;
+    commit_before = before_codes commit_index commit_lines (laws.stubs_stand parts s.are).2.stub (omega (arith, stubs_many checks)) commit_only;
+    check_ends = check_end;
+    check = check_here;
+    check_before = λ f has. check_before has f;
   }
 
   -- ---- codes
@@ -147,10 +175,10 @@ module _ (laws : Laws) (parts : Parts) (sizing words : List ℕ) (s : IsAssemble
     within : f < length (codes parts)
     within = slice_get_within (codes parts) f code found
 
-    is_function : IsFunction (length parts.functions) code
+    is_function : IsFunction (length parts.functions) checks code
     is_function =
-        subst (IsFunction (length parts.functions)) (get_or_from_slice_get (codes parts) f code code found)
-        (All-get_or (IsFunction (length parts.functions)) (codes parts) f code within s.are.functions)
+        subst (IsFunction (length parts.functions) checks) (get_or_from_slice_get (codes parts) f code code found)
+        (All-get_or (IsFunction (length parts.functions) checks) (codes parts) f code within s.are.functions)
 
     few_labels : code.labels < 4294967289
     few_labels =
@@ -159,7 +187,10 @@ module _ (laws : Laws) (parts : Parts) (sizing words : List ℕ) (s : IsAssemble
         let same = ap size (get_or_from_slice_get (codes parts) f code code found) in
         let limit = s.are.labels in omega (arith, all, same, limit, within)
 
-    only_label : (functions : ℕ) (line : Line) → NamesAreThere functions code line → IsOnlyLabel lines (renamed line)
+    few_checked : code.labels ≤ check_label
+    few_checked = omega (arith, few_labels)
+
+    only_label : (functions : ℕ) (line : Line) → NamesAreThere functions checks code line → IsOnlyLabel lines (renamed line)
     only_label functions (Word i) h = tt
     only_label functions (Label l) h =
         subst (StandsOnce lines) (sym (own_is first code.labels l h))
@@ -168,9 +199,10 @@ module _ (laws : Laws) (parts : Parts) (sizing words : List ℕ) (s : IsAssemble
     only_label functions (Branch funct3 rs1 rs2 l) h = tt
     only_label functions (Entry rd g) h = tt
     only_label functions (Slot g) h = tt
+    only_label functions (Point a) h = tt
 
     -- some of its lines stand in text, none of which is the first of an attributed function
-    items_placed : (d : ℕ) (items : List Line) → d + length items ≤ length code.items → StandFrom lines (index f + 1 + d) (map renamed items) → All (NamesAreThere (length parts.functions) code) items →
+    items_placed : (d : ℕ) (items : List Line) → d + length items ≤ length code.items → StandFrom lines (index f + 1 + d) (map renamed items) → All (NamesAreThere (length parts.functions) checks code) items →
         ((j : ℕ) → j < length items → Never (index f + 1 + d + j)) → IsPlacedCode parts image sizing f items (at (index f + 1 + d))
     items_placed d items few stand names never =
         let k = index f + 1 + d in
@@ -179,15 +211,16 @@ module _ (laws : Laws) (parts : Parts) (sizing words : List ℕ) (s : IsAssemble
         let only : (j : ℕ) → j < length part → IsOnlyLabel lines (line_at part j) = λ j lt.
         let below : j < length items = omega (arith, lt, count) in
         subst (IsOnlyLabel lines) (sym (get_or-map renamed items j (Label 0) (Label 0) below))
-        (only_label (length parts.functions) (get_or items j (Label 0)) (All-get_or (NamesAreThere (length parts.functions) code) items j (Label 0) below names)) in
+        (only_label (length parts.functions) (get_or items j (Label 0)) (All-get_or (NamesAreThere (length parts.functions) checks code) items j (Label 0) below names)) in
         record {
           place = own_place text entry entry first code.labels;
           traps = λ c. ap entry (own_stays first code.labels (trap_label c) (omega (arith, few_labels)));
           commit = ap entry (own_stays first code.labels commit_label (omega (arith, few_labels)));
+          check = ap entry (own_stays first code.labels check_label few_checked);
           next = at (k + length part);
-          placed = lines_placed text entry entry first code.labels items (at k) (at (k + length part)) (part_placed k part stand (λ j lt. never j (omega (arith, lt, count))) only);
+          placed = lines_placed text entry entry first code.labels few_checked items (at k) (at (k + length part)) (part_placed k part stand (λ j lt. never j (omega (arith, lt, count))) only);
           before = λ g lt below.
-              let behind = index_behind (codes parts) f g code found lt (omega (arith, below)) in
+              let behind = index_behind checks (codes parts) f g code found lt (omega (arith, below)) in
               ends_before parts sizing words s (k + length part) g below (omega (arith, behind, count, few));
         }
 
@@ -211,11 +244,11 @@ module _ (laws : Laws) (parts : Parts) (sizing words : List ℕ) (s : IsAssemble
       later_placed =
           let size = ap length items in
           let here : at (index f + 1 + 1) ≡ entry f + 4 = word_size text_start lines sizing s.fits (index f + 1) (first_below parts sizing words s f code found instr rest items) instr (first_line parts sizing words s f code found instr rest items) ∙ ap (λ a. a + 4) (behind_label parts sizing words s f code found) in
-          let names = subst (All (NamesAreThere (length parts.functions) code)) items is_function.names in
+          let names = subst (All (NamesAreThere (length parts.functions) checks code)) items is_function.names in
           subst (IsPlacedCode parts image sizing f rest) here
           (items_placed 1 rest (omega (arith, size))
           (behind_first lines (index f + 1) (Word instr) (map renamed rest) (subst (λ (ls : List Line). StandFrom lines (index f + 1) (map renamed ls)) items (lines_stand parts sizing words s f code found)))
-          (All-tail (NamesAreThere (length parts.functions) code) (Word instr) rest names)
+          (All-tail (NamesAreThere (length parts.functions) checks code) (Word instr) rest names)
           (λ j lt n g is same.
           let other = never_other (index f + 1 + 1 + j) (omega arith) (omega (arith, lt, size)) n g is same in
           let twice : index f + 1 + 1 + j ≡ index f + 1 = subst (λ h. index f + 1 + 1 + j ≡ index h + 1) other same in

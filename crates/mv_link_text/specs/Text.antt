@@ -1,18 +1,19 @@
 -- What stands in the text of a linked image, and where: the stubs, the code of each function and of each variant, and the entries and slots that bindings
 -- patch.
-use Rattle.std.specs.Prelude.{ℕ, ◌≡◌, ◌+◌, ◌%◌, ◌<◌, ◌≤◌, Some, List, length, slice_get}
+use Rattle.std.specs.Prelude.{ℕ, ◌≡◌, ◌+◌, ◌%◌, ◌<◌, ◌≤◌, true, Some, List, length, slice_get}
 use Rattle.mv_isa.specs.declared.instr.Instr.{Instr}
+use Rattle.mv_isa.specs.declared.labelled.Labelled.{Labelled}
 use Rattle.mv_isa.specs.declared.labelled.Line.{Line}
-use Rattle.mv_isa.specs.declared.labelled.Line.TheVariants.{Word, Slot}
+use Rattle.mv_isa.specs.declared.labelled.Line.TheVariants.{Word, Slot, Point}
 use Rattle.mv_isa.specs.Code.{IsPlace, line_at, address, label_address, text_start}
 use Rattle.mv_image.specs.Spelling.{Fields}
-use Rattle.mv_image.specs.Patched.{ShowsAt, entry_at}
+use Rattle.mv_image.specs.Patched.{ShowsAt, entry_at, pointer_number}
 use Rattle.mv_linker.specs.declared.parts.Parts.{Parts}
-use Rattle.mv_linker.specs.Linked.{codes, linked_lines, trap_label, commit_label, start_lines, trap_lines, commit_lines}
+use Rattle.mv_linker.specs.Linked.{codes, linked_lines, has_pointers, trap_label, check_label, commit_label, start_lines, trap_lines, commit_lines, check_lines}
 use Rattle.mv_linker.specs.Tables.{attributed_numbers}
 use Rattle.mv_select_code.specs.Control.Placed.{Text, Placed}
 use Rattle.mv_refine_machine.specs.MachineRuns.{machine_text, image_word}
-use Rattle.mv_refine_machine.specs.Shown.{IsSiteOf}
+use Rattle.mv_refine_machine.specs.Shown.{IsPointOf, IsSiteOf}
 
 -- a function has a number among the attributed ones of parts
 abbrev pub IsAttributed : Parts → (n f : ℕ) → Type 0
@@ -43,6 +44,9 @@ module _ (parts : Parts) (image : Fields) (sizing : List ℕ) where
     pub start_before : (f : ℕ) → f < length (codes parts) → start_ends ≤ label_place parts sizing f
     pub traps_before : (c f : ℕ) → 1 ≤ c → c ≤ 4 → f < length (codes parts) → trap_ends c ≤ label_place parts sizing f
     pub commit_before : (f : ℕ) → f < length (codes parts) → commit_ends ≤ label_place parts sizing f
+    pub check_ends : ℕ
+    pub check : has_pointers parts ≡ true → Placed (linked_text parts image) (label_place parts sizing) (label_place parts sizing) check_lines (label_place parts sizing check_label) check_ends
+    pub check_before : (f : ℕ) → has_pointers parts ≡ true → f < length (codes parts) → check_ends ≤ label_place parts sizing f
 
   -- Lines of a code stand from an address to another, which isn't behind the entry of a later code. `place` is where the labels are that the lines name: its
   -- own, and those of the stubs, where the stubs stand.
@@ -50,6 +54,7 @@ module _ (parts : Parts) (image : Fields) (sizing : List ℕ) where
     pub place : ℕ → ℕ
     pub traps : (c : ℕ) → place (trap_label c) ≡ label_place parts sizing (trap_label c)
     pub commit : place commit_label ≡ label_place parts sizing commit_label
+    pub check : place check_label ≡ label_place parts sizing check_label
     pub next : ℕ
     pub placed : Placed (linked_text parts image) place (label_place parts sizing) items from next
     pub before : (g : ℕ) → f < g → g < length (codes parts) → next ≤ label_place parts sizing g
@@ -80,3 +85,24 @@ module _ (parts : Parts) (image : Fields) (sizing : List ℕ) where
     pub alone : ShowsAlone n index
     pub site : IsSiteOf image n at
     pub here : IsPlace at
+
+  -- a slot of four words that calls through a pointer switch is a pointer site of it
+  pub record HasPoint (q a at : ℕ) : Type 0 where
+    pub index : ℕ
+    pub within : index < length (linked_lines parts)
+    pub line : line_at (linked_lines parts) index ≡ Point a
+    pub at_line : line_place sizing index ≡ at
+    pub behind : line_place sizing (index + 1) ≡ at + 16
+    pub alone : ShowsAlone (pointer_number image q) index
+    pub point : IsPointOf image (pointer_number image q) at
+    pub here : IsPlace at
+
+  -- a slot of four words is a line of a code: it stands from the code's entry on, and before those of later codes
+  pub record IsInCode (a at : ℕ) : Type 0 where
+    pub function : ℕ
+    pub code : Labelled
+    pub found : slice_get (codes parts) function ≡ Some code
+    pub item : ℕ
+    pub line : slice_get code.items item ≡ Some (Point a)
+    pub from : label_place parts sizing function ≤ at
+    pub before : (g : ℕ) → function < g → g < length (codes parts) → at + 16 ≤ label_place parts sizing g

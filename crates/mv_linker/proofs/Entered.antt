@@ -1,24 +1,24 @@
 -- Where the codes of parts begin: at different words of text, none of which is a slot's.
-use Rattle.std.proofs.Common.{◌≡◌, ℕ, suc, ◌+◌, ◌<◌, ◌≤◌, ◌⊎◌, inl, inr, true, false, List, [], ◌∷◌, Some, length, take, get_or, slice_get, refl, ap, sym, subst, ◌∙◌, arith}
+use Rattle.std.proofs.Common.{◌≡◌, ℕ, suc, ◌+◌, ◌*◌, ◌<◌, ◌≤◌, ◌⊎◌, inl, inr, Bool, true, false, List, [], ◌∷◌, Some, length, take, get_or, slice_get, refl, ap, sym, subst, ◌∙◌, arith}
 use Rattle.std.proofs.lemmas.List.{length-map, take-take, get_or-take, length-take-le, get_or-map}
 use Rattle.std.proofs.lemmas.List.Sums.{sum_by_more_le, sum_by-take-le}
 use Rattle.std.proofs.lemmas.Option.{get_or_from_slice_get, slice_get_within}
 use Rattle.std.proofs.lemmas.Bool.{cases_lt, cases_eq}
 use Rattle.mv_isa.specs.declared.labelled.Labelled.{Labelled}
 use Rattle.mv_isa.specs.declared.labelled.Line.{Line}
-use Rattle.mv_isa.specs.declared.labelled.Line.TheVariants.{Word, Label, Jump, Branch, Entry, Slot}
+use Rattle.mv_isa.specs.declared.labelled.Line.TheVariants.{Word, Label, Jump, Branch, Entry, Slot, Point}
 use Rattle.mv_isa.specs.Code.{IsSizing, line_at, least_words, text_start}
 use Rattle.mv_isa.specs.Standing.{LineStands, word_at}
 use Rattle.mv_asm.specs.Outcome.{AreWordsUnder}
 use Rattle.mv_image.specs.Spelling.{Fields}
 use Rattle.mv_image.specs.WellFormed.{IsInText}
 use Rattle.mv_linker.specs.declared.parts.Parts.{Parts}
-use Rattle.mv_linker.specs.Linked.{relabelled, linked_lines, first_label, line_count, part_index, AreParts}
-use Rattle.mv_linker.specs.Tables.{is_slot, BeginsWithWords}
+use Rattle.mv_linker.specs.Linked.{relabelled, linked_lines, has_pointers, first_label, line_count, part_index, AreParts}
+use Rattle.mv_linker.specs.Tables.{is_slot, is_point, BeginsWithWords}
 use Rattle.mv_linker.specs.Laws.{FunctionStands}
 use Rattle.mv_linker.proofs.Places.{function_law}
 use Rattle.mv_linker.proofs.LinkedText.{linked_text}
-use Rattle.mv_linker.proofs.Slots.{offset_next, behind_slot, before_slot}
+use Rattle.mv_linker.proofs.Slots.{offset_next, behind_line, before_slot}
 
 -- ---- renaming keeps what a line is
 
@@ -29,6 +29,7 @@ relabelled_words first count (Jump rd l) = refl
 relabelled_words first count (Branch funct3 a b l) = refl
 relabelled_words first count (Entry rd f) = refl
 relabelled_words first count (Slot f) = refl
+relabelled_words first count (Point a) = refl
 
 pub relabelled_slot : (first count : ℕ) (x : Line) → is_slot (relabelled first count x) ≡ is_slot x
 relabelled_slot first count (Word i) = refl
@@ -37,6 +38,16 @@ relabelled_slot first count (Jump rd l) = refl
 relabelled_slot first count (Branch funct3 a b l) = refl
 relabelled_slot first count (Entry rd f) = refl
 relabelled_slot first count (Slot f) = refl
+relabelled_slot first count (Point a) = refl
+
+pub relabelled_point : (first count : ℕ) (x : Line) → is_point (relabelled first count x) ≡ is_point x
+relabelled_point first count (Word i) = refl
+relabelled_point first count (Label l) = refl
+relabelled_point first count (Jump rd l) = refl
+relabelled_point first count (Branch funct3 a b l) = refl
+relabelled_point first count (Entry rd f) = refl
+relabelled_point first count (Slot f) = refl
+relabelled_point first count (Point a) = refl
 
 -- code that begins with words has a line
 pub has_line : (items : List Line) → 1 ≤ least_words (line_at items 0) → 0 < length items
@@ -46,8 +57,8 @@ has_line (x ∷ items) some = omega arith
 -- ---- codes
 
 -- the lines of a code end where the next begins, or before
-pub index_behind : (xs : List Labelled) (f g : ℕ) (code : Labelled) → slice_get xs f ≡ Some code → f < g → g ≤ length xs → part_index xs f + 1 + length code.items ≤ part_index xs g
-index_behind xs f g code found lt le =
+pub index_behind : (checks : Bool) (xs : List Labelled) (f g : ℕ) (code : Labelled) → slice_get xs f ≡ Some code → f < g → g ≤ length xs → part_index checks xs f + 1 + length code.items ≤ part_index checks xs g
+index_behind checks xs f g code found lt le =
     let size = λ (c : Labelled). 1 + length c.items in
     let count : length (take g xs) ≡ g = length-take-le g xs le in
     let all = sum_by_more_le size (take g xs) f code (omega (arith, count, lt)) in
@@ -72,20 +83,20 @@ module _ (parts : Parts) (are : AreParts parts) (sizing words : List ℕ) (fits 
         within = omega (arith, most, here, some, offset_next sizing k, under.count, ap length text_is);
       }
 
-  -- and so does its second word
-  pub next_in_text : (image : Fields) → image.text ≡ words → (k : ℕ) → k < length lines → 2 ≤ least_words (line_at lines k) → IsInText image (at k + 4)
-  next_in_text image text_is k below two =
+  -- and so does each word of it
+  pub word_in_text : (image : Fields) → image.text ≡ words → (k j : ℕ) → k < length lines → j < least_words (line_at lines k) → IsInText image (at k + 4 * j)
+  word_in_text image text_is k j below wide =
       let place = under.places k in
       let most = sum_by-take-le (λ (n : ℕ). n) sizing (suc k) in
       let here = fits.at_least k below in
       record {
         aligned = omega (arith, place.2);
         not_before = omega (arith, place.0);
-        within = omega (arith, most, here, two, offset_next sizing k, under.count, ap length text_is);
+        within = omega (arith, most, here, wide, offset_next sizing k, under.count, ap length text_is);
       }
 
   module _ (f : ℕ) (code : Labelled) (found : slice_get all f ≡ Some code) where
-    abbrev stands : FunctionStands lines all f code
+    abbrev stands : FunctionStands lines (has_pointers parts) all f code
     stands = function_law parts are f code found
 
     label_here : line_at lines (index f) ≡ Label f
@@ -127,6 +138,9 @@ module _ (parts : Parts) (are : AreParts parts) (sizing words : List ℕ) (fits 
     pub first_no_slot : is_slot (line_at lines (index f + 1)) ≡ false
     first_no_slot = ap is_slot first_is ∙ relabelled_slot (first_label all f) code.labels (line_at code.items 0) ∙ begins.no_slot
 
+    pub first_no_point : is_point (line_at lines (index f + 1)) ≡ false
+    first_no_point = ap is_point first_is ∙ relabelled_point (first_label all f) code.labels (line_at code.items 0) ∙ begins.no_point
+
     pub entry_in_text : (image : Fields) → image.text ≡ words → IsInText image (entry f)
     entry_in_text image text_is =
         subst (IsInText image) (at_same f code found ∙ sym (entry_is f code found)) (in_text image text_is (index f + 1) first_within first_some)
@@ -135,31 +149,33 @@ module _ (parts : Parts) (are : AreParts parts) (sizing words : List ℕ) (fits 
     pub entry_before : (g : ℕ) (other : Labelled) → slice_get all g ≡ Some other → f < g → entry f < entry g
     entry_before g other there lt =
         let within = slice_get_within all g other there in
-        let later = index_behind all f g code found lt (omega (arith, within)) in
+        let later = index_behind (has_pointers parts) all f g code found lt (omega (arith, within)) in
         let less = before_slot text_start lines sizing (index f) (index f + 1) (index g) fits (omega arith) (omega (arith, later, some_line)) first_within first_some in
         omega (arith, less, entry_is f code found, entry_is g other there)
 
-    -- a slot stands behind it, or ends at it or before
-    pub entry_outside : (m h : ℕ) → m < length lines → line_at lines m ≡ Slot h → (entry f < at m) ⊎ (at m + 8 ≤ entry f)
-    entry_outside m h below slot =
+    -- a line with words that isn't the code's first stands behind it, or ends at it or before
+    entry_apart : (m n : ℕ) → m < length lines → 1 ≤ n → n ≤ least_words (line_at lines m) → (m ≡ index f + 1 → ⊥) → (entry f < at m) ⊎ (at m + 4 * n ≤ entry f)
+    entry_apart m n below some wide other =
         let here = entry_is f code found in
         elim (cases_lt m (index f)) [
-          | inl before ↦ let less = behind_slot text_start lines sizing m h (index f) fits below slot before in inr (omega (arith, less, here))
+          | inl before ↦ let less = behind_line text_start lines sizing m n (index f) fits below wide before in inr (omega (arith, less, here))
           | inr not_before ↦ elim (cases_lt (index f + 1) m) [
             | inl behind ↦ let less = before_slot text_start lines sizing (index f) (index f + 1) m fits (omega arith) behind first_within first_some in inl (omega (arith, less, here))
             | inr not_behind ↦ elim (cases_eq m (index f)) [
-              | inl same ↦ absurd (neither m (inl same) slot)
-              | inr other ↦ absurd (neither m (inr (omega (arith, not_before, not_behind, other))) slot)
+              | inl same ↦ absurd (let none : least_words (line_at lines m) ≡ 0 = ap (λ j. least_words (line_at lines j)) same ∙ ap least_words (label_here f code found) in omega (arith, none, some, wide))
+              | inr differs ↦ absurd (other (omega (arith, not_before, not_behind, differs)))
             ]
           ]
         ]
-      where
-        not_label : (x : Line) → x ≡ Label f → x ≡ Slot h → ⊥
-        not_label x is other = let e : false ≡ true = sym (ap is_slot is) ∙ ap is_slot other in cc
 
-        not_first : (x : Line) → is_slot x ≡ false → x ≡ Slot h → ⊥
-        not_first x is other = let e : false ≡ true = sym is ∙ ap is_slot other in cc
+    -- so a slot does
+    pub entry_outside : (m h : ℕ) → m < length lines → line_at lines m ≡ Slot h → (entry f < at m) ⊎ (at m + 8 ≤ entry f)
+    entry_outside m h below slot =
+        entry_apart m 2 below (omega arith) (omega (arith, ap least_words slot))
+        (λ first. let e : false ≡ true = sym (ap (λ j. is_slot (line_at lines j)) first ∙ first_no_slot) ∙ ap is_slot slot in cc)
 
-        neither : (n : ℕ) → (n ≡ index f) ⊎ (n ≡ index f + 1) → line_at lines n ≡ Slot h → ⊥
-        neither n (inl same) is = not_label (line_at lines n) (ap (line_at lines) same ∙ label_here f code found) is
-        neither n (inr next) is = not_first (line_at lines n) (ap (λ j. is_slot (line_at lines j)) next ∙ first_no_slot) is
+    -- and so does one of four words
+    pub entry_outside_point : (m a : ℕ) → m < length lines → line_at lines m ≡ Point a → (entry f < at m) ⊎ (at m + 16 ≤ entry f)
+    entry_outside_point m a below slot =
+        entry_apart m 4 below (omega arith) (omega (arith, ap least_words slot))
+        (λ first. let e : false ≡ true = sym (ap (λ j. is_point (line_at lines j)) first ∙ first_no_point) ∙ ap is_point slot in cc)

@@ -1,5 +1,5 @@
 -- Codes joined one behind the other are the parts of functions, and each begins where its part does.
-use Rattle.std.proofs.Common.{◌≡◌, ℕ, zero, suc, ◌+◌, ◌<◌, ◌++◌, List, [], ◌∷◌, length, take, drop, get_or, slice_index, refl, ap, sym, ◌∙◌, subst, arith}
+use Rattle.std.proofs.Common.{◌≡◌, ℕ, zero, suc, ◌+◌, ◌<◌, ◌++◌, Bool, true, false, List, [], ◌∷◌, length, take, drop, get_or, slice_index, refl, ap, sym, ◌∙◌, subst, arith}
 use Rattle.std.proofs.Math.Seq.{drop-cons}
 use Rattle.std.proofs.lemmas.List.{append_assoc, length-append, length-map, map-append, get_or-append-add, get_or_append_left}
 use Rattle.std.proofs.lemmas.List.Sums.{sum_by-append, sum_by-cons}
@@ -9,7 +9,7 @@ use Rattle.mv_linker.specs.declared.joined.Joined.{Joined}
 use Rattle.mv_linker.specs.declared.parts.Parts.{Parts}
 use Rattle.mv_linker.specs.declared.parts.PartFunction.{PartFunction}
 use Rattle.mv_linker.specs.declared.parts.PartVariant.{PartVariant}
-use Rattle.mv_linker.specs.Linked.{codes, function_variants, variant_codes, relabelled, stub_lines, function_part, function_parts, label_count, line_count, trap_label, IsJoined}
+use Rattle.mv_linker.specs.Linked.{codes, function_variants, variant_codes, relabelled, stub_count, stub_lines, has_pointers, function_part, function_parts, label_count, line_count, trap_label, IsJoined}
 use Rattle.mv_linker.specs.Joining.{with_code, with_codes}
 use Rattle.mv_linker.proofs.Counting.{label_count_more}
 
@@ -106,8 +106,12 @@ entry_of j (x ∷ xs) (suc k) below =
 
 -- ---- all codes behind the stubs
 
+pub stub_length : (main : ℕ) (checks : Bool) → length (stub_lines main checks) ≡ stub_count checks
+stub_length main true = refl
+stub_length main false = refl
+
 abbrev pub begun : Parts → Joined
-begun parts = record { code = record { items = stub_lines parts.main; labels = length (codes parts) }; entries = [] }
+begun parts = record { code = record { items = stub_lines parts.main (has_pointers parts); labels = length (codes parts) }; entries = [] }
 
 pub joined_are : (parts : Parts) (joined : Joined) → joined ≡ with_codes (begun parts) (codes parts) → IsJoined parts joined
 joined_are parts joined is =
@@ -115,7 +119,8 @@ joined_are parts joined is =
       lines = items_of (begun parts) (codes parts);
       one_each = entries_of (begun parts) (codes parts) ∙ omega arith;
       each = λ f below. let at : 0 + f ≡ f = omega arith in
-          ap (slice_index (with_codes (begun parts) (codes parts)).entries) (sym at) ∙ entry_of (begun parts) (codes parts) f below;
+          ap (slice_index (with_codes (begun parts) (codes parts)).entries) (sym at) ∙ entry_of (begun parts) (codes parts) f below
+          ∙ ap (λ n. n + line_count (take f (codes parts))) (stub_length parts.main (has_pointers parts));
     })
 
 -- the functions first, and then the variants

@@ -4,7 +4,7 @@ use Rattle.std.proofs.lemmas.Bool.{cases_lt}
 use Rattle.std.proofs.lemmas.List.{take-take}
 use Rattle.std.proofs.lemmas.List.Sums.{sum_by-take-le}
 use Rattle.mv_isa.specs.declared.labelled.Line.{Line}
-use Rattle.mv_isa.specs.declared.labelled.Line.TheVariants.{Word, Slot}
+use Rattle.mv_isa.specs.declared.labelled.Line.TheVariants.{Word, Slot, Point}
 use Rattle.mv_isa.specs.declared.instr.Instr.{Instr}
 use Rattle.mv_isa.specs.Code.{IsSizing, line_at, least_words, greatest_words, offset, address}
 use Rattle.mv_linker.proofs.Slots.{offset_next}
@@ -56,4 +56,10 @@ module _ (base : ℕ) (lines : List Line) (sizing : List ℕ) where
     slot_size f e =
         let least : 2 ≤ slice_index sizing k = subst (λ (l : Line). least_words l ≤ slice_index sizing k) e (fits.at_least k below) in
         let most : slice_index sizing k ≤ 2 = subst (λ (l : Line). slice_index sizing k ≤ greatest_words l) e (fits.at_most k below) in
+        omega (arith, least, most, at_next k)
+
+    pub point_size : (a : ℕ) → line_at lines k ≡ Point a → at (k + 1) ≡ at k + 16
+    point_size a e =
+        let least : 4 ≤ slice_index sizing k = subst (λ (l : Line). least_words l ≤ slice_index sizing k) e (fits.at_least k below) in
+        let most : slice_index sizing k ≤ 4 = subst (λ (l : Line). slice_index sizing k ≤ greatest_words l) e (fits.at_most k below) in
         omega (arith, least, most, at_next k)

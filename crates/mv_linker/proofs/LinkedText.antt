@@ -5,8 +5,8 @@ use Rattle.mv_isa.specs.declared.labelled.Line.{Line}
 use Rattle.mv_isa.specs.Code.{address, label_address, text_start}
 use Rattle.mv_image.specs.Spelling.{Fields}
 use Rattle.mv_linker.specs.declared.parts.Parts.{Parts}
-use Rattle.mv_linker.specs.Linked.{codes, linked_lines, part_index}
-use Rattle.mv_linker.specs.Tables.{attributed_numbers}
+use Rattle.mv_linker.specs.Linked.{codes, linked_lines, has_pointers, part_index}
+use Rattle.mv_linker.specs.Tables.{attributed_numbers, pointer_addresses}
 use Rattle.mv_linker.specs.Outcome.{image_with}
 use Rattle.mv_linker.proofs.Lines.{IsOf}
 
@@ -20,6 +20,8 @@ pub record LinkedText : Type 1 where
   pub entry : ℕ → ℕ
   -- the attributed functions
   pub numbers : List ℕ
+  -- the addresses of pointer switches
+  pub pointers : List ℕ
   pub image : Fields
   -- the line of a code's label
   pub index : ℕ → ℕ
@@ -33,7 +35,8 @@ linked_text parts sizing words = record {
   all = codes parts;
   entry = label_address text_start (linked_lines parts) sizing;
   numbers = attributed_numbers parts.attributed;
+  pointers = pointer_addresses parts.pointers;
   image = image_with (label_address text_start (linked_lines parts) sizing) (address text_start sizing) words parts;
-  index = λ f. part_index (codes parts) f;
+  index = λ f. part_index (has_pointers parts) (codes parts) f;
   Of = IsOf text_start (linked_lines parts) sizing;
 }

@@ -1,16 +1,16 @@
 -- Where the stubs and the parts of functions stand.
-use Rattle.std.proofs.Common.{◌≡◌, ℕ, zero, suc, ◌+◌, ◌≤◌, ◌++◌, List, [], ◌∷◌, Some, length, take, slice_get, refl, ap, sym, subst, ◌∙◌, arith}
+use Rattle.std.proofs.Common.{◌≡◌, ℕ, zero, suc, ◌+◌, ◌≤◌, ◌++◌, Bool, true, false, List, [], ◌∷◌, Some, length, take, slice_get, refl, ap, sym, subst, ◌∙◌, arith}
 use Rattle.std.proofs.lemmas.List.{append_assoc, length-append, length-map, get_or-append-add, get_or_append_left}
 use Rattle.std.proofs.lemmas.Option.{slice_get_within}
 use Rattle.mv_isa.specs.declared.labelled.Labelled.{Labelled}
 use Rattle.mv_isa.specs.declared.labelled.Line.{Line}
 use Rattle.mv_isa.specs.declared.labelled.Line.TheVariants.{Label}
 use Rattle.mv_linker.specs.declared.parts.Parts.{Parts}
-use Rattle.mv_linker.specs.Linked.{codes, relabelled, start_lines, trap_lines, commit_lines, stub_lines, function_part, function_parts, linked_lines, label_count, first_label, line_count, trap_index, commit_index, part_index, AreParts}
-use Rattle.mv_linker.specs.Laws.{StandFrom, TrapStands, CommitStands, FunctionStands}
+use Rattle.mv_linker.specs.Linked.{codes, relabelled, start_lines, trap_lines, commit_lines, check_lines, check_lines_where, stub_lines, has_pointers, function_part, function_parts, linked_lines, label_count, first_label, line_count, trap_index, commit_index, check_index, part_index, AreParts}
+use Rattle.mv_linker.specs.Laws.{StandFrom, TrapStands, CommitStands, CheckStands, FunctionStands}
 use Rattle.mv_linker.proofs.Counting.{label_count_more}
-use Rattle.mv_linker.proofs.Fits.{entry_once, own_once, trap_once, commit_once}
-use Rattle.mv_linker.proofs.Joining.{line_count_more}
+use Rattle.mv_linker.proofs.Fits.{entry_once, own_once, trap_once, commit_once, check_once}
+use Rattle.mv_linker.proofs.Joining.{line_count_more, stub_length}
 
 pub stand_in : (before part after : List Line) (k : ℕ) → k ≡ length before → StandFrom (before ++ (part ++ after)) k part
 stand_in before part after k e = record {
@@ -24,20 +24,27 @@ in_front front before part after rest e = ap (λ ls. front ++ ls) e ∙ sym (app
 
 -- ---- stubs
 
-module _ (main : ℕ) (rest : List Line) where
-  start_stands : StandFrom (stub_lines main ++ rest) 0 (start_lines main)
-  start_stands = stand_in [] (start_lines main) ((trap_lines 1 ++ (trap_lines 2 ++ (trap_lines 3 ++ (trap_lines 4 ++ commit_lines)))) ++ rest) 0 refl
+module _ (main : ℕ) (checks : Bool) (rest : List Line) where
+  abbrev last : List Line
+  last = commit_lines ++ check_lines_where checks
 
-  trap_stands : (c : ℕ) → 1 ≤ c → c ≤ 4 → StandFrom (stub_lines main ++ rest) (trap_index c) (trap_lines c)
+  start_stands : StandFrom (stub_lines main checks ++ rest) 0 (start_lines main)
+  start_stands = stand_in [] (start_lines main) ((trap_lines 1 ++ (trap_lines 2 ++ (trap_lines 3 ++ (trap_lines 4 ++ last)))) ++ rest) 0 refl
+
+  trap_stands : (c : ℕ) → 1 ≤ c → c ≤ 4 → StandFrom (stub_lines main checks ++ rest) (trap_index c) (trap_lines c)
   trap_stands zero from to = absurd (omega arith)
-  trap_stands (suc zero) from to = stand_in (start_lines main) (trap_lines 1) ((trap_lines 2 ++ (trap_lines 3 ++ (trap_lines 4 ++ commit_lines))) ++ rest) 5 refl
-  trap_stands (suc (suc zero)) from to = stand_in (start_lines main ++ trap_lines 1) (trap_lines 2) ((trap_lines 3 ++ (trap_lines 4 ++ commit_lines)) ++ rest) 9 refl
-  trap_stands (suc (suc (suc zero))) from to = stand_in (start_lines main ++ (trap_lines 1 ++ trap_lines 2)) (trap_lines 3) ((trap_lines 4 ++ commit_lines) ++ rest) 13 refl
-  trap_stands (suc (suc (suc (suc zero)))) from to = stand_in (start_lines main ++ (trap_lines 1 ++ (trap_lines 2 ++ trap_lines 3))) (trap_lines 4) (commit_lines ++ rest) 17 refl
+  trap_stands (suc zero) from to = stand_in (start_lines main) (trap_lines 1) ((trap_lines 2 ++ (trap_lines 3 ++ (trap_lines 4 ++ last))) ++ rest) 5 refl
+  trap_stands (suc (suc zero)) from to = stand_in (start_lines main ++ trap_lines 1) (trap_lines 2) ((trap_lines 3 ++ (trap_lines 4 ++ last)) ++ rest) 9 refl
+  trap_stands (suc (suc (suc zero))) from to = stand_in (start_lines main ++ (trap_lines 1 ++ trap_lines 2)) (trap_lines 3) ((trap_lines 4 ++ last) ++ rest) 13 refl
+  trap_stands (suc (suc (suc (suc zero)))) from to = stand_in (start_lines main ++ (trap_lines 1 ++ (trap_lines 2 ++ trap_lines 3))) (trap_lines 4) (last ++ rest) 17 refl
   trap_stands (suc (suc (suc (suc (suc c))))) from to = absurd (omega arith)
 
-  commit_stands : StandFrom (stub_lines main ++ rest) commit_index commit_lines
-  commit_stands = stand_in (start_lines main ++ (trap_lines 1 ++ (trap_lines 2 ++ (trap_lines 3 ++ trap_lines 4)))) commit_lines rest 21 refl
+  commit_stands : StandFrom (stub_lines main checks ++ rest) commit_index commit_lines
+  commit_stands = stand_in (start_lines main ++ (trap_lines 1 ++ (trap_lines 2 ++ (trap_lines 3 ++ trap_lines 4)))) commit_lines (check_lines_where checks ++ rest) 21 refl
+
+check_stands : (main : ℕ) (checks : Bool) (rest : List Line) → checks ≡ true → StandFrom (stub_lines main checks ++ rest) check_index check_lines
+check_stands main true rest e = stand_in (start_lines main ++ (trap_lines 1 ++ (trap_lines 2 ++ (trap_lines 3 ++ (trap_lines 4 ++ commit_lines))))) check_lines rest 34 refl
+check_stands main false rest e = absurd (let bad : ⊥ = cc in bad)
 
 -- ---- functions
 
@@ -75,32 +82,38 @@ parts_split (x ∷ rest) f first (suc k) code g m found g_is m_is =
 
 module _ (parts : Parts) (are : AreParts parts) where
   pub start_law : StandFrom (linked_lines parts) 0 (start_lines parts.main)
-  start_law = start_stands parts.main (function_parts 0 (length (codes parts)) (codes parts))
+  start_law = start_stands parts.main (has_pointers parts) (function_parts 0 (length (codes parts)) (codes parts))
 
   pub trap_law : (c : ℕ) → 1 ≤ c → c ≤ 4 → TrapStands (linked_lines parts) c
   trap_law c from to = record {
-    stub = trap_stands parts.main (function_parts 0 (length (codes parts)) (codes parts)) c from to;
+    stub = trap_stands parts.main (has_pointers parts) (function_parts 0 (length (codes parts)) (codes parts)) c from to;
     label = trap_once parts are c from to;
   }
 
   pub commit_law : CommitStands (linked_lines parts)
   commit_law = record {
-    stub = commit_stands parts.main (function_parts 0 (length (codes parts)) (codes parts));
+    stub = commit_stands parts.main (has_pointers parts) (function_parts 0 (length (codes parts)) (codes parts));
     label = commit_once parts are;
   }
 
+  pub check_law : has_pointers parts ≡ true → CheckStands (linked_lines parts)
+  check_law checks = record {
+    stub = check_stands parts.main (has_pointers parts) (function_parts 0 (length (codes parts)) (codes parts)) checks;
+    label = check_once parts are checks;
+  }
+
   module _ (f : ℕ) (code : Labelled) (found : slice_get (codes parts) f ≡ Some code) where
-    part_stands : StandFrom (linked_lines parts) (part_index (codes parts) f) (function_part f (first_label (codes parts) f) code)
+    part_stands : StandFrom (linked_lines parts) (part_index (has_pointers parts) (codes parts) f) (function_part f (first_label (codes parts) f) code)
     part_stands =
         let n = length (codes parts) in
-        let stubs = stub_lines parts.main in
+        let stubs = stub_lines parts.main (has_pointers parts) in
         let part = function_part f (first_label (codes parts) f) code in
         let s = parts_split (codes parts) 0 n f code f (first_label (codes parts) f) found (omega arith) refl in
         let lines_are : linked_lines parts ≡ (stubs ++ s.before) ++ (part ++ s.after) = in_front stubs s.before part s.after _ s.lines_are in
-        let index_is : part_index (codes parts) f ≡ length (stubs ++ s.before) = omega (arith, s.count_is, length-append stubs s.before) in
-        subst (λ (ls : List Line). StandFrom ls (part_index (codes parts) f) part) (sym lines_are) (stand_in (stubs ++ s.before) part s.after (part_index (codes parts) f) index_is)
+        let index_is : part_index (has_pointers parts) (codes parts) f ≡ length (stubs ++ s.before) = omega (arith, s.count_is, length-append stubs s.before, stub_length parts.main (has_pointers parts)) in
+        subst (λ (ls : List Line). StandFrom ls (part_index (has_pointers parts) (codes parts) f) part) (sym lines_are) (stand_in (stubs ++ s.before) part s.after (part_index (has_pointers parts) (codes parts) f) index_is)
 
-    pub function_law : FunctionStands (linked_lines parts) (codes parts) f code
+    pub function_law : FunctionStands (linked_lines parts) (has_pointers parts) (codes parts) f code
     function_law = record {
       part = part_stands;
       entry = entry_once parts are f (slice_get_within (codes parts) f code found);

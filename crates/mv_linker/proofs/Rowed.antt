@@ -1,5 +1,5 @@
 -- The rows that are made of parts.
-use Rattle.std.proofs.Common.{◌≡◌, ℕ, zero, suc, ◌+◌, ◌-◌, ◌*◌, ◌<◌, ◌≤◌, ◌++◌, true, Option, Some, None, List, [], ◌∷◌, length, map, replicate, slice_get, slice_index, All, refl, ap, sym, subst, ◌∙◌, arith}
+use Rattle.std.proofs.Common.{◌≡◌, ℕ, zero, suc, ◌+◌, ◌-◌, ◌*◌, ◌<◌, ◌≤◌, ◌++◌, true, Option, Some, None, List, [], ◌∷◌, length, map, replicate, slice_get, slice_index, get_or, All, refl, ap, sym, subst, ◌∙◌, arith}
 use Rattle.std.specs.Prelude.{option_map}
 use Rattle.std.specs.List.{flat_map}
 use Rattle.std.proofs.lemmas.List.{length-append, length-map, map-append, get_or-map, get_or-append-add, get_or_append_left}
@@ -12,8 +12,9 @@ use Rattle.mv_descriptors.specs.declared.rows.SwitchRow.{SwitchRow}
 use Rattle.mv_descriptors.specs.declared.rows.FunctionRow.{FunctionRow}
 use Rattle.mv_descriptors.specs.declared.rows.VariantRow.{VariantRow}
 use Rattle.mv_descriptors.specs.declared.rows.GuardRow.{GuardRow}
+use Rattle.mv_descriptors.specs.declared.rows.TargetRow.{TargetRow}
 use Rattle.mv_image.specs.Spelling.{Fields}
-use Rattle.mv_image.specs.WellFormed.{IsInText, FitsSwitch, FitsFunction, FitsVariant, FitsGuard}
+use Rattle.mv_image.specs.WellFormed.{IsInText, FitsSwitch, FitsFunction, FitsVariant, FitsGuard, FitsPointer, FitsTarget}
 use Rattle.mv_image.specs.Names.{is_letter}
 use Rattle.mv_image.specs.Patched.{kind_of}
 use Rattle.mv_image.specs.Patched as patched
@@ -22,8 +23,9 @@ use Rattle.mv_linker.specs.declared.parts.Parts.{Parts}
 use Rattle.mv_linker.specs.declared.parts.PartSwitch.{PartSwitch}
 use Rattle.mv_linker.specs.declared.parts.PartFunction.{PartFunction}
 use Rattle.mv_linker.specs.declared.parts.PartVariant.{PartVariant}
+use Rattle.mv_linker.specs.declared.parts.PartPointer.{PartPointer}
 use Rattle.mv_linker.specs.Linked.{function_variants}
-use Rattle.mv_linker.specs.Tables.{padded, switch_row, function_row, variant_row, variant_rows, guards_of, kinds_of, kind_in, IsName, IsRange, FitsPartSwitch, FitsPartVariant, FitsPartFunction}
+use Rattle.mv_linker.specs.Tables.{padded, switch_row, pointer_row, target_rows, function_row, variant_row, variant_rows, guards_of, kinds_of, kind_in, IsName, IsRange, FitsPartSwitch, FitsPartVariant, FitsPartFunction, FitsPartPointer}
 use Rattle.mv_num.proofs.Numbers.{zeros_at}
 
 -- ---- padded words
@@ -53,6 +55,30 @@ switch_fits image words le s h = record {
   count = h.few;
   values = λ i below. subst (λ v. is_value (kind_number s.kind) v ≡ true) (sym (padded_at 16 s.values i below)) (h.values i 0 below);
 }
+
+-- ---- pointer switches, and their targets
+
+pub pointer_fits : (image : Fields) (words : ℕ) → words ≤ length image.globals → (q : PartPointer) → FitsPartPointer words q → FitsPointer image (pointer_row q)
+pointer_fits image words le q h = record {
+  named = name_some q.name h.name;
+  name = h.name.short;
+  address = record { aligned = omega arith; not_before = omega arith; within = omega (arith, h.word, le) };
+}
+
+pub target_count : (entry : ℕ → ℕ) (n : ℕ) (names : List (List ℕ)) → length (target_rows entry n names) ≡ length names
+target_count entry n [] = refl
+target_count entry n (name ∷ names) = ap suc (target_count entry (suc n) names)
+
+pub target_at : (entry : ℕ → ℕ) (n : ℕ) (names : List (List ℕ)) (k : ℕ) (d : TargetRow) → k < length names
+    → get_or (target_rows entry n names) k d ≡ record { length = length (get_or names k []); entry = entry (n + k) }
+target_at entry n [] k d below = absurd (omega arith)
+target_at entry n (name ∷ names) zero d below = let same : n ≡ n + 0 = omega arith in ap (λ m. record { length = length name; entry = entry m }) same
+target_at entry n (name ∷ names) (suc k) d below =
+    let same : suc n + k ≡ n + suc k = omega arith in
+    target_at entry (suc n) names k d (omega arith) ∙ ap (λ m. record { length = length (get_or names k []); entry = entry m }) same
+
+pub target_fits : (image : Fields) (name : List ℕ) (entry : ℕ) → IsName name → IsInText image entry → FitsTarget image (record { length = length name; entry = entry })
+target_fits image name entry h text = record { named = name_some name h; name = h.short; entry = text }
 
 -- ---- functions
 

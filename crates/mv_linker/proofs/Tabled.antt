@@ -1,35 +1,42 @@
 -- The tables of linked parts fit the format of images.
-use Rattle.std.proofs.Common.{◌≡◌, ℕ, suc, ◌+◌, ◌<◌, ◌≤◌, ◌⊎◌, ◌++◌, List, [], ◌∷◌, Some, length, map, get_or, slice_get, slice_index, All, inr, refl, ap, sym, subst, ◌∙◌, arith}
-use Rattle.std.proofs.lemmas.List.{append-nil, length-map, map-append, get_or-map}
+use Rattle.std.proofs.Common.{◌≡◌, ℕ, suc, ◌+◌, ◌<◌, ◌≤◌, ◌⊎◌, ◌++◌, true, false, cond, nat_lt, List, [], ◌∷◌, Some, length, map, get_or, slice_get, slice_index, All, inl, inr, refl, ap, sym, subst, ◌∙◌, arith}
+use Rattle.std.proofs.lemmas.List.{length-map, map-append, get_or-map}
 use Rattle.std.proofs.lemmas.List.Elements.{All-nil, All-cons, All-append, All-head, All-tail, All-map, All-weaker, All-from_get_or}
 use Rattle.std.proofs.lemmas.List.Sums.{get_or-le-sum_by}
+use Rattle.std.proofs.lemmas.Bool.Decides.{nat_tests}
+use Rattle.std.proofs.lemmas.Bool.{cases_lt}
 use Rattle.std.proofs.lemmas.Option.{slice_get-map, slice_get-get_or, get_or_from_slice_get}
 use Rattle.std.specs.Prelude.{option_map}
 use Rattle.mv_descriptors.specs.declared.rows.SwitchRow.{SwitchRow}
 use Rattle.mv_descriptors.specs.declared.rows.FunctionRow.{FunctionRow}
 use Rattle.mv_descriptors.specs.declared.rows.SiteRow.{SiteRow}
+use Rattle.mv_descriptors.specs.declared.rows.PointerRow.{PointerRow}
+use Rattle.mv_descriptors.specs.declared.rows.PointRow.{PointRow}
+use Rattle.mv_descriptors.specs.declared.rows.TargetRow.{TargetRow}
 use Rattle.mv_descriptors.specs.Widths.{SwitchClean, FunctionClean, VariantClean}
 use Rattle.mv_isa.specs.declared.labelled.Labelled.{Labelled}
 use Rattle.mv_isa.specs.declared.labelled.Line.{Line}
-use Rattle.mv_isa.specs.declared.labelled.Line.TheVariants.{Slot}
-use Rattle.mv_isa.specs.Code.{IsSizing, line_at, least_words, label_index, address, text_start}
-use Rattle.mv_isa.specs.Standing.{SlotStands, LineStands, word_at}
+use Rattle.mv_isa.specs.declared.labelled.Line.TheVariants.{Slot, Point}
+use Rattle.mv_isa.specs.Code.{IsSizing, IsPlace, line_at, least_words, label_index, text_start}
+use Rattle.mv_isa.specs.Standing.{SlotStands, PointStands, LineStands, word_at}
 use Rattle.mv_asm.specs.Outcome.{AreWordsUnder}
-use Rattle.mv_image.specs.WellFormed.{IsInText, FitsSwitch, FitsFunction, FitsVariant, FitsSite, FitsGuard}
-use Rattle.mv_image.specs.Format.{IsWithin, IsIdentifier, AreNamed, FitsFormat}
+use Rattle.mv_image.specs.WellFormed.{IsInText, FitsSwitch, FitsFunction, FitsVariant, FitsSite, FitsGuard, FitsPointer, FitsPoint, FitsTarget}
+use Rattle.mv_image.specs.Format.{IsWithin, HasCheck, IsIdentifier, AreNamed, FitsFormat}
 use Rattle.mv_image.specs.Groups.{AreGrouped, GroupsFit, GroupsBelong, GroupsAreRows}
 use Rattle.mv_linker.specs.declared.parts.Parts.{Parts}
 use Rattle.mv_linker.specs.declared.parts.PartSwitch.{PartSwitch}
 use Rattle.mv_linker.specs.declared.parts.PartFunction.{PartFunction}
 use Rattle.mv_linker.specs.declared.parts.PartVariant.{PartVariant}
-use Rattle.mv_linker.specs.Linked.{codes, function_variants, variant_codes, linked_lines, AreParts}
-use Rattle.mv_linker.specs.Tables.{switch_row, function_row, variant_row, variant_rows, sites_from, place_among, BeginsWithWords, IsRange, CallsAmong, FitsPartFunction, FitsPartVariant, kinds_of, FitTables}
+use Rattle.mv_linker.specs.declared.parts.PartPointer.{PartPointer}
+use Rattle.mv_linker.specs.Linked.{codes, function_variants, variant_codes, linked_lines, has_pointers, check_label, check_lines, check_index, AreParts}
+use Rattle.mv_linker.specs.Tables.{switch_row, function_row, variant_row, variant_rows, pointer_row, pointer_address, target_rows, sites_from, points_from, point_count, place_among, BeginsWithWords, IsName, IsRange, CallsAmong, GoesThrough, FitsPartFunction, FitsPartVariant, kinds_of, FitTables}
 use Rattle.mv_linker.specs.Outcome.{datum_word, HasFewSites, WithinLimit}
-use Rattle.mv_linker.proofs.Entered.{in_text, next_in_text, entry_in_text, entry_before, entry_outside}
+use Rattle.mv_linker.proofs.Entered.{in_text, word_in_text, entry_in_text, entry_before, entry_outside, entry_outside_point}
 use Rattle.mv_linker.proofs.LinkedText.{linked_text}
-use Rattle.mv_linker.proofs.Slots.{slot_is_site, behind_slot}
-use Rattle.mv_linker.proofs.Rowed.{padded_zeros, switch_fits, function_fits, variant_clean, variant_fits, IsRowed, all_rowed, guard_fits, variant_guards, groups_of, function_counts, group_counts, group_guards, variant_row_count, are_few}
-use Rattle.mv_linker.proofs.Sited.{row_at, slots_of_codes, lines_call, IsAmong, among, site_is, sites_are, site_length}
+use Rattle.mv_linker.proofs.Slots.{slot_is_site, slot_is_point, behind_line}
+use Rattle.mv_linker.proofs.Rowed.{padded_zeros, switch_fits, pointer_fits, target_fits, target_at, target_count, function_fits, variant_clean, variant_fits, IsRowed, all_rowed, guard_fits, variant_guards, groups_of, function_counts, group_counts, group_guards, variant_row_count, are_few}
+use Rattle.mv_linker.proofs.Sited.{row_at, slots_of_codes, lines_call, lines_through, IsAmong, among, site_is, sites_are, site_length, point_row_at, point_is, points_are, point_length, line_has_pointers}
+use Rattle.mv_linker.proofs.Places.{check_law}
 use Rattle.mv_num.proofs.Lists.{slice_get_left, slice_get_right}
 
 -- ---- codes by number
@@ -48,12 +55,15 @@ each_begins parts (a ∷ rest) all =
 abbrev pub no_code : Labelled
 no_code = record { items = []; labels = 0 }
 
+abbrev pub no_pointer : PartPointer
+no_pointer = record { name = []; word = 0 }
+
 abbrev pub no_function : PartFunction
 no_function = record { name = []; function = 0; switches = []; variants = [] }
 
 module _ (parts : Parts) (are : AreParts parts) (tables : FitTables parts) (sizing words : List ℕ) (fits : IsSizing (linked_lines parts) sizing)
     (under : AreWordsUnder text_start (linked_lines parts) sizing words) where
-  open linked_text parts sizing words use {lines, at, entry, image, numbers}
+  open linked_text parts sizing words use {lines, at, entry, image, numbers, pointers}
 
   -- ---- attributed functions
 
@@ -170,7 +180,7 @@ module _ (parts : Parts) (are : AreParts parts) (tables : FitTables parts) (sizi
     site_fits =
         slot_is_site image (record { address = at k; function = n }) (at (suc k)) (entry f)
         (in_text parts are sizing words fits under image refl k below (omega (arith, two)))
-        (next_in_text parts are sizing words fits under image refl k below two)
+        (word_in_text parts are sizing words fits under image refl k 1 below two)
         (omega (arith, n_below, length-map parts.attributed (function_row entry)))
         (under.places k)
         (under.places (label_index lines f))
@@ -207,7 +217,7 @@ module _ (parts : Parts) (are : AreParts parts) (tables : FitTables parts) (sizi
   sites_ascend : (i : ℕ) (d : SiteRow) → i + 1 < length sites → (get_or sites i d).address + 8 ≤ (get_or sites (i + 1) d).address
   sites_ascend i d below =
       let s = sites_are at numbers lines 0 i below in
-      let less = behind_slot text_start lines sizing s.this.index s.this.function s.next.index fits s.this.within s.this.line s.less in
+      let less = behind_line text_start lines sizing s.this.index 2 s.next.index fits s.this.within (omega (arith, ap least_words s.this.line)) s.less in
       let first : (get_or sites i d).address ≡ at (0 + s.this.index) = ap (λ (row : SiteRow). row.address) (s.this.row d) in
       let later : i + 1 ≡ suc i = omega arith in
       let second : (get_or sites (i + 1) d).address ≡ at (0 + s.next.index) = ap (λ j. (get_or sites j d).address) later ∙ ap (λ (row : SiteRow). row.address) (s.next.row d) in
@@ -228,20 +238,235 @@ module _ (parts : Parts) (are : AreParts parts) (tables : FitTables parts) (sizi
       subst (λ a. (a < (get_or sites k e).address) ⊎ ((get_or sites k e).address + 8 ≤ a)) (sym own_entry)
       (subst (λ a. (entry (own f).function < a) ⊎ (a + 8 ≤ entry (own f).function)) (sym site) apart)
 
+  -- ---- the stub of calls through pointer switches
+
+  module _ (checks : has_pointers parts ≡ true) where
+    stub_line : (j : ℕ) → j < 7 → line_at lines (check_index + j) ≡ line_at check_lines j
+    stub_line j lt = let stands = check_law parts are checks in stands.stub.each j (omega arith)
+
+    stub_within : check_index + 7 ≤ length lines
+    stub_within = let stands = check_law parts are checks in omega (arith, stands.stub.within)
+
+    stub_stands : (j : ℕ) → j < 7 → LineStands (word_at text_start words) entry entry (at (check_index + j)) (at (check_index + j + 1)) (line_at check_lines j)
+    stub_stands j lt =
+        subst (λ (x : Line). LineStands (word_at text_start words) entry entry (at (check_index + j)) (at (check_index + j + 1)) x) (stub_line j lt)
+        (under.stands.each (check_index + j) (omega (arith, stub_within)))
+
+    -- its label, the first word of its test of the pointer, and that of its test of the depth
+    check_at : entry check_label ≡ at (check_index + 1)
+    check_at =
+        let stands = check_law parts are checks in
+        let end : at 35 ≡ at 34 = stub_stands 0 (omega arith) in
+        under.stands.labels check_index check_label (omega (arith, stub_within)) (stub_line 0 (omega arith)) stands.label ∙ sym end
+
+    depth_at : at (check_index + 3) ≡ entry check_label + 8
+    depth_at =
+        let branch : at 36 ≡ at 35 + 4 = (stub_stands 1 (omega arith)).1 in
+        let jump : at 37 ≡ at 36 + 4 = (stub_stands 2 (omega arith)).end_is in
+        omega (arith, branch, jump, check_at)
+
+    check_in_text : IsInText image (entry check_label)
+    check_in_text =
+        subst (IsInText image) (sym check_at)
+        (in_text parts are sizing words fits under image refl 35 (omega (arith, stub_within)) (omega (arith, ap least_words (stub_line 1 (omega arith)))))
+
+    depth_in_text : IsInText image (entry check_label + 8)
+    depth_in_text =
+        subst (IsInText image) depth_at
+        (in_text parts are sizing words fits under image refl 37 (omega (arith, stub_within)) (omega (arith, ap least_words (stub_line 3 (omega arith)))))
+
+  -- ---- pointer sites
+
+  through : All (GoesThrough pointers) lines
+  through = lines_through pointers parts tables.through
+
+  abbrev points : List PointRow
+  points = points_from at pointers 0 lines
+
+  check_none : length points ≡ 0 → image.check ≡ 0
+  check_none none =
+      let count = point_length at pointers lines 0 in
+      let test : nat_lt 0 (point_count lines) ≡ false = grind (arith, nat_tests, none, count) in
+      ap (λ b. cond b (entry check_label) 0) test
+
+  pub check_some : 0 < length points → image.check ≡ entry check_label
+  check_some some =
+      let count = point_length at pointers lines 0 in
+      let test : nat_lt 0 (point_count lines) ≡ true = grind (arith, nat_tests, some, count) in
+      ap (λ b. cond b (entry check_label) 0) test
+
+  point_checks : 0 < length points → has_pointers parts ≡ true
+  point_checks some = let s = point_is at pointers lines 0 0 some in line_has_pointers parts tables s.index s.pointer s.within s.line
+
+  has_check : HasCheck image
+  has_check = record {
+    none = check_none;
+    check = λ some. subst (IsInText image) (sym (check_some some)) (check_in_text (point_checks some));
+    depth = λ some. subst (λ a. IsInText image (a + 8)) (sym (check_some some)) (depth_in_text (point_checks some));
+  }
+
+  module _ (k p : ℕ) (below : k < length lines) (line : line_at lines k ≡ Point p) (check_is : image.check ≡ entry check_label) where
+    gone : IsAmong pointers p
+    gone = let goes = subst (GoesThrough pointers) line (through k _ below) in among pointers p goes.0 goes.1
+
+    abbrev m : ℕ
+    m = place_among pointers p
+
+    m_below : m < length parts.pointers
+    m_below = omega (arith, gone.below, length-map parts.pointers pointer_address)
+
+    address_is : (d : PointerRow) → (get_or image.pointers m d).address ≡ p
+    address_is d =
+        ap (λ (row : PointerRow). row.address) (get_or-map pointer_row parts.pointers m no_pointer d m_below)
+        ∙ sym (get_or-map pointer_address parts.pointers m no_pointer 0 m_below)
+        ∙ get_or_from_slice_get pointers m p 0 gone.there
+
+    point_stands : PointStands (word_at text_start words) (at k) (at (suc k)) image.check p
+    point_stands =
+        let next : k + 1 ≡ suc k = omega arith in
+        let placed : PointStands (word_at text_start words) (at k) (at (suc k)) (entry check_label) p =
+        subst (λ j. PointStands (word_at text_start words) (at k) (at j) (entry check_label) p) next
+        (subst (λ (x : Line). LineStands (word_at text_start words) entry entry (at k) (at (k + 1)) x) line (under.stands.each k below)) in
+        subst (λ c. PointStands (word_at text_start words) (at k) (at (suc k)) c p) (sym check_is) placed
+
+    four : 4 ≤ least_words (line_at lines k)
+    four = omega (arith, ap least_words line)
+
+    test_place : IsPlace (at k + 8)
+    test_place =
+        let first = under.places k in
+        let last = word_in_text parts are sizing words fits under image refl k 3 below four in
+        (omega (arith, first.0), omega (arith, last.within, under.count, under.within), omega (arith, first.2))
+
+    point_fits : FitsPoint image (record { address = at k; pointer = m })
+    point_fits =
+        slot_is_point image (record { address = at k; pointer = m }) (at (suc k)) p
+        (in_text parts are sizing words fits under image refl k below (omega (arith, four)))
+        (word_in_text parts are sizing words fits under image refl k 3 below four)
+        (omega (arith, m_below, length-map parts.pointers pointer_row))
+        test_place
+        (subst IsPlace (sym check_is) (under.places (label_index lines check_label)))
+        address_is
+        point_stands
+
+  point_rows_fit : All (FitsPoint image) points
+  point_rows_fit = All-from_get_or (FitsPoint image) points any_point (λ i below.
+      let s = point_is at pointers lines 0 i below in
+      let here : 0 + s.index ≡ s.index = omega arith in
+      subst (FitsPoint image) (sym (s.row any_point ∙ ap (λ j. point_row_at at pointers j s.pointer) here)) (point_fits s.index s.pointer s.within s.line (check_some (omega (arith, below)))))
+    where
+      any_point : PointRow
+      any_point = record { address = 0; pointer = 0 }
+
+  point_address : (i : ℕ) (d : PointRow) (k p : ℕ) → ((e : PointRow) → get_or points i e ≡ point_row_at at pointers (0 + k) p) → (get_or points i d).address ≡ at k
+  point_address i d k p row = let here : 0 + k ≡ k = omega arith in ap (λ (x : PointRow). x.address) (row d) ∙ ap at here
+
+  points_ascend : (i : ℕ) (d : PointRow) → i + 1 < length points → (get_or points i d).address + 16 ≤ (get_or points (i + 1) d).address
+  points_ascend i d below =
+      let s = points_are at pointers lines 0 i below in
+      let less = behind_line text_start lines sizing s.this.index 4 s.next.index fits s.this.within (omega (arith, ap least_words s.this.line)) s.less in
+      let later : i + 1 ≡ suc i = omega arith in
+      let second : (get_or points (i + 1) d).address ≡ at s.next.index = ap (λ j. (get_or points j d).address) later ∙ point_address (suc i) d s.next.index s.next.pointer s.next.row in
+      omega (arith, less, point_address i d s.this.index s.this.pointer s.this.row, second)
+
+  entries_outside_points : (f k : ℕ) (d : FunctionRow) (e : PointRow) → f < length image.functions → k < length points
+      → ((get_or image.functions f d).entry < (get_or points k e).address) ⊎ ((get_or points k e).address + 16 ≤ (get_or image.functions f d).entry)
+  entries_outside_points f k d e within below =
+      let n : f < length parts.attributed = omega (arith, within, length-map parts.attributed (function_row entry)) in
+      let h = own_fits f n in
+      let s = point_is at pointers lines 0 k below in
+      let own_entry : (get_or image.functions f d).entry ≡ entry (own f).function = ap (λ (row : FunctionRow). row.entry) (row_is f d n) in
+      let apart = entry_outside_point parts are sizing words fits under (own f).function (generic (own f)) (generic_code (own f) h) (generic_begins (own f) h) s.index s.pointer s.within s.line in
+      subst (λ a. (a < (get_or points k e).address) ⊎ ((get_or points k e).address + 16 ≤ a)) (sym own_entry)
+      (subst (λ a. (entry (own f).function < a) ⊎ (a + 16 ≤ entry (own f).function)) (sym (point_address k e s.index s.pointer s.row)) apart)
+
+  sites_beside_points : (j k : ℕ) (d : SiteRow) (e : PointRow) → j < length sites → k < length points
+      → ((get_or sites j d).address < (get_or points k e).address) ⊎ ((get_or points k e).address + 16 ≤ (get_or sites j d).address)
+  sites_beside_points j k d e within below =
+      let s = site_is at numbers lines 0 j within in
+      let t = point_is at pointers lines 0 k below in
+      let here : 0 + s.index ≡ s.index = omega arith in
+      let site : (get_or sites j d).address ≡ at s.index = ap (λ (row : SiteRow). row.address) (s.row d) ∙ ap at here in
+      let point = point_address k e t.index t.pointer t.row in
+      elim (cases_lt s.index t.index) [
+        | inl before ↦
+            let less = behind_line text_start lines sizing s.index 2 t.index fits s.within (omega (arith, ap least_words s.line)) before in
+            inl (omega (arith, less, site, point))
+        | inr not_before ↦
+            let differ : s.index ≡ t.index → ⊥ = λ same. let lines_same = sym s.line ∙ ap (line_at lines) same ∙ t.line in cc in
+            let less = behind_line text_start lines sizing t.index 4 s.index fits t.within (omega (arith, ap least_words t.line)) (omega (arith, not_before, differ)) in
+            inr (omega (arith, less, site, point))
+      ]
+
+  -- ---- pointer switches, and their targets
+
+  pointer_rows_fit : All (FitsPointer image) image.pointers
+  pointer_rows_fit =
+      All-map (FitsPointer image) pointer_row parts.pointers (λ k d l. pointer_fits image (length parts.globals) (omega (arith, length-map parts.globals (datum_word entry))) _ (tables.pointers k d l))
+
+  abbrev target_code : ℕ → Labelled
+  target_code k = get_or parts.functions k no_code
+
+  target_there : (k : ℕ) → k < length parts.targets → slice_get (codes parts) k ≡ Some (target_code k)
+  target_there k below = function_code parts k (target_code k) (slice_get-get_or parts.functions k no_code (omega (arith, below, tables.targets_there)))
+
+  target_begins : (k : ℕ) → k < length parts.targets → BeginsWithWords (target_code k)
+  target_begins k below = tables.targets_begin (λ none. omega (arith, below, ap length none)) k no_code (omega (arith, below, tables.targets_there))
+
+  abbrev targets : List TargetRow
+  targets = target_rows entry 0 parts.targets
+
+  target_is : (k : ℕ) (d : TargetRow) → k < length parts.targets → get_or targets k d ≡ record { length = length (get_or parts.targets k []); entry = entry k }
+  target_is k d below = let here : 0 + k ≡ k = omega arith in target_at entry 0 parts.targets k d below ∙ ap (λ j. record { length = length (get_or parts.targets k []); entry = entry j }) here
+
+  target_rows_fit : All (FitsTarget image) targets
+  target_rows_fit = All-from_get_or (FitsTarget image) targets any_target (λ k below.
+      let within : k < length parts.targets = omega (arith, below, target_count entry 0 parts.targets) in
+      subst (FitsTarget image) (sym (target_is k any_target within))
+      (target_fits image (get_or parts.targets k []) (entry k) (tables.targets k [] within)
+      (entry_in_text parts are sizing words fits under k (target_code k) (target_there k within) (target_begins k within) image refl)))
+    where
+      any_target : TargetRow
+      any_target = record { length = 0; entry = 0 }
+
+  targets_ascend : (k : ℕ) (d : TargetRow) → k + 1 < length targets → (get_or targets k d).entry < (get_or targets (k + 1) d).entry
+  targets_ascend k d below =
+      let next : k + 1 < length parts.targets = omega (arith, below, target_count entry 0 parts.targets) in
+      let this : k < length parts.targets = omega (arith, next) in
+      let before = entry_before parts are sizing words fits under k (target_code k) (target_there k this) (target_begins k this) (k + 1) (target_code (k + 1)) (target_there (k + 1) next) (omega arith) in
+      let first : (get_or targets k d).entry ≡ entry k = ap (λ (row : TargetRow). row.entry) (target_is k d this) in
+      let second : (get_or targets (k + 1) d).entry ≡ entry (k + 1) = ap (λ (row : TargetRow). row.entry) (target_is (k + 1) d next) in
+      omega (arith, before, first, second)
+
   -- ---- names
+
+  abbrev switch_names : List (List ℕ)
+  switch_names = map (λ (s : PartSwitch). s.name) parts.switches
+
+  abbrev function_names : List (List ℕ)
+  function_names = map (λ (a : PartFunction). a.name) parts.attributed
+
+  abbrev pointer_names : List (List ℕ)
+  pointer_names = map (λ (q : PartPointer). q.name) parts.pointers
 
   named : AreNamed image
   named = record {
     identifiers =
-        All-append IsIdentifier (map (λ (s : PartSwitch). s.name) parts.switches) (map (λ (a : PartFunction). a.name) parts.attributed)
+        All-append IsIdentifier (switch_names ++ function_names ++ pointer_names) parts.targets
+        (All-append IsIdentifier (switch_names ++ function_names) pointer_names
+        (All-append IsIdentifier switch_names function_names
         (All-map IsIdentifier (λ (s : PartSwitch). s.name) parts.switches (λ k d l. (tables.switches k d l).name.identifier))
-        (All-map IsIdentifier (λ (a : PartFunction). a.name) parts.attributed (λ k d l. (tables.functions k d l).name.identifier));
+        (All-map IsIdentifier (λ (a : PartFunction). a.name) parts.attributed (λ k d l. (tables.functions k d l).name.identifier)))
+        (All-map IsIdentifier (λ (q : PartPointer). q.name) parts.pointers (λ k d l. (tables.pointers k d l).name.identifier)))
+        (All-weaker IsName IsIdentifier (λ name h. h.identifier) parts.targets tables.targets);
     lengths =
-        map-append length (map (λ (s : PartSwitch). s.name) parts.switches) (map (λ (a : PartFunction). a.name) parts.attributed)
-        ∙ ap (λ ls. ls ++ map length (map (λ (a : PartFunction). a.name) parts.attributed)) (switch_lengths parts.switches)
-        ∙ ap (λ ls. map (λ (row : SwitchRow). row.length) image.switches ++ ls) (function_lengths parts.attributed)
-        ∙ sym (append-nil (map (λ (row : SwitchRow). row.length) image.switches ++ map (λ (row : FunctionRow). row.length) image.functions))
-        ∙ sym (append-nil (map (λ (row : SwitchRow). row.length) image.switches ++ map (λ (row : FunctionRow). row.length) image.functions ++ []));
+        map-append length (switch_names ++ function_names ++ pointer_names) parts.targets
+        ∙ ap (λ ls. ls ++ map length parts.targets) (map-append length (switch_names ++ function_names) pointer_names)
+        ∙ ap (λ ls. ls ++ map length pointer_names ++ map length parts.targets) (map-append length switch_names function_names)
+        ∙ ap (λ ls. ls ++ map length function_names ++ map length pointer_names ++ map length parts.targets) (switch_lengths parts.switches)
+        ∙ ap (λ ls. map (λ (row : SwitchRow). row.length) image.switches ++ ls ++ map length pointer_names ++ map length parts.targets) (function_lengths parts.attributed)
+        ∙ ap (λ ls. map (λ (row : SwitchRow). row.length) image.switches ++ map (λ (row : FunctionRow). row.length) image.functions ++ ls ++ map length parts.targets) (pointer_lengths parts.pointers)
+        ∙ ap (λ ls. map (λ (row : SwitchRow). row.length) image.switches ++ map (λ (row : FunctionRow). row.length) image.functions ++ map (λ (row : PointerRow). row.length) image.pointers ++ ls) (target_lengths 0 parts.targets);
   }
     where
       switch_lengths : (switches : List PartSwitch) → map length (map (λ (s : PartSwitch). s.name) switches) ≡ map (λ (row : SwitchRow). row.length) (map switch_row switches)
@@ -251,6 +476,14 @@ module _ (parts : Parts) (are : AreParts parts) (tables : FitTables parts) (sizi
       function_lengths : (attributed : List PartFunction) → map length (map (λ (a : PartFunction). a.name) attributed) ≡ map (λ (row : FunctionRow). row.length) (map (function_row entry) attributed)
       function_lengths [] = refl
       function_lengths (a ∷ rest) = ap (λ ls. length a.name ∷ ls) (function_lengths rest)
+
+      pointer_lengths : (qs : List PartPointer) → map length (map (λ (q : PartPointer). q.name) qs) ≡ map (λ (row : PointerRow). row.length) (map pointer_row qs)
+      pointer_lengths [] = refl
+      pointer_lengths (q ∷ rest) = ap (λ ls. length q.name ∷ ls) (pointer_lengths rest)
+
+      target_lengths : (n : ℕ) (names : List (List ℕ)) → map length names ≡ map (λ (row : TargetRow). row.length) (target_rows entry n names)
+      target_lengths n [] = refl
+      target_lengths n (name ∷ rest) = ap (λ ls. length name ∷ ls) (target_lengths (suc n) rest)
 
   -- ---- the whole
 
@@ -267,11 +500,11 @@ module _ (parts : Parts) (are : AreParts parts) (tables : FitTables parts) (sizi
           functions = omega (arith, tables.few_functions, length-map parts.attributed (function_row entry));
           variants = omega (arith, few.variants, tables.few_functions, variant_row_count entry (length parts.functions) (function_variants parts.attributed));
           guards = omega (arith, few.guards, tables.few_functions);
-          sites = omega (arith, few_sites, site_length at numbers lines 0, slots_of_codes parts);
-          pointers = omega arith;
-          points = omega arith;
-          places = omega (arith, few_sites, site_length at numbers lines 0, slots_of_codes parts);
-          targets = omega arith;
+          sites = omega (arith, few_sites, site_length at numbers lines 0, point_length at pointers lines 0, slots_of_codes parts);
+          pointers = omega (arith, tables.few_pointers, length-map parts.pointers pointer_row);
+          points = omega (arith, few_sites, site_length at numbers lines 0, point_length at pointers lines 0, slots_of_codes parts);
+          places = omega (arith, few_sites, site_length at numbers lines 0, point_length at pointers lines 0, slots_of_codes parts);
+          targets = omega (arith, tables.few_targets, target_count entry 0 parts.targets);
           entry = record { aligned = refl; not_before = omega arith; within = omega (arith, some_words) };
         }
       where
@@ -286,18 +519,18 @@ module _ (parts : Parts) (are : AreParts parts) (tables : FitTables parts) (sizi
 
     pub tables_fit : FitsFormat image
     tables_fit = record {
-      version = record { known = inr refl; first = λ e. record { pointers = refl; points = refl; targets = refl; check = refl } };
+      version = record { known = inr refl; first = λ e. absurd (let other : true ≡ false = e in cc) };
       limits = within;
-      check = record { none = λ none. refl; check = λ some. absurd (omega (arith, some)); depth = λ some. absurd (omega (arith, some)) };
+      check = has_check;
       fit = record {
         switches = All-map (FitsSwitch image) switch_row parts.switches (λ k d l. switch_fits image (length parts.globals) (omega (arith, length-map parts.globals (datum_word entry))) _ (tables.switches k d l));
         functions = function_rows_fit;
         variants = variant_rows_fit;
         guards = belongs.guards;
         sites = site_rows_fit;
-        pointers = λ k d lt. absurd (omega (arith, lt));
-        points = λ k d lt. absurd (omega (arith, lt));
-        targets = λ k d lt. absurd (omega (arith, lt));
+        pointers = pointer_rows_fit;
+        points = point_rows_fit;
+        targets = target_rows_fit;
       };
       unused = record {
         switches = All-map SwitchClean switch_row parts.switches (λ k d l. padded_zeros 16 (get_or parts.switches k d).values);
@@ -309,10 +542,10 @@ module _ (parts : Parts) (are : AreParts parts) (tables : FitTables parts) (sizi
         entries = entries_ascend;
         sites = sites_ascend;
         outside = entries_outside;
-        points = λ k d lt. absurd (omega (arith, lt));
-        outside_points = λ f k d e hf hk. absurd (omega (arith, hk));
-        beside_points = λ j k d e hj hk. absurd (omega (arith, hk));
-        targets = λ k d lt. absurd (omega (arith, lt));
+        points = points_ascend;
+        outside_points = entries_outside_points;
+        beside_points = sites_beside_points;
+        targets = targets_ascend;
       };
       names = named;
     }

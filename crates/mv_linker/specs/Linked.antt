@@ -1,14 +1,14 @@
 -- What the linker joins: the stubs, and behind them the functions and their variants.
-use Rattle.std.specs.Prelude.{ℕ, ◌+◌, ◌*◌, ◌<◌, ◌≤◌, ◌≡◌, ◌⊎◌, pos, negsuc, nat_lt, if◌then◌else◌, List, [], ◌∷◌, ◌++◌, length, take, map, slice_index, All, sum_by}
+use Rattle.std.specs.Prelude.{ℕ, ◌+◌, ◌*◌, ◌<◌, ◌≤◌, ◌≡◌, ◌⊎◌, pos, negsuc, Bool, true, nat_lt, if◌then◌else◌, List, [], ◌∷◌, ◌++◌, length, take, map, slice_index, All, sum_by}
 use Rattle.std.specs.List.{flat_map}
 use Rattle.mv_num.specs.Regions.{plan_upper}
-use Rattle.mv_bindings.specs.Traps.{depth_limit}
+use Rattle.mv_bindings.specs.Traps.{depth_limit, null_call, call_too_deep}
 use Rattle.mv_isa.specs.declared.instr.Instr.{Instr}
-use Rattle.mv_isa.specs.declared.instr.Instr.TheVariants.{Lui, Jal, Jalr, Beq, Lw, Sw, Addi, FenceI, Ecall}
+use Rattle.mv_isa.specs.declared.instr.Instr.TheVariants.{Lui, Jal, Jalr, Beq, Bne, Lw, Sw, Addi, FenceI, Ecall}
 use Rattle.mv_isa.specs.declared.labelled.Labelled.{Labelled}
 use Rattle.mv_isa.specs.declared.labelled.Line.{Line}
-use Rattle.mv_isa.specs.declared.labelled.Line.TheVariants.{Word, Label, Jump, Branch, Entry, Slot}
-pub use Rattle.mv_isa.specs.Labels.{trap_label, commit_label}
+use Rattle.mv_isa.specs.declared.labelled.Line.TheVariants.{Word, Label, Jump, Branch, Entry, Slot, Point}
+pub use Rattle.mv_isa.specs.Labels.{trap_label, check_label, commit_label}
 use Rattle.mv_isa.specs.Requests as request
 use Rattle.mv_isa.specs.Code.{StandsOnce, LineFits}
 use Rattle.mv_isa.specs.Registers.{x0, ra, sp, t0, t1, t2, a0, a7, s11, t3}
@@ -47,6 +47,7 @@ relabelled first count (Jump rd l) = Jump rd (own first count l)
 relabelled first count (Branch funct3 rs1 rs2 l) = Branch funct3 rs1 rs2 (own first count l)
 relabelled first count (Entry rd f) = Entry rd f
 relabelled first count (Slot f) = Slot f
+relabelled first count (Point a) = Point a
 
 -- ---- lines
 
@@ -80,9 +81,27 @@ commit_instrs =
 abbrev pub commit_lines : List Line
 commit_lines = Label commit_label ∷ map Word commit_instrs
 
--- the start, the stubs of the traps 1 to 4, and the stub of commits
-abbrev pub stub_lines : (main : ℕ) → List Line
-stub_lines main = start_lines main ++ (trap_lines 1 ++ (trap_lines 2 ++ (trap_lines 3 ++ (trap_lines 4 ++ commit_lines))))
+-- a trap, unless a register holds another word than 0
+abbrev pub unless_lines : (register code : ℕ) → List Line
+unless_lines register code = Word (Bne register x0 (pos 8)) ∷ Jump x0 (trap_label code) ∷ []
+
+-- The stub of calls through pointer switches. t0 has the pointer, and t1 the way back. Null is a trap, and so is a call too many; else the call is counted.
+-- A call that is bound comes in behind the first two words, and so isn't tested for null.
+abbrev pub check_lines : List Line
+check_lines =
+    Label check_label ∷ (unless_lines t0 null_call ++ (unless_lines s11 call_too_deep ++ (Word (Addi s11 s11 (negsuc 0)) ∷ Word (Jalr x0 t1 (pos 0)) ∷ [])))
+
+-- the stub where there are pointer switches
+abbrev pub check_lines_where : (checks : Bool) → List Line
+check_lines_where checks = if checks then check_lines else []
+
+-- the start, the stubs of the traps 1 to 4, the stub of commits, and that of calls through pointer switches where there are any
+abbrev pub stub_lines : (main : ℕ) (checks : Bool) → List Line
+stub_lines main checks = start_lines main ++ (trap_lines 1 ++ (trap_lines 2 ++ (trap_lines 3 ++ (trap_lines 4 ++ (commit_lines ++ check_lines_where checks)))))
+
+-- whether parts have pointer switches
+abbrev pub has_pointers : Parts → Bool
+has_pointers parts = nat_lt 0 (length parts.pointers)
 
 -- the code of a function behind the label of its entry, with its own labels counted from a first one on
 abbrev pub function_part : (f first : ℕ) → Labelled → List Line
@@ -95,7 +114,7 @@ function_parts f first (code ∷ rest) = function_part f first code ++ function_
 
 -- the stubs, and all codes behind them
 abbrev pub linked_lines : Parts → List Line
-linked_lines parts = stub_lines parts.main ++ function_parts 0 (length (codes parts)) (codes parts)
+linked_lines parts = stub_lines parts.main (has_pointers parts) ++ function_parts 0 (length (codes parts)) (codes parts)
 
 -- ---- places
 
@@ -112,8 +131,8 @@ abbrev pub line_count : List Labelled → ℕ
 line_count functions = sum_by (λ (code : Labelled). 1 + length code.items) functions
 
 -- how many lines the stubs have
-abbrev pub stub_count : ℕ
-stub_count = length (stub_lines 0)
+abbrev pub stub_count : (checks : Bool) → ℕ
+stub_count checks = length (stub_lines 0 checks)
 
 -- the index at which the stub of a trap begins, and that of commits, which stands where the stub of one trap more would
 abbrev pub trap_index : (c : ℕ) → ℕ
@@ -122,9 +141,13 @@ trap_index c = 4 * c + 1
 abbrev pub commit_index : ℕ
 commit_index = trap_index 5
 
+-- that of calls through pointer switches, behind the stub of commits
+abbrev pub check_index : ℕ
+check_index = commit_index + length commit_lines
+
 -- the index at which a function's part begins, behind the stubs
-abbrev pub part_index : List Labelled → (f : ℕ) → ℕ
-part_index functions f = stub_count + line_count (take f functions)
+abbrev pub part_index : (checks : Bool) → List Labelled → (f : ℕ) → ℕ
+part_index checks functions f = stub_count checks + line_count (take f functions)
 
 -- ---- parts
 
@@ -140,19 +163,20 @@ IsOwnLabel code l = (l < code.labels) × StandsOnce code.items l
 abbrev pub IsTarget : Labelled → ℕ → Type 0
 IsTarget code l = IsOwnLabel code l ⊎ IsStubLabel l
 
--- a label of a function's code is an own one, and what its lines name is there, among so many functions
-abbrev pub NamesAreThere : (functions : ℕ) → Labelled → Line → Type 0
-NamesAreThere functions code (Word instr) = Unit {0}
-NamesAreThere functions code (Label l) = l < code.labels
-NamesAreThere functions code (Jump rd l) = IsTarget code l
-NamesAreThere functions code (Branch funct3 rs1 rs2 l) = IsTarget code l
-NamesAreThere functions code (Entry rd f) = f < functions
-NamesAreThere functions code (Slot f) = f < functions
+-- a label of a function's code is an own one, and what its lines name is there, among so many functions; a call through a pointer switch wants its stub
+abbrev pub NamesAreThere : (functions : ℕ) (checks : Bool) → Labelled → Line → Type 0
+NamesAreThere functions checks code (Word instr) = Unit {0}
+NamesAreThere functions checks code (Label l) = l < code.labels
+NamesAreThere functions checks code (Jump rd l) = IsTarget code l
+NamesAreThere functions checks code (Branch funct3 rs1 rs2 l) = IsTarget code l
+NamesAreThere functions checks code (Entry rd f) = f < functions
+NamesAreThere functions checks code (Slot f) = f < functions
+NamesAreThere functions checks code (Point a) = checks ≡ true
 
 -- the code of one of so many functions
-pub record IsFunction (functions : ℕ) (code : Labelled) : Type 0 where
+pub record IsFunction (functions : ℕ) (checks : Bool) (code : Labelled) : Type 0 where
   pub fields : All LineFits code.items
-  pub names : All (NamesAreThere functions code) code.items
+  pub names : All (NamesAreThere functions checks code) code.items
 
 -- a function that data names is one of so many
 abbrev pub IsDatum : (functions : ℕ) → Datum → Type 0
@@ -162,7 +186,7 @@ IsDatum functions (Function f) = f < functions
 -- what can be linked: what is named is there, and there are numbers for all labels below those of the stubs
 pub record AreParts (parts : Parts) : Type 0 where
   pub main : parts.main < length parts.functions
-  pub functions : All (IsFunction (length parts.functions)) (codes parts)
+  pub functions : All (IsFunction (length parts.functions) (has_pointers parts)) (codes parts)
   pub globals : All (IsDatum (length parts.functions)) parts.globals
   pub labels : length (codes parts) + label_count (codes parts) < trap_label 1
 
@@ -170,4 +194,4 @@ pub record AreParts (parts : Parts) : Type 0 where
 pub record IsJoined (parts : Parts) (joined : Joined) : Type 0 where
   pub lines : joined.code.items ≡ linked_lines parts
   pub one_each : length joined.entries ≡ length (codes parts)
-  pub each : (f : ℕ) → f < length (codes parts) → slice_index joined.entries f ≡ part_index (codes parts) f
+  pub each : (f : ℕ) → f < length (codes parts) → slice_index joined.entries f ≡ part_index (has_pointers parts) (codes parts) f

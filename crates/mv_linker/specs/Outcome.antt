@@ -1,5 +1,5 @@
 -- The image of parts, and why there is none.
-use Rattle.std.specs.Prelude.{ℕ, ◌<◌, ◌≤◌, ◌≡◌, List, [], ◌++◌, length, map}
+use Rattle.std.specs.Prelude.{ℕ, ◌<◌, ◌≤◌, ◌≡◌, List, ◌++◌, length, map, nat_lt, if◌then◌else◌}
 pub use Rattle.mv_num.specs.Limits.{site_limit}
 pub use Rattle.mv_num.specs.Regions.{data_limit}
 use Rattle.mv_isa.specs.Code.{IsLeast, address, label_address, text_start}
@@ -8,12 +8,13 @@ use Rattle.mv_image.specs.Spelling.{Fields}
 use Rattle.mv_linker.specs.declared.parts.Parts.{Parts}
 use Rattle.mv_linker.specs.declared.parts.PartSwitch.{PartSwitch}
 use Rattle.mv_linker.specs.declared.parts.PartFunction.{PartFunction}
+use Rattle.mv_linker.specs.declared.parts.PartPointer.{PartPointer}
 use Rattle.mv_linker.specs.declared.parts.Datum.{Datum}
 use Rattle.mv_linker.specs.declared.parts.Datum.TheVariants.{Number, Function}
 use Rattle.mv_linker.specs.declared.error.LinkError.{LinkError}
 use Rattle.mv_linker.specs.declared.error.LinkError.TheVariants.{Sites, DataLimit, TextLimit, Memory}
-use Rattle.mv_linker.specs.Linked.{function_variants, linked_lines}
-use Rattle.mv_linker.specs.Tables.{switch_row, function_row, variant_rows, guards_of, sites_from, attributed_numbers, site_count}
+use Rattle.mv_linker.specs.Linked.{function_variants, linked_lines, check_label}
+use Rattle.mv_linker.specs.Tables.{switch_row, function_row, variant_rows, guards_of, sites_from, points_from, target_rows, pointer_row, pointer_addresses, attributed_numbers, point_count, site_count}
 
 -- a word of data, given the address of each function
 abbrev pub datum_word : (ℕ → ℕ) → Datum → ℕ
@@ -32,11 +33,12 @@ image_with address at text parts = record {
   variants = variant_rows address (length parts.functions) (function_variants parts.attributed);
   guards = guards_of (function_variants parts.attributed);
   sites = sites_from at (attributed_numbers parts.attributed) 0 (linked_lines parts);
-  pointers = [];
-  points = [];
-  targets = [];
-  check = 0;
-  names = map (λ (s : PartSwitch). s.name) parts.switches ++ map (λ (a : PartFunction). a.name) parts.attributed;
+  pointers = map pointer_row parts.pointers;
+  points = points_from at (pointer_addresses parts.pointers) 0 (linked_lines parts);
+  targets = target_rows address 0 parts.targets;
+  check = if nat_lt 0 (point_count (linked_lines parts)) then address check_label else 0;
+  names = map (λ (s : PartSwitch). s.name) parts.switches ++ map (λ (a : PartFunction). a.name) parts.attributed
+      ++ map (λ (q : PartPointer). q.name) parts.pointers ++ parts.targets;
 }
 
 -- ---- limits

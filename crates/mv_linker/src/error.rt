@@ -4,7 +4,7 @@ use thiserror::Error;
 /// Why parts have no image.
 #[derive(Debug, Drop, Error)]
 pub enum LinkError {
-    /// There are more than 16,384 slots in all code: how many.
+    /// There are more than 16,384 slots in all code, one of four words counted twice: how many.
     #[error("the code has {0} sites, more than 16384")]
     Sites(u64),
     /// There are more than 262,144 words of data: how many.

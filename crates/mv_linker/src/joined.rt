@@ -1,12 +1,12 @@
 ghost use Rattle.std.specs.Prelude.{◌≡◌, ◌+◌, ◌<◌, ◌≤◌, [], ◌∷◌, ◌++◌, length, map, IfOk, OnOk};
-ghost use Rattle.mv_linker.specs.Linked.{codes, function_variants, variant_codes, own, relabelled, trap_label, start_lines, trap_lines, commit_lines, stub_lines, function_part, label_count, AreParts, IsJoined};
+ghost use Rattle.mv_linker.specs.Linked.{codes, function_variants, variant_codes, own, relabelled, trap_label, start_lines, trap_lines, commit_lines, unless_lines, check_lines, stub_lines, function_part, label_count, AreParts, IsJoined};
 ghost use Rattle.mv_linker.specs.Joining.{with_code, with_codes};
 
 use crate::parts::{PartFunction, PartVariant, Parts};
-use mv_bindings::traps::DEPTH_LIMIT;
+use mv_bindings::traps::{CALL_TOO_DEEP, DEPTH_LIMIT, NULL_CALL};
 use mv_isa::Instr;
 use mv_isa::labelled::{Labelled, Line};
-use mv_isa::labels::{COMMIT, TRAPS};
+use mv_isa::labels::{CHECK, COMMIT, TRAPS};
 use mv_isa::requests::{EXIT, TRAP};
 use mv_num::list::List;
 use mv_num::regions::PLAN_UPPER;
@@ -21,6 +21,10 @@ const A0: u8 = 10;
 const A7: u8 = 17;
 /// s11 has how many calls are left.
 const LEFT: u8 = 27;
+/// t0 and t1: the pointer that a call goes through, and the way back from its test.
+const POINTER: u8 = 5;
+
+const BACK: u8 = 6;
 /// t0, t1, t2 and t3: where in the plan the stub of commits is, how many pairs are left, and the address and the word of one.
 const AT: u8 = 5;
 
@@ -46,7 +50,7 @@ pub fn join_parts(alloc: Global, parts: &Parts) -> Result<Joined, AllocError>
     ensures { IfOk result (IsJoined parts.now) }
 {
     let mut items = List::new(alloc);
-    push_stubs(&mut items, parts.main)?;
+    push_stubs(&mut items, parts.main, parts.pointers.len() > 0)?;
     let mut joined = Joined {
         code: Labelled {
             items,
@@ -117,15 +121,19 @@ fn push_code(joined: &mut Joined, code: &Labelled) -> Result<(), AllocError>
     Ok(())
 }
 
-fn push_stubs(items: &mut List<Line>, main: u32) -> Result<(), AllocError>
-    ensures { OnOk result (items.new ≡ items.old ++ stub_lines main) }
+fn push_stubs(items: &mut List<Line>, main: u32, checks: bool) -> Result<(), AllocError>
+    ensures { OnOk result (items.new ≡ items.old ++ stub_lines main checks) }
 {
     push_start(items, main)?;
     push_trap(items, 1)?;
     push_trap(items, 2)?;
     push_trap(items, 3)?;
     push_trap(items, 4)?;
-    push_commit(items)
+    push_commit(items)?;
+    if checks {
+        push_check(items)?;
+    }
+    Ok(())
 }
 
 /// The stub at which a run begins: the stack is empty, and all calls are left. s10, which counts live attributed
@@ -164,6 +172,41 @@ fn push_commit(items: &mut List<Line>) -> Result<(), AllocError>
 {
     items.push(Line::Label(COMMIT))?;
     push_instrs(items, &COMMIT_STUB)
+}
+
+/// The stub of calls through pointer switches: who calls it has the pointer in t0 and the way back in t1. Null is a trap, and so is
+/// a call too many; else the call is counted. Behind the first two words a call that has its target by itself comes in.
+fn push_check(items: &mut List<Line>) -> Result<(), AllocError>
+    ensures { OnOk result (items.new ≡ items.old ++ check_lines) }
+{
+    items.push(Line::Label(CHECK))?;
+    push_unless(items, POINTER, NULL_CALL)?;
+    push_unless(items, LEFT, CALL_TOO_DEEP)?;
+    items.push(Line::Word(Instr::Addi {
+        rd: LEFT,
+        rs1: LEFT,
+        imm: -1,
+    }))?;
+    items.push(Line::Word(Instr::Jalr {
+        rd: 0,
+        rs1: BACK,
+        imm: 0,
+    }))?;
+    Ok(())
+}
+
+/// A trap, unless a register holds another word than 0.
+fn push_unless(items: &mut List<Line>, register: u8, code: u8) -> Result<(), AllocError>
+    requires { code ≤ 4 }
+    ensures { OnOk result (items.new ≡ items.old ++ unless_lines register code) }
+{
+    items.push(Line::Word(Instr::Bne {
+        rs1: register,
+        rs2: 0,
+        imm: 8,
+    }))?;
+    items.push(Line::Jump(0, TRAPS + u32::from(code)))?;
+    Ok(())
 }
 
 /// A loop over the pairs, with a branch past its end and a jump back to that.
@@ -261,7 +304,7 @@ fn relabelled(first: u32, count: u32, line: Line) -> Line
         Line::Branch(funct3, rs1, rs2, label) => {
             Line::Branch(funct3, rs1, rs2, own(first, count, label))
         }
-        Line::Word(_) | Line::Entry(_, _) | Line::Slot(_) => line,
+        Line::Word(_) | Line::Entry(_, _) | Line::Slot(_) | Line::Point(_) => line,
     }
 }
 

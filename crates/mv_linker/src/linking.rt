@@ -1,4 +1,4 @@
-ghost use Rattle.std.specs.Prelude.{◌≡◌, ◌<◌, IfOk, MatchResult, All, length, map, slice_index};
+ghost use Rattle.std.specs.Prelude.{◌≡◌, ◌<◌, IfOk, MatchResult, All, length, map, slice_index, nat_lt, if◌then◌else◌};
 ghost use Rattle.mv_asm.specs.Outcome.{ArePlaced};
 ghost use Rattle.mv_isa.specs.Code.{text_start};
 ghost use Rattle.mv_linker.specs.Linked.{AreParts, IsDatum, IsJoined};
@@ -8,10 +8,13 @@ ghost use Rattle.mv_linker.specs.Outcome.{datum_word, HasFewSites, WithinLimit, 
 use crate::error::LinkError;
 use crate::joined::{Joined, join_parts};
 use crate::parts::{Datum, Parts};
-use crate::rows::{function_rows, guard_rows, names, switch_rows, variant_rows};
-use crate::sites::{site_rows, slot_count};
+use crate::rows::{
+    function_rows, guard_rows, names, pointer_rows, switch_rows, target_rows, variant_rows,
+};
+use crate::sites::{point_rows, site_rows, site_weight};
 use mv_asm::error::AsmError;
 use mv_asm::{Placed, place};
+use mv_descriptors::PointRow;
 use mv_image::Image;
 use mv_image::facts::format_law;
 use mv_num::limits::SITE_LIMIT;
@@ -19,18 +22,21 @@ use mv_num::list::List;
 use mv_num::regions::{DATA_LIMIT, TEXT_START};
 use std::alloc::{AllocError, Global};
 
+/// Which item of the joined code the stub of calls through pointer switches begins with, where there is one.
+const CHECK_ITEM: usize = 34;
+
 /// The image of parts. A run of it begins at a stub that calls `main`, with an empty stack and all calls left, and exits
 /// with its result. Its tables say what a commit may patch: the entries of the attributed functions, and as sites all slots.
 ///
-/// `Sites` comes exactly where there are more than 16,384 slots, else `DataLimit` exactly where there are more than 262,144 words
-/// of data, and else `TextLimit` exactly where the words of text, with as many short branches as can be, pass its end.
+/// `Sites` comes exactly where there are more than 16,384 slots, one of four words counted twice, else `DataLimit` exactly where there are more than 262,144
+/// words of data, and else `TextLimit` exactly where the words of text, with as many short branches as can be, pass its end.
 pub fn link(alloc: Global, parts: &Parts) -> Result<Image, LinkError>
     requires parts { AreParts parts.now }
     requires tables { FitTables parts.now }
     ensures { MatchResult result (IsLinked parts.now) (IsRefusal parts.now) }
 {
     let joined = join_parts(alloc, parts).map_err(LinkError::Memory)?;
-    let sites = slot_count(joined.code.items.as_slice());
+    let sites = site_weight(joined.code.items.as_slice());
     if sites > SITE_LIMIT {
         return Err(LinkError::Sites(sites as u64));
     }
@@ -84,7 +90,12 @@ fn tabled(
     let variants = variant_rows(alloc, attributed, starts, parts.functions.len())?;
     let guards = guard_rows(alloc, attributed)?;
     let sites = site_rows(alloc, attributed, joined.code.items.as_slice(), addresses)?;
-    let names = names(alloc, parts.switches.as_slice(), attributed)?;
+    let pointers = parts.pointers.as_slice();
+    let points = point_rows(alloc, pointers, joined.code.items.as_slice(), addresses)?;
+    let pointers = pointer_rows(alloc, pointers)?;
+    let targets = target_rows(alloc, parts.targets.as_slice(), starts)?;
+    let check = check_at(&points, addresses);
+    let names = names(alloc, parts)?;
     Ok(Image::of_parts(
         2,
         TEXT_START,
@@ -95,12 +106,24 @@ fn tabled(
         variants,
         guards,
         sites,
-        List::new(alloc),
-        List::new(alloc),
-        List::new(alloc),
-        0,
+        pointers,
+        points,
+        targets,
+        check,
         names,
     ))
+}
+
+/// The address of the stub of calls through pointer switches, given that of each item; and 0 where there is no such call.
+fn check_at(points: &List<PointRow>, addresses: &[u32]) -> u32
+    requires { 0 < length points.now → CHECK_ITEM < length addresses.now }
+    ensures { result ≡ (if nat_lt 0 (length points.now) then slice_index addresses.now CHECK_ITEM else 0) }
+{
+    if points.len() == 0 {
+        0
+    } else {
+        addresses[CHECK_ITEM]
+    }
 }
 
 /// The address at which each code begins, given at which item, and the address of each item.

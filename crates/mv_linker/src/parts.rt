@@ -50,6 +50,15 @@ pub struct PartFunction {
     pub variants: List<PartVariant>,
 }
 
+/// A pointer switch.
+#[derive(Drop)]
+pub struct PartPointer {
+    /// Its name in the source.
+    pub name: Text,
+    /// The index of its word in data.
+    pub word: u32,
+}
+
 /// What is linked: the functions of a program, counted from 0, its data, and what of it may be patched.
 ///
 /// In the code of a function or variant, entries and slots name functions. Jumps and branches name own labels of the code, each
@@ -68,4 +77,8 @@ pub struct Parts {
     pub switches: List<PartSwitch>,
     /// The attributed functions, their numbers ascending.
     pub attributed: List<PartFunction>,
+    /// The pointer switches, in order of declaration.
+    pub pointers: List<PartPointer>,
+    /// The names of all functions where there is a pointer switch, and else none.
+    pub targets: List<Text>,
 }

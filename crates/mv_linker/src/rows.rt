@@ -2,12 +2,13 @@
 
 ghost use Rattle.std.specs.Prelude.{◌≡◌, ◌+◌, ◌≤◌, ◌<◌, ◌^◌, ◌++◌, All, IfOk, OnOk, length, map, slice_index};
 ghost use Rattle.mv_linker.specs.Linked.{function_variants};
-ghost use Rattle.mv_linker.specs.Tables.{padded, switch_row, function_row, variant_row, variant_rows, guards_of, FitsSwitchRow, FitsFunctionRow, HasFewGuards};
+ghost use Rattle.mv_linker.specs.Tables.{padded, switch_row, function_row, variant_row, variant_rows, pointer_row, target_rows, guards_of, FitsSwitchRow, FitsPointerRow, FitsFunctionRow, HasFewGuards};
 ghost use Rattle.mv_linker.specs.declared.parts.PartSwitch.{PartSwitch};
 ghost use Rattle.mv_linker.specs.declared.parts.PartFunction.{PartFunction};
+ghost use Rattle.mv_linker.specs.declared.parts.PartPointer.{PartPointer};
 
-use crate::parts::{PartFunction, PartSwitch, PartVariant};
-use mv_descriptors::{FunctionRow, GuardRow, SwitchRow, VariantRow};
+use crate::parts::{PartFunction, PartPointer, PartSwitch, PartVariant, Parts};
+use mv_descriptors::{FunctionRow, GuardRow, PointerRow, SwitchRow, TargetRow, VariantRow};
 use mv_num::list::List;
 use mv_num::regions::DATA_START;
 use mv_num::text::Text;
@@ -165,20 +166,76 @@ fn push_guard_rows(
     Ok(())
 }
 
-/// The names of the switches and then of the attributed functions.
-pub fn names(
+/// The rows of pointer switches.
+pub fn pointer_rows(alloc: Global, pointers: &[PartPointer]) -> Result<List<PointerRow>, AllocError>
+    requires { All FitsPointerRow pointers.now }
+    ensures { IfOk result (λ rows. rows ≡ map pointer_row pointers.now) }
+{
+    let mut rows = List::new(alloc);
+    for pointer in pointers {
+        rows.push(PointerRow {
+            length: pointer.name.bytes().len() as u32,
+            address: DATA_START + 4 * pointer.word,
+        })?;
+    }
+    Ok(rows)
+}
+
+/// The rows of targets, given the address at which each code begins.
+pub fn target_rows(
     alloc: Global,
-    switches: &[PartSwitch],
-    attributed: &[PartFunction],
-) -> Result<List<Text>, AllocError>
-    ensures { IfOk result (λ names. names ≡ map (λ (s : PartSwitch). s.name) switches.now ++ map (λ (a : PartFunction). a.name) attributed.now) }
+    targets: &[Text],
+    starts: &[u32],
+) -> Result<List<TargetRow>, AllocError>
+    requires names { All (λ name. length name < 2 ^ 32) targets.now }
+    requires starts { length targets.now ≤ length starts.now }
+    ensures { IfOk result (λ rows. rows ≡ target_rows (slice_index starts.now) 0 targets.now) }
+{
+    let mut rows = List::new(alloc);
+    for (number, name) in targets.iter().enumerate() {
+        rows.push(TargetRow {
+            length: name.bytes().len() as u32,
+            entry: starts[number],
+        })?;
+    }
+    Ok(rows)
+}
+
+/// The names of the switches, of the attributed functions, of the pointer switches and then of the targets.
+pub fn names(alloc: Global, parts: &Parts) -> Result<List<Text>, AllocError>
+    ensures { IfOk result (λ names. names ≡ map (λ (s : PartSwitch). s.name) parts.now.switches ++ map (λ (a : PartFunction). a.name) parts.now.attributed
+        ++ map (λ (q : PartPointer). q.name) parts.now.pointers ++ parts.now.targets) }
 {
     let mut names = List::new(alloc);
-    for switch in switches {
+    for switch in parts.switches.as_slice() {
         names.push(Text::new(alloc, switch.name.bytes())?)?;
     }
-    push_function_names(alloc, &mut names, attributed)?;
+    push_function_names(alloc, &mut names, parts.attributed.as_slice())?;
+    push_pointer_names(alloc, &mut names, parts.pointers.as_slice())?;
+    push_names(alloc, &mut names, parts.targets.as_slice())?;
     Ok(names)
+}
+
+fn push_pointer_names(
+    alloc: Global,
+    names: &mut List<Text>,
+    pointers: &[PartPointer],
+) -> Result<(), AllocError>
+    ensures { OnOk result (names.new ≡ names.old ++ map (λ (q : PartPointer). q.name) pointers.now) }
+{
+    for pointer in pointers {
+        names.push(Text::new(alloc, pointer.name.bytes())?)?;
+    }
+    Ok(())
+}
+
+fn push_names(alloc: Global, names: &mut List<Text>, more: &[Text]) -> Result<(), AllocError>
+    ensures { OnOk result (names.new ≡ names.old ++ more.now) }
+{
+    for name in more {
+        names.push(Text::new(alloc, name.bytes())?)?;
+    }
+    Ok(())
 }
 
 fn push_function_names(

@@ -1,12 +1,13 @@
 //! The sites of joined code.
 
-ghost use Rattle.std.specs.Prelude.{◌≡◌, ◌<◌, ◌≤◌, ◌^◌, IfOk, length, slice_index};
-ghost use Rattle.mv_linker.specs.Tables.{attributed_numbers, is_slot, place_among, sites_from, slot_count};
+ghost use Rattle.std.specs.Prelude.{◌≡◌, ◌*◌, ◌<◌, ◌≤◌, ◌^◌, [], ◌∷◌, All, IfOk, length, slice_index};
+ghost use Rattle.mv_linker.specs.Tables.{attributed_numbers, pointer_addresses, place_among, sites_from, points_from, site_weight, FitsPointerRow};
 
-use crate::parts::PartFunction;
-use mv_descriptors::SiteRow;
+use crate::parts::{PartFunction, PartPointer};
+use mv_descriptors::{PointRow, SiteRow};
 use mv_isa::labelled::Line;
 use mv_num::list::List;
+use mv_num::regions::DATA_START;
 use std::alloc::{AllocError, Global};
 
 /// One site for each slot, given the address of each line.
@@ -45,21 +46,62 @@ fn place_among(attributed: &[PartFunction], function: u32) -> u32
     attributed.len() as u32
 }
 
-/// How many slots lines have.
-pub fn slot_count(lines: &[Line]) -> usize
-    ensures { result ≡ slot_count lines.now }
+/// One pointer site for each slot of four words, given the address of each line.
+pub fn point_rows(
+    alloc: Global,
+    pointers: &[PartPointer],
+    lines: &[Line],
+    addresses: &[u32],
+) -> Result<List<PointRow>, AllocError>
+    requires few { length pointers.now < 2 ^ 32 }
+    requires words { All FitsPointerRow pointers.now }
+    requires lines { length lines.now ≤ length addresses.now }
+    ensures { IfOk result (λ rows. rows ≡ points_from (slice_index addresses.now) (pointer_addresses pointers.now) 0 lines.now) }
+{
+    let mut rows = List::new(alloc);
+    for (index, line) in lines.iter().enumerate() {
+        if let Line::Point(pointer) = line {
+            rows.push(PointRow {
+                address: addresses[index],
+                pointer: pointer_among(pointers, *pointer),
+            })?;
+        }
+    }
+    Ok(rows)
+}
+
+/// The place of the pointer switch with an address.
+fn pointer_among(pointers: &[PartPointer], address: u32) -> u32
+    requires few { length pointers.now < 2 ^ 32 }
+    requires words { All FitsPointerRow pointers.now }
+    ensures { result ≡ place_among (pointer_addresses pointers.now) address }
+{
+    for (place, pointer) in pointers.iter().enumerate() {
+        if DATA_START + 4 * pointer.word == address {
+            return place as u32;
+        }
+    }
+    pointers.len() as u32
+}
+
+/// How many slots lines have, those of four words counted twice.
+pub fn site_weight(lines: &[Line]) -> usize
+    requires { 2 * length lines.now < 2 ^ 64 }
+    ensures { result ≡ site_weight lines.now }
 {
     let mut count = 0;
     for line in lines {
-        if is_slot(*line) {
-            count += 1;
-        }
+        count += weight_of(*line);
     }
     count
 }
 
-fn is_slot(line: Line) -> bool
-    ensures { result ≡ is_slot line }
+fn weight_of(line: Line) -> usize
+    ensures { result ≡ site_weight (line ∷ []) }
 {
-    matches!(line, Line::Slot(_))
+    match line {
+        Line::Slot(_) => 1,
+        Line::Point(_) => 2,
+        _ => 0,
+    }
 }

@@ -105,7 +105,11 @@ fn push_bindings(
 }
 
 /// Adds what a pointer switch is bound to.
-fn push_target(out: &mut Vec<u8>, image: &Image, binding: &Binding) -> Result<(), AllocError>
+pub(crate) fn push_target(
+    out: &mut Vec<u8>,
+    image: &Image,
+    binding: &Binding,
+) -> Result<(), AllocError>
     ensures { OnOk result (out.new.items ≡ out.old.items ++ pointed_text image.now binding.now) }
 {
     if binding.bound {

@@ -1,7 +1,7 @@
-//! What is printed of an image: its tables, what its functions are bound to, the words of its text that were changed, and the log of a run.
+//! What is printed of an image: its tables, what its functions and pointer switches are bound to, the words of its text that were changed, and the log of a run.
 //!
 //! - `listing`, `bindings`, `patched` and `events` give exactly the texts that `specs/Listing.antt`, `specs/Bindings.antt`, `specs/Changes.antt` and
-//!   `specs/Events.antt` say. They ask nothing of what is handed in: a function without a binding counts as free, and a
+//!   `specs/Events.antt` say. They ask nothing of what is handed in: a function or a pointer switch without a binding counts as free, and a
 //!   word that a machine doesn't hold as 0.
 //! - `patched` sets beside the image's text what loads give. `loads_give_the_text`: where the text of a memory consists of
 //!   words of 32 bits, that is the text.

@@ -5,4 +5,5 @@ pub mod Statements
 pub mod FromTypes
 pub mod FromFolds
 pub mod Lowered
+pub mod Pointers
 pub mod Renaming

@@ -1,4 +1,4 @@
--- Renamed code names the same functions, known functions and constants.
+-- Renamed code names the same functions, pointer switches, known functions and constants.
 use Rattle.std.proofs.Common.{◌≡◌, ℕ, List, [], ◌∷◌, ◌++◌, map, refl, sym, ap, ◌∙◌}
 use Rattle.mv_ast.specs.declared.program.Known.{Known}
 use Rattle.mv_ir.specs.declared.tree.Tree.{Tree}
@@ -17,10 +17,10 @@ use Rattle.mv_ir.proofs.Induction.{Each, TreeChildren, tree_ind, StmChildren, st
 use Rattle.mv_ir.proofs.Rolls.{trees_roll}
 use Rattle.mv_regalloc.specs.Rename.{renamed_tree, renamed_callee, renamed_layer, renamed_stm, renamed_code, renamed}
 use Rattle.mv_regalloc.proofs.RenamedTrees.{renamed_tree_roll, renamed_stm_roll}
-use Rattle.mv_select_code.specs.Control.Labels.{tree_functions, functions_of_all, callee_functions, named_layer, stm_functions, functions}
+use Rattle.mv_select_code.specs.Control.Labels.{tree_functions, functions_of_all, callee_functions, named_layer, stm_functions, functions, callee_pointers, pointers_layer, stm_pointers}
 use Rattle.mv_select.specs.Bodies.SelectedBodies.{tree_constants, constants_of_all, constants, knowns_layer, stm_knowns}
 use Rattle.mv_lower_names.specs.Laws.{NamesTheSame}
-use Rattle.mv_select_code.proofs.OfControl.TreeNames.{functions_roll, named_roll}
+use Rattle.mv_select_code.proofs.OfControl.TreeNames.{functions_roll, named_roll, pointers_roll}
 use Rattle.mv_select.proofs.OfBodies.NamedTrees.{constants_roll}
 use Rattle.mv_select.proofs.OfBodies.FineCode.{knowns_roll}
 use Rattle.mv_select.proofs.OfBodies.Common.{constants_append}
@@ -112,6 +112,28 @@ module _ (c : ℕ → ℕ) where
   functions_layer_same (stm.Known r k args) h = all_functions_same args
   functions_layer_same (stm.Return v) h = functions_same v
 
+  callee_pointers_same : (f : Callee) → callee_pointers (renamed_callee c f) ≡ callee_pointers f
+  callee_pointers_same (callee.Direct f) = refl
+  callee_pointers_same (callee.Through t) = refl
+  callee_pointers_same (callee.Switched g) = refl
+
+  pointers_layer_same : (x : Stm-F Stm) → StmChildren (Same stm_pointers) x → pointers_layer (map-Stm Stm (List ℕ) stm_pointers (again x)) ≡ pointers_layer (map-Stm Stm (List ℕ) stm_pointers x)
+  pointers_layer_same (stm.Set t v) h = refl
+  pointers_layer_same (stm.SetGlobal g v) h = refl
+  pointers_layer_same (stm.Divide t o a b) h = refl
+  pointers_layer_same (stm.Check a i) h = refl
+  pointers_layer_same (stm.Read t a i) h = refl
+  pointers_layer_same (stm.Write a i v) h = refl
+  pointers_layer_same (stm.Zero l) h = refl
+  pointers_layer_same (stm.If t a b) h = both_same stm_pointers a b h.0 h.1
+  pointers_layer_same (stm.Loop b) h = all_same stm_pointers b h
+  pointers_layer_same (stm.Block b) h = all_same stm_pointers b h
+  pointers_layer_same (stm.Break n) h = refl
+  pointers_layer_same (stm.Back n) h = refl
+  pointers_layer_same (stm.Call r f args) h = callee_pointers_same f
+  pointers_layer_same (stm.Known r k args) h = refl
+  pointers_layer_same (stm.Return v) h = refl
+
   knowns_layer_same : (x : Stm-F Stm) → StmChildren (Same stm_knowns) x → knowns_layer (map-Stm Stm (List Known) stm_knowns (again x)) ≡ knowns_layer (map-Stm Stm (List Known) stm_knowns x)
   knowns_layer_same (stm.Set t v) h = refl
   knowns_layer_same (stm.SetGlobal g v) h = refl
@@ -171,6 +193,9 @@ module _ (c : ℕ → ℕ) where
   functions_one : (s : Stm) → Same stm_functions s
   functions_one = stm_ind (Same stm_functions) (λ x h. ap stm_functions (renamed_stm_roll c x) ∙ named_roll (again x) ∙ functions_layer_same x h ∙ sym (named_roll x))
 
+  pointers_one : (s : Stm) → Same stm_pointers s
+  pointers_one = stm_ind (Same stm_pointers) (λ x h. ap stm_pointers (renamed_stm_roll c x) ∙ pointers_roll (again x) ∙ pointers_layer_same x h ∙ sym (pointers_roll x))
+
   knowns_one : (s : Stm) → Same stm_knowns s
   knowns_one = stm_ind (Same stm_knowns) (λ x h. ap stm_knowns (renamed_stm_roll c x) ∙ knowns_roll (again x) ∙ knowns_layer_same x h ∙ sym (knowns_roll x))
 
@@ -182,6 +207,7 @@ module _ (c : ℕ → ℕ) where
   pub names_kept : (temps : ℕ) (b : Body) → NamesTheSame b (renamed c temps b)
   names_kept temps b = record {
     functions = all_same stm_functions b.code (stms_ind (Same stm_functions) functions_one b.code);
+    pointers = all_same stm_pointers b.code (stms_ind (Same stm_pointers) pointers_one b.code);
     knowns = all_same stm_knowns b.code (stms_ind (Same stm_knowns) knowns_one b.code);
     constants = inner_constants b.code (stms_ind (Same stm_constants) constants_one b.code);
     rooms = refl;

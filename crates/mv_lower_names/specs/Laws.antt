@@ -2,9 +2,10 @@
 use Rattle.std.specs.Prelude.{◌≡◌, ℕ, ◌<◌, false, true, All, [], length, Some, slice_get}
 use Rattle.mv_ast.specs.declared.program.Program.{Program}
 use Rattle.mv_ast.specs.declared.program.Function.{Function}
+use Rattle.mv_ast.specs.Counts.{is_pointer}
 use Rattle.mv_ir.specs.declared.body.Body.{Body}
 use Rattle.mv_select.specs.Calls.Environment.{IsDirect}
-use Rattle.mv_select_code.specs.Control.Labels.{functions}
+use Rattle.mv_select_code.specs.Control.Labels.{functions, pointers}
 use Rattle.mv_lower_spec.specs.Shape.Law.{IsFunctionOf}
 use Rattle.mv_lower_names.specs.Sources.{NumbersAreWords}
 use Rattle.mv_source_forms.specs.Uses.{known_is_there}
@@ -16,6 +17,10 @@ use Rattle.mv_lower_spec.specs.Calls.Bindings.{NeverRebinds}
 -- The functions that lowered code calls by name, and those whose addresses it takes, are functions of the program.
 abbrev pub FunctionsAreThere : Type 0
 FunctionsAreThere = (p : Program) (f : ℕ) (g : Function) → IsFunctionOf p f g → All (λ k. k < length p.functions) (functions (lower_function p g).code)
+
+-- Those through which it calls are pointer switches.
+abbrev pub PointersAreThere : Type 0
+PointersAreThere = (p : Program) (f : ℕ) (g : Function) → IsFunctionOf p f g → All (λ k. is_pointer p k ≡ true) (pointers (lower_function p g).code)
 
 -- Its orders are for functions and switches that there are.
 abbrev pub OrdersAreThere : Type 0
@@ -34,9 +39,11 @@ NothingIsMarked =
 abbrev pub ConstantsAreWords : Type 0
 ConstantsAreWords = (p : Program) (f : ℕ) (g : Function) → IsFunctionOf p f g → NumbersAreWords p → HasWords (lower_function p g).code
 
--- Two bodies name the same functions, known functions and constants, and have the same rooms, marked functions and switches.
+-- Two bodies name the same functions, pointer switches that they call through, known functions and constants, and have the same rooms, marked functions and
+-- switches.
 pub record NamesTheSame (b result : Body) : Type 0 where
   pub functions : functions result.code ≡ functions b.code
+  pub pointers : pointers result.code ≡ pointers b.code
   pub knowns : knowns result.code ≡ knowns b.code
   pub constants : constants result.code ≡ constants b.code
   pub rooms : result.rooms ≡ b.rooms

@@ -24,7 +24,7 @@ use Rattle.mv_ast.specs.declared.program.Expr.{Expr, Expr-F, roll-Expr, fold-rol
 use Rattle.mv_ast.specs.declared.program.Form.{Form, Form-F, roll-Form, fold-roll-Form, map-Form}
 use Rattle.mv_ast.specs.declared.program.Form.TheOpen as form
 use Rattle.mv_ast.specs.declared.program.Target.{Target, Target-F, roll-Target, fold-roll-Target, map-Target}
-use Rattle.mv_ast.specs.Worlds.{World, after, and_then, bind, give, stop, counted}
+use Rattle.mv_ast.specs.Worlds.{World, after, bind, give, stop, counted}
 use Rattle.mv_bindings.specs.declared.stop.Stop.TheVariants.{Trapped}
 use Rattle.mv_meaning.specs.declared.state.Frame.{Frame}
 use Rattle.mv_meaning.specs.declared.state.Lvalue.{Lvalue}

@@ -20,6 +20,8 @@ pub mod Shallow
 pub mod Targets
 pub mod Functions
 pub mod SameCounts
+pub mod PointerCalls
+pub mod PointerStatements
 pub mod Rooms
 pub mod Intervals
 pub mod Bodies

@@ -1,5 +1,5 @@
 -- Words that the environment stores.
-use Rattle.std.proofs.Common.{◌≡◌, ℕ, ◌+◌, ◌<◌, ◌≤◌, Bool, true, false, cond, ltb, List, ◌∷◌, length, drop, get_or, option_map, unwrap_or, Result, Ok, Err, OnOk, OnErr, IfErr, refl, sym, ap, ap₂, ◌∙◌, arith}
+use Rattle.std.proofs.Common.{◌≡◌, ℕ, ◌+◌, ◌*◌, ◌<◌, ◌≤◌, Bool, true, false, cond, ltb, List, ◌∷◌, length, drop, get_or, option_map, unwrap_or, Result, Ok, Err, OnOk, OnErr, IfErr, refl, sym, ap, ap₂, ◌∙◌, arith}
 use Rattle.std.proofs.lemmas.Bool.{le-ltb}
 use Rattle.std.proofs.lemmas.List.{drop_more, drop_all}
 use Rattle.std.specs.Result.{result_ok}
@@ -76,6 +76,6 @@ unfolding stored_words
 plan_begins room pairs = refl
 
 -- there is room in the plan area for each plan of an image
-pub few_pairs : (image : Fields) (count : ℕ) → count ≤ patchable image → length image.functions ≤ 1000 → length image.sites ≤ 16384 → count ≤ 0x0001_0000
+pub few_pairs : (image : Fields) (count : ℕ) → count ≤ patchable image → length image.functions ≤ 1000 → length image.sites + 2 * length image.points ≤ 16384 → count ≤ 0x0001_0000
 unfolding patchable
-few_pairs image count le functions sites = omega (arith, le, functions, sites)
+few_pairs image count le functions places = omega (arith, le, functions, places)

@@ -9,9 +9,10 @@ use Rattle.mv_isa.specs.Execution.{Outcome, Goes, Calls, Faults, reg}
 use Rattle.mv_isa.specs.Registers.{a1, a7}
 use Rattle.mv_fetch.specs.Held.{Held, Room}
 use Rattle.mv_descriptors.specs.declared.rows.SiteRow.{SiteRow}
+use Rattle.mv_descriptors.specs.declared.rows.PointRow.{PointRow}
 use Rattle.mv_image.specs.Spelling.{Fields}
 use Rattle.mv_image.specs.Versions.{upgraded}
-use Rattle.mv_image.specs.Patched.{Bindings, word_by, word_under, words_under, text_of, entry_at, site_at, site_before, variant_under, fitting_variant}
+use Rattle.mv_image.specs.Patched.{Bindings, word_by, word_through, word_under, words_under, text_of, entry_at, site_at, site_before, point_at, target_under, variant_under, fitting_variant}
 use Rattle.mv_patch.specs.Pairs.{pairs_between}
 use Rattle.mv_patch.specs.declared.prepared.Pair.{Pair}
 use Rattle.mv_patch.specs.Tables.{patchable}
@@ -31,9 +32,14 @@ by_alike image bound a word None (Some site) before = refl
 by_alike image bound a word None None (Some site) = refl
 by_alike image bound a word None None None = refl
 
+through_alike : (image : Fields) (bound : Bindings) (a word : ℕ) (point : Option PointRow) → word_through (upgraded image) bound a word point ≡ word_through image bound a word point
+unfolding target_under entry_at site_at site_before
+through_alike image bound a word (Some point) = refl
+through_alike image bound a word None = by_alike image bound a word (entry_at image a) (site_at image a) (site_before image a)
+
 word_alike : (image : Fields) (bound : Bindings) (a word : ℕ) → word_under (upgraded image) bound a word ≡ word_under image bound a word
-unfolding word_under entry_at site_at site_before
-word_alike image bound a word = by_alike image bound a word (entry_at image a) (site_at image a) (site_before image a)
+unfolding word_under point_at
+word_alike image bound a word = through_alike image bound a word (point_at image a)
 
 words_alike : (image : Fields) (bound : Bindings) (a : ℕ) (words : List ℕ) → words_under (upgraded image) bound a words ≡ words_under image bound a words
 unfolding words_under

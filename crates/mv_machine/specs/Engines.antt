@@ -6,15 +6,16 @@ use Rattle.mv_bindings.specs.declared.binding.Event.{Event}
 use Rattle.mv_bindings.specs.Bindings.{is_same_binding}
 use Rattle.mv_bindings.specs.OrderNumbers as orders
 use Rattle.mv_image.specs.Spelling.{Fields}
+use Rattle.mv_patch.specs.Orders.{binding_count}
 use Rattle.mv_patch.specs.Tables.{patchable}
 use Rattle.mv_patch.specs.Plans.{Prepared}
 use Rattle.mv_patch.specs.declared.order.Order.{Order}
 use Rattle.mv_patch.specs.declared.order.Order.TheVariants.{CommitAll, RevertAll, CommitFunction, RevertFunction, CommitRefs, RevertRefs}
 
--- Each function of the image has a binding, in the plan too, which has room for each pair that the image can have.
+-- Each function and pointer switch of the image has a binding, in the plan too, which has room for each pair that the image can have.
 pub record IsReady (image : Fields) (bound : List Binding) (plan : Prepared) : Type 0 where
-  pub count : length bound ≡ length image.functions
-  pub planned : length plan.planned.bound ≡ length image.functions
+  pub count : length bound ≡ binding_count image
+  pub planned : length plan.planned.bound ≡ binding_count image
   pub reserved : patchable image ≤ plan.room
 
 -- the first of the actions that are left is taken, where there is one

@@ -153,7 +153,7 @@ planned s code index =
 abbrev pub with_value : Fields → Room → (switch value : ℕ) → Room
 with_value image room switch value = option_map_or (λ (row : SwitchRow). stored_word room row.address value) (slice_get image.switches switch) room
 
--- the value is stored in the switch, and all functions are committed
+-- the value is stored in the switch, and all functions and pointer switches are committed
 abbrev pub flipped : State → (switch value : ℕ) → State
 flipped s switch value =
     let room = with_value s.image s.room switch value in carried_out (record s { room = room }) (plan_of s.image room.held s.bindings orders.commit 0) 1
@@ -225,7 +225,7 @@ executed s picks (suc n) = executed s picks n + (if is_going (runs_from s picks 
 
 -- ---- the start
 
--- the registers hold 0, all functions are free, and each word of text has itself as its one choice
+-- the registers hold 0, all functions and pointer switches are free, and each word of text has itself as its one choice
 unfoldable pub first : Fields → (input : List (Option ℕ)) → PollActs → State
 first image input polls = record {
   hart = polls.hart;

@@ -72,7 +72,7 @@ pub(crate) fn call<I: Source, O: Sink>(
 ) -> Option<Stopped>
     requires { All (λ probe. IsPatient (hearing (told probe) (patience probe))) probes.old.items }
     ensures place { IfSome result (λ stopped. FaultAt stopped engine.new.hart.pc) }
-    ensures quiet { engine.old.image.functions ≡ [] → probes.new ≡ probes.old }
+    ensures quiet { engine.old.image.functions ≡ [] → engine.old.image.pointers ≡ [] → probes.new ≡ probes.old }
     ensures image { engine.new.image ≡ engine.old.image }
     ensures number { engine.new.number ≡ engine.old.number }
     ensures opened { engine.old.opened ≡ false → TellsOpened engine.old engine.new }

@@ -109,7 +109,7 @@ impl Machine {
             (Rose (I.faults source.old) (I.faults source.new)) (Rose (O.faults sink.old) (O.faults sink.new))
             (λ news. Fates (Becomes (λ probe. object_at probe.ptr probe.vtable) (λ probe. hearing (told probe) (patience probe)) news) probes.old.items probes.new.items × (events ≡ news))) }
         ensures unwanted { logs ≡ false → result.log ≡ None }
-        ensures quiet { self.old.image.functions ≡ [] → probes.new ≡ probes.old }
+        ensures quiet { self.old.image.functions ≡ [] → self.old.image.pointers ≡ [] → probes.new ≡ probes.old }
         ensures last { self.old.last ≡ None → self.new.last ≡ last_of result.stopped }
         ensures again { (last : Stopped) → self.old.last ≡ Some last → (result.stopped ≡ last) × (result.executed ≡ 0) × (result.log ≡ None) × (self.new ≡ self.old) × (source.new ≡ source.old) × (sink.new ≡ sink.old) × (way oracle.new ≡ way oracle.old) × (probes.new ≡ probes.old) }
         ensures input { I.faults source.old ≤ I.faults source.new }

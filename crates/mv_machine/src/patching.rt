@@ -7,7 +7,7 @@ ghost use Rattle.mv_bindings.specs.declared.binding.Event.{Event};
 ghost use Rattle.mv_bindings.specs.declared.action.Action.{Action};
 ghost use Rattle.mv_bindings.specs.Acts.{act_of};
 ghost use Rattle.mv_isa.specs.Execution.{reg};
-ghost use Rattle.mv_patch.specs.Orders.{is_known_order};
+ghost use Rattle.mv_patch.specs.Orders.{is_known_order, binding_count};
 ghost use Rattle.mv_patch.specs.Tables.{patchable};
 ghost use Rattle.mv_machine.specs.Engines.{IsAsked};
 ghost use Rattle.mv_probe.specs.Hearing.{hearing, IsPatient, object_at, Becomes};
@@ -48,7 +48,7 @@ fn carry_out(engine: &mut Engine, value: u32, probes: &mut Vec<Box<dyn Probe>>)
     requires few { length engine.old.plan.planned.pairs ≤ patchable engine.old.image }
     requires patient { All (λ probe. IsPatient (hearing (told probe) (patience probe))) probes.old.items }
     ensures does { (actions : List Action) → Does (λ s. carried_out s engine.old.plan.planned value) engine.old actions engine.new actions Going (events_from 0 engine.old.bindings engine.old.plan.planned.bound) }
-    ensures quiet { engine.old.image.functions ≡ [] → probes.new ≡ probes.old }
+    ensures quiet { engine.old.image.functions ≡ [] → engine.old.image.pointers ≡ [] → probes.new ≡ probes.old }
     ensures image { engine.new.image ≡ engine.old.image }
     ensures number { engine.new.number ≡ engine.old.number }
     ensures opened { engine.new.opened ≡ is_some_pair engine.old.plan.planned.pairs }
@@ -63,18 +63,20 @@ fn carry_out(engine: &mut Engine, value: u32, probes: &mut Vec<Box<dyn Probe>>)
     engine.opened = !engine.plan.pairs().is_empty();
 }
 
-/// Whether there is an order with a code, and the image has the function or the switch.
+/// Whether there is an order with a code, and the image has the function, or the switch or pointer switch.
 #[tactic(auto, unfolding(mv_patch::specs::Orders::is_known_order))]
 pub fn is_known(image: &Image, code: u32, index: u32) -> bool
     ensures { result ≡ is_known_order image.now code index }
 {
+    within_limits(image);
     if code < u32::from(orders::COMMIT_FUNCTION) {
         return true;
     }
     if code < u32::from(orders::COMMIT_REFERENCES) {
         return (index as usize) < image.functions().len();
     }
-    code < u32::from(orders::COUNT) && (index as usize) < image.switches().len()
+    code < u32::from(orders::COUNT)
+        && (index as usize) < image.switches().len() + image.pointers().len()
 }
 
 // The order of a code and an index.
@@ -96,7 +98,7 @@ fn order_of(code: u32, index: u32) -> Order
 pub(crate) fn order(engine: &mut Engine, probes: &mut Vec<Box<dyn Probe>>) -> Option<Stopped>
     requires { All (λ probe. IsPatient (hearing (told probe) (patience probe))) probes.old.items }
     ensures place { IfSome result (λ stopped. FaultAt stopped engine.new.hart.pc) }
-    ensures quiet { engine.old.image.functions ≡ [] → probes.new ≡ probes.old }
+    ensures quiet { engine.old.image.functions ≡ [] → engine.old.image.pointers ≡ [] → probes.new ≡ probes.old }
     ensures image { engine.new.image ≡ engine.old.image }
     ensures number { engine.new.number ≡ engine.old.number }
     ensures opened { engine.old.opened ≡ false → TellsOpened engine.old engine.new }
@@ -146,10 +148,10 @@ fn set_switch(image: &Image, memory: &mut Memory, switch: u32, value: u32)
     }
 }
 
-// Stores a value in a switch, and commits all functions.
+// Stores a value in a switch, and commits all functions and pointer switches.
 fn flip(engine: &mut Engine, switch: u32, value: u32, probes: &mut Vec<Box<dyn Probe>>)
     requires { All (λ probe. IsPatient (hearing (told probe) (patience probe))) probes.old.items }
-    ensures quiet { engine.old.image.functions ≡ [] → probes.new ≡ probes.old }
+    ensures quiet { engine.old.image.functions ≡ [] → engine.old.image.pointers ≡ [] → probes.new ≡ probes.old }
     ensures image { engine.new.image ≡ engine.old.image }
     ensures number { engine.new.number ≡ engine.old.number }
     ensures opened { TellsOpened engine.old engine.new }
@@ -171,7 +173,7 @@ fn flip(engine: &mut Engine, switch: u32, value: u32, probes: &mut Vec<Box<dyn P
 // What the operator does.
 fn act(engine: &mut Engine, action: Action, probes: &mut Vec<Box<dyn Probe>>)
     requires { All (λ probe. IsPatient (hearing (told probe) (patience probe))) probes.old.items }
-    ensures quiet { engine.old.image.functions ≡ [] → probes.new ≡ probes.old }
+    ensures quiet { engine.old.image.functions ≡ [] → engine.old.image.pointers ≡ [] → probes.new ≡ probes.old }
     ensures image { engine.new.image ≡ engine.old.image }
     ensures number { engine.new.number ≡ engine.old.number }
     ensures opened { TellsOpened engine.old engine.new }
@@ -187,7 +189,7 @@ fn act(engine: &mut Engine, action: Action, probes: &mut Vec<Box<dyn Probe>>)
 /// A poll: the operator's next action, and none while a frame of an attributed function is live.
 pub(crate) fn poll(engine: &mut Engine, operator: &mut Operator, probes: &mut Vec<Box<dyn Probe>>)
     requires { All (λ probe. IsPatient (hearing (told probe) (patience probe))) probes.old.items }
-    ensures quiet { engine.old.image.functions ≡ [] → probes.new ≡ probes.old }
+    ensures quiet { engine.old.image.functions ≡ [] → engine.old.image.pointers ≡ [] → probes.new ≡ probes.old }
     ensures image { engine.new.image ≡ engine.old.image }
     ensures number { engine.new.number ≡ engine.old.number }
     ensures opened { TellsOpened engine.old engine.new }
@@ -206,7 +208,7 @@ pub(crate) fn poll(engine: &mut Engine, operator: &mut Operator, probes: &mut Ve
 
 /// Takes on bindings that a commit of hart 0 has made, of which text has the words already: in place of a poll, with the answer 1.
 pub fn adopt(engine: &mut Engine, bindings: &[Binding])
-    requires { length bindings.now ≡ length engine.old.image.functions }
+    requires { length bindings.now ≡ binding_count engine.old.image }
     ensures image { engine.new.image ≡ engine.old.image }
     ensures number { engine.new.number ≡ engine.old.number }
     ensures opened { engine.new.opened ≡ engine.old.opened }

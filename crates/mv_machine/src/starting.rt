@@ -15,7 +15,7 @@ use mv_patch::Plan;
 use mv_rv32::Hart;
 use std::alloc::{AllocError, Global};
 
-// Functions that are all free, so many.
+// So many bindings, all free.
 fn all_free(alloc: Global, count: usize) -> Result<List<Binding>, AllocError>
     ensures { IfOk result (λ bindings. bindings ≡ replicate count free) }
 {
@@ -23,14 +23,17 @@ fn all_free(alloc: Global, count: usize) -> Result<List<Binding>, AllocError>
 }
 
 impl Engine {
-    /// A hart before its first instruction, with all functions free. It has memory for a plan of the image, and to remember as many words
+    /// A hart before its first instruction, with all functions and pointer switches free. It has memory for a plan of the image, and to remember as many words
     /// that stores into text replace.
     pub fn start(alloc: Global, image: &Image, number: u32) -> Result<Engine, AllocError>
         ensures { IfOk result (λ engine. (engine.number ≡ number)
             × ((input : List (Option ℕ)) → shown (seen engine [] None None) Going input [] [] ≡ first image.now input (record { hart = number; acts = [] }))) }
     {
         within_limits(image);
-        let patchable = image.functions().len() + 2 * image.sites().len();
+        let bindings = image.functions().len() + image.pointers().len();
+        let patchable = image.functions().len()
+            + 2 * image.sites().len()
+            + 4 * image.points().len();
         Ok(Engine {
             number,
             image: image.copied(alloc)?,
@@ -39,7 +42,7 @@ impl Engine {
                 pc: image.entry(),
             },
             memory: Memory::new(alloc, image.text(), image.globals(), patchable as u32)?,
-            bindings: all_free(alloc, image.functions().len())?,
+            bindings: all_free(alloc, bindings)?,
             plan: Plan::new(alloc, image)?,
             opened: false,
         })

@@ -7,6 +7,7 @@ ghost use Rattle.mv_io.specs.Outside.{Rose, CountAfter};
 ghost use Rattle.mv_probe.specs.Ways.{Follows};
 ghost use Rattle.mv_probe.specs.Hearing.{hearing, IsPatient, object_at, Becomes};
 ghost use Rattle.mv_probe.specs.Fates.{Fates};
+ghost use Rattle.mv_patch.specs.Orders.{binding_count};
 ghost use Rattle.mv_machine.specs.Logging.{Adds, HasCome, Notes};
 ghost use Rattle.mv_machine.specs.Moves.{Fetched, Steps, Strides, Settles, Turns, TellsOpened, Walked, WithEvents, executed_of, seen, FaultAt, input_failed, output_failed};
 
@@ -113,7 +114,7 @@ fn settle<I: Source, O: Sink>(
         (Rose (I.faults source.old) (I.faults source.new)) (Rose (O.faults sink.old) (O.faults sink.new))
         (λ events. Fates (Becomes (λ probe. object_at probe.ptr probe.vtable) (λ probe. hearing (told probe) (patience probe)) events) probes.old.items probes.new.items) }
     ensures place { IfSome result (λ stopped. FaultAt stopped engine.new.hart.pc) }
-    ensures quiet { engine.old.image.functions ≡ [] → probes.new ≡ probes.old }
+    ensures quiet { engine.old.image.functions ≡ [] → engine.old.image.pointers ≡ [] → probes.new ≡ probes.old }
     ensures image { engine.new.image ≡ engine.old.image }
     ensures number { engine.new.number ≡ engine.old.number }
     ensures opened { engine.old.opened ≡ false → TellsOpened engine.old engine.new }
@@ -160,7 +161,7 @@ pub fn turn<I: Source, O: Sink>(
 
 // Takes what has become of the bindings into the log.
 fn note_bindings(log: &mut Option<Log>, engine: &Engine)
-    requires { IfSome log.old (λ kept. length kept.bindings ≡ length engine.now.image.functions) }
+    requires { IfSome log.old (λ kept. length kept.bindings ≡ binding_count engine.now.image) }
     ensures { Notes engine.now.bindings log.old log.new }
 {
     within_limits(&engine.image);
@@ -208,7 +209,7 @@ pub(crate) fn walk<I: Source, O: Sink>(
         (Rose (I.faults source.old) (I.faults source.new)) (Rose (O.faults sink.old) (O.faults sink.new)) }
     ensures some { IfSome result.stopped (λ stopped. 1 ≤ result.fetched) }
     ensures place { IfSome result.stopped (λ stopped. FaultAt stopped engine.new.hart.pc) }
-    ensures quiet { engine.old.image.functions ≡ [] → probes.new ≡ probes.old }
+    ensures quiet { engine.old.image.functions ≡ [] → engine.old.image.pointers ≡ [] → probes.new ≡ probes.old }
     ensures image { engine.new.image ≡ engine.old.image }
     ensures number { engine.new.number ≡ engine.old.number }
     ensures input { I.faults source.old ≤ I.faults source.new }

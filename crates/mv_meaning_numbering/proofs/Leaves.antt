@@ -1,5 +1,5 @@
 -- Reads, stores, elements and known functions under two numberings.
-use Rattle.std.proofs.Common.{◌≡◌, ℕ, ◌+◌, ◌-◌, ◌^◌, Bool, true, false, List, [], ◌∷◌, map, length, inr, refl, ap, subst, Option, Some, None, if◌then◌else◌, nat_eq, nat_lt, slice_get}
+use Rattle.std.proofs.Common.{◌≡◌, ℕ, ◌-◌, ◌^◌, Bool, true, false, List, [], ◌∷◌, map, length, inr, refl, ap, subst, Option, Some, None, if◌then◌else◌, nat_eq, nat_lt, slice_get}
 use Rattle.std.specs.Prelude.{All, IsTrue, unwrap_or}
 use Rattle.std.proofs.lemmas.Bool.{and_parts}
 use Rattle.mv_ast.proofs.Common.{place_at}
@@ -14,7 +14,7 @@ use Rattle.mv_bindings.specs.declared.stop.Stop.TheVariants.{Trapped}
 use Rattle.mv_ast.specs.Actions.{act_fits, is_value_of, is_global_value, is_switch_value}
 use Rattle.mv_ast.specs.Worlds.{World, give, stop}
 use Rattle.mv_bindings.specs.Acts.{Act, Skip, Flip, Adopt}
-use Rattle.mv_ast.specs.Orders.{Answered, bound_after, rebound, may_commit, ordered, flipped, acted, polled}
+use Rattle.mv_ast.specs.Orders.{Answered, bindings_after, bound_after, rebound, may_commit, ordered, flipped, acted, polled}
 use Rattle.mv_ast.specs.Switches.{attributed_functions, bound_value, pointer_number, bound_function, called_number, called_word, switch_global, global_or_none, with_word, word_at, words_or_none}
 use Rattle.mv_bindings.specs.OrderNumbers.{is_commit}
 use Rattle.mv_meaning.specs.declared.state.Frame.{Frame}
@@ -24,7 +24,8 @@ use Rattle.mv_meaning.specs.Meaning.{value_in, called_global, callee_in, read_as
 use Rattle.mv_source_forms.specs.Typing.{IsInteger, IsFunctionOf, IsPointerSwitch, IsTypedFunction, global_types}
 use Rattle.mv_meaning_numbering.proofs.Alike.{Setting, Same, SameObjects, integer_same, word_alike, store_alike, size_alike}
 use Rattle.mv_meaning_numbering.proofs.Outcomes.{SameWorld, SameFrame, AlikeOutcome, Alike, alike_give, alike_stop, alike_either, with_globals, moved}
-use Rattle.mv_meaning_numbering.proofs.Pointers.{PointersTyped, called_typed, adopted_typed, orders_typed}
+use Rattle.mv_meaning_numbering.proofs.Logged.{KeepTypes, rebound_keeps}
+use Rattle.mv_meaning_numbering.proofs.Pointers.{called_typed, adopted_typed, orders_typed}
 use Rattle.mv_meaning_numbering.proofs.Switches.{all_got, bound_integer, bindings_same}
 use Rattle.mv_num.proofs.Lists.{all_tail, all_head}
 
@@ -88,7 +89,7 @@ module _ (x : Setting) (ts : List CType) where
           let one : Pointer p.0 ≡ t = cc in
           subst (λ a. Same x a (called_word x.ns w.bindings w.globals m n) (called_word x.ms w.bindings hs m n)) one
           (called_alike p.0 (bound_function (slice_get w.bindings m)) (word_at w.globals n 0) (word_at hs n 0)
-          (λ h there. called_typed x.program w.bindings hw.pointers n m p.0 h e p.1 there)
+          (λ h there. called_typed x.program w.bindings hw.pointers.present n m p.0 h e p.1 there)
           (word_alike x (global_types x.program) w.globals hs n (Pointer p.0) same p.1 0)))
   callee_alike t (lvalue.Local l i) f g w v k hf hw = word_alike x ts f.locals g.locals l t hf.locals k i
 
@@ -144,7 +145,7 @@ module _ (x : Setting) where
   answer_either false a c a' c' h k = k
 
   module _ (w : World) (hs : List (List ℕ)) (same : SameObjects x (global_types x.program) w.globals hs)
-      (fit : All (λ a. IsTrue (act_fits x.program w.hart a)) w.actions) (typed : PointersTyped x.program w.bindings) where
+      (fit : All (λ a. IsTrue (act_fits x.program w.hart a)) w.actions) (typed : KeepTypes x.program w.bindings w.log) where
     carried_out : (code index : ℕ) → List Binding → Answered
     carried_out code index bs =
         if may_commit w
@@ -154,9 +155,11 @@ module _ (x : Setting) where
     pub ordered_alike : (code index : ℕ) → SameAnswer x (ordered x.program x.ns code index w) (ordered x.program x.ms code index (record w { globals = hs }))
     unfolding carried_out
     ordered_alike code index =
+        let bound = bindings_after x.program x.ns code index w.globals w.bindings in
+        let kept = rebound_keeps x.program x.typed.pointers w.bindings bound w.log typed (orders_typed x w.globals hs same code index w.bindings typed.present) in
         subst (λ bs. SameAnswer x (ordered x.program x.ns code index w) (carried_out code index bs)) (bindings_same x w.globals hs same code index w.bindings)
         (answer_either (may_commit w) _ _ _ _
-        (record { answer = refl; world = record { globals = same; others = refl; actions = fit; pointers = orders_typed x w.globals hs same code index w.bindings typed } })
+        (record { answer = refl; world = record { globals = same; others = refl; actions = fit; pointers = kept } })
         (record { answer = refl; world = record { globals = same; others = refl; actions = fit; pointers = typed } }))
 
   -- a flip stores in an integer
@@ -184,7 +187,7 @@ module _ (x : Setting) where
   switch_flip (Some s) v h = global_flip s.global (slice_get x.program.globals s.global) v refl h
 
   flipped_alike : (s v : ℕ) (w : World) (hs : List (List ℕ)) → SameObjects x (global_types x.program) w.globals hs →
-      All (λ a. IsTrue (act_fits x.program w.hart a)) w.actions → PointersTyped x.program w.bindings → IsTrue (act_fits x.program w.hart (Flip s v)) →
+      All (λ a. IsTrue (act_fits x.program w.hart a)) w.actions → KeepTypes x.program w.bindings w.log → IsTrue (act_fits x.program w.hart (Flip s v)) →
       SameWorld x (flipped x.program x.ns s v w) (flipped x.program x.ms s v (record w { globals = hs }))
   flipped_alike s v w hs same fit typed h =
       let both = and_parts (nat_eq w.hart 0) (is_switch_value x.program (slice_get x.program.switches s) v) h in
@@ -196,7 +199,7 @@ module _ (x : Setting) where
       done.world
 
   acted_alike : (actions : List Act) (w : World) (hs : List (List ℕ)) → SameObjects x (global_types x.program) w.globals hs →
-      All (λ a. IsTrue (act_fits x.program w.hart a)) w.actions → PointersTyped x.program w.bindings → All (λ a. IsTrue (act_fits x.program w.hart a)) actions →
+      All (λ a. IsTrue (act_fits x.program w.hart a)) w.actions → KeepTypes x.program w.bindings w.log → All (λ a. IsTrue (act_fits x.program w.hart a)) actions →
       SameAnswer x (acted x.program x.ns actions w) (acted x.program x.ms actions (record w { globals = hs }))
   acted_alike [] w hs same fit typed h = record { answer = refl; world = record { globals = same; others = refl; actions = fit; pointers = typed } }
   acted_alike (Skip ∷ rest) w hs same fit typed h =
@@ -207,10 +210,11 @@ module _ (x : Setting) where
   acted_alike (Adopt bs ∷ rest) w hs same fit typed h =
       let left = all_tail (λ a. IsTrue (act_fits x.program w.hart a)) (Adopt bs) rest h in
       let adopted = adopted_typed x.program w.hart bs (all_head (λ a. IsTrue (act_fits x.program w.hart a)) (Adopt bs) rest h) in
-      record { answer = refl; world = record { globals = same; others = refl; actions = left; pointers = adopted } }
+      let kept = rebound_keeps x.program x.typed.pointers w.bindings bs w.log typed adopted in
+      record { answer = refl; world = record { globals = same; others = refl; actions = left; pointers = kept } }
 
   polled_alike : (w : World) (hs : List (List ℕ)) → SameObjects x (global_types x.program) w.globals hs →
-      All (λ a. IsTrue (act_fits x.program w.hart a)) w.actions → PointersTyped x.program w.bindings →
+      All (λ a. IsTrue (act_fits x.program w.hart a)) w.actions → KeepTypes x.program w.bindings w.log →
       SameAnswer x (polled x.program x.ns w) (polled x.program x.ms (record w { globals = hs }))
   polled_alike w hs same fit typed =
       answer_either (nat_eq w.live 0) _ _ _ _ (acted_alike w.actions w hs same fit typed fit)
@@ -221,7 +225,7 @@ module _ (x : Setting) where
     Numbers a b = a ≡ b
 
     byte_alike : (bytes : List ℕ) (f g : Frame) (w : World) (hs : List (List ℕ)) → SameFrame x ts f g → SameObjects x (global_types x.program) w.globals hs →
-        All (λ a. IsTrue (act_fits x.program w.hart a)) w.actions → PointersTyped x.program w.bindings →
+        All (λ a. IsTrue (act_fits x.program w.hart a)) w.actions → KeepTypes x.program w.bindings w.log →
         AlikeOutcome x ts ℕ Numbers (byte_of bytes f w) (byte_of bytes g (record w { globals = hs }))
     byte_alike [] f g w hs hf same fit typed =
         record { value = refl; frame = hf; world = record { globals = same; others = refl; actions = fit; pointers = typed }; work = refl }

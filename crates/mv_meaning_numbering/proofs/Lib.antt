@@ -5,6 +5,7 @@ mod Differences
 pub mod Expressions
 pub mod Lawful
 mod Leaves
+mod Logged
 mod Numbers
 mod Outcomes
 pub mod Pointers

@@ -9,14 +9,14 @@ use Rattle.mv_meaning.specs.declared.state.Frame.{Frame}
 use Rattle.mv_meaning.specs.Meaning.{Evaluation, unless_zero}
 use Rattle.mv_source_forms.specs.Typing.{global_types}
 use Rattle.mv_meaning_numbering.proofs.Alike.{Setting, SameObjects}
-use Rattle.mv_meaning_numbering.proofs.Pointers.{PointersTyped}
+use Rattle.mv_meaning_numbering.proofs.Logged.{KeepTypes}
 
--- two worlds, with actions that fit, in which pointer switches are bound to functions of their types
+-- two worlds, with actions that fit, in which pointer switches are bound to functions of their types, now and in all that is logged
 pub record SameWorld (x : Setting) (w v : World) : Type 0 where
   pub globals : SameObjects x (global_types x.program) w.globals v.globals
   pub others : v ≡ record w { globals = v.globals }
   pub actions : All (λ a. IsTrue (act_fits x.program w.hart a)) w.actions
-  pub pointers : PointersTyped x.program w.bindings
+  pub pointers : KeepTypes x.program w.bindings w.log
 
 -- two frames of a function, with locals of some types
 pub record SameFrame (x : Setting) (ts : List CType) (f g : Frame) : Type 0 where

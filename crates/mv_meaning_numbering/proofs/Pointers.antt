@@ -1,5 +1,5 @@
 -- Pointer switches: what they are bound to has their type, and is the same under two numberings.
-use Rattle.std.proofs.Common.{◌≡◌, ℕ, zero, suc, ◌+◌, ◌-◌, ◌<◌, Bool, true, false, List, [], ◌∷◌, ◌++◌, map, take, drop, length, inl, inr, refl, sym, ◌∙◌, ap, ap₂, subst, arith, Option, Some, None, if◌then◌else◌, nat_eq, slice_get}
+use Rattle.std.proofs.Common.{◌≡◌, ℕ, zero, suc, ◌-◌, ◌<◌, Bool, true, false, List, [], ◌∷◌, ◌++◌, map, drop, length, inl, inr, refl, sym, ◌∙◌, ap, ap₂, subst, arith, Option, Some, None, if◌then◌else◌, nat_eq, slice_get}
 use Rattle.std.specs.Prelude.{All, IsTrue, ◌&&◌, ◌||◌, not, slice_index}
 use Rattle.std.proofs.lemmas.Bool.{and_parts, eqb-true}
 use Rattle.std.proofs.lemmas.Option.{slice_get_within}
@@ -22,7 +22,7 @@ use Rattle.mv_ast.specs.Orders.{is_addressed, is_pointer_addressed, ordered_from
 use Rattle.mv_bindings.specs.OrderNumbers.{is_commit}
 use Rattle.mv_bindings.specs.Acts.{Adopt}
 use Rattle.mv_source_forms.specs.Typing.{IsFunctionOf, IsPointerSwitch, global_types, parameter_types}
-use Rattle.mv_meaning_numbering.proofs.Numbers.{Distinguishes, number_above, number_found}
+use Rattle.mv_meaning_numbering.proofs.Numbers.{Distinguishes, number_found}
 use Rattle.mv_meaning_numbering.proofs.Alike.{Setting, Same, SameObjects, word_alike}
 use Rattle.mv_ast.proofs.Common.{place_at, ordered_behind, get_drop}
 
@@ -91,7 +91,7 @@ module _ (p : Program) where
         parameters = types_are signature.params (parameter_types function) k.1;
       }
 
-  global_is : (gs : List Global) (g : ℕ) (t : CType) → slice_get (map (λ (x : Global). x.ctype) gs) g ≡ Some t → (x : Global) × (slice_get gs g ≡ Some x) × (x.ctype ≡ t)
+  pub global_is : (gs : List Global) (g : ℕ) (t : CType) → slice_get (map (λ (x : Global). x.ctype) gs) g ≡ Some t → (x : Global) × (slice_get gs g ≡ Some x) × (x.ctype ≡ t)
   global_is [] g t e = absurd (cc)
   global_is (x ∷ gs) zero t e = (x, refl, cc)
   global_is (x ∷ gs) (suc g) t e = global_is gs g t e

@@ -1,6 +1,7 @@
--- Well-typed programs mean the same under two numberings.
+-- Well-typed programs mean the same under two numberings, and bind pointer switches to functions of their types.
 use Rattle.std.proofs.Common.{◌≡◌, ℕ, Bool, zero, suc, ◌+◌, ◌<◌, ◌%◌, inl, inr, List, [], ◌∷◌, ◌++◌, map, take, drop, length, replicate, get_or, refl, sym, ◌∙◌, ap, subst, arith, Some, slice_get}
 use Rattle.std.specs.Prelude.{All, IsTrue, slice_index, unwrap_or}
+use Rattle.std.proofs.lemmas.List.Elements.{All-nil}
 use Rattle.std.proofs.lemmas.Option.{slice_get_within, unwrap_or-slice_get, slice_get-get_or}
 use Rattle.mv_ast.specs.declared.program.CType.{CType}
 use Rattle.mv_ast.specs.declared.program.CType.TheVariants.{Void, Scalar, Pointer}
@@ -20,6 +21,7 @@ use Rattle.mv_meaning.specs.declared.state.Flow.TheVariants.{Goes, Breaks, Conti
 use Rattle.mv_meaning.specs.declared.meant.End.TheVariants.{Exit}
 use Rattle.mv_ast.specs.Starts.{first_words, first_world, renumbered, renumbered_at, first_words_under, first_world_under}
 use Rattle.mv_meaning.specs.Meaning.{Context, returned_value, frame_of, deeper, popped, back_in, call_of, flow_of_all, Evaluation, context_at, context_with, end_of_stop, meant_by, meaning_of, run_of_main, hart_mean}
+use Rattle.mv_meaning_numbering.specs.Laws.{IsTypedEvent}
 use Rattle.mv_meaning_numbering.specs.Numberings.{Admits, meaning_in, meaning_under}
 use Rattle.mv_source_forms.specs.Typing.{IsInteger, IsTypedFunction, IsFirstValue, local_types, parameter_types}
 use Rattle.mv_meaning_numbering.proofs.Numbers.{Distinguishes}
@@ -156,7 +158,7 @@ module _ (x : Setting) where
 
   module _ (hart : ℕ) (input : List ℕ) (actions : List Act) (fit : All (λ a. IsTrue (act_fits x.program hart a)) actions) where
     starts_alike : SameWorld x (first_world_under x.program x.ns hart input actions) (first_world_under x.program x.ms hart input actions)
-    starts_alike = record { globals = globals_alike x.program.globals x.typed.globals; others = refl; actions = fit; pointers = free_typed x.program }
+    starts_alike = record { globals = globals_alike x.program.globals x.typed.globals; others = refl; actions = fit; pointers = record { present = free_typed x.program; logged = All-nil (IsTypedEvent x.program) } }
 
     -- ---- the whole
 
@@ -171,9 +173,21 @@ module _ (x : Setting) where
     meanings_alike ts t (Came a f w n) (Stopped s' v m) i h = absurd h
     meanings_alike ts t (Stopped s w n) (Came b g v m) i h = absurd h
 
-    pub same_meaning : (l m : CType → ℕ → ℕ → Bool) (stray other : Evaluation ℕ) → Admits x.program l → Admits x.program m → (bound : ℕ) →
-        meaning_in x.program (context_with x.program x.ns l stray bound) x.ns hart input actions ≡ meaning_in x.program (context_with x.program x.ms m other bound) x.ms hart input actions
-    same_meaning l m stray other admits too bound =
+    logged_typed : (ts : List CType) (t : CType) (o q : Outcome Frame Flow) → AlikeOutcome x ts Flow (SameFlow x t) o q → All (IsTypedEvent x.program) (meaning_of o).log
+    logged_typed ts t (Came a f w n) (Came b g v m) h = h.world.pointers.logged
+    logged_typed ts t (Stopped s w n) (Stopped s' v m) h = h.world.pointers.logged
+    logged_typed ts t (Came a f w n) (Stopped s' v m) h = absurd h
+    logged_typed ts t (Stopped s w n) (Came b g v m) h = absurd h
+
+    -- what `main` comes to
+    run_in : Context → List ℕ → Outcome Frame Flow
+    run_in c ns =
+        run_of_main x.program c (slice_get x.program.functions x.program.main) (record { function = x.program.main; locals = [] }) (first_world_under x.program ns hart input actions)
+
+    runs_alike : (l m : CType → ℕ → ℕ → Bool) (stray other : Evaluation ℕ) → Admits x.program l → Admits x.program m → (bound : ℕ) → let g = x.typed.entry.main in
+        AlikeOutcome x (local_types g) Flow (SameFlow x g.result) (run_in (context_with x.program x.ns l stray bound) x.ns) (run_in (context_with x.program x.ms m other bound) x.ms)
+    unfolding run_in
+    runs_alike l m stray other admits too bound =
         let c = context_with x.program x.ns l stray bound in
         let d = context_with x.program x.ms m other bound in
         let p : Program = x.program in
@@ -183,12 +197,23 @@ module _ (x : Setting) where
         subst (λ n. SameValues x (map (λ (l : Local). l.ctype) (take n g.locals)) [] []) (sym x.typed.entry.bare) tt in
         let frame : Frame = record { function = p.main; locals = [] } in
         subst (λ o.
-        meaning_of (run_of_main p c o frame (first_world_under p x.ns hart input actions)) ≡
-        meaning_of (run_of_main p d o frame (first_world_under p x.ms hart input actions))) (sym x.typed.entry.defined)
-        (meanings_alike (local_types g) g.result _ _ x.typed.entry.result
+        AlikeOutcome x (local_types g) Flow (SameFlow x g.result) (run_of_main p c o frame (first_world_under p x.ns hart input actions))
+        (run_of_main p d o frame (first_world_under p x.ms hart input actions))) (sym x.typed.entry.defined)
         (alike_body x c d (contexts_alike l m stray other admits too bound) g g.body typed.body
         (frame_of p.main g []) (frame_of p.main g []) (first_world_under p x.ns hart input actions) (first_world_under p x.ms hart input actions)
-        (frames_alike p.main g [] [] none) starts_alike))
+        (frames_alike p.main g [] [] none) starts_alike)
+
+    pub same_meaning : (l m : CType → ℕ → ℕ → Bool) (stray other : Evaluation ℕ) → Admits x.program l → Admits x.program m → (bound : ℕ) →
+        meaning_in x.program (context_with x.program x.ns l stray bound) x.ns hart input actions ≡ meaning_in x.program (context_with x.program x.ms m other bound) x.ms hart input actions
+    unfolding run_in
+    same_meaning l m stray other admits too bound =
+        meanings_alike (local_types x.typed.entry.main) x.typed.entry.main.result _ _ x.typed.entry.result (runs_alike l m stray other admits too bound)
+
+    pub typed_log : (l m : CType → ℕ → ℕ → Bool) (stray other : Evaluation ℕ) → Admits x.program l → Admits x.program m → (bound : ℕ) →
+        All (IsTypedEvent x.program) (meaning_in x.program (context_with x.program x.ns l stray bound) x.ns hart input actions).log
+    unfolding run_in
+    typed_log l m stray other admits too bound =
+        logged_typed (local_types x.typed.entry.main) x.typed.entry.main.result _ _ (runs_alike l m stray other admits too bound)
 
 -- ---- under the program's own numbering nothing is renumbered
 

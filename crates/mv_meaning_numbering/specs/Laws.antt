@@ -1,9 +1,12 @@
--- That the numbers of functions don't show.
-use Rattle.std.specs.Prelude.{◌≡◌, ℕ, Bool, All, IsTrue, List}
+-- That the numbers of functions don't show, and that pointer switches keep their types.
+use Rattle.std.specs.Prelude.{◌≡◌, ℕ, ◌+◌, Bool, true, All, IsTrue, List, length, Some, slice_get}
 use Rattle.mv_ast.specs.declared.program.CType.{CType}
 use Rattle.mv_ast.specs.declared.program.Program.{Program}
 use Rattle.mv_ast.specs.Actions.{act_fits}
+use Rattle.mv_ast.specs.Bindings.{is_typed_binding}
 use Rattle.mv_ast.specs.Numbering.{own_numbers}
+use Rattle.mv_ast.specs.Switches.{attributed_functions}
+use Rattle.mv_bindings.specs.declared.binding.Event.{Event}
 use Rattle.mv_bindings.specs.Acts.{Act}
 use Rattle.mv_meaning.specs.Meaning.{Evaluation, context_with, hart_mean}
 use Rattle.mv_meaning_numbering.specs.Numberings.{IsNumbering, Admits, meaning_in, meaning_under}
@@ -43,3 +46,14 @@ abbrev pub OwnNumberingIsOne : Type 0
 OwnNumberingIsOne =
     (p : Program) (hart : ℕ) (input : List ℕ) (actions : List Act) (bound : ℕ) →
     meaning_under p (own_numbers p) hart input actions bound ≡ hart_mean p hart input actions bound
+
+-- where an event is of a pointer switch, which count on behind the attributed functions, it frees it or binds it to a function of its type
+abbrev pub IsTypedEvent : Program → Event → Type 0
+IsTypedEvent p e = (q g : ℕ) → e.function ≡ length (attributed_functions p) + q → slice_get p.pointers q ≡ Some g → is_typed_binding p g e.binding ≡ true
+
+-- A well-typed program binds pointer switches to functions of their types alone: all that it logs says so, in each hart, on each input, with all actions
+-- that fit, at each bound.
+abbrev pub PointersAreLoggedTyped : Type 0
+PointersAreLoggedTyped =
+    (p : Program) (hart : ℕ) (input : List ℕ) (actions : List Act) (bound : ℕ) → IsTyped p → All (λ a. IsTrue (act_fits p hart a)) actions →
+    All (IsTypedEvent p) (hart_mean p hart input actions bound).log

@@ -1,6 +1,6 @@
-// The law: the numbers of functions don't show.
+// The laws: the numbers of functions don't show, and pointer switches keep their types.
 
-ghost use Rattle.mv_meaning_numbering.specs.Laws.{NumbersDoNotShow, AnyNumberingServes, StraysDoNotShow, OwnNumberingIsOne};
+ghost use Rattle.mv_meaning_numbering.specs.Laws.{NumbersDoNotShow, AnyNumberingServes, StraysDoNotShow, OwnNumberingIsOne, PointersAreLoggedTyped};
 
 /// The numbers that stand for functions in function pointers don't show in what a program means. The call does nothing: its
 /// contract is the law.
@@ -14,4 +14,10 @@ pub fn numbering_law()
     ensures any { AnyNumberingServes }
     ensures strays { StraysDoNotShow }
     ensures own { OwnNumberingIsOne }
+{}
+
+/// All that a well-typed program logs of a pointer switch frees it or binds it to a function of its type: in each hart, on each input, with each list of actions
+/// that fit the program, and at each bound. The call does nothing: its contract is the law.
+pub fn pointer_types_law()
+    ensures { PointersAreLoggedTyped }
 {}

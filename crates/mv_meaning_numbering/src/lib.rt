@@ -8,6 +8,7 @@
 //!   and that fits there, at each bound. And what any program means is its meaning under its own numbering. Nor does it
 //!   show what a call through a pointer would do that reached no function of the pointer's type: such calls may do
 //!   anything, and a compiler needn't carry them out.
+//! - `pointer_types_law`: all that a well-typed program logs of a pointer switch frees it or binds it to a function of its type.
 //! - `is_numbering`: it answers whether a list of numbers is a numbering of a program's functions; where it is, a
 //!   well-typed program means under it what it means.
 //! - Beside it, checked and named by no contract: a worked program with a global function pointer, a null constant, `==`
@@ -17,5 +18,5 @@
 mod law;
 mod numbering;
 
-pub use law::numbering_law;
+pub use law::{numbering_law, pointer_types_law};
 pub use numbering::is_numbering;

@@ -71,7 +71,7 @@ abbrev pub stats_line : ℕ → List ℕ
 stats_line count = codes "instructions " ++ (decimal count ++ codes "\n")
 
 -- The lines that a run is asked for, of its image, of the machine as it stopped, of its log and of how many instructions were executed: each changed binding, what
--- each attributed function is bound to, the words of text that are other than the image's, and the number.
+-- each attributed function and then each pointer switch is bound to, the words of text that are other than the image's, and the number.
 abbrev pub asked_lines : RunOptions → Fields → Snapshot → (log : List Event) → (count : ℕ) → List ℕ
 asked_lines options image machine log count =
     (if options.log then events_text image log else []) ++

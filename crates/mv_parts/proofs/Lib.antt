@@ -3,6 +3,7 @@ pub mod Functions
 pub mod Compiling
 pub mod Numbers
 pub mod PartSwitches
+pub mod PointedLines
 pub mod Fitting
 pub mod Tables
 pub mod LinkedLists

@@ -1,5 +1,6 @@
 -- Counts over the source bound what is linked of a program.
-use Rattle.std.proofs.Common.{◌≡◌, ℕ, ◌≤◌, true, cond, List, [], ◌∷◌, Some, length, map, slice_get, sum, sum_by, refl, sym, ap, ◌∙◌, subst, arith}
+use Rattle.std.proofs.Common.{◌≡◌, ℕ, ◌+◌, ◌≤◌, Bool, true, cond, List, [], ◌∷◌, Some, length, map, slice_get, sum, sum_by, refl, sym, ap, ◌∙◌, subst, arith}
+use Rattle.std.specs.Prelude.{count_by}
 use Rattle.std.proofs.lemmas.List.{length-map, map-append}
 use Rattle.std.proofs.lemmas.List.Sums.{sum_by-cons, sum_by-append}
 use Rattle.std.proofs.lemmas.Option.{slice_get_within, same_Some}
@@ -9,17 +10,17 @@ use Rattle.mv_ast.specs.Counts.{assignments}
 use Rattle.mv_ast.specs.Switches.{attributed_functions}
 use Rattle.mv_isa.specs.declared.labelled.Labelled.{Labelled}
 use Rattle.mv_isa.specs.declared.labelled.Line.{Line}
-use Rattle.mv_isa.specs.declared.labelled.Line.TheVariants.{Word, Label, Jump, Branch, Entry, Slot}
+use Rattle.mv_isa.specs.declared.labelled.Line.TheVariants.{Slot, Point}
 use Rattle.mv_ir.specs.declared.body.Body.{Body}
 use Rattle.mv_variants.specs.Bound.Led.{BodiesAreMade}
-use Rattle.mv_variants.specs.Bound.Slots.{slots}
+use Rattle.mv_variants.specs.Bound.Slots.{points, sites, slots}
 use Rattle.mv_variants.specs.Bound.Tables.{GroupsFit}
 use Rattle.mv_count_code.specs.Sizes.{renamed, bound}
 use Rattle.mv_count_code.specs.Texts as source
 use Rattle.mv_linker.specs.declared.parts.PartFunction.{PartFunction}
 use Rattle.mv_linker.specs.declared.parts.PartVariant.{PartVariant}
 use Rattle.mv_linker.specs.Linked.{function_variants, variant_codes}
-use Rattle.mv_linker.specs.Tables.{is_slot, slot_count}
+use Rattle.mv_linker.specs.Tables.{is_point, is_slot, site_weight}
 use Rattle.mv_variants.specs.declared.variant.Variant.{Variant}
 use Rattle.mv_parts.specs.Laws.{PartsAreCounted}
 use Rattle.mv_parts.specs.Parts.{AreCodesOf}
@@ -28,43 +29,57 @@ use Rattle.mv_parts.proofs.LinkedParts.{IsOwnCode, IsAttributedPart, variant_par
 use Rattle.mv_parts.proofs.LinkedVariants.{made_variant, few_variants}
 use Rattle.mv_num.proofs.Lists.{there_at}
 
--- ---- slots
+-- ---- sites
 
-slots_same : (lines : List Line) → slots lines ≡ slot_count lines
-slots_same [] = refl
-slots_same (Word i ∷ lines) = let rest = slots_same lines in omega (arith, rest, sum_by-cons (λ (x : Line). cond (is_slot x) 1 0) (Word i) lines)
-slots_same (Label l ∷ lines) = let rest = slots_same lines in omega (arith, rest, sum_by-cons (λ (x : Line). cond (is_slot x) 1 0) (Label l) lines)
-slots_same (Jump rd l ∷ lines) = let rest = slots_same lines in omega (arith, rest, sum_by-cons (λ (x : Line). cond (is_slot x) 1 0) (Jump rd l) lines)
-slots_same (Branch funct3 a b l ∷ lines) = let rest = slots_same lines in omega (arith, rest, sum_by-cons (λ (x : Line). cond (is_slot x) 1 0) (Branch funct3 a b l) lines)
-slots_same (Entry rd f ∷ lines) = let rest = slots_same lines in omega (arith, rest, sum_by-cons (λ (x : Line). cond (is_slot x) 1 0) (Entry rd f) lines)
-slots_same (Slot f ∷ lines) = let rest = slots_same lines in omega (arith, rest, sum_by-cons (λ (x : Line). cond (is_slot x) 1 0) (Slot f) lines)
+-- what grows by one with each line that a test picks counts these
+counted : (count : List Line → ℕ) (test : Line → Bool) → count [] ≡ 0 → ((line : Line) (lines : List Line) → count (line ∷ lines) ≡ cond (test line) 1 0 + count lines) →
+    (lines : List Line) → count lines ≡ count_by test lines
+counted count test none more [] = none
+counted count test none more (line ∷ lines) =
+    let rest = counted count test none more lines in
+    let here = more line lines in
+    omega (arith, rest, here, sum_by-cons (λ (x : Line). cond (test x) 1 0) line lines)
 
-abbrev code_slots : Labelled → ℕ
-code_slots code = slot_count code.items
+slots_more : (line : Line) (lines : List Line) → slots (line ∷ lines) ≡ cond (is_slot line) 1 0 + slots lines
+slots_more (Slot f) lines = omega arith
+slots_more _ lines = omega arith
 
-own_sum : (codes : List Labelled) → source.slots_in codes ≡ sum_by code_slots codes
+points_more : (line : Line) (lines : List Line) → points (line ∷ lines) ≡ cond (is_point line) 1 0 + points lines
+points_more (Point a) lines = omega arith
+points_more _ lines = omega arith
+
+sites_same : (lines : List Line) → sites lines ≡ site_weight lines
+sites_same lines =
+    let slots_are = counted slots is_slot refl slots_more lines in
+    let points_are = counted points is_point refl points_more lines in
+    omega (arith, slots_are, points_are)
+
+abbrev code_sites : Labelled → ℕ
+code_sites code = site_weight code.items
+
+own_sum : (codes : List Labelled) → source.slots_in codes ≡ sum_by code_sites codes
 own_sum [] = refl
 own_sum (code ∷ codes) =
     let rest = own_sum codes in
-    let here = slots_same code.items in
-    omega (arith, rest, here, sum_by-cons (λ (n : ℕ). n) (slots code.items) (map (λ (c : Labelled). slots c.items) codes), sum_by-cons code_slots code codes)
+    let here = sites_same code.items in
+    omega (arith, rest, here, sum_by-cons (λ (n : ℕ). n) (sites code.items) (map (λ (c : Labelled). sites c.items) codes), sum_by-cons code_sites code codes)
 
 -- the code of each function's variants
 abbrev variant_lists : List PartFunction → List (List Labelled)
 variant_lists attributed = map (λ (a : PartFunction). variant_codes a.variants) attributed
 
-variant_sum : (attributed : List PartFunction) → sum (map source.slots_in (variant_lists attributed)) ≡ sum_by code_slots (variant_codes (function_variants attributed))
+variant_sum : (attributed : List PartFunction) → sum (map source.slots_in (variant_lists attributed)) ≡ sum_by code_sites (variant_codes (function_variants attributed))
 variant_sum [] = refl
 variant_sum (a ∷ attributed) =
     let rest = variant_sum attributed in
     let here = own_sum (variant_codes a.variants) in
-    let all = ap (sum_by code_slots) (map-append (λ (v : PartVariant). v.code) a.variants (function_variants attributed)) in
+    let all = ap (sum_by code_sites) (map-append (λ (v : PartVariant). v.code) a.variants (function_variants attributed)) in
     omega (
       arith,
       rest,
       here,
       all,
-      sum_by-append code_slots (variant_codes a.variants) (variant_codes (function_variants attributed)),
+      sum_by-append code_sites (variant_codes a.variants) (variant_codes (function_variants attributed)),
       sum_by-cons (λ (n : ℕ). n) (source.slots_in (variant_codes a.variants)) (map source.slots_in (variant_lists attributed)),
     )
 
@@ -150,7 +165,7 @@ are_counted made fit texts counted p formed bodies tables parts are =
     let variants = have_variants made fit p bodies tables parts.functions parts.attributed are in
     let lists = have_variant_codes made fit p bodies tables parts.functions parts.attributed are in
     let both = counted p formed parts.functions (variant_lists parts.attributed) own lists in
-    let all = sum_by-append code_slots parts.functions (variant_codes (function_variants parts.attributed)) in
+    let all = sum_by-append code_sites parts.functions (variant_codes (function_variants parts.attributed)) in
     let first = own_sum parts.functions in
     let second = variant_sum parts.attributed in
     let sites = both.0 in

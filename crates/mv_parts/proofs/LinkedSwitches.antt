@@ -1,4 +1,4 @@
--- The switches of a well-formed program: their places in data, and their kinds.
+-- The switches and pointer switches of a well-formed program: their places in data, and the kinds of switches.
 use Rattle.std.proofs.Common.{◌≡◌, ℕ, zero, suc, ◌<◌, ◌≤◌, true, List, [], ◌∷◌, Some, Option, length, map, get_or, slice_get, slice_index, sum_by, All, refl, sym, ap, ◌∙◌, subst, arith}
 use Rattle.std.proofs.lemmas.List.{length-map}
 use Rattle.std.proofs.lemmas.List.Elements.{All-head, All-tail, All-map, All-weaker}
@@ -10,18 +10,18 @@ use Rattle.mv_ast.specs.declared.program.Global.{Global}
 use Rattle.mv_ast.specs.declared.program.Switch.{Switch}
 use Rattle.mv_ast.specs.Counts.{words_of_size}
 use Rattle.mv_ast.specs.Switches.{global_or_none, values_or_none}
-use Rattle.mv_source_forms.specs.WellFormed.{IsWellFormed, IsWellFormedGlobal, IsWellFormedSwitch}
-use Rattle.mv_source_facts.specs.Facts.{IsTableSwitch, HasTableFacts}
+use Rattle.mv_source_forms.specs.WellFormed.{IsWellFormed, IsWellFormedGlobal, IsWellFormedPointer, IsWellFormedSwitch}
+use Rattle.mv_source_facts.specs.Facts.{IsTablePointer, IsTableSwitch, HasTableFacts}
 use Rattle.mv_merge.specs.declared.rows.Domain.{Domain}
 use Rattle.mv_merge.specs.Guards.{kinds, HasRanges}
 use Rattle.mv_descriptors.specs.declared.rows.GuardRow.{GuardRow}
 use Rattle.mv_descriptors.specs.Rows.{ZerosFrom}
 use Rattle.mv_ir.specs.Combinations.{In}
-use Rattle.mv_linker.specs.Tables.{FitsPartSwitch, IsName, IsRange, kind_in, kinds_of}
+use Rattle.mv_linker.specs.Tables.{FitsPartPointer, FitsPartSwitch, IsName, IsRange, kind_in, kinds_of}
 use Rattle.mv_link_data.specs.FirstData.{global_sizes, data_words}
 use Rattle.mv_link_data.specs.Laws.{HasRoom, CountIsSum}
 use Rattle.mv_variants.specs.Domains.{integer_kind, kind_or_int, switch_kind, domain}
-use Rattle.mv_parts.specs.Switches.{name_or_none, word_of, part_switch, part_switches}
+use Rattle.mv_parts.specs.Switches.{name_or_none, word_of, part_switch, part_switches, part_pointer, part_pointers}
 use Rattle.mv_parts.specs.Laws.{SwitchesAreThere, DataIsCounted}
 use Rattle.mv_parts.proofs.LinkedLists.{one_in}
 use Rattle.mv_parts.proofs.Lists.{map_at, one_of_all}
@@ -44,6 +44,7 @@ switches_there p formed =
     let same : data_words p ≡ sum_by size p.globals = sum-map size p.globals in record {
       there = All-weaker (IsWellFormedSwitch p) (λ (s : Switch). s.global < length p.globals) (λ s h. slice_get_within p.globals s.global h.global h.there) p.switches formed.switches;
       few = omega (arith, limits.switches);
+      pointers = All-weaker (IsWellFormedPointer p) (λ (g : ℕ). g < length p.globals) (λ g h. slice_get_within p.globals g h.global h.there) p.pointers formed.pointers;
       words = omega (arith, same, most, limits.globals);
     }
 
@@ -81,6 +82,19 @@ pub all_switches_fit : (p : Program) → HasTableFacts p → (words : ℕ) → w
 all_switches_fit p facts words count =
     All-map (FitsPartSwitch words) (part_switch p) p.switches
     (All-weaker (IsTableSwitch p) (λ (s : Switch). FitsPartSwitch words (part_switch p s)) (λ s t. switch_fits p s t words count) p.switches facts.switches)
+
+-- ---- a pointer switch of the program
+
+pointer_fits : (p : Program) (g : ℕ) → IsTablePointer p g → (words : ℕ) → words ≡ data_words p → FitsPartPointer words (part_pointer p g)
+pointer_fits p g t words count = record {
+  name = subst (λ (o : Option Global). IsName (name_or_none o)) (sym t.there) (name_fits t.global.name t.named);
+  word = let size : words_of_size t.global.size ≡ 1 = ap words_of_size t.scalar in let within = word_within p g t.global t.there (omega (arith, size)) in omega (arith, within, count);
+}
+
+pub all_pointers_fit : (p : Program) → HasTableFacts p → (words : ℕ) → words ≡ data_words p → All (FitsPartPointer words) (part_pointers p)
+all_pointers_fit p facts words count =
+    All-map (FitsPartPointer words) (part_pointer p) p.pointers
+    (All-weaker (IsTablePointer p) (λ (g : ℕ). FitsPartPointer words (part_pointer p g)) (λ g t. pointer_fits p g t words count) p.pointers facts.pointers)
 
 -- ---- the switches of a function
 

@@ -5,7 +5,7 @@ use Rattle.mv_linker.specs.declared.parts.Parts.{Parts}
 use Rattle.mv_linker.specs.declared.parts.PartFunction.{PartFunction}
 use Rattle.mv_linker.specs.declared.parts.PartVariant.{PartVariant}
 use Rattle.mv_linker.specs.Linked.{codes, label_count, trap_label}
-use Rattle.mv_linker.specs.Tables.{slot_count}
+use Rattle.mv_linker.specs.Tables.{site_weight}
 use Rattle.mv_parts.specs.declared.counts.Counted.{Counted}
 use Rattle.mv_parts.specs.declared.counts.Counted.TheVariants.{Sites, Labels}
 use Rattle.mv_parts.specs.Codes.{greatest_count}
@@ -15,7 +15,7 @@ abbrev pub up_to_greatest : ℕ → ℕ
 up_to_greatest n = min n greatest_count
 
 abbrev pub count_in : Counted → Labelled → ℕ
-count_in Sites code = slot_count code.items
+count_in Sites code = site_weight code.items
 count_in Labels code = code.labels + 1
 
 abbrev pub count_in_variant : Counted → PartVariant → ℕ

@@ -1,5 +1,5 @@
 -- The code of a program up to the first that there is no room for: that of its functions, and that of the first of their variants.
-use Rattle.std.specs.Prelude.{ℕ, ◌≡◌, ◌+◌, List, [], ◌∷◌, ◌++◌, All, Some, length, slice_get, sum_by}
+use Rattle.std.specs.Prelude.{ℕ, ◌≡◌, ◌+◌, List, [], ◌∷◌, ◌++◌, All, Some, length, nat_lt, slice_get, sum_by}
 use Rattle.std.specs.List.{flat_map}
 use Rattle.mv_ast.specs.declared.program.Program.{Program}
 use Rattle.mv_ast.specs.declared.program.Function.{Function}
@@ -22,9 +22,9 @@ code_words code = lines_words code.items
 abbrev pub code_sites : Labelled → ℕ
 code_sites code = lines_sites code.items
 
--- the size of the code of functions behind the stubs
-pub record IsSizeOf (functions : List Labelled) (size : Size) : Type 0 where
-  pub words : size.words ≡ up_to_greatest (lines_words (stub_lines 0) + sum_by code_words functions)
+-- the size of the code of a program's functions behind the stubs
+pub record IsSizeOf (p : Program) (functions : List Labelled) (size : Size) : Type 0 where
+  pub words : size.words ≡ up_to_greatest (lines_words (stub_lines 0 (nat_lt 0 (length p.pointers))) + sum_by code_words functions)
   pub sites : size.sites ≡ up_to_greatest (sum_by code_sites functions)
 
 -- ---- variants

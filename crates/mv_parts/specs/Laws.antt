@@ -1,6 +1,6 @@
 -- What holds of the code of a well-formed program, and of what is linked of it.
 use Rattle.std.specs.Prelude.{ℕ, ◌≡◌, ◌+◌, ◌*◌, ◌<◌, ◌≤◌, List, length}
-use Rattle.mv_num.specs.Regions.{text_limit}
+use Rattle.mv_num.specs.Regions.{data_limit, text_limit}
 use Rattle.mv_ast.specs.declared.program.Program.{Program}
 use Rattle.mv_ast.specs.Counts.{patchable}
 use Rattle.mv_isa.specs.Code.{text_start}
@@ -20,18 +20,19 @@ use Rattle.mv_parts.specs.Codes.{AreGenerics, HaveCode}
 use Rattle.mv_parts.specs.Counts.{HaveFewLabels}
 use Rattle.mv_parts.specs.Fronts.{IsSizeOf, PassesFront}
 use Rattle.mv_parts.specs.Parts.{AreCodesOf, ArePartsOf}
-use Rattle.mv_parts.specs.Switches.{HasSwitches, part_switches}
+use Rattle.mv_parts.specs.Switches.{HasSwitches, part_switches, part_pointers, part_targets}
 
--- its switches are globals, and the words of its data have numbers
+-- its switches and pointer switches are globals, and the words of its data have numbers
 abbrev pub SwitchesAreThere : Type 0
 SwitchesAreThere = (p : Program) → IsWellFormed p → HasSwitches p
 
--- The code of a program whose tables can be made, with its switches and the first words of its globals, can be linked where there are numbers for all labels.
+-- The code of a program whose tables can be made, with its switches and the first words of its globals, can be linked where there are numbers for all labels,
+-- and room for its data.
 abbrev pub PartsCanBeLinked : Type 0
 PartsCanBeLinked =
     (p : Program) → IsWellFormed p → HasTableFacts p → (bodies : List Body) (tables : List (List Variant)) (parts : Parts) →
-    AreCodesOf p bodies tables parts.functions parts.attributed → parts.switches ≡ part_switches p → parts.main ≡ p.main → parts.globals ≡ first_data p →
-    HaveFewLabels parts → ArePartsOf p bodies tables parts
+    AreCodesOf p bodies tables parts.functions parts.attributed → parts.switches ≡ part_switches p → parts.pointers ≡ part_pointers p → parts.targets ≡ part_targets p →
+    parts.main ≡ p.main → parts.globals ≡ first_data p → HaveFewLabels parts → data_words p ≤ data_limit → ArePartsOf p bodies tables parts
 
 -- there are as many words of data as all globals have
 abbrev pub DataIsCounted : Type 0
@@ -56,4 +57,4 @@ pub record IsSizeCounted (p : Program) (size : Size) : Type 0 where
 abbrev pub SizesAreCounted : Type 0
 SizesAreCounted =
     (p : Program) → IsWellFormed p → (bodies : List Body) (functions : List Labelled) → AreGenerics p bodies → HaveCode p bodies functions →
-    (size : Size) → IsSizeOf functions size → IsSizeCounted p size × ((over : Size) → PassesFront p size over → IsSizeCounted p over)
+    (size : Size) → IsSizeOf p functions size → IsSizeCounted p size × ((over : Size) → PassesFront p size over → IsSizeCounted p over)

@@ -19,7 +19,7 @@ use Rattle.mv_variants.specs.declared.variant.Variant.{Variant}
 use Rattle.mv_variants.specs.Variants.{AreVariantsOf}
 use Rattle.mv_parts.specs.Codes.{AreGenerics, IsCodeOf, HaveCode}
 use Rattle.mv_parts.specs.Numbers.{attributed_numbers}
-use Rattle.mv_parts.specs.Switches.{part_switches}
+use Rattle.mv_parts.specs.Switches.{part_switches, part_pointers, part_targets}
 
 -- ---- variants
 
@@ -65,10 +65,12 @@ pub record AreCodesOf (p : Program) (bodies : List Body) (tables : List (List Va
   pub code : HaveCode p bodies functions
   pub variants : ArePartFunctions p tables attributed
 
--- What is linked of it: also its switches, and the first words of the globals.
+-- What is linked of it: also its switches and pointer switches, what these may be bound to, and the first words of the globals.
 pub record ArePartsOf (p : Program) (bodies : List Body) (tables : List (List Variant)) (parts : Parts) : Type 0 where
   pub codes : AreCodesOf p bodies tables parts.functions parts.attributed
   pub switches : parts.switches ≡ part_switches p
+  pub pointers : parts.pointers ≡ part_pointers p
+  pub targets : parts.targets ≡ part_targets p
   pub main : parts.main ≡ p.main
   pub globals : parts.globals ≡ first_data p
   pub are : AreParts parts

@@ -1,25 +1,30 @@
 //! How many sites and labels the code of parts has, and how many words that of functions.
 
-ghost use Rattle.std.specs.Prelude.{◌≡◌, ◌+◌, ◌↔◌, sum_by, IsTrue};
+ghost use Rattle.std.specs.Prelude.{◌≡◌, ◌+◌, ◌↔◌, length, nat_lt, sum_by, IsTrue};
+ghost use Rattle.mv_linker.specs.Linked.{stub_lines};
 ghost use Rattle.mv_linker.specs.Tables.{site_count};
+ghost use Rattle.mv_variants.specs.Sizes.{lines_words};
 ghost use Rattle.mv_parts.specs.Counts.{up_to_greatest, count_in, count_in_variant, count_in_function, count_in_parts, HaveFewLabels};
 ghost use Rattle.mv_parts.specs.Fronts.{IsSizeOf};
 
+use mv_ast::program::Program;
 use mv_isa::labelled::Labelled;
 use mv_isa::labels::TRAPS;
-use mv_linker::{PartFunction, PartVariant, Parts, slot_count};
+use mv_linker::{PartFunction, PartVariant, Parts, site_weight};
 use mv_variants::size::{Size, with_lines};
 
 /// The labels of all code stay below those of the stubs, of which this is the least.
 const STUBS: u64 = TRAPS as u64 + 1;
 
-/// How many words the stubs have.
+/// How many words the stubs have without that of calls through pointer switches, and how many that has.
 const STUB_WORDS: u64 = 29;
+
+const CHECK_WORDS: u64 = 6;
 
 /// What is counted of code.
 #[derive(Clone, Copy, Debug, Drop)]
 pub enum Counted {
-    /// Its slots.
+    /// Its slots, those of four words counted twice.
     Sites,
     /// Its own labels, and the one of its entry.
     Labels,
@@ -32,18 +37,29 @@ pub fn site_count(parts: &Parts) -> u64
     in_parts(Counted::Sites, parts)
 }
 
-/// The size of the code of functions, behind the stubs.
-pub fn size_of(functions: &[Labelled]) -> Size
-    ensures { IsSizeOf functions.now result }
+/// The size of the code of a program's functions, behind the stubs.
+pub fn size_of(program: &Program, functions: &[Labelled]) -> Size
+    ensures { IsSizeOf program.now functions.now result }
 {
     let mut size = Size {
-        words: STUB_WORDS,
+        words: stub_words(program),
         sites: 0,
     };
     for code in functions {
         size = with_lines(size, code.items.as_slice());
     }
     size
+}
+
+/// How many words the stubs of a program have.
+fn stub_words(program: &Program) -> u64
+    ensures { result ≡ lines_words (stub_lines 0 (nat_lt 0 (length program.now.pointers))) }
+{
+    if program.pointers.len() == 0 {
+        STUB_WORDS
+    } else {
+        STUB_WORDS + CHECK_WORDS
+    }
 }
 
 /// Whether there are numbers for all labels of parts.
@@ -97,7 +113,7 @@ fn in_code(what: Counted, code: &Labelled) -> u64
     ensures { result ≡ count_in what code.now }
 {
     match what {
-        Counted::Sites => slot_count(code.items.as_slice()) as u64,
+        Counted::Sites => site_weight(code.items.as_slice()) as u64,
         Counted::Labels => u64::from(code.labels) + 1,
     }
 }

@@ -10,16 +10,17 @@
 //!   other is made. `part_functions`: each with its name, its number, its switches, and of each variant the code of its
 //!   body, the two words that stand in place of a call exactly where its body has such, and its guard rows
 //!   (`ArePartFunctions`). No frame of a variant is larger than its function's, so none is refused.
-//! - `part_switches`: the name, the word, the type and the domain of each switch, exactly as `specs/Switches.antt` defines
-//!   them.
+//! - `part_switches`: the name, the word, the type and the domain of each switch; `part_pointers`: the name and the word of
+//!   each pointer switch; `part_targets`: the names of all functions where there is a pointer switch; exactly as
+//!   `specs/Switches.antt` defines them.
 //! - `size_of`: how many words and sites the code of functions has, behind the stubs and with each branch as one word.
-//!   `site_count`: how many slots all code has, as far as a `u64` goes. `labels_fit`: whether there are numbers for all
-//!   labels below those of the stubs.
+//!   `site_count`: how many slots all code has, those of four words counted twice, as far as a `u64` goes. `labels_fit`:
+//!   whether there are numbers for all labels below those of the stubs.
 //! - `parts_law`: where the names and domains of a well-formed program can stand in tables, and there are numbers for its
-//!   labels, all this is what `link` asks for (`parts`); its switches are globals (`switches`); there are as many words of
-//!   data as its globals have (`data`); and counts over the source bound its sites, the places that a plan patches, and
-//!   its text where that is too long (`counts`), and how much code there is of the functions and of their first variants
-//!   (`sizes`).
+//!   labels and room for its data, all this is what `link` asks for (`parts`); its switches and pointer switches are
+//!   globals (`switches`); there are as many words of data as its globals have (`data`); and counts over the source bound
+//!   its sites, the places that a plan patches, and its text where that is too long (`counts`), and how much code there is
+//!   of the functions and of their first variants (`sizes`).
 #![tactic(auto)]
 
 mod attributed;
@@ -32,4 +33,4 @@ pub use attributed::{attributed_numbers, part_functions, tables_of};
 pub use counts::{Counted, labels_fit, site_count, size_of};
 pub use generics::{codes_of, generics_of};
 pub use laws::parts_law;
-pub use switches::part_switches;
+pub use switches::{part_pointers, part_switches, part_targets};

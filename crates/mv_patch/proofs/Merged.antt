@@ -1,5 +1,5 @@
 -- Two ascending lists of addresses as one.
-use Rattle.std.proofs.Common.{◌≡◌, ◌≢◌, ◌⊎◌, inl, inr, ⊎_elim, ℕ, suc, ◌<◌, ◌≤◌, ltb, List, [], ◌∷◌, refl, arith}
+use Rattle.std.proofs.Common.{◌≡◌, ◌≢◌, ◌⊎◌, inl, inr, ⊎_elim, ℕ, suc, ◌<◌, ◌≤◌, Bool, true, false, cond, ltb, List, [], ◌∷◌, refl, arith}
 use Rattle.std.proofs.lemmas.Bool.{cond_both, cases_lt, ltb-true, ltb-false}
 use Rattle.mv_patch.specs.Pairs.{place}
 use Rattle.mv_patch.specs.Tables.{merged_behind, merged}
@@ -36,6 +36,24 @@ pub merged_right : (xs ys : List ℕ) (a : ℕ) → Has a ys → Has a (merged x
 unfolding merged
 merged_right [] ys a h = h
 merged_right (x ∷ xs) ys a h = right_behind x (merged xs) a ys (λ zs k. merged_right xs zs a k) h
+
+-- ---- and nothing else is
+
+has_behind : (x : ℕ) (later : List ℕ → List ℕ) (a : ℕ) (xs ys : List ℕ) → ((zs : List ℕ) → Has a (later zs) → Has a xs ⊎ Has a zs) → Has a (merged_behind x later ys) → Has a (x ∷ xs) ⊎ Has a ys
+has_behind x later a xs [] g (inl e) = inl (inl e)
+has_behind x later a xs [] g (inr h) = ⊎_elim (λ (p : Has a xs). inl (inr p)) (λ (q : Has a []). absurd q) (g [] h)
+has_behind x later a xs (y ∷ ys) g h = by_test (λ p. has_behind x later a xs ys g p) (ltb x y) h
+  where
+    by_test : (Has a (merged_behind x later ys) → Has a (x ∷ xs) ⊎ Has a ys) → (b : Bool) → Has a (cond b (x ∷ later (y ∷ ys)) (y ∷ merged_behind x later ys)) → Has a (x ∷ xs) ⊎ Has a (y ∷ ys)
+    by_test rest true (inl e) = inl (inl e)
+    by_test rest true (inr p) = ⊎_elim (λ (q : Has a xs). inl (inr q)) (λ (q : Has a (y ∷ ys)). inr q) (g (y ∷ ys) p)
+    by_test rest false (inl e) = inr (inl e)
+    by_test rest false (inr p) = ⊎_elim (λ (q : Has a (x ∷ xs)). inl q) (λ (q : Has a ys). inr (inr q)) (rest p)
+
+pub merged_has : (xs ys : List ℕ) (a : ℕ) → Has a (merged xs ys) → Has a xs ⊎ Has a ys
+unfolding merged
+merged_has [] ys a h = inr h
+merged_has (x ∷ xs) ys a h = has_behind x (merged xs) a xs ys (λ zs p. merged_has xs zs a p) h
 
 -- ---- the merged list ascends
 

@@ -7,7 +7,7 @@ use Rattle.mv_image.specs.Spelling.{Fields}
 use Rattle.mv_image.specs.Faults.{Rules}
 use Rattle.mv_image.specs.Patched.{Bindings, text_of, ShowsAt}
 use Rattle.mv_patch.specs.declared.prepared.Pair.{Pair}
-use Rattle.mv_patch.specs.Orders.{bindings_after}
+use Rattle.mv_patch.specs.Orders.{binding_count, bindings_after}
 use Rattle.mv_patch.specs.Pairs.{place, pair_of, pairs_between, IsDifference}
 use Rattle.mv_patch.specs.Tables.{patchable, patched_places, pairs_at}
 
@@ -48,7 +48,8 @@ pub record PairsAt (old new places : List ℕ) : Type 0 where
 abbrev pub PairsAtPlaces : Type 0
 PairsAtPlaces = (old new places : List ℕ) → PairsAt old new places
 
--- The entries and the words of the sites, in order, are such addresses, as many as may be patched, and each at which a function shows is one of them.
+-- The entries, the words of the sites and those of the pointer sites, in order, are such addresses, as many as may be patched, and each at which a function or a
+-- pointer switch shows is one of them.
 pub record TablesTell (image : Fields) : Type 0 where
   pub count : length (patched_places image) ≡ patchable image
   pub places : Rules image → ArePlaces (length image.text) (patched_places image)
@@ -65,6 +66,6 @@ pub record PairsOfTables (image : Fields) (some other : Bindings) : Type 0 where
 abbrev pub TablesTellPairs : Type 0
 TablesTellPairs = (image : Fields) → Rules image → (some other : Bindings) → PairsOfTables image some other
 
--- An order leaves one binding for each function.
+-- An order leaves one binding for each function and each pointer switch.
 abbrev pub OrdersKeepCount : Type 0
-OrdersKeepCount = (image : Fields) (held : Held) (code index : ℕ) (bs : List Binding) → length bs ≡ length image.functions → length (bindings_after image held code index bs) ≡ length image.functions
+OrdersKeepCount = (image : Fields) (held : Held) (code index : ℕ) (bs : List Binding) → length bs ≡ binding_count image → length (bindings_after image held code index bs) ≡ binding_count image

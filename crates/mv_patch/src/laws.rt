@@ -10,13 +10,13 @@ pub fn pairs_law()
     ensures places { PairsAtPlaces }
 {}
 
-/// The entries and the words of the sites of an image, in order, are such addresses for the texts of any two bindings.
+/// The entries, the words of the sites and those of the pointer sites of an image, in order, are such addresses for the texts of any two bindings.
 pub fn tables_law()
     ensures places { PlacesOfTables }
     ensures pairs { TablesTellPairs }
 {}
 
-/// An order leaves one binding for each function.
+/// An order leaves one binding for each function and each pointer switch.
 pub fn bindings_law()
     ensures { OrdersKeepCount }
 {}

@@ -8,12 +8,13 @@
 //!   the bindings behind it, its answer, and the pairs, which are the addresses at which the text of the new bindings
 //!   differs from that of the old ones, with the new words.
 //! - `plan` fills a plan with exactly these, for all six orders. It answers `Live(live)` exactly where `live` is above 0,
-//!   and then the plan stays as it was. It takes no memory, and keeps the plan's room. It goes through the entries and
-//!   the sites in ascending order, and not through all text.
+//!   and then the plan stays as it was. It takes no memory, and keeps the plan's room. It goes through the entries, the
+//!   sites and the pointer sites in ascending order, and not through all text.
 //! - `laws::{pairs_law, tables_law, bindings_law}`: the pairs between two texts are all their differences and nothing
 //!   else, in ascending order, and the only such list; they are found at any ascending addresses that hold each address
-//!   at which the texts differ; the entries and the two words of each site are such addresses for the texts of any two
-//!   bindings; so there are no more pairs than these; an order leaves one binding for each function.
+//!   at which the texts differ; the entries, the two words of each site and the four of each pointer site are such
+//!   addresses for the texts of any two bindings; so there are no more pairs than these; an order leaves one binding for
+//!   each function and each pointer switch.
 //! - Only tested: an image made by hand, orders and polls on it, inline words, a value that no guard holds of (`mv_test_top`).
 #![tactic(auto)]
 

@@ -1,12 +1,14 @@
-ghost use Rattle.std.specs.Prelude.{◌≡◌, ◌≤◌, take};
+ghost use Rattle.std.specs.Prelude.{◌≡◌, ◌≤◌, ◌<◌, ◌+◌, ◌^◌, length, take};
+ghost use Rattle.mv_descriptors.specs.declared.rows.PointerRow.{PointerRow};
+ghost use Rattle.mv_image.specs.Spelling.{Fields};
 ghost use Rattle.mv_num.specs.Lists.{is_among};
 ghost use Rattle.mv_bindings.specs.OrderNumbers.{is_commit};
-ghost use Rattle.mv_patch.specs.Orders.{code_of, index_of, is_ordered};
+ghost use Rattle.mv_patch.specs.Orders.{code_of, index_of, is_ordered, is_pointer_ordered};
 
 use mv_descriptors::FunctionRow;
 
-/// What a program asks for by a commit or a revert: of all attributed functions, of one of them by its number, or of those
-/// that depend on a switch, by its number.
+/// What a program asks for by a commit or a revert: of all attributed functions and pointer switches, of one of these functions by
+/// its number, or of those that depend on a switch, by its number, behind which the pointer switches count on, each for itself.
 #[derive(Clone, Copy, Debug, PartialEq, Eq)]
 pub enum Order {
     CommitAll,
@@ -37,6 +39,20 @@ impl Order {
         match self {
             Order::CommitAll | Order::CommitFunction(_) | Order::CommitRefs(_) => true,
             Order::RevertAll | Order::RevertFunction(_) | Order::RevertRefs(_) => false,
+        }
+    }
+
+    /// Whether it addresses a pointer switch, where there are so many switches.
+    pub(crate) fn addresses_pointer(self, switches: usize, number: usize) -> bool
+        requires { switches + number < 2 ^ 64 }
+        ensures { (image : Fields) (row : PointerRow) → length image.switches ≡ switches → result ≡ is_pointer_ordered image (code_of self) (index_of self) number row }
+    {
+        match self {
+            Order::CommitAll | Order::RevertAll => true,
+            Order::CommitFunction(_) | Order::RevertFunction(_) => false,
+            Order::CommitRefs(index) | Order::RevertRefs(index) => {
+                switches + number == index as usize
+            }
         }
     }
 

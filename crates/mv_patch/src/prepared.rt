@@ -3,11 +3,11 @@
 ghost use Rattle.std.specs.Prelude.{◌≡◌, ◌≤◌, [], length, replicate, IfOk};
 ghost use Rattle.mv_bindings.specs.Bindings.{free};
 ghost use Rattle.mv_patch.specs.Tables.{patchable};
-ghost use Rattle.mv_patch.specs.Orders.{code_of, index_of, first_bindings};
+ghost use Rattle.mv_patch.specs.Orders.{code_of, index_of, binding_count, first_bindings};
 ghost use Rattle.mv_patch.specs.Plans.{plan_of};
 
 use crate::bindings::{answer_to, rebind, show};
-use crate::changes::find_changes;
+use crate::changes::{Showing, find_changes};
 use crate::order::Order;
 use mv_bindings::binding::Binding;
 use mv_descriptors::VariantRow;
@@ -34,7 +34,8 @@ pub struct Plan {
     bound: Vec<Binding>,
     answer: u32,
     room: u32,
-    // The variant that each function is bound to before the order, and behind it.
+    // The variant that each function is bound to before the order, and behind it, and behind the functions none for each pointer
+    // switch.
     before: Vec<Option<VariantRow>>,
     after: Vec<Option<VariantRow>>,
 }
@@ -72,21 +73,21 @@ fn none_shown(alloc: Global, count: usize) -> Result<Vec<Option<VariantRow>>, Al
 }
 
 impl Plan {
-    /// A plan without pairs, with all functions free and the answer 0. Its room is the greatest number of words that a plan of
+    /// A plan without pairs, with all free and the answer 0. Its room is the greatest number of words that a plan of
     /// the image can change.
     pub fn new(alloc: Global, image: &Image) -> Result<Plan, AllocError>
         ensures { IfOk result (λ plan. plan ≡ record { planned = record { pairs = []; bound = first_bindings image.now; answer = 0 }; room = patchable image.now }) }
     {
         within_limits(image);
-        let functions = image.functions().len();
-        let room = functions + 2 * image.sites().len();
+        let bindings = image.functions().len() + image.pointers().len();
+        let room = image.functions().len() + 2 * image.sites().len() + 4 * image.points().len();
         Ok(Plan {
             pairs: Vec::with_capacity(alloc, room)?,
-            bound: all_free(alloc, functions)?,
+            bound: all_free(alloc, bindings)?,
             answer: 0,
             room: room as u32,
-            before: none_shown(alloc, functions)?,
-            after: none_shown(alloc, functions)?,
+            before: none_shown(alloc, bindings)?,
+            after: none_shown(alloc, bindings)?,
         })
     }
 
@@ -97,26 +98,26 @@ impl Plan {
         self.pairs.as_slice()
     }
 
-    /// What each attributed function is bound to behind the order.
+    /// What each attributed function, and then each pointer switch, is bound to behind the order.
     pub fn bound(&self) -> &[Binding]
         ensures { result.now ≡ self.now.planned.bound }
     {
         self.bound.as_slice()
     }
 
-    /// For a commit the number of functions that it addresses and binds, and 0 for a revert.
+    /// For a commit the number of functions and pointer switches that it addresses and binds, and 0 for a revert.
     pub fn answer(&self) -> u32
         ensures { result ≡ self.now.planned.answer }
     {
         self.answer
     }
-    /// Fills it with what an order does where functions have these bindings. It takes no memory.
+    /// Fills it with what an order does where functions and pointer switches have these bindings. It takes no memory.
     pub(crate) fn fill(&mut self, image: &Image, memory: &Memory, order: Order, bound: &[Binding])
         requires room { patchable image.now ≤ self.old.room }
-        requires into { length self.old.planned.bound ≡ length image.now.functions }
-        requires bound { length bound.now ≡ length image.now.functions }
+        requires into { length self.old.planned.bound ≡ binding_count image.now }
+        requires bound { length bound.now ≡ binding_count image.now }
         ensures planned { self.new.planned ≡ plan_of image.now memory.now.held bound.now (code_of order) (index_of order) }
-        ensures count { length self.new.planned.bound ≡ length image.now.functions }
+        ensures count { length self.new.planned.bound ≡ binding_count image.now }
         ensures few { length self.new.planned.pairs ≤ patchable image.now }
         ensures room { self.new.room ≡ self.old.room }
     {
@@ -125,8 +126,14 @@ impl Plan {
         self.answer = answer_to(image, order, self.bound.as_slice());
         show(image, bound, self.before.as_mut_slice());
         show(image, self.bound.as_slice(), self.after.as_mut_slice());
-        let before = self.before.as_slice();
-        let after = self.after.as_slice();
+        let before = Showing {
+            bound,
+            variants: self.before.as_slice(),
+        };
+        let after = Showing {
+            bound: self.bound.as_slice(),
+            variants: self.after.as_slice(),
+        };
         find_changes(image, before, after, &mut self.pairs);
     }
 }

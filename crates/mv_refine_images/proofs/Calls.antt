@@ -1,21 +1,28 @@
--- No word at which a binding may show is an environment call: it begins the code of an attributed function, is a word of a slot, or what stands there for a variant.
-use Rattle.std.proofs.Common.{◌≡◌, ℕ, zero, suc, ◌+◌, ◌-◌, ◌*◌, ◌/◌, ◌<◌, ◌≤◌, Bool, true, false, cond, eqb, nat_lt, if◌then◌else◌, List, [], ◌∷◌, length, slice_get, slice_index, Option, Some, None, unwrap_or, option_and_then, refl, sym, ap, ◌∙◌, subst, arith, ℤ}
+-- No word at which a binding may show is an environment call: it begins the code of an attributed function, is a word of a slot, or what stands there for a
+-- variant or a target.
+use Rattle.std.proofs.Common.{◌≡◌, ℕ, zero, suc, ◌+◌, ◌-◌, ◌*◌, ◌/◌, ◌%◌, ◌<◌, ◌≤◌, Bool, true, false, cond, ◌||◌, eqb, nat_eq, nat_lt, if◌then◌else◌, List, [], ◌∷◌, length, slice_get, slice_index, slice_index_or, Option, Some, None, unwrap_or, option_and_then, refl, sym, ap, ◌∙◌, subst, arith, ℤ}
+use Rattle.std.proofs.lemmas.Bool.{eqb-true, le-ltb}
 use Rattle.std.proofs.lemmas.Option.{get_or_from_slice_get, slice_get-get_or, slice_get_within, same_Some}
 use Rattle.mv_ast.specs.declared.program.Program.{Program}
+use Rattle.mv_num.specs.Lists.{is_among}
+use Rattle.mv_descriptors.specs.declared.rows.PointerRow.{PointerRow}
+use Rattle.mv_descriptors.specs.declared.rows.PointRow.{PointRow}
 use Rattle.mv_descriptors.specs.declared.rows.SiteRow.{SiteRow}
+use Rattle.mv_descriptors.specs.declared.rows.TargetRow.{TargetRow}
 use Rattle.mv_descriptors.specs.declared.rows.VariantRow.{VariantRow}
 use Rattle.mv_isa.specs.declared.instr.Instr.{Instr}
 use Rattle.mv_isa.specs.declared.instr.Instr.TheVariants.{Lui, Jal, Addi, Ecall}
 use Rattle.mv_isa.specs.declared.labelled.Line.{Line}
 use Rattle.mv_isa.specs.Code.{address, line_at, text_start}
-use Rattle.mv_isa.specs.Encoding.{Fits, choose, decode, encode, opcode_rows, immediate_at}
-use Rattle.mv_isa.specs.Formats.{opcode_of, funct3_of}
+use Rattle.mv_isa.specs.Encoding.{Fits, choose, decode, encode, opcode_rows, load_rows, load_at, jalr_at, immediate_at}
+use Rattle.mv_isa.specs.Formats.{opcode_of, funct3_of, rd_of, rs1_of, i_imm}
 use Rattle.mv_isa.specs.Standing.{InstrStands, LineStands, word_at}
 use Rattle.mv_isa.proofs.RoundTrip.{decode-encode}
 use Rattle.mv_fetch.specs.Held.{index_of}
-use Rattle.mv_image.specs.Jumps.{nop, distance, jal_word, jump}
-use Rattle.mv_image.specs.Patched.{Bindings, variant_under, at_entry, at_site, after_site, entry_at, site_at, site_before, word_by, word_under, text_of}
+use Rattle.mv_image.specs.Jumps.{nop, distance, jal_word, jump, slot_words, bound_words}
+use Rattle.mv_image.specs.Patched.{Bindings, variant_under, target_under, pointer_number, at_entry, at_site, after_site, at_point, entry_at, site_at, site_before, is_in_point, point_at, word_by, word_through, word_under, text_of}
 use Rattle.mv_image.specs.Spelling.{Fields}
+use Rattle.mv_image.specs.WellFormed.{FitsPoint}
 use Rattle.mv_image.proofs.PatchLaws.{text_size, text_at}
 use Rattle.mv_ir.specs.declared.body.Body.{Body}
 use Rattle.mv_ir.specs.declared.stm.Stm.{Stm, out-Stm}
@@ -33,6 +40,7 @@ use Rattle.mv_linker.specs.Tables.{variant_row, variant_rows}
 use Rattle.mv_parts.proofs.Lists.{map_at}
 use Rattle.mv_parts.proofs.Numbers as numbered
 use Rattle.mv_link_text.proofs.Codes.{IsAssembled}
+use Rattle.mv_link_text.proofs.Found.{found_told}
 use Rattle.mv_link_text.proofs.Rows.{entry_told, site_told, before_told}
 use Rattle.mv_refine_machine.specs.Runs.Behaves.{CallsArePlain}
 use Rattle.mv_refine_images.proofs.LinkedProgram.{Basis, linked_program}
@@ -76,6 +84,71 @@ other_nop e = cc
 other_zero : IsOther 0
 unfolding decode opcode_of
 other_zero e = cc
+
+-- ---- the four words of a pointer site
+
+lui_opcode : (n : ℕ) → opcode_of (n * 4096 + 5 * 128 + 0x37) ≡ 0x37
+unfolding opcode_of
+lui_opcode n = omega arith
+
+other_lui : (n : ℕ) → IsOther (n * 4096 + 5 * 128 + 0x37)
+unfolding decode
+other_lui n e =
+    let word = n * 4096 + 5 * 128 + 0x37 in
+    let is = ap (λ o. choose opcode_rows o (λ read. read word) None) (lui_opcode n) in
+    let bad = sym is ∙ e in cc
+
+abbrev load_word : ℕ → ℕ
+load_word n = n * 1048576 + 5 * 32768 + 2 * 4096 + 5 * 128 + 0x03
+
+load_opcode : (n : ℕ) → opcode_of (load_word n) ≡ 0x03
+unfolding opcode_of
+load_opcode n = omega arith
+
+load_kind : (n : ℕ) → funct3_of (load_word n) ≡ 2
+unfolding funct3_of
+load_kind n = omega arith
+
+other_load : (n : ℕ) → IsOther (load_word n)
+unfolding decode load_at
+other_load n e =
+    let word = load_word n in
+    let is = ap (λ o. choose opcode_rows o (λ read. read word) None) (load_opcode n) in
+    let kind = ap (λ o. choose load_rows o (λ k. Some (k (rd_of word) (rs1_of word) (i_imm word))) None) (load_kind n) in
+    let bad = sym kind ∙ (sym is ∙ e) in cc
+
+other_call : IsOther 0x000280E7
+unfolding decode opcode_of funct3_of jalr_at
+other_call e = cc
+
+-- while it is free, and while it is bound
+free_others : (check at pointer j : ℕ) → IsOther (slice_index (slot_words check at pointer) j)
+unfolding slot_words
+free_others check at pointer zero = other_lui ((pointer + 2048) / 4096 % 1048576)
+free_others check at pointer (suc zero) = other_load (pointer % 4096)
+free_others check at pointer (suc (suc zero)) = other_jump 6 (at + 8) check
+free_others check at pointer (suc (suc (suc zero))) = other_call
+free_others check at pointer (suc (suc (suc (suc j)))) = other_zero
+
+bound_others : (check at target j : ℕ) → IsOther (slice_index (bound_words check at target) j)
+unfolding bound_words
+bound_others check at target zero = other_jump 6 at (check + 8)
+bound_others check at target (suc zero) = other_nop
+bound_others check at target (suc (suc zero)) = other_nop
+bound_others check at target (suc (suc (suc zero))) = other_jump 1 (at + 12) target
+bound_others check at target (suc (suc (suc (suc j)))) = other_zero
+
+-- an address in a pointer site
+in_slot : (a at : ℕ) → is_among a (at ∷ (at + 4) ∷ (at + 8) ∷ (at + 12) ∷ []) ≡ true → (j : ℕ) × (j < 4) × (at + 4 * j ≡ a)
+in_slot a at e = by (nat_eq a at) (nat_eq a (at + 4)) (nat_eq a (at + 8)) (nat_eq a (at + 12)) refl refl refl refl e
+  where
+    by : (b c d f : Bool) → nat_eq a at ≡ b → nat_eq a (at + 4) ≡ c → nat_eq a (at + 8) ≡ d → nat_eq a (at + 12) ≡ f → (b || (c || (d || (f || false)))) ≡ true →
+        (j : ℕ) × (j < 4) × (at + 4 * j ≡ a)
+    by true c d f p q r s h = let k = eqb-true a at p in (0, omega arith, omega (arith, k))
+    by false true d f p q r s h = let k = eqb-true a (at + 4) q in (1, omega arith, omega (arith, k))
+    by false false true f p q r s h = let k = eqb-true a (at + 8) r in (2, omega arith, omega (arith, k))
+    by false false false true p q r s h = let k = eqb-true a (at + 12) s in (3, omega arith, omega (arith, k))
+    by false false false false p q r s h = absurd (cc h)
 
 -- ---- the two words of an inline body
 
@@ -225,7 +298,7 @@ module _ (p : Program) (image : Fields) (basis : Basis p image) where
 
     text_there : word_at text_start built.linked.text a ≡ Some word
     text_there =
-        let from : nat_lt a text_start ≡ false = grind (arith) in
+        let from : nat_lt a text_start ≡ false = le-ltb a text_start (omega arith) in
         let index : (a - text_start) / 4 ≡ k = omega arith in
         rw (from, index) (ap (λ (i : Fields). slice_get i.text k) (sym built.linked.image_is) ∙ there)
 
@@ -256,6 +329,18 @@ module _ (p : Program) (image : Fields) (basis : Basis p image) where
         let line = line_stands told.slot.index told.slot.within _ told.slot.line in
         stands_other _ _ line.rest told.here (addi_other _ _ _)
 
+    point_other : (point : PointRow) → point_at image a ≡ Some point → IsOther word
+    unfolding point_at
+    point_other point e =
+        let found = found_told (is_in_point a) image.points point e in
+        let place = in_slot a point.address found.passes in
+        let fits : FitsPoint image point = subst (FitsPoint image) found.here ((basis.laws.typed image built.rules).1.fit.points found.number point found.within) in
+        let d : PointerRow = record { length = 0; address = 0 } in
+        let index : (point.address + 4 * place.0 - text_start) / 4 ≡ k = (let same = place.2 in omega (arith, same)) in
+        let is : word ≡ slice_index (slot_words image.check point.address (slice_index_or image.pointers point.pointer d).address) place.0 =
+        sym (get_or_from_slice_get image.text k word 0 there) ∙ ap (slice_index image.text) (sym index) ∙ fits.slot place.0 d place.1 in
+        subst IsOther (sym is) (free_others image.check point.address (slice_index_or image.pointers point.pointer d).address place.0)
+
     -- ---- what shows there
 
     at_entry_other : (n : ℕ) (values : Option (List ℕ)) → IsOther word → IsOther (at_entry a word (variant_under image n values))
@@ -283,6 +368,13 @@ module _ (p : Program) (image : Fields) (basis : Basis p image) where
         by None e = other
         by (Some v) e = either (eqb v.inlined 1) (slice_index v.words 1) nop (under_others n values v e).1 other_nop
 
+    at_point_other : (point : PointRow) (values : Option (List ℕ)) → IsOther word → IsOther (at_point image point a word (target_under image values))
+    at_point_other point values other = by (target_under image values)
+      where
+        by : (t : Option TargetRow) → IsOther (at_point image point a word t)
+        by None = other
+        by (Some t) = bound_others image.check point.address t.entry ((a - point.address) / 4)
+
     -- where an environment call stands under some bindings, none shows
     no_other : (some other : Bindings) (e : Option ℕ) (s t : Option SiteRow) → entry_at image a ≡ e → site_at image a ≡ s → site_before image a ≡ t →
         decode (word_by image some a word e s t) ≡ Some Ecall → word_by image some a word e s t ≡ word_by image other a word e s t
@@ -293,7 +385,11 @@ module _ (p : Program) (image : Fields) (basis : Basis p image) where
 
     under_plain : (some other : Bindings) → decode (word_under image some a word) ≡ Some Ecall → word_under image some a word ≡ word_under image other a word
     unfolding word_under
-    under_plain some other call = no_other some other (entry_at image a) (site_at image a) (site_before image a) refl refl refl call
+    under_plain some other call = by (point_at image a) refl call
+      where
+        by : (o : Option PointRow) → point_at image a ≡ o → decode (word_through image some a word o) ≡ Some Ecall → word_through image some a word o ≡ word_through image other a word o
+        by None e h = no_other some other (entry_at image a) (site_at image a) (site_before image a) refl refl refl h
+        by (Some point) e h = absurd (at_point_other point (some (pointer_number image point.pointer)) (point_other point e) h)
 
     text_is : (bound : Bindings) → slice_get (text_of image bound) k ≡ Some (word_under image bound a word)
     text_is bound =

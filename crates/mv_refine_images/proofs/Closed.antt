@@ -8,7 +8,7 @@ use Rattle.mv_ast.specs.Switches.{attributed_functions}
 use Rattle.mv_num.specs.Lists.{is_among}
 use Rattle.mv_descriptors.specs.declared.rows.SiteRow.{SiteRow}
 use Rattle.mv_image.specs.Spelling.{Fields}
-use Rattle.mv_image.specs.Patched.{entry_at, site_at, site_before}
+use Rattle.mv_image.specs.Patched.{entry_at, site_at, site_before, point_at}
 use Rattle.mv_ir.specs.declared.body.Body.{Body}
 use Rattle.mv_lower_spec.specs.Functions.{lower_function}
 use Rattle.mv_select.specs.Bodies.SelectedBodies.{globals_read, is_in_globals, reach_of}
@@ -29,9 +29,9 @@ use Rattle.mv_num.proofs.Booleans.{and_false}
 
 module _ (y : Layout) (out : IsSetOut y) (a : ℕ) where
   -- an address in the data words of a global
-  record In (x : ℕ) : Type 0 where
-    from : y.place x ≤ a
-    to : a < y.place x + 4 * y.size x
+  pub record In (x : ℕ) : Type 0 where
+    pub from : y.place x ≤ a
+    pub to : a < y.place x + 4 * y.size x
 
   in_data : (x : ℕ) → is_data_of y x a ≡ true → In x
   in_data x h =
@@ -41,7 +41,7 @@ module _ (y : Layout) (out : IsSetOut y) (a : ℕ) where
   some x h = omega (arith, h.from, h.to)
 
   -- lies in those of no other, and not in the stack
-  one : (x z : ℕ) → In x → In z → x ≡ z
+  pub one : (x z : ℕ) → In x → In z → x ≡ z
   one x z h k = ⊎_elim (λ (e : x ≡ z). e) (λ (ne : x ≡ z → ⊥). absurd (⊎_elim
       (λ (lt : x < z). let apart = out.globals_ascend x z lt (some x h) (some z k) in omega (arith, apart, h.to, k.from))
       (λ (le : z ≤ x). let apart = out.globals_ascend z x (less le ne) (some z k) (some x h) in omega (arith, apart, k.to, h.from))
@@ -82,7 +82,7 @@ module _ (y : Layout) (out : IsSetOut y) (a : ℕ) where
   shut true b h = h refl
   shut false b h = refl
 
-  none_where : (test : ℕ → Bool) → ((x : ℕ) → In x → test x ≡ false) → (count : ℕ) → is_data_among y test count a ≡ false
+  pub none_where : (test : ℕ → Bool) → ((x : ℕ) → In x → test x ≡ false) → (count : ℕ) → is_data_among y test count a ≡ false
   none_where test h zero = refl
   none_where test h (suc x) =
       ap (λ c. c || is_data_among y test x a) (shut (is_data_of y x a) (test x) (λ e. h x (in_data x e))) ∙ none_where test h x
@@ -116,7 +116,7 @@ beside : (image : Fields) (pc word : ℕ) → unpatched_word image pc ≡ Some w
 unfolding unpatched_word
 beside image pc word e = by (entry_at image pc) (site_at image pc) (site_before image pc) refl refl e
   where
-    by : (o : Option ℕ) (s t : Option SiteRow) → site_at image pc ≡ s → site_before image pc ≡ t → cond (is_some o || (is_some s || is_some t)) None (image_word image pc) ≡ Some word → IsBeside image pc
+    by : (o : Option ℕ) (s t : Option SiteRow) → site_at image pc ≡ s → site_before image pc ≡ t → cond (is_some o || (is_some s || (is_some t || is_some (point_at image pc)))) None (image_word image pc) ≡ Some word → IsBeside image pc
     by None None None q r h = record { first = q; second = r }
     by None None (Some t) q r h = absurd (cc)
     by None (Some s) t q r h = absurd (cc)
@@ -179,7 +179,7 @@ module _ (image : Fields) (parts : Parts) (sizing : List ℕ) (p : Program) (out
             more_than : f ≤ k → f < k
             more_than le = grind (arith, le, ne)
 
-    open_from : (pc a : ℕ) → address_of parts sizing f ≤ pc → pc < end → shuts test a → is_closed_from image parts sizing p 0 (closed_to_codes p parts) pc a ≡ false
+    pub open_from : (pc a : ℕ) → address_of parts sizing f ≤ pc → pc < end → shuts test a → is_closed_from image parts sizing p 0 (closed_to_codes p parts) pc a ≡ false
     open_from pc a low high free = from_shut (closed_to_codes p parts) 0 pc a (λ k x e. by k x e (cases_eq k f))
       where
         some_same : (u v : ℕ → Bool) → Some u ≡ Some v → u ≡ v

@@ -19,7 +19,7 @@ use Rattle.mv_source_forms.specs.WellFormed.{IsWellFormedGlobal}
 use Rattle.mv_select_code.specs.Statements.Frames.{Site}
 use Rattle.mv_refine_machine.specs.Layout.{IsPacked, IsSetOut}
 use Rattle.mv_linker.specs.Linked.{codes, function_variants, variant_codes}
-use Rattle.mv_linker.specs.Tables.{BeginsWithWords, FitsPartFunction, FitsPartVariant, is_slot, kinds_of}
+use Rattle.mv_linker.specs.Tables.{BeginsWithWords, FitsPartFunction, FitsPartVariant, is_slot, is_point, kinds_of}
 use Rattle.mv_linker.specs.Outcome.{data_limit}
 use Rattle.mv_link_text.specs.Laws.{CodesFollow}
 use Rattle.mv_link_data.specs.FirstData.{data_words, global_sizes}
@@ -135,6 +135,7 @@ module _ (p : Program) (image : Fields) (basis : Basis p image) where
       subst BeginsWithWords is (record {
         some = subst (λ (items : List Line). 1 ≤ least_words (line_at items 0)) (sym o.2.written.items) (omega arith);
         no_slot = ap (λ (items : List Line). is_slot (line_at items 0)) o.2.written.items;
+        no_point = ap (λ (items : List Line). is_point (line_at items 0)) o.2.written.items;
       })
 
   pub begins : (k : ℕ) (code : Labelled) → slice_get (codes parts) k ≡ Some code → BeginsWithWords code

@@ -4,7 +4,8 @@ use Rattle.mv_ir.specs.Reached.{EndsAreReached}
 use Rattle.mv_lower_spec.specs.Shape.Law.{LoweredReadNoMore}
 use Rattle.mv_select.specs.Bodies.SelectedBodies.{BodiesAreFunctions}
 use Rattle.mv_refine_machine.specs.Laws.{PackedIsLaidOut}
-use Rattle.mv_refine_machine.specs.Shown.{FreeFunctionsShow, BoundFunctionsShow}
+use Rattle.mv_refine_machine.specs.Shown.{FreeFunctionsShow, BoundFunctionsShow, BoundPointsShow}
+use Rattle.mv_refine_machine.specs.Stubs.Laws.{ChecksStand}
 use Rattle.mv_refine_machine.specs.Commits.Ends.{WatchedStartIsRight}
 use Rattle.mv_refine_machine.specs.Commits.Hosted.{WatchedCallsAreServed, WatchedMemory}
 use Rattle.mv_refine_machine.specs.Commits.Tabled.{TabledOrdersAreServed}
@@ -14,7 +15,7 @@ use Rattle.mv_refine_machine.specs.Runs.Laws.{ImagesBehave}
 use Rattle.mv_refine_images.specs.Programs.Laws.{MainFollowsOpenly}
 use Rattle.mv_link_data.specs.Laws.{SizesAreCounts, WordsAreFirst}
 use Rattle.mv_parts.specs.Laws.{DataIsCounted}
-use Rattle.mv_link_text.specs.Laws.{WordsAreThere, StubsStandInText, CodesAscend, PlainCodeStands, PatchedCodeStands, SlotsAreSites}
+use Rattle.mv_link_text.specs.Laws.{WordsAreThere, StubsStandInText, CodesAscend, PlainCodeStands, PatchedCodeStands, SlotsAreSites, PointsAreSites, PointsStandInCodes, CheckIsTold}
 use Rattle.mv_refine_images.specs.Tables.Laws.{AttributedAreTabled, RowsLeadToVariants, VariantsHaveRows, ImagesHaveTables}
 use Rattle.mv_refine_images.specs.Bodies.Laws.{FunctionsHaveOwnCode, VariantsHaveCode}
 
@@ -26,8 +27,13 @@ pub record Laws : Type 0 where
   pub plain : PlainCodeStands
   pub patched : PatchedCodeStands
   pub slots : SlotsAreSites
+  pub points : PointsAreSites
+  pub calls_in_codes : PointsStandInCodes
+  pub check : CheckIsTold
+  pub checks_stand : ChecksStand
   pub show_free : FreeFunctionsShow
   pub show_bound : BoundFunctionsShow
+  pub show_points : BoundPointsShow
   -- tables
   pub tabled : AttributedAreTabled
   pub lead : RowsLeadToVariants

@@ -13,20 +13,23 @@ use Rattle.mv_refine_machine.specs.Laws.{IsByteOrEnd}
 use Rattle.mv_refine_machine.specs.MachineRuns.{called_at}
 use Rattle.mv_refine_machine.specs.Under.{words_under}
 use Rattle.mv_refine_machine.proofs.Whole.{laid, own}
+use Rattle.mv_refine_machine.specs.Commits.Tabled.{IsTabled}
 use Rattle.mv_refine_machine.specs.Commits.Watched.{access}
 use Rattle.mv_refine_images.specs.Programs.Hosts.{IsOpenHost, IsOpenlyLoaded}
+use Rattle.mv_linker.specs.Linked.{check_label}
 use Rattle.mv_link_text.specs.Text.{StubsArePlaced}
 use Rattle.mv_refine_images.specs.Tables.Laws.{HaveTables}
 use Rattle.mv_refine_images.proofs.LinkedProgram.{Basis, linked_program}
 use Rattle.mv_refine_images.specs.Layouts.{address_of}
 use Rattle.mv_refine_images.proofs.Closed.{plan_open}
 use Rattle.mv_refine_images.proofs.Data.{counted, entries, set_out}
+use Rattle.mv_refine_images.proofs.Points.{of_pointers, pointed}
 use Rattle.mv_refine_images.proofs.Standing.{is_one, selected}
 use Rattle.mv_refine_images.proofs.Watching.{runs_openly}
 
 module _ (p : Program) (image : Fields) (basis : Basis p image) where
-  open basis use {laws, formed, unswitched, built}
-  open linked_program p image built use {parts, sizing, y, numbers, attributed, shut, machine}
+  open basis use {laws, formed, built}
+  open linked_program p image built use {parts, sizing, y, numbers, at, attributed, shut, machine}
 
   out : IsSetOut y
   out = set_out p image basis
@@ -34,8 +37,11 @@ module _ (p : Program) (image : Fields) (basis : Basis p image) where
   pub stubs : StubsArePlaced parts image sizing
   stubs = laws.stubs parts image built.are.are built.are.fit built.linked
 
-  pub tables : HaveTables p image
-  tables = laws.tables p formed unswitched built.bodies built.tables parts built.are image built.linked
+  pub tables : HaveTables p numbers image
+  tables = laws.tables p formed built.bodies built.tables parts built.are image built.linked
+
+  tabled : IsTabled p numbers y image
+  tabled = tables.tabled y (λ x. refl) (λ x. refl)
 
   module _ (bytes : List ℕ) (polls : PollActs) (picks : List ℕ) (are_bytes : All (λ b. b < 2 ^ 8) bytes) (of_words : All IsActOfWord polls.acts) (budget far : ℕ) where
     bytes_or_end : All IsByteOrEnd (bytes_to_come bytes)
@@ -60,11 +66,11 @@ module _ (p : Program) (image : Fields) (basis : Basis p image) where
       calls = laws.calls attributed shut image built.rules (bytes_to_come bytes) polls picks bytes_or_end y budget far numbers p;
       stub =
           laws.orders attributed shut image built.rules (bytes_to_come bytes) polls of_words picks y out (address_of parts sizing) (address_of parts sizing) stubs.commit_ends stubs.commit
-          (plan_open image parts sizing p out y.commit) budget far numbers p (counted p image basis) tables.places (tables.tabled y (λ x. refl) (λ x. refl)) tables.orders;
+          (plan_open image parts sizing p out y.commit) budget far numbers p (counted p image basis) tables.places tabled tables.orders;
       count = counted p image basis;
-      none = unswitched;
       slots = slots;
+      points = of_pointers p image basis;
     }
 
     pub loaded : IsOpenlyLoaded access y (machine bytes polls picks) (words_under image) shut budget far p numbers
-    loaded = record { formed = formed; host = host; functions = selected p image basis }
+    loaded = record { formed = formed; host = host; functions = selected p image basis; check = at check_label; pointed = pointed p image basis tabled stubs }

@@ -1,4 +1,5 @@
 pub mod Facts
+pub mod PointReads
 pub mod Listed
 pub mod Closed
 pub mod Watching
@@ -6,6 +7,7 @@ pub mod LinkedProgram
 pub mod Data
 pub mod Patched
 pub mod Standing
+pub mod Points
 pub mod Host
 pub mod OwnReads
 pub mod Own

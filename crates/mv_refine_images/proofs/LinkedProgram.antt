@@ -1,5 +1,5 @@
 -- What a built image is linked of, by the names that the laws on it use.
-use Rattle.std.specs.Prelude.{ℕ, ◌≡◌, Bool, List, []}
+use Rattle.std.specs.Prelude.{ℕ, Bool, List}
 use Rattle.mv_ast.specs.declared.program.Program.{Program}
 use Rattle.mv_image.specs.Spelling.{Fields}
 use Rattle.mv_source_forms.specs.WellFormed.{IsWellFormed}
@@ -52,5 +52,4 @@ pub record Basis (p : Program) (image : Fields) : Type 0 where
   pub laws : Laws
   pub formed : IsWellFormed p
   pub have_words : HasWordsOfGlobals p
-  pub unswitched : p.pointers ≡ []
   pub built : IsBuilt p image

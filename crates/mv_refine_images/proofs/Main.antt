@@ -3,9 +3,10 @@ use Rattle.mv_select.proofs.OfFunctions.Alone.{functions_keep, later_keeps, main
 use Rattle.mv_lower_spec.specs.Calls.Laws.{BodiesAreRight, CallsKeepBindings, MainIsRight, MainEndsAlike}
 use Rattle.mv_refine_machine.specs.Commits.Watched.{Watched}
 use Rattle.mv_refine_images.specs.Programs.Laws.{MainFollows, MainFollowsOpenly}
-use Rattle.mv_ir_worlds.specs.Laws.{FitIsTold, KnownsKeepFit, FirstIsFit, FunctionsAreFreeOrBound, FramesOfFree, FramesOfBound}
+use Rattle.mv_ir_worlds.specs.Laws.{FitIsTold, KnownsKeepFit, FirstIsFit, FunctionsAreFreeOrBound, PointersAreFreeOrBound, FramesOfFree, FramesOfBound}
 use Rattle.mv_select.proofs.OfSlots.Bindings.{bindings_are_told}
 use Rattle.mv_select.proofs.OfSlots.Forms as narrow
+use Rattle.mv_select.proofs.OfSlots.Points.{points_under, arrivals_follow}
 use Rattle.mv_select.proofs.OfInline.Bodies.{inline_answers}
 use Rattle.mv_refine_images.proofs.OfPrograms.AllFunctions.{Known}
 use Rattle.mv_refine_images.proofs.OfPrograms.MainFunction.{main_follows}
@@ -18,6 +19,7 @@ pub record Below : Type 0 where
   pub alike : MainEndsAlike
   pub bindings : CallsKeepBindings
   pub free_or_bound : FunctionsAreFreeOrBound
+  pub pointers : PointersAreFreeOrBound
   pub frames_free : FramesOfFree
   pub frames_bound : FramesOfBound
   pub told : FitIsTold
@@ -39,6 +41,9 @@ known b = record {
   slots = narrow.slots Watched;
   jumps = narrow.jumps Watched;
   firsts = narrow.firsts Watched;
+  points = points_under Watched;
+  arrivals = arrivals_follow Watched;
+  pointers = b.pointers;
   inlines = inline_answers Watched;
 }
 

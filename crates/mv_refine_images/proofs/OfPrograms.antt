@@ -1,6 +1,7 @@
 pub mod Frames
 pub mod Called
 pub mod Entries
+pub mod Pointed
 pub mod AllFunctions
 pub mod MainFunction
 pub mod OpenHosts

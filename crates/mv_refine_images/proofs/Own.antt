@@ -113,9 +113,9 @@ one_of_own false own e h = absurd (not_both e)
 
 module _ (p : Program) (image : Fields) (basis : Basis p image) where
   open basis use {built}
-  open linked_program p image built use {parts, sizing, y, at, shut}
+  open linked_program p image built use {parts, sizing, y, numbers, at, shut}
 
-  tabled : IsTabled p y image
+  tabled : IsTabled p numbers y image
   tabled = (tables p image basis).tabled y (λ x. refl) (λ x. refl)
 
   -- the function of a number

@@ -1,7 +1,8 @@
 -- An attributed function stands on the machine with an image that has it in its tables.
-use Rattle.std.proofs.Common.{◌≡◌, ℕ, ◌+◌, ◌≤◌, Bool, true, All, List, map, length, Option, Some, None, sym, ap, subst, ◌∙◌, arith, pos, ◌-ℤ◌}
+use Rattle.std.proofs.Common.{◌≡◌, inr, ℕ, ◌+◌, ◌≤◌, Bool, true, eqb, All, List, [], map, length, Option, Some, None, refl, sym, ap, subst, ◌∙◌, arith, pos, ◌-ℤ◌}
 use Rattle.std.specs.Prelude.{slice_get}
 use Rattle.std.proofs.lemmas.List.{length-map}
+use Rattle.std.proofs.lemmas.List.Quantifiers.{position-Some}
 use Rattle.std.proofs.lemmas.Option.{slice_get_within, get_or_from_slice_get}
 use Rattle.mv_ast.specs.declared.program.Program.{Program}
 use Rattle.mv_ast.specs.declared.program.Function.{Function}
@@ -9,10 +10,14 @@ use Rattle.mv_bindings.specs.declared.binding.Binding.{Binding}
 use Rattle.mv_ast.specs.Switches.{attributed_functions, attributed_before, switch_domain}
 use Rattle.mv_isa.specs.declared.instr.Instr.{Instr}
 use Rattle.mv_isa.specs.declared.instr.Instr.TheVariants.{Addi, Jal}
+use Rattle.mv_descriptors.specs.declared.rows.FunctionRow.{FunctionRow}
+use Rattle.mv_descriptors.specs.declared.rows.PointRow.{PointRow}
 use Rattle.mv_isa.specs.declared.labelled.Line.{Line}
+use Rattle.mv_isa.specs.declared.labelled.Line.TheVariants.{Word}
 use Rattle.mv_isa.specs.Code.{IsPlace, distance, address, label_address}
-use Rattle.mv_isa.specs.Standing.{InstrStands, SlotStands, LineStands}
+use Rattle.mv_isa.specs.Standing.{InstrStands, SlotStands, LineStands, word_at}
 use Rattle.mv_asm.specs.Outcome.{AreWordsUnder}
+use Rattle.mv_image.specs.Patched.{entry_at, point_at, pointer_number}
 use Rattle.mv_image.specs.Spelling.{Fields}
 use Rattle.mv_ir.specs.Combinations.{IsCombination}
 use Rattle.mv_ir_worlds.proofs.Functions.{attributed_at, combination_length}
@@ -22,6 +27,7 @@ use Rattle.mv_select.specs.Calls.Convention.{Layout}
 use Rattle.mv_select.specs.Functions.FunctionCode.{bytes_of}
 use Rattle.mv_select.specs.Functions.Functions.{shape_of}
 use Rattle.mv_select.specs.Inline.InlineOf.{inline_of}
+use Rattle.mv_link_text.proofs.Found.{none_of}
 use Rattle.mv_refine_machine.specs.Assembled.{HasWords}
 use Rattle.mv_refine_machine.specs.MachineRuns.{machine_text, called_at}
 use Rattle.mv_refine_machine.specs.Shown.{FreeFunctionsShow, BoundFunctionsShow}
@@ -56,6 +62,23 @@ module _ (show_free : FreeFunctionsShow) (show_bound : BoundFunctionsShow) (attr
   abbrev instr : Instr
   instr = Addi 2 2 (pos 0 -ℤ pos (bytes_of (shape_of true t.body)))
 
+  -- no word of a pointer site stands at the entry, where the function alone shows
+  no_point : point_at image (y.entry f) ≡ None
+  unfolding entry_at
+  no_point = none_of (point_at image (y.entry f)) never
+    where
+      line : LineStands (word_at base words) place place (address base sizing e.index) (address base sizing (e.index + 1)) (Word instr)
+      line = subst (λ (l : Line). LineStands (word_at base words) place place (address base sizing e.index) (address base sizing (e.index + 1)) l) e.line (are.stands.each e.index e.within)
+
+      never : (point : PointRow) → point_at image (y.entry f) ≡ Some point → ⊥
+      never point is =
+          let begins = e.at_line in
+          let ends = line.1 in
+          let same = e.alone (y.entry f) (pointer_number image point.pointer) (omega (arith, begins)) (omega (arith, begins, ends)) e.here.2 (inr (inr (inr (point, is, refl)))) in
+          let few = position-Some (λ (row : FunctionRow). eqb row.entry (y.entry f)) image.functions n record { length = 0; entry = 0; variants = 0; count = 0; switches = [] } e.is_entry in
+          let within = few.0 in
+          omega (arith, same, within)
+
   entry_free : (bs : List Binding) → IsFreeIn bs n → InstrStands (W bs) (y.entry f) instr
   entry_free bs free =
       subst (λ a. InstrStands (W bs) a instr) e.at_line
@@ -86,7 +109,7 @@ module _ (show_free : FreeFunctionsShow) (show_bound : BoundFunctionsShow) (attr
 
     entry_bound : InstrStands (W bs) (y.entry f) (Jal 0 (distance (y.entry f) v.address))
     entry_bound =
-        subst (λ a. InstrStands (W bs) (y.entry f) (Jal 0 (distance (y.entry f) a))) r.address_is ((show_bound image bs n vs r.row bound few r.led).0 (y.entry f) e.word e.is_entry e.in_text e.here there)
+        subst (λ a. InstrStands (W bs) (y.entry f) (Jal 0 (distance (y.entry f) a))) r.address_is ((show_bound image bs n vs r.row bound few r.led).0 (y.entry f) e.word e.is_entry no_point e.in_text e.here there)
 
     slot_bound : (at : ℕ) → called_at attributed image at ≡ Some f → SlotShows y (machine_text attributed image) W closed p numbers f g (W bs) at v.address (inline_of y.place v.body)
     slot_bound at called = by (inline_of y.place v.body) r.shows

@@ -129,5 +129,5 @@ module _ (p : Program) (image : Fields) (basis : Basis p image) (bytes : List â„
       (behaves.0, behaves.1, no_own_switch p image basis bytes polls picks behaves.1)
 
 pub built_behaves : Laws â†’ BuiltProgramsBehave
-built_behaves laws p image formed have_words unswitched built bytes polls picks are_bytes of_words fit =
-    behaves_and_loads p image (record { laws = laws; formed = formed; have_words = have_words; unswitched = unswitched; built = built }) bytes polls picks are_bytes of_words fit
+built_behaves laws p image formed have_words built bytes polls picks are_bytes of_words fit =
+    behaves_and_loads p image (record { laws = laws; formed = formed; have_words = have_words; built = built }) bytes polls picks are_bytes of_words fit

@@ -15,10 +15,11 @@ use mv_refine_machine::commits::{
     tabled_orders_are_served, watched_ends_law, watched_machine_law, watched_runs_law,
 };
 use mv_refine_machine::runs::images_behave;
+use mv_refine_machine::stubs::checks_stand;
 use mv_refine_machine::{functions_show, packed_is_laid_out};
 use mv_select::bodies::bodies_are_functions;
 
-/// The run of an image that is built of a well-formed program without pointer switches does, in each hart, what the program means, on
+/// The run of an image that is built of a well-formed program does, in each hart, what the program means, on
 /// each input of bytes, with any acts of its polls that fit there, and by any picks of the fetches: `Behaves` of `mv_refine_machine::runs` says
 /// how. `IsBuilt` says what a compiler has to give: a body for each function that means what the function is lowered to, and variants
 /// for each attributed one; the code that is selected for them; the first words of the globals; and the image that is linked of them,
@@ -30,6 +31,7 @@ pub fn built_programs_behave()
 {
     linked_text_law();
     functions_show();
+    checks_stand();
     rows_lead_on();
     images_have_tables();
     bodies_are_in_program();

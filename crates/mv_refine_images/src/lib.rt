@@ -7,8 +7,7 @@
 //!   the variants of its attributed ones, of the first words of its globals, and of tables, does what the program means
 //!   (`Behaves`), in each hart, on each input of bytes, with any acts of its polls that fit there, and whatever the fetches
 //!   pick; also while commits, reverts and polls rewrite its text. Assumed besides is that each global has a word, which
-//!   `good_globals_are_formed` gives of checked programs, and that the program has no pointer switches. `build` of
-//!   `mv_build` gives such images.
+//!   `good_globals_are_formed` gives of checked programs. `build` of `mv_build` gives such images.
 //! - And no instruction loads a data word of a global that is closed to what stands at its place (`specs/Closed.antt`): the
 //!   words of a function load from no global that the function doesn't read; so no word in a variant, at a site or not,
 //!   loads a switch of the variant's function, and no word at a site any switch (`specs/Own.antt`).

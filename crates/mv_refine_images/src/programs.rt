@@ -3,11 +3,12 @@
 //! `specs/Programs/Hosts.antt` says what a machine has to be for a program, and what it is for the code of a function to stand on it. What the functions do is
 //! told by the source's meaning (`mv_lower_spec::calls`), so the induction over calls needs nothing of what a callee's frame holds.
 //!
-//! - `programs_keep`: where the code of each function of a well-formed program without pointer switches stands on a
+//! - `programs_keep`: where the code of each function of a well-formed program stands on a
 //!   machine, made from a body that means what the lowered one means at no greater cost, all functions keep the calling
 //!   convention at every bound, called at their entries or at slots, and do what they do by the source's meaning. Of an
 //!   attributed function there is a variant for each combination of its switches' values, and its entry and its slots
-//!   show what it is bound to: a jump to the variant, a call of it, or its inline body. The machine may close addresses
+//!   show what it is bound to: a jump to the variant, a call of it, or its inline body; and the slots of a pointer switch
+//!   load it while it is free, and call the function that it is bound to. The machine may close addresses
 //!   to what stands at a place, if none is closed that the code there may load. And `main`, begun in the first world of a
 //!   hart, does at every bound what a call means that comes to what the program means, in at most 64 instructions and 100
 //!   for one of work. `programs_keep_openly`: the same on a machine of which nothing is known of the worlds in which it

@@ -3,8 +3,8 @@
 //! - `rows_lead_on`: an attributed function's rows lead from each assignment of its switches to the variant that means
 //!   what the function means under it (`LeadsToVariants`), and from no other words anywhere. The row of that variant has
 //!   the address of its code, and its inline body (`HasRowOf`).
-//! - `images_have_tables`: of a program without pointer switches, the rows of switches and functions stand in the program's
-//!   order, each order that a program may give is one that the machine knows, a plan patches no more places than are
+//! - `images_have_tables`: the rows of switches, functions and pointer switches stand in the program's order, the targets are
+//!   all functions where there is a pointer switch, each order that a program may give is one that the machine knows, a plan patches no more places than are
 //!   counted over the source, the same actions fit, and in each hart the program and the machine start with the same bindings.
 //! - Laws alone, without a test.
 
@@ -29,7 +29,7 @@ pub fn rows_lead_on()
     rows_lead_to_variants();
 }
 
-/// The tables of the linked image have of a program without pointer switches what orders and polls ask for. The call does nothing: its contract is the law.
+/// The tables of the linked image have of a program what orders and polls ask for. The call does nothing: its contract is the law.
 pub fn images_have_tables()
     ensures { ImagesHaveTables }
 {

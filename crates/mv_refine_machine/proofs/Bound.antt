@@ -8,7 +8,7 @@ use Rattle.mv_isa.specs.Code.{IsPlace}
 use Rattle.mv_isa.specs.Standing.{SlotStands}
 use Rattle.mv_image.specs.Spelling.{Fields}
 use Rattle.mv_image.specs.Jumps.{nop, jump}
-use Rattle.mv_image.specs.Patched.{Bindings, at_entry, at_site, after_site, entry_at, site_at, site_before, word_by, word_under}
+use Rattle.mv_image.specs.Patched.{Bindings, at_entry, at_site, after_site, entry_at, site_at, site_before, point_at, word_by, word_through, word_under}
 use Rattle.mv_ir.specs.World.{World}
 use Rattle.mv_patch.specs.Orders.{values_of}
 use Rattle.mv_refine_machine.specs.MachineRuns.{image_word, bound_word}
@@ -32,10 +32,10 @@ site_behind image a = same_find a image.sites
 
 -- ---- the words
 
-under_is : (image : Fields) (bound : Bindings) (a word : ℕ) (e : Option ℕ) (s : Option SiteRow) → entry_at image a ≡ e → site_at image a ≡ s
+under_is : (image : Fields) (bound : Bindings) (a word : ℕ) (e : Option ℕ) (s : Option SiteRow) → point_at image a ≡ None → entry_at image a ≡ e → site_at image a ≡ s
     → word_under image bound a word ≡ word_by image bound a word e s (site_before image a)
 unfolding word_under
-under_is image bound a word e s p q = rw (p, q) refl
+under_is image bound a word e s none p q = ap (word_through image bound a word) none ∙ (rw (p, q) refl)
 
 module _ (image : Fields) (w : World) where
   abbrev bound : Bindings
@@ -48,16 +48,16 @@ module _ (image : Fields) (w : World) where
   at_entry_is : (a : ℕ) (v : VariantRow) → AtEntry image w a v → bound_word image w a ≡ Some (jump 0 a v.address)
   at_entry_is a v h =
       bound_is a h.word h.in_text
-      ∙ ap Some (under_is image bound a h.word (Some h.function) (site_at image a) h.is_entry refl ∙ ap (at_entry a h.word) h.bound)
+      ∙ ap Some (under_is image bound a h.word (Some h.function) (site_at image a) h.no_point h.is_entry refl ∙ ap (at_entry a h.word) h.bound)
 
   first_is : (a : ℕ) (v : VariantRow) (h : AtSite image w a v) → bound_word image w a ≡ Some (at_site a h.first (Some v))
   first_is a v h =
-      bound_is a h.first h.first_in_text ∙ ap Some (under_is image bound a h.first None (Some h.site) h.no_entry h.is_site ∙ ap (at_site a h.first) h.bound)
+      bound_is a h.first h.first_in_text ∙ ap Some (under_is image bound a h.first None (Some h.site) h.no_point h.no_entry h.is_site ∙ ap (at_site a h.first) h.bound)
 
   second_is : (a : ℕ) (v : VariantRow) (h : AtSite image w a v) → bound_word image w (a + 4) ≡ Some (after_site (a + 4) h.second (Some v))
   second_is a v h =
       bound_is (a + 4) h.second h.second_in_text
-      ∙ ap Some (under_is image bound (a + 4) h.second None None h.no_entry_behind h.no_site_behind
+      ∙ ap Some (under_is image bound (a + 4) h.second None None h.no_point_behind h.no_entry_behind h.no_site_behind
       ∙ ap (word_by image bound (a + 4) h.second None None) (site_behind image a ∙ h.is_site) ∙ ap (after_site (a + 4) h.second) h.bound)
 
   calls_variant : (a : ℕ) (v : VariantRow) → AtSite image w a v → v.inlined ≡ 0 → IsPlace a → IsPlace v.address → SlotStands (bound_word image w) a (a + 8) v.address

@@ -3,9 +3,10 @@ use Rattle.std.proofs.Common.{◌≡◌, inl, inr, ℕ, ◌+◌, ◌-◌, ◌*�
 use Rattle.std.proofs.lemmas.Bool.{lt-ltb, le-ltb, or_parts, eqb-true, ltb-true, ltb-false}
 use Rattle.std.proofs.lemmas.Option.{slice_get_within, get_or_from_slice_get, slice_get-get_or}
 use Rattle.mv_descriptors.specs.declared.rows.SiteRow.{SiteRow}
+use Rattle.mv_descriptors.specs.declared.rows.PointRow.{PointRow}
 use Rattle.mv_fetch.specs.Held.{Held, IsInText, index_of, older_at, choices, choices_in, choices_of}
 use Rattle.mv_image.specs.Spelling.{Fields}
-use Rattle.mv_image.specs.Patched.{Bindings, entry_at, site_at, site_before, variant_under, word_by, word_under, text_of, ShowsAt}
+use Rattle.mv_image.specs.Patched.{Bindings, entry_at, site_at, site_before, point_at, pointer_number, variant_under, target_under, word_by, word_through, word_under, text_of, ShowsAt}
 use Rattle.mv_image.proofs.PatchLaws.{text_size, text_at}
 use Rattle.mv_isa.specs.Execution.{step}
 use Rattle.mv_ir.specs.World.{World}
@@ -61,9 +62,9 @@ pub keeps_word : (image : Fields) (a word : ℕ) → image_word image a ≡ Some
 unfolding unpatched_word
 keeps_word image a word e never = ap (λ b. cond b None (image_word image a)) never ∙ e
 
-pub never_patched : (image : Fields) → image.functions ≡ [] → image.sites ≡ [] → (a : ℕ) → may_be_patched image a ≡ false
-unfolding entry_at site_at site_before
-never_patched image functions sites a = rw (functions, sites) refl
+pub never_patched : (image : Fields) → image.functions ≡ [] → image.sites ≡ [] → image.points ≡ [] → (a : ℕ) → may_be_patched image a ≡ false
+unfolding entry_at site_at site_before point_at
+never_patched image functions sites points a = rw (functions, sites, points) refl
 
 -- ---- the word under bindings
 
@@ -73,12 +74,21 @@ by_none image bound a word None None (Some t) p q r = absurd (cc)
 by_none image bound a word None (Some s) t p q r = absurd (cc)
 by_none image bound a word (Some e) s t p q r = absurd (cc)
 
-unpatched_under : (image : Fields) (bound : Bindings) (a word : ℕ) → may_be_patched image a ≡ false → word_under image bound a word ≡ word
+-- where no pointer site stands
+pub beside_points : (image : Fields) (bound : Bindings) (a word : ℕ) → point_at image a ≡ None → word_under image bound a word ≡ word_by image bound a word (entry_at image a) (site_at image a) (site_before image a)
 unfolding word_under
+beside_points image bound a word e = ap (word_through image bound a word) e
+
+none_of : {A : Type 0} (o : Option A) → is_some o ≡ false → o ≡ None
+none_of None h = refl
+none_of (Some x) h = absurd (cc)
+
+unpatched_under : (image : Fields) (bound : Bindings) (a word : ℕ) → may_be_patched image a ≡ false → word_under image bound a word ≡ word
 unpatched_under image bound a word h =
-    let p = or_parts (is_some (entry_at image a)) (is_some (site_at image a) || is_some (site_before image a)) h in
-    let q = or_parts (is_some (site_at image a)) (is_some (site_before image a)) p.1 in
-    by_none image bound a word (entry_at image a) (site_at image a) (site_before image a) p.0 q.0 q.1
+    let p = or_parts (is_some (entry_at image a)) (is_some (site_at image a) || (is_some (site_before image a) || is_some (point_at image a))) h in
+    let q = or_parts (is_some (site_at image a)) (is_some (site_before image a) || is_some (point_at image a)) p.1 in
+    let r = or_parts (is_some (site_before image a)) (is_some (point_at image a)) q.1 in
+    beside_points image bound a word (none_of (point_at image a) r.1) ∙ by_none image bound a word (entry_at image a) (site_at image a) (site_before image a) p.0 q.0 r.0
 
 pub unpatched_stands : (image : Fields) (w : World) (a word : ℕ) → unpatched_word image a ≡ Some word → bound_word image w a ≡ Some word
 unfolding unpatched_word bound_word
@@ -95,12 +105,18 @@ free_by : (image : Fields) (bound : Bindings) (a word : ℕ) (e : Option ℕ) (s
 unfolding variant_under
 free_by image bound a word (Some f) s t p q r free = rw (free f (inl p)) refl
 free_by image bound a word None (Some k) t p q r free = rw (free k.function (inr (inl (k, q, refl)))) refl
-free_by image bound a word None None (Some k) p q r free = rw (free k.function (inr (inr (k, r, refl)))) refl
+free_by image bound a word None None (Some k) p q r free = rw (free k.function (inr (inr (inl (k, r, refl))))) refl
 free_by image bound a word None None None p q r free = refl
+
+free_through : (image : Fields) (bound : Bindings) (a word : ℕ) (point : Option PointRow) → point_at image a ≡ point → ((function : ℕ) → ShowsAt image function a → bound function ≡ None)
+    → word_through image bound a word point ≡ word
+unfolding target_under
+free_through image bound a word None p free = free_by image bound a word (entry_at image a) (site_at image a) (site_before image a) refl refl refl free
+free_through image bound a word (Some point) p free = rw (free (pointer_number image point.pointer) (inr (inr (inr (point, p, refl))))) refl
 
 pub free_under : (image : Fields) (bound : Bindings) (a word : ℕ) → ((function : ℕ) → ShowsAt image function a → bound function ≡ None) → word_under image bound a word ≡ word
 unfolding word_under
-free_under image bound a word free = free_by image bound a word (entry_at image a) (site_at image a) (site_before image a) refl refl refl free
+free_under image bound a word free = free_through image bound a word (point_at image a) refl free
 
 pub free_stands : (image : Fields) (w : World) (a word : ℕ) → IsFreeAt image w a → image_word image a ≡ Some word → bound_word image w a ≡ Some word
 unfolding bound_word

@@ -2,3 +2,4 @@ pub mod Data
 pub mod Walked
 pub mod Starting
 pub mod Ending
+pub mod Checking

@@ -3,8 +3,9 @@ use Rattle.std.proofs.Common.{◌≡◌, inl, inr, ℕ, suc, ◌+◌, ◌*◌, �
 use Rattle.std.proofs.lemmas.Bool.{ltb-false}
 use Rattle.mv_isa.specs.declared.instr.Instr.{Instr}
 use Rattle.mv_isa.specs.declared.labelled.Line.{Line}
-use Rattle.mv_isa.specs.declared.labelled.Line.TheVariants.{Word, Label, Jump, Branch, Entry, Slot}
+use Rattle.mv_isa.specs.declared.labelled.Line.TheVariants.{Word, Label, Jump, Branch, Entry, Slot, Point}
 use Rattle.mv_isa.specs.Encoding.{encode}
+use Rattle.mv_isa.specs.Labels.{check_label}
 use Rattle.mv_isa.specs.Code.{LineFits, IsPlace, CodeFits, line_at, label_index, address, label_address}
 use Rattle.mv_isa.specs.Standing.{InstrStands, LineStands, word_at}
 use Rattle.mv_isa.specs.LineSteps.{named}
@@ -26,6 +27,12 @@ module _ (text text' : ℕ → Option ℕ) (place : ℕ → ℕ) (at end : ℕ) 
   second_stands : (i : Instr) → at + 4 < end → InstrStands text (at + 4) i → InstrStands text' (at + 4) i
   second_stands i lt h = record { fields = h.fields; word = same (at + 4) (encode i) (omega arith) lt (omega (arith, aligned)) h.word }
 
+  third_stands : (i : Instr) → at + 8 < end → InstrStands text (at + 8) i → InstrStands text' (at + 8) i
+  third_stands i lt h = record { fields = h.fields; word = same (at + 8) (encode i) (omega arith) lt (omega (arith, aligned)) h.word }
+
+  fourth_stands : (i : Instr) → at + 12 < end → InstrStands text (at + 12) i → InstrStands text' (at + 12) i
+  fourth_stands i lt h = record { fields = h.fields; word = same (at + 12) (encode i) (omega arith) lt (omega (arith, aligned)) h.word }
+
   pub stands_too : (line : Line) → LineStands text place place at end line → LineStands text' place place at end line
   stands_too (Word i) h = let e = h.1 in (first_stands i (omega (arith, e)) h.0, e)
   stands_too (Label l) h = h
@@ -37,6 +44,15 @@ module _ (text text' : ℕ → Option ℕ) (place : ℕ → ℕ) (at end : ℕ) 
       let e = h.end_is in record { upper = first_stands _ (omega (arith, e)) h.upper; lower = second_stands _ (omega (arith, e)) h.lower; end_is = e }
   stands_too (Slot l) h =
       let e = h.end_is in record { call = first_stands _ (omega (arith, e)) h.call; rest = second_stands _ (omega (arith, e)) h.rest; end_is = e }
+  stands_too (Point a) h =
+      let e = h.end_is in
+      record {
+        upper = first_stands _ (omega (arith, e)) h.upper;
+        load = second_stands _ (omega (arith, e)) h.load;
+        test = third_stands _ (omega (arith, e)) h.test;
+        call = fourth_stands _ (omega (arith, e)) h.call;
+        end_is = e;
+      }
 
 -- ---- words of the image
 
@@ -108,6 +124,7 @@ module _ (image : Fields) (base : ℕ) (lines : List Line) (sizing words : List 
     stands k (Branch funct3 rs1 rs2 l) h kept = kept_line k (Branch funct3 rs1 rs2 l) h kept
     stands k (Entry rd l) h kept = kept_line k (Entry rd l) h kept
     stands k (Slot f) h kept = (kept, h.end_is)
+    stands k (Point a) h kept = (kept, h.end_is)
 
     there : (k : ℕ) (line : Line) → IsPlace (named place place (at k) line)
     there k (Word i) = are.places k
@@ -116,6 +133,7 @@ module _ (image : Fields) (base : ℕ) (lines : List Line) (sizing words : List 
     there k (Branch funct3 rs1 rs2 l) = are.places (label_index lines l)
     there k (Entry rd l) = are.places (label_index lines l)
     there k (Slot l) = are.places (label_index lines l)
+    there k (Point a) = are.places (label_index lines check_label)
 
     label : (k : ℕ) (line : Line) → k < length lines → line_at lines k ≡ line → IsOnlyLabel lines line → IsAtPlace place (at k) line
     label k (Word i) lt e only = tt
@@ -124,6 +142,7 @@ module _ (image : Fields) (base : ℕ) (lines : List Line) (sizing words : List 
     label k (Branch funct3 rs1 rs2 l) lt e only = tt
     label k (Entry rd l) lt e only = tt
     label k (Slot l) lt e only = tt
+    label k (Point a) lt e only = tt
 
     line_placed : (k : ℕ) (line : Line) → k < length lines → line_at lines k ≡ line → IsKept attributed image (at k) (at (k + 1)) line → IsOnlyLabel lines line
         → IsPlaced (machine_text attributed image) place place (at k) (at (k + 1)) line

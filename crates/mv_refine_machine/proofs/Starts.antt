@@ -13,7 +13,7 @@ use Rattle.mv_ir.specs.World.{World}
 use Rattle.mv_machine.specs.Runs.{bytes_to_come, first, runs}
 use Rattle.mv_machine.proofs.Turns.{runs_none}
 use Rattle.mv_refine_machine.specs.Calm.{stack_words, IsCalm, is_calm}
-use Rattle.mv_patch.specs.Orders.{values_of}
+use Rattle.mv_patch.specs.Orders.{values_of, binding_count, first_bindings}
 use Rattle.mv_refine_machine.specs.MachineRuns.{rest_of}
 use Rattle.mv_refine_machine.specs.Laws.{IsFirst}
 use Rattle.mv_refine_machine.proofs.Calming.{calm_tested}
@@ -62,7 +62,7 @@ first_calm : (image : Fields) (input : List ℕ) (polls : PollActs) (w : World) 
 unfolding first first_memory
 first_calm image input polls w h = record {
   goes_on = refl;
-  text = sym (free_text image (values_of (replicate (length image.functions) free)) (none_bound (length image.functions)));
+  text = sym (free_text image (values_of (first_bindings image)) (none_bound (binding_count image)));
   no_older = none_older (length image.text);
   stack = zeros_count stack_words;
   input = ap bytes_to_come (sym h.input);

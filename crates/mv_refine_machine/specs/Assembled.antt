@@ -2,13 +2,13 @@
 use Rattle.std.specs.Prelude.{ℕ, ◌≡◌, ◌+◌, ◌-◌, ◌/◌, ◌%◌, ◌<◌, ◌≤◌, false, List, length, slice_get, Some, None}
 use Rattle.mv_num.specs.Regions.{text_start}
 use Rattle.mv_isa.specs.declared.labelled.Line.{Line}
-use Rattle.mv_isa.specs.declared.labelled.Line.TheVariants.{Label, Slot}
+use Rattle.mv_isa.specs.declared.labelled.Line.TheVariants.{Label, Slot, Point}
 use Rattle.mv_isa.specs.Code.{StandsOnce, line_at}
 use Rattle.mv_image.specs.Spelling.{Fields}
 use Rattle.mv_image.specs.Patched.{ShowsAt}
 use Rattle.mv_ir.specs.World.{World}
 use Rattle.mv_patch.specs.Orders.{values_of}
-use Rattle.mv_refine_machine.specs.MachineRuns.{may_be_patched, called_at}
+use Rattle.mv_refine_machine.specs.MachineRuns.{may_be_patched, called_at, through_at}
 
 -- an image's text has words from an address on
 abbrev pub HasWords : Fields → (base : ℕ) → (words : List ℕ) → Type 0
@@ -18,9 +18,11 @@ HasWords image base words = (k word : ℕ) → slice_get words k ≡ Some word �
 abbrev pub IsFreeAt : Fields → World → ℕ → Type 0
 IsFreeAt image w a = (function : ℕ) → ShowsAt image function a → values_of w.bindings function ≡ None
 
--- A line from its address to its end, in an image: a slot is a site of its function, and another line has no word that may be patched.
+-- A line from its address to its end, in an image: a slot is a site of its function or a pointer site of its pointer, and another line has no word
+-- that may be patched.
 abbrev pub IsKept : (attributed : List ℕ) → Fields → (at end : ℕ) → Line → Type 0
 IsKept attributed image at end (Slot f) = called_at attributed image at ≡ Some f
+IsKept attributed image at end (Point a) = through_at image at ≡ Some a
 IsKept attributed image at end _ = (a : ℕ) → at ≤ a → a < end → a % 4 ≡ 0 → may_be_patched image a ≡ false
 
 -- a label stands nowhere else in the code

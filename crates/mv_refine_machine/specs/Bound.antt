@@ -7,7 +7,7 @@ use Rattle.mv_isa.specs.Code.{IsPlace, distance}
 use Rattle.mv_isa.specs.Standing.{InstrStands, SlotStands}
 use Rattle.mv_isa.specs.Registers.{x0}
 use Rattle.mv_image.specs.Spelling.{Fields}
-use Rattle.mv_image.specs.Patched.{variant_under, entry_at, site_at}
+use Rattle.mv_image.specs.Patched.{variant_under, entry_at, site_at, point_at}
 use Rattle.mv_ir.specs.World.{World}
 use Rattle.mv_patch.specs.Orders.{values_of}
 use Rattle.mv_refine_machine.specs.MachineRuns.{image_word, bound_word}
@@ -17,15 +17,16 @@ module _ (image : Fields) (w : World) where
   abbrev pub bound_variant : ℕ → Option VariantRow
   bound_variant function = variant_under image function (values_of w.bindings function)
 
-  -- a word of text that is the entry of a function, which is bound to a variant
+  -- a word of text that is the entry of a function, which is bound to a variant, and of no pointer site
   pub record AtEntry (a : ℕ) (v : VariantRow) : Type 0 where
     pub function : ℕ
     pub is_entry : entry_at image a ≡ Some function
+    pub no_point : point_at image a ≡ None
     pub bound : bound_variant function ≡ Some v
     pub word : ℕ
     pub in_text : image_word image a ≡ Some word
 
-  -- two words of text that are a site of a function, which is bound to a variant, and neither an entry nor the start of another site
+  -- two words of text that are a site of a function, which is bound to a variant, and neither an entry nor the start of another site nor of a pointer site
   pub record AtSite (a : ℕ) (v : VariantRow) : Type 0 where
     pub site : SiteRow
     pub is_site : site_at image a ≡ Some site
@@ -33,6 +34,8 @@ module _ (image : Fields) (w : World) where
     pub no_entry : entry_at image a ≡ None
     pub no_entry_behind : entry_at image (a + 4) ≡ None
     pub no_site_behind : site_at image (a + 4) ≡ None
+    pub no_point : point_at image a ≡ None
+    pub no_point_behind : point_at image (a + 4) ≡ None
     pub first : ℕ
     pub first_in_text : image_word image a ≡ Some first
     pub second : ℕ

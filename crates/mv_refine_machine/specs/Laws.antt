@@ -1,11 +1,10 @@
 -- The machine is one on which code of frames runs, its memory is fit for frames that are laid out, and assembled code stands in its text.
-use Rattle.std.specs.Prelude.{ℕ, ◌≡◌, ◌↔◌, ◌+◌, ◌*◌, ◌%◌, ◌^◌, ◌<◌, ◌≤◌, Bool, true, false, List, [], length, replicate, slice_get, Option, Some, None}
+use Rattle.std.specs.Prelude.{ℕ, ◌≡◌, ◌↔◌, ◌+◌, ◌*◌, ◌%◌, ◌^◌, ◌<◌, ◌≤◌, Bool, true, false, List, [], length, slice_get, Option, Some, None}
 use Rattle.std.specs.List.{All}
 use Rattle.mv_num.specs.Regions.{text_start, data_start}
 use Rattle.mv_machine.specs.Acts.{PollActs}
 use Rattle.mv_ast.specs.declared.program.Program.{Program}
 use Rattle.mv_bindings.specs.declared.binding.Binding.{Binding}
-use Rattle.mv_bindings.specs.Bindings.{free}
 use Rattle.mv_isa.specs.declared.labelled.Line.{Line}
 use Rattle.mv_isa.specs.declared.instr.Instr.{Instr}
 use Rattle.mv_isa.specs.declared.instr.Instr.TheVariants.{Jal}
@@ -17,6 +16,7 @@ use Rattle.mv_image.specs.Jumps as image
 use Rattle.mv_image.specs.Spelling.{Fields}
 use Rattle.mv_ir.specs.World.{World}
 use Rattle.mv_ir.specs.Programs.{setting_of}
+use Rattle.mv_patch.specs.Orders.{first_bindings}
 use Rattle.mv_machine.specs.Runs.{bytes_to_come}
 use Rattle.mv_select_code.specs.Statements.Frames.{Site}
 use Rattle.mv_select_code.specs.Control.Placed.{Placed}
@@ -62,12 +62,12 @@ RunsAreRunsUnder =
     IsOpen closed from to s.reach → IsRun access s (alone (under (machine_of attributed closed image input polls picks) (words_under image) bs) from to)
 
 -- The words of an image's text are found at their addresses. Where bindings don't show, they stand there under all bindings; and bindings show
--- nowhere in an image without functions and sites.
+-- nowhere in an image without functions, sites and pointer sites.
 pub record TextIsFound (image : Fields) : Type 0 where
   pub found : (k word : ℕ) → slice_get image.text k ≡ Some word → text_start + 4 * k < data_start → image_word image (text_start + 4 * k) ≡ Some word
   pub kept : (a word : ℕ) → image_word image a ≡ Some word → may_be_patched image a ≡ false → unpatched_word image a ≡ Some word
   pub stands : (w : World) (a word : ℕ) → unpatched_word image a ≡ Some word → bound_word image w a ≡ Some word
-  pub unpatched : image.functions ≡ [] → image.sites ≡ [] → (a : ℕ) → may_be_patched image a ≡ false
+  pub unpatched : image.functions ≡ [] → image.sites ≡ [] → image.points ≡ [] → (a : ℕ) → may_be_patched image a ≡ false
 
 abbrev pub TextsAreFound : Type 0
 TextsAreFound = (image : Fields) → TextIsFound image
@@ -109,7 +109,7 @@ BindingsAreShown = (image : Fields) (w : World) → BindingsShow image w
 pub record IsFirst (image : Fields) (bytes : List ℕ) (w : World) : Type 0 where
   pub input : w.input ≡ bytes
   pub output : w.output ≡ []
-  pub bindings : w.bindings ≡ replicate (length image.functions) free
+  pub bindings : w.bindings ≡ first_bindings image
   pub log : w.log ≡ []
 
 -- a run begins in calm

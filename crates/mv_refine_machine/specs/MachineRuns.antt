@@ -1,4 +1,5 @@
--- The machine as a run on which code stands. Its text has what is never patched, and the sites as slots; what stands under bindings is told apart.
+-- The machine as a run on which code stands. Its text has what is never patched, and the sites as slots, of two words and of four;
+-- what stands under bindings is told apart.
 use Rattle.std.specs.Prelude.{ℕ, ◌-◌, ◌/◌, ◌%◌, Bool, true, not, ◌&&◌, ◌||◌, cond, eqb, ltb, List, [], ◌∷◌, length, slice_get, is_some, Option, Some, None, option_map, option_and_then}
 use Rattle.mv_num.specs.Regions.{text_start, data_start}
 use Rattle.mv_machine.specs.Acts.{PollActs}
@@ -6,9 +7,12 @@ use Rattle.mv_isa.specs.Encoding.{decode}
 use Rattle.mv_isa.specs.Execution.{Access}
 use Rattle.mv_fetch.specs.Held.{Room, choices}
 use Rattle.mv_rv32.specs.Stepping as memory
+use Rattle.std.specs.List.{find}
 use Rattle.mv_descriptors.specs.declared.rows.SiteRow.{SiteRow}
+use Rattle.mv_descriptors.specs.declared.rows.PointerRow.{PointerRow}
+use Rattle.mv_descriptors.specs.declared.rows.PointRow.{PointRow}
 use Rattle.mv_image.specs.Spelling.{Fields}
-use Rattle.mv_image.specs.Patched.{entry_at, site_at, site_before, word_under}
+use Rattle.mv_image.specs.Patched.{entry_at, site_at, site_before, point_at, word_under}
 use Rattle.mv_ir.specs.World.{World}
 use Rattle.mv_machine.specs.Runs.{State, runs}
 use Rattle.mv_select_code.specs.Control.Placed.{Text}
@@ -34,9 +38,9 @@ rest_of s = record { room = s.room; bindings = s.bindings; input = s.input; outp
 abbrev pub spot_of : State → Spot Rest
 spot_of s = record { regs = s.regs; pc = s.pc; memory = rest_of s }
 
--- whether bindings may show at an address: it is the entry of a function, or a word of a site
+-- whether bindings may show at an address: it is the entry of a function, a word of a site, or a word of a pointer site
 abbrev pub may_be_patched : Fields → ℕ → Bool
-may_be_patched image a = is_some (entry_at image a) || (is_some (site_at image a) || is_some (site_before image a))
+may_be_patched image a = is_some (entry_at image a) || (is_some (site_at image a) || (is_some (site_before image a) || is_some (point_at image a)))
 
 -- the word of text at an address, which ends where data begins
 abbrev pub word_at : List ℕ → ℕ → Option ℕ
@@ -59,8 +63,16 @@ bound_word image w a = option_map (word_under image (values_of w.bindings) a) (i
 unfoldable pub called_at : (attributed : List ℕ) → Fields → ℕ → Option ℕ
 called_at attributed image a = option_and_then (λ (site : SiteRow). slice_get attributed site.function) (site_at image a)
 
+-- the pointer site that begins at an address, and the address of the pointer through which it calls
+abbrev pub begins_at : ℕ → PointRow → Bool
+begins_at a point = eqb point.address a
+
+unfoldable pub through_at : Fields → ℕ → Option ℕ
+through_at image a =
+    option_and_then (λ (point : PointRow). option_map (λ (pointer : PointerRow). pointer.address) (slice_get image.pointers point.pointer)) (find (begins_at a) image.points)
+
 abbrev pub machine_text : (attributed : List ℕ) → Fields → Text
-machine_text attributed image = record { word = unpatched_word image; slot = called_at attributed image }
+machine_text attributed image = record { word = unpatched_word image; slot = called_at attributed image; point = through_at image }
 
 -- what a fetch gives at a spot doesn't depend on the pick
 abbrev pub has_one_choice : Spot Rest → Bool

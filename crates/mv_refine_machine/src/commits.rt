@@ -18,7 +18,7 @@
 //! - `tabled_orders_are_served`: where the tables of an image are a program's, each order and each poll of the program is
 //!   such a call in each hart, for it does by the tables what it does in the source: in another hart than 0 an order is
 //!   refused, and what a poll adopts is in text at once, with an empty plan. So the machine serves them as the calling
-//!   convention says, from worlds that fit. The program has no pointer switches.
+//!   convention says, from worlds that fit.
 //! - `watched_runs_law`: the run is one on which generated code runs, each instruction from a sound place, also over the
 //!   words that stand under bindings. `watched_machine_law`: it begins in calm, its memory has words, and it serves
 //!   `getchar` and `putchar`. `watched_ends_law`: how it starts, exits and traps.

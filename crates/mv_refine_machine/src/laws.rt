@@ -1,5 +1,5 @@
 ghost use Rattle.mv_refine_machine.specs.Laws.{CalmIsTested, RunsAreRuns, RunsAreRunsAlone, RunsAreRunsUnder, BoundStepsAreTaken, TextsAreFound, CodeIsPlaced, FreeLinesStand, BindingsAreShown, RunsBeginInCalm, KnownCallsAreServed, PackedIsLaidOut, EnvironmentCalls, BoundWordsAreInstructions};
-ghost use Rattle.mv_refine_machine.specs.Shown.{BindingsHaveValues, BoundFunctionsShow, FreeFunctionsShow};
+ghost use Rattle.mv_refine_machine.specs.Shown.{BindingsHaveValues, BoundFunctionsShow, BoundPointsShow, FreeFunctionsShow};
 
 /// The test of calm is true exactly where the machine is calm. The call does nothing: its contract is the law.
 pub fn calm_is_tested()
@@ -52,12 +52,14 @@ pub fn bindings_are_shown()
     ensures { BindingsAreShown }
 {}
 
-/// What stands at entries and sites while a function is free or bound. `values`: an image reads what it is bound to. `free`: the lines of the code stand. `bound`:
-/// its variant shows, by a jump at the entry, and at a site by a call or the inline words.
+/// What stands at entries and sites while a function is free or bound. `values`: an image reads what it is bound to. `free`: the lines of
+/// the code stand. `bound`: its variant shows, by a jump at the entry, and at a site by a call or the inline words. `points`: while a pointer
+/// switch is bound to a target, its pointer sites call that.
 pub fn functions_show()
     ensures values { BindingsHaveValues }
     ensures free { FreeFunctionsShow }
     ensures bound { BoundFunctionsShow }
+    ensures points { BoundPointsShow }
 {}
 
 /// A run begins in calm.

@@ -2,6 +2,8 @@ pub mod Arguments
 pub mod CallCourse
 pub mod CallerShown
 pub mod Transfers
+pub mod Closing
+pub mod PointCalls
 pub mod Guarded
 pub mod FunctionCalls
 pub mod KnownCalls

@@ -1,4 +1,5 @@
 pub mod Slots
 pub mod Narrow
+pub mod Points
 pub mod Bindings
 pub mod Forms

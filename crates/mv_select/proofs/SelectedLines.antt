@@ -95,6 +95,7 @@ selected_targets_stand whole attributed body h =
       division = h.traps 1 (omega arith) (omega arith);
       index = h.traps 2 (omega arith) (omega arith);
       functions = h.named;
+      check = h.check;
     }) in
     All-append (TargetStands whole) start (lines ++ (Label 0 ∷ stop)) (prologue_made (stand_made whole) attributed body.params body.temps bytes)
     (All-append (TargetStands whole) lines (Label 0 ∷ stop) within

@@ -4,12 +4,13 @@ use Rattle.mv_isa.specs.declared.instr.Instr.TheVariants.{Addi}
 use Rattle.mv_isa.specs.declared.labelled.Line.{Line}
 use Rattle.mv_isa.specs.declared.labelled.Line.TheVariants.{Word}
 use Rattle.mv_isa.specs.Code.{StandsOnce, TargetStands}
+use Rattle.mv_isa.specs.Labels.{check_label}
 use Rattle.mv_isa.specs.Registers.{sp}
 use Rattle.mv_ir.specs.declared.body.Body.{Body}
 use Rattle.mv_select_code.specs.Statements.StatementCode.{trap_label}
 use Rattle.mv_select_code.specs.Statements.Encoded.{IsCode}
 use Rattle.mv_select_code.specs.Control.Encoded.{most_words}
-use Rattle.mv_select_code.specs.Control.Labels.{OwnLabels, functions}
+use Rattle.mv_select_code.specs.Control.Labels.{OwnLabels, functions, pointers}
 use Rattle.mv_select.specs.Calls.CallCode.{commit_label}
 use Rattle.mv_select.specs.Functions.FunctionCode.{frame_bytes}
 use Rattle.mv_select.specs.Selected.{selected_lines, selected_labels, IsSuitable, FitsFrame}
@@ -26,12 +27,14 @@ SelectedIsEncoded = (attributed : Bool) (body : Body) → IsSuitable body → Fi
 abbrev pub SelectedLabelsAreOwn : Type 0
 SelectedLabelsAreOwn = (attributed : Bool) (body : Body) → OwnLabels 0 (selected_labels attributed body) (selected_lines attributed body)
 
--- each label that it may name stands once in all lines: its own, the stubs of the traps, that of orders and polls, and the functions that it names
+-- Each label that it may name stands once in all lines: its own, the stubs of the traps, that of orders and polls, the functions that it names, and the stub of
+-- calls through pointer switches where it makes one.
 pub record NamesStand (whole : List Line) (attributed : Bool) (body : Body) : Type 0 where
   pub own : (l : ℕ) → l < selected_labels attributed body → StandsOnce whole l
   pub traps : (c : ℕ) → 1 ≤ c → c ≤ 4 → StandsOnce whole (trap_label c)
   pub commit : StandsOnce whole commit_label
   pub named : All (StandsOnce whole) (functions body.code)
+  pub check : All (λ g. StandsOnce whole check_label) (pointers body.code)
 
 -- then so does each that it names
 abbrev pub SelectedTargetsStand : Type 0

@@ -1,2 +1,3 @@
 pub mod Narrowed
 pub mod Laws
+pub mod Points

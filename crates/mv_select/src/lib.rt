@@ -8,7 +8,8 @@
 //! - `selection_law`: the instructions have encodings, and there are at most 33 words besides two for each tree node and
 //!   those that `mv_select_code::control` says for each form of statement (`encoded`); each label that the code takes stands in it
 //!   once, and no other does (`labels`); each label that it names stands once, wherever its own labels do, the stubs of
-//!   the traps and that of orders and polls, and the functions that it names (`targets`); it begins with the instruction
+//!   the traps, that of orders and polls and, where it calls through pointer switches, the check stub, and the functions
+//!   that it names (`targets`); it begins with the instruction
 //!   that moves sp (`begins`).
 //!
 //! Below this, in modules with their own specifications and headers:

@@ -12,12 +12,14 @@
 //!   anything.
 
 ghost use Rattle.mv_select.specs.Slots.Laws.{BindingsAreTold, FirstsUnder, JumpsUnder, NarrowedAreAlike, NarrowedRuns, SlotsUnder};
+ghost use Rattle.mv_select.specs.Slots.Points.{ArrivalsFollow, PointsUnder};
 
 /// What words do whose text stands in some worlds only, over any memory `M`. The call does nothing: its contract is the law.
 ///
 /// `told`: a test tells equal bindings. `alike`: a call that is followed on a narrowed machine is followed on the machine, and the other way round where it
 /// leaves the test true. `runs`: a machine that is narrowed over its own text runs what it ran, and its memory stays. `slots`: a slot calls its target. `jumps`: an entry
-/// with a jump goes to its target. `firsts`: an entry with a function's first instruction moves sp down.
+/// with a jump goes to its target. `firsts`: an entry with a function's first instruction moves sp down. `points`: a slot of four words goes by way of the
+/// stub that tests it to where its pointer says, or to what that is bound to. `arrivals`: what follows there follows for the slot.
 pub fn narrow_runs_law<M>()
     ensures told { BindingsAreTold }
     ensures alike { NarrowedAreAlike M }
@@ -25,4 +27,6 @@ pub fn narrow_runs_law<M>()
     ensures slots { SlotsUnder M }
     ensures jumps { JumpsUnder M }
     ensures firsts { FirstsUnder M }
+    ensures points { PointsUnder M }
+    ensures arrivals { ArrivalsFollow M }
 {}

@@ -1,9 +1,10 @@
--- What the tables of an image need to know of a program: its switches, its attributed functions, and their names.
+-- What the tables of an image need to know of a program: its switches, its attributed functions, its pointer switches and all functions to which these may
+-- lead, and their names.
 use Rattle.std.specs.Prelude.{◌≡◌, ◌≢◌, ◌<◌, ◌≤◌, ℕ, true, None, Some, List, length, All, AllPairs, slice_get}
 use Rattle.std.specs.List.Sorted.{IsStrictlyIncreasing}
 use Rattle.mv_num.specs.declared.kind.Kind.{Kind}
 use Rattle.mv_num.specs.Kinds.{kind_number, is_value}
-use Rattle.mv_num.specs.Limits.{name_limit, function_limit, switch_limit, value_limit, own_switch_limit, assignment_limit}
+use Rattle.mv_num.specs.Limits.{name_limit, function_limit, switch_limit, pointer_limit, value_limit, own_switch_limit, assignment_limit}
 use Rattle.mv_ast.specs.declared.program.CType.TheVariants.{Scalar}
 use Rattle.mv_ast.specs.declared.program.Function.{Function}
 use Rattle.mv_ast.specs.declared.program.Global.{Global}
@@ -45,7 +46,15 @@ pub record IsTableFunction (p : Program) (f : Function) : Type 0 where
   pub some_assignment : 1 ≤ assignments p f
   pub assignments_most : assignments p f ≤ assignment_limit
 
--- The switches are different globals; each global and each local has a word; and there are no more switches and attributed functions than an image may have.
+-- a pointer switch is a global scalar with a name
+pub record IsTablePointer (p : Program) (pointer : ℕ) : Type 0 where
+  pub global : Global
+  pub there : slice_get p.globals pointer ≡ Some global
+  pub named : IsName global.name
+  pub scalar : global.size ≡ None
+
+-- The switches are different globals; each global and each local has a word; there are no more switches, functions and pointer switches than an image may
+-- have; and each function has a name.
 pub record HasTableFacts (p : Program) : Type 0 where
   pub switches : All (IsTableSwitch p) p.switches
   pub apart : AllPairs (λ (s t : Switch). s.global ≢ t.global) p.switches
@@ -53,3 +62,7 @@ pub record HasTableFacts (p : Program) : Type 0 where
   pub words : All (λ (g : Global). 1 ≤ words_of_size g.size) p.globals
   pub few_switches : length p.switches ≤ switch_limit
   pub few_functions : length (attributed_functions p) ≤ function_limit
+  pub names : All (λ (f : Function). IsName f.name) p.functions
+  pub few_targets : length p.functions ≤ function_limit
+  pub pointers : All (IsTablePointer p) p.pointers
+  pub few_pointers : length p.pointers ≤ pointer_limit

@@ -7,6 +7,7 @@ use mv_asm::error::AsmError;
 use mv_asm::{assemble, place};
 use mv_isa::Instr;
 use mv_isa::labelled::{Labelled, Line};
+use mv_isa::labels::CHECK;
 use mv_num::list::List;
 use std::alloc::{AllocError, Global};
 use std::io;
@@ -51,6 +52,7 @@ fn line_of(item: &str) -> Option<Line> {
         "branch" => branch(fields),
         "entry" => Some(Line::Entry(register_at(fields, 0)?, number_at(fields, 1)?)),
         "slot" => Some(Line::Slot(number_at(fields, 0)?)),
+        "point" => Some(Line::Point(number_at(fields, 0)?)),
         _ => None,
     }
 }
@@ -87,7 +89,7 @@ fn has_fitting_fields(line: Line) -> bool
             rd < 32 && rs1 < 32 && -2048 <= imm && imm < 2048
         }
         Line::Word(_) => false,
-        Line::Label(_) | Line::Slot(_) => true,
+        Line::Label(_) | Line::Slot(_) | Line::Point(_) => true,
         Line::Jump(rd, _) | Line::Entry(rd, _) => rd < 32,
         Line::Branch(funct3, rs1, rs2, _) => {
             (funct3 < 2 || 4 <= funct3 && funct3 < 8) && rs1 < 32 && rs2 < 32
@@ -118,6 +120,7 @@ fn has_standing_label(lines: &[Line], line: Line) -> bool
         Line::Branch(_, _, _, label) => stands_once(lines, label),
         Line::Entry(_, label) => stands_once(lines, label),
         Line::Slot(label) => stands_once(lines, label),
+        Line::Point(_) => stands_once(lines, CHECK),
         Line::Word(_) | Line::Label(_) => true,
     }
 }

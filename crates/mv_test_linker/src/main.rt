@@ -129,6 +129,8 @@ fn two_functions(alloc: Global) -> Result<Parts, AllocError>
         globals: List::from_vec(Vec::from_slice(alloc, &DATA)?),
         switches,
         attributed,
+        pointers: List::new(alloc),
+        targets: List::new(alloc),
     })
 }
 
@@ -148,6 +150,8 @@ fn long_parts(alloc: Global, nops: usize, words: usize) -> Result<Parts, AllocEr
         globals: List::from_vec(vec![in alloc; Datum::Number(0); words]?),
         switches: List::new(alloc),
         attributed: List::new(alloc),
+        pointers: List::new(alloc),
+        targets: List::new(alloc),
     })
 }
 

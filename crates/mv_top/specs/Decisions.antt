@@ -97,7 +97,7 @@ reads_image (Prints text) = false
 abbrev pub Is : (result status : Status) → Type 0
 Is result status = (result ≡ status) ⊎ (result ≡ Memory)
 
--- A program is refused for its pointer switches, or for a limit of what is compiled, which it passes. So it isn't within the counts over the source.
+-- A program is refused for a limit of what is compiled, which it passes. So it isn't within the counts over the source.
 pub record IsTooLarge (p : Program) (result : Status) : Type 0 where
   pub refusal : Refusal
   pub passes : PassesLimit p refusal

@@ -12,8 +12,8 @@ use Rattle.mv_count_words.specs.Lines.{line_count}
 use Rattle.mv_count_words.specs.Owed.{CountsWords}
 
 module _ (p : Program) (image : Fields) (actions : List Action) (steps : ℕ) (machine : Snapshot) where
-  -- The changed words have as many lines as the bindings owe that are meant at the bound `steps`: none exactly where all functions are free, and else at least
-  -- one for the entry of each bound function, and one for each direct call of it.
+  -- The changed words have as many lines as the bindings owe that are meant at the bound `steps`: at least one for the entry of each bound function, one for
+  -- each direct call of it, and four for each call through each bound pointer switch; and none exactly where that is none.
   abbrev pub CountsLines : (bytes : List ℕ) → Type 0
   CountsLines bytes = CountsWords p (mean p bytes actions steps).bindings (line_count (patched_text image machine.room.held))
 

@@ -3,7 +3,7 @@ use Rattle.std.specs.Prelude.{ℕ, ◌≡◌, ◌+◌, ◌≤◌, true, min, Opt
 use Rattle.mv_num.specs.Limits.{site_limit}
 use Rattle.mv_num.specs.Regions.{text_limit}
 use Rattle.mv_isa.specs.declared.labelled.Line.{Line}
-use Rattle.mv_isa.specs.declared.labelled.Line.TheVariants.{Slot}
+use Rattle.mv_isa.specs.declared.labelled.Line.TheVariants.{Slot, Point}
 use Rattle.mv_isa.specs.Code.{least_words}
 use Rattle.mv_ir.specs.declared.body.Body.{Body}
 use Rattle.mv_ir.specs.Live.{most_intervals}
@@ -23,9 +23,10 @@ up_to_greatest n = min n 18446744073709551615
 
 -- ---- lines
 
--- a slot is a site
+-- a slot is a site, and one of four words counts twice
 abbrev pub line_sites : Line → ℕ
 line_sites (Slot f) = 1
+line_sites (Point a) = 2
 line_sites _ = 0
 
 abbrev pub lines_words : List Line → ℕ

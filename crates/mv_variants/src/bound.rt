@@ -9,15 +9,15 @@
 //! - `passes_name_no_more`, `variants_can_be_selected`: it names no function and no known function that the first
 //!   doesn't, calls none more often, and code can be selected for it where it can for the first, but for the number of
 //!   temporaries.
-//! - `slots_are_counted`: the code of a function has one slot for each direct call of an attributed function, and all
-//!   code together has no more slots than a plan can patch.
+//! - `slots_are_counted`: the code of a function has one slot for each direct call of an attributed function and one of
+//!   four words for each call through a pointer switch, and all code together has no more than a plan can patch.
 
 ghost use Rattle.mv_variants.specs.Bound.Led.{BodiesAreMade, CombinationsAreLed};
 ghost use Rattle.mv_variants.specs.Bound.Meant.{LoweredAreVariants, MadeAreVariants, RenamingKeepsForm};
 ghost use Rattle.mv_variants.specs.Bound.Names.{BindingNamesNoMore, CarryingNamesNoMore, FoldingNamesNoMore};
 ghost use Rattle.mv_variants.specs.Bound.Reads.{VariantsReadNoSwitch};
 ghost use Rattle.mv_variants.specs.Bound.Rows.{FittingIsLed, GroupedIsLed};
-ghost use Rattle.mv_variants.specs.Bound.Slots.{AllSlotsAreFew, OwnSlotsAreFew, RenamedSlotsAreFew, SlotsAreCalls, SlotsAreFew, SlotsArePatchable, SlotsWeighAsCalls, VariantSlotsAreFew};
+ghost use Rattle.mv_variants.specs.Bound.Slots.{AllSlotsAreFew, OwnSlotsAreFew, PointsAreCalls, RenamedSlotsAreFew, SlotsAreCalls, SlotsAreFew, SlotsArePatchable, SlotsWeighAsCalls, VariantSlotsAreFew};
 ghost use Rattle.mv_variants.specs.Bound.Switches.{FunctionsAreLed};
 ghost use Rattle.mv_variants.specs.Bound.Tables.{GroupsFit, VariantsAreLed};
 ghost use Rattle.mv_variants.specs.Bound.Variants.{MadeAreInProgram, MadeCallNoMore, MadeFramesAreNoLarger, MadeNameNoMore};
@@ -71,11 +71,13 @@ pub fn variants_read_no_switch()
     ensures { VariantsReadNoSwitch }
 {}
 
-/// The lines of a function have one slot for each direct call of an attributed function in its code, which is a slot of the callee (`weights`); its own and those of a variant have no more
-/// than it has calls of attributed functions in the source, its variants together no more than that for each assignment, and all functions together no more
-/// than a plan can patch. The call does nothing: its contract is the law.
+/// The lines of a function have one slot for each direct call of an attributed function in its code, which is a slot of the callee (`weights`), and one of four
+/// words for each call through a pointer switch, and it goes through that (`points`); these counted twice, the slots of its own code and those of a variant's are
+/// no more than its call sites in the source, its variants' together no more than that for each assignment, and those of all functions together no more than a
+/// plan can patch. The call does nothing: its contract is the law.
 pub fn slots_are_counted()
     ensures code { SlotsAreCalls }
+    ensures points { PointsAreCalls }
     ensures weights { SlotsWeighAsCalls }
     ensures few { SlotsAreFew }
     ensures own { OwnSlotsAreFew }

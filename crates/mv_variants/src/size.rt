@@ -46,6 +46,7 @@ fn least_words(line: Line) -> u64
         Line::Branch(_, _, _, _) => 1,
         Line::Entry(_, _) => 2,
         Line::Slot(_) => 2,
+        Line::Point(_) => 4,
     }
 }
 
@@ -55,6 +56,7 @@ fn sites_of(line: Line) -> u64
 {
     match line {
         Line::Slot(_) => 1,
+        Line::Point(_) => 2,
         Line::Label(_) => 0,
         Line::Word(_) => 0,
         Line::Jump(_, _) => 0,

@@ -73,7 +73,7 @@ owner ss f n a =
       ascend = subst IsStrictlyIncreasing e (named_ascend ss f);
     }
 
-present_named : (fs : List (Option Function)) → AllByRecursion IsNamedFunction fs → AllByRecursion (λ f. IsName f.name) (present fs)
+pub present_named : (fs : List (Option Function)) → AllByRecursion IsNamedFunction fs → AllByRecursion (λ f. IsName f.name) (present fs)
 present_named [] h = tt
 present_named (None ∷ fs) h = present_named fs h.1
 present_named (Some f ∷ fs) h = (h.0, present_named fs h.1)

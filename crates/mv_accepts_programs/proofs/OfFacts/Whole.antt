@@ -18,26 +18,26 @@ use Rattle.mv_ast.specs.Counts.{assignments, product_of, words_of_size}
 use Rattle.mv_ast.specs.Switches.{attributed_functions, switch_global, switch_domain, global_or_none, values_or_none}
 use Rattle.mv_check_declarations.specs.Turns.{through}
 use Rattle.mv_source_forms.specs.Typing.{IsInteger, global_types}
-use Rattle.mv_source_forms.specs.WellFormed.{IsWellFormed, IsWellFormedSwitch}
+use Rattle.mv_source_forms.specs.WellFormed.{IsWellFormed, IsWellFormedPointer, IsWellFormedSwitch}
 use Rattle.mv_accepts.specs.Statements.Bodies.{BodyGrows, ParametersFit}
 use Rattle.mv_accepts.proofs.OfStatements.Judging.{of_good}
 use Rattle.mv_accepts.proofs.OfStatements.Lists.{all_more, all_mapped, mapped_there}
 use Rattle.mv_types.specs.declared.contents.Contents.{Contents}
 use Rattle.mv_types.specs.declared.contents.Foreknown.{Foreknown}
 use Rattle.mv_types.specs.declared.contents.Object.{Object}
-use Rattle.mv_types.specs.Contents.{nothing_declared, switches_from}
+use Rattle.mv_types.specs.Contents.{nothing_declared, present, switches_from}
 use Rattle.mv_types.specs.Foreknown.{foreknown, pointers_of}
-use Rattle.mv_types.specs.Units.{item_judgement, program_of}
+use Rattle.mv_types.specs.Units.{item_judgement, with_switches, program_of}
 use Rattle.mv_accepts.specs.Globals.Globals.{HasFormedGlobals, GlobalsAreFormed}
 use Rattle.mv_accepts_programs.specs.Checked.{ProgramsOfTextsAreWellFormed}
 use Rattle.mv_accepts_programs.proofs.Lists.{all_at, all_by, one_there}
 use Rattle.mv_accepts_programs.proofs.Units.{ComesFrom, comes_from}
 use Rattle.mv_check_rules.proofs.Units.{same_judgement}
 use Rattle.mv_front.specs.Verdicts.{IsProgram}
-use Rattle.mv_source_facts.specs.Facts.{IsName, IsTableSwitch, IsTableFunction, HasTableFacts}
+use Rattle.mv_source_facts.specs.Facts.{IsName, IsTablePointer, IsTableSwitch, IsTableFunction, HasTableFacts}
 use Rattle.mv_accepts_programs.specs.Identifiers.Written.{UnitsOfTextsAreWritten}
 use Rattle.mv_accepts_programs.proofs.OfFacts.Declarators.{IsWrittenObject, AreWritten}
-use Rattle.mv_accepts_programs.proofs.OfFacts.Functions.{IsOwner, owners, product_some}
+use Rattle.mv_accepts_programs.proofs.OfFacts.Functions.{IsOwner, owners, present_named, product_some}
 use Rattle.mv_accepts_programs.proofs.OfFacts.Switches.{HasDomain, AreApart, domains_some, all_apart}
 use Rattle.mv_accepts_programs.proofs.OfFacts.Units.{items_written}
 
@@ -46,6 +46,7 @@ use Rattle.mv_accepts_programs.proofs.OfFacts.Units.{items_written}
 -- names, domains with values, switches that are different globals, and the switches of functions
 record IsWritten (p : Program) : Type 0 where
   globals : All (λ (g : Global). IsName g.name) p.globals
+  names : All (λ (f : Function). IsName f.name) p.functions
   domains : All HasDomain p.switches
   apart : AllPairs AreApart p.switches
   owners : All (IsOwner p.switches) (attributed_functions p)
@@ -57,6 +58,8 @@ program_written c pointers main h =
     record {
       globals = All-from_recursion (λ (g : Global). IsName g.name) (map (λ (o : Object). o.global) c.objects)
           (all_mapped (λ (g : Global). IsName g.name) (λ (o : Object). o.global) c.objects (all_more IsWrittenObject (λ o. IsName o.global.name) (λ o w. w.0) c.objects h.objects));
+      names = All-from_recursion (λ (f : Function). IsName f.name) (map (with_switches ss) (present c.functions))
+          (all_mapped (λ (f : Function). IsName f.name) (with_switches ss) (present c.functions) (present_named c.functions h.functions));
       domains = All-from_recursion HasDomain ss (domains_some 0 c.objects h.objects);
       apart = all_apart 0 c.objects;
       owners = All-from_recursion (IsOwner ss) (attributed_functions (program_of c pointers main)) (owners ss c.functions h.functions);
@@ -151,6 +154,18 @@ module _ (p : Program) (w : IsWritten p) (formed : IsWellFormed p) (globals : Ha
   functions_few : length (attributed_functions p) ≤ 1000
   functions_few = omega (arith, filter_few p.functions, formed.limits.functions)
 
+  -- ---- pointer switches
+
+  one_pointer : (n k : ℕ) → slice_get p.pointers n ≡ Some k → IsTablePointer p k
+  one_pointer n k q =
+      let f : IsWellFormedPointer p k = all_at (IsWellFormedPointer p) p.pointers formed.pointers n k q in
+      record {
+        global = f.global;
+        there = f.there;
+        named = all_at (λ (g : Global). IsName g.name) p.globals w.globals k f.global f.there;
+        scalar = f.scalar;
+      }
+
   facts : HasTableFacts p
   facts = record {
     switches = switches_are;
@@ -159,6 +174,10 @@ module _ (p : Program) (w : IsWritten p) (formed : IsWellFormed p) (globals : Ha
     words = All-weaker (λ (g : Global). 0 < words_of_size g.size) (λ (g : Global). 1 ≤ words_of_size g.size) (λ g h. omega (arith, h)) p.globals globals.words;
     few_switches = formed.limits.switches;
     few_functions = functions_few;
+    names = w.names;
+    few_targets = formed.limits.functions;
+    pointers = all_by (IsTablePointer p) p.pointers one_pointer;
+    few_pointers = formed.limits.pointers;
   }
 
 -- ---- texts

@@ -1,4 +1,4 @@
-use Rattle.mv_link_text.proofs.Whole.{words_are_there, codes_ascend, stubs_stand, plain_stands, patched_stands, slots_are_sites}
+use Rattle.mv_link_text.proofs.Whole.{words_are_there, codes_ascend, stubs_stand, plain_stands, patched_stands, slots_are_sites, points_are_sites, points_in_codes, check_is_told, targets_are_functions}
 use Rattle.mv_link_text.proofs.linked_text_law.Goals as goal
 
 pub returns-clause-words : goal.returns-clause-words
@@ -22,3 +22,16 @@ returns-clause-patched c =
 pub returns-clause-slots : goal.returns-clause-slots
 returns-clause-slots c =
     slots_are_sites record { lines_fit = c.linking_law.ensures.fits; stubs_stand = c.linking_law.ensures.stubs; code_is_placed = c.code_is_placed.ensures; texts_are_found = c.texts_are_found.ensures }
+
+pub returns-clause-points : goal.returns-clause-points
+returns-clause-points c =
+    points_are_sites record { lines_fit = c.linking_law.ensures.fits; stubs_stand = c.linking_law.ensures.stubs; code_is_placed = c.code_is_placed.ensures; texts_are_found = c.texts_are_found.ensures }
+
+pub returns-clause-calls_in_codes : goal.returns-clause-calls_in_codes
+returns-clause-calls_in_codes c = points_in_codes
+
+pub returns-clause-check : goal.returns-clause-check
+returns-clause-check c = check_is_told
+
+pub returns-clause-targets : goal.returns-clause-targets
+returns-clause-targets c = targets_are_functions

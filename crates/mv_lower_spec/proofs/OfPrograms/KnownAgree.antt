@@ -10,14 +10,13 @@ use Rattle.mv_bindings.specs.declared.binding.Binding.{Binding}
 use Rattle.mv_ast.specs.Counts.{patchable}
 use Rattle.mv_ast.specs.Orders.{Answered, bindings_after, bound_after, rebound, may_commit, acted, polled}
 use Rattle.mv_num.specs.Lists.{is_among}
-use Rattle.mv_ast.specs.Switches.{attributed_functions, attributed_before, pointer_number, switch_global, with_word, binding_value, bound_value}
+use Rattle.mv_ast.specs.Switches.{attributed_functions, attributed_before, switch_global, with_word, binding_value, bound_value}
 use Rattle.mv_bindings.specs.OrderNumbers.{is_commit}
 use Rattle.mv_ast.specs.Numbering.{place_from}
 use Rattle.mv_ast.proofs.Common.{first_has, first_has_not}
 use Rattle.mv_ast.specs.Worlds.{World, Outcome}
 use Rattle.mv_bindings.specs.Acts.{Act, Skip, Flip, Adopt}
 use Rattle.mv_meaning.specs.declared.state.Frame.{Frame}
-use Rattle.mv_meaning.specs.declared.state.Lvalue.TheVariants as lvalue
 use Rattle.mv_meaning.specs.Meaning.{called_global, byte_of, put_byte, answered}
 use Rattle.mv_ir.specs.World as code_world
 use Rattle.mv_ir.specs.Programs.{setting_of}

@@ -36,6 +36,7 @@ use Rattle.mv_lower_spec.proofs.OfShape.Targets.{HasTargets, targets_append, tar
 use Rattle.mv_lower_spec.proofs.OfShape.StatementTops.{body_top}
 use Rattle.mv_lower_spec.proofs.OfShape.Rooms.{scalars_have_rooms, named_are_there}
 use Rattle.mv_lower_spec.proofs.OfShape.Intervals.{marked_none, few_intervals, total_is}
+use Rattle.mv_lower_spec.proofs.OfShape.PointerStatements.{function_calls}
 use Rattle.mv_lower_spec.proofs.OfShape.SameCounts.{all_calls, attributed_calls}
 use Rattle.mv_num.proofs.Booleans.{from_falsity}
 use Rattle.mv_lower_spec.proofs.ExpressionDepths.{deepest_up}
@@ -52,9 +53,13 @@ lowered_shallow p g =
     (both_parts (lower_body p.pointers g).code (ending (is_void g.result)) (body_shallow p.pointers (length g.locals) (size_in g.locals) (is_void g.result) g.body outermost) (shallow_ending (is_void g.result)))
 
 module _ (p : Program) (globals : Globals) (g : Function) (asked : IsAsked p globals g) where
-  -- the function's body, where these are the pointer switches
+  -- where these are the pointer switches
+  abbrev program : Program
+  program = record p { pointers = globals.pointers }
+
+  -- the function's body
   abbrev b : Body
-  b = lower_function (record p { pointers = globals.pointers }) g
+  b = lower_function program g
 
   abbrev locals : ℕ
   locals = length g.locals
@@ -157,11 +162,12 @@ module _ (p : Program) (globals : Globals) (g : Function) (asked : IsAsked p glo
   abbrev counting : (direct : ℕ → ℕ) (through : ℕ) → FunctionPaid globals g direct through (Counted direct through) (λ declared. counted_rules direct through (allowed globals locals sizes (room_of globals.pointers g) direct through declared) refl refl) (counted_blocks direct through)
   counting direct through = function_paid globals g direct through (Counted direct through) (λ declared. counted_rules direct through (allowed globals locals sizes (room_of globals.pointers g) direct through declared) refl refl) (counted_blocks direct through) asked.within
 
-  pub lowered_calls : CallsAsOften p g b
+  pub lowered_calls : CallsAsOften program g b
   lowered_calls = record {
     all = sym (all_calls b.code) ∙ (counting each_once 1).made.weight;
     attributed = (counting (attributed_once p) 0).made.weight ∙ attributed_calls p g;
     counted = λ direct through. (counting direct through).made.weight;
+    pointers = λ test. function_calls test program g;
   }
 
   few_statements : statements b.code ≤ 6 * body_nodes g + 1

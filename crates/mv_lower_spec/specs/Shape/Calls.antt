@@ -1,6 +1,6 @@
 -- Counts of calls, in code and in the source, where each direct call of a function and each call through a pointer has a weight, which is that of a call
 -- through a pointer switch too.
-use Rattle.std.specs.Prelude.{ℕ, ◌+◌, List, map, sum, if◌then◌else◌, slice_get}
+use Rattle.std.specs.Prelude.{ℕ, ◌+◌, Bool, List, map, sum, if◌then◌else◌, slice_get}
 use Rattle.mv_ir.specs.declared.stm.Callee.{Callee}
 use Rattle.mv_ir.specs.declared.stm.Callee.TheVariants as callee
 use Rattle.mv_ir.specs.declared.stm.Stm.{Stm}
@@ -61,6 +61,27 @@ module _ (direct : ℕ → ℕ) (through : ℕ) where
   -- of the calls in a function
   abbrev pub function_weight : Function → ℕ
   function_weight g = sum (map stmt_weight g.body)
+
+-- ---- the calls through pointer switches that a test picks, in code
+
+module _ (counts : (global : ℕ) → Bool) where
+  abbrev pub callee_through : Callee → ℕ
+  callee_through (callee.Direct f) = 0
+  callee_through (callee.Through t) = 0
+  callee_through (callee.Switched g) = if counts g then 1 else 0
+
+  abbrev pub layer_through : Stm-F ℕ → ℕ
+  layer_through (stm.If t a b) = total a + total b
+  layer_through (stm.Loop b) = total b
+  layer_through (stm.Block b) = total b
+  layer_through (stm.Call r f args) = callee_through f
+  layer_through _ = 0
+
+  unfoldable pub stm_through : Stm → ℕ
+  stm_through = fold-Stm ℕ layer_through
+
+  abbrev pub code_through : List Stm → ℕ
+  code_through code = total (map stm_through code)
 
 -- one for each call
 abbrev pub each_once : ℕ → ℕ

@@ -1,5 +1,5 @@
 -- What is proved of the form of lowered functions.
-use Rattle.std.specs.Prelude.{◌≡◌, ℕ, ◌+◌, ◌*◌, ◌≤◌, true, false, ◌||◌, length, All, Some, slice_get}
+use Rattle.std.specs.Prelude.{◌≡◌, ℕ, ◌+◌, ◌*◌, ◌≤◌, Bool, true, false, ◌&&◌, ◌||◌, length, All, Some, slice_get}
 use Rattle.mv_ir.specs.declared.body.Body.{Body}
 use Rattle.mv_ir.specs.Measures.{total, scalars_read, arrays_read, statements, calls, tree_nodes, deepest}
 use Rattle.mv_ir.specs.Live.{IsWhole, most_intervals}
@@ -13,7 +13,7 @@ use Rattle.mv_lower_spec.specs.Functions.{lower_function}
 use Rattle.mv_source_forms.specs.WellFormed as programs
 use Rattle.mv_lower_spec.specs.Shape.Reads.{reads_scalar, reads_array}
 use Rattle.mv_lower_spec.specs.Shape.Allowances.{allowance}
-use Rattle.mv_lower_spec.specs.Shape.Calls.{code_weight, function_weight, each_once, attributed_once}
+use Rattle.mv_lower_spec.specs.Shape.Calls.{code_through, code_weight, function_weight, each_once, attributed_once}
 
 -- No tree in the code of any function is deeper than 4.
 abbrev pub LoweredAreShallow : Type 0
@@ -37,6 +37,7 @@ pub record CallsAsOften (p : Program) (g : Function) (b : Body) : Type 0 where
   pub all : calls b.code ≡ function_weight each_once 1 g
   pub attributed : code_weight (attributed_once p) 0 b.code ≡ counts.calls p g
   pub counted : (direct : ℕ → ℕ) (through : ℕ) → code_weight direct through b.code ≡ function_weight direct through g
+  pub pointers : (test : (global : ℕ) → Bool) → code_through test b.code ≡ counts.calls_through (λ x. test x && counts.is_pointer p x) g
 
 abbrev pub LoweredCallAsOften : Type 0
 LoweredCallAsOften = (p : Program) (f : ℕ) (g : Function) → IsFunctionOf p f g → CallsAsOften p g (lower_function p g)

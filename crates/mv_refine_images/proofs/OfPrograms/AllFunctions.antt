@@ -1,5 +1,5 @@
 -- All functions of a program keep the calling convention, by induction on the bound.
-use Rattle.std.proofs.Common.{◌≡◌, ◌⊎◌, inl, inr, ℕ, zero, suc, ◌+◌, ◌≤◌, Bool, true, false, List, map, length, Option, Some, None, refl, sym, ap, subst, ◌∙◌, arith}
+use Rattle.std.proofs.Common.{◌≡◌, ◌⊎◌, inl, inr, ℕ, zero, suc, ◌+◌, ◌≤◌, Bool, true, false, List, [], map, length, Option, Some, None, refl, sym, ap, subst, ◌∙◌, arith}
 use Rattle.std.specs.Prelude.{slice_get, nat_eq, if◌then◌else◌}
 use Rattle.std.specs.List.{zip}
 use Rattle.std.proofs.lemmas.Bool.{eqb-true}
@@ -16,25 +16,28 @@ use Rattle.mv_ir.specs.Combinations.{IsCombination}
 use Rattle.mv_ir.specs.Meaning.{cleared}
 use Rattle.mv_ir.specs.KnownFunctions.{seen_from}
 use Rattle.mv_ir.specs.World.{World}
-use Rattle.mv_ir.specs.Outcome.{Stuck, Call}
+use Rattle.mv_ir.specs.Outcome.{Stuck, Bound, Call}
+use Rattle.mv_ir.specs.Programs.{setting_of}
 use Rattle.mv_ir_worlds.specs.Functions.{IsFreeIn, IsBoundIn}
-use Rattle.mv_ir_worlds.specs.Laws.{FunctionsAreFreeOrBound, FramesOfFree, FramesOfBound}
+use Rattle.mv_ir_worlds.specs.Laws.{FunctionsAreFreeOrBound, PointersAreFreeOrBound, FramesOfFree, FramesOfBound}
 use Rattle.mv_source_forms.specs.Names.{is_void}
 use Rattle.mv_lower_spec.specs.Functions.{lower_function}
 use Rattle.mv_lower_spec.specs.Law.{strict_context}
 use Rattle.mv_select_code.specs.Control.Runs.{Machine, outside}
-use Rattle.mv_select.specs.Calls.Convention.{Layout, IsTarget, Stands, Enters, Answers, entry_cost, slot_cost, Convention, Conventions}
+use Rattle.mv_select.specs.Calls.Convention.{Layout, IsTarget, Stands, Enters, Answers, entry_cost, slot_cost, Convention, PointsKeep, Conventions}
 use Rattle.mv_select.specs.Functions.Functions.{FunctionsKeep, LaterKeeps, part, alone}
 use Rattle.mv_select.proofs.OfFunctions.Alone.{word_in}
 use Rattle.mv_select.specs.Inline.InlineOf.{inline_of}
 use Rattle.mv_select.specs.Inline.Laws.{InlineAnswers}
 use Rattle.mv_select.specs.Slots.Narrowed.{has_bindings, words_alone, under, LeavesTrue}
 use Rattle.mv_select.specs.Slots.Laws as narrow
+use Rattle.mv_select.specs.Slots.Points.{ArrivalsFollow, PointsUnder}
 use Rattle.mv_lower_spec.specs.Calls.SourceCalls.{as_call, any_frame, meaningless, call_by_source, source_call, source_levels}
 use Rattle.mv_lower_spec.specs.Calls.Laws.{BodiesAreRight, CallsKeepBindings}
 use Rattle.mv_refine_images.specs.Programs.Hosts.{IsVariant, IsPatched, IsLoaded, SlotShows}
 use Rattle.mv_refine_images.proofs.OfPrograms.Called.{called}
 use Rattle.mv_refine_images.proofs.OfPrograms.Frames.{leaves_true}
+use Rattle.mv_refine_images.proofs.OfPrograms.Pointed.{NextKeeps, points_keep}
 use Rattle.mv_refine_images.proofs.OfPrograms.Entries.{nothing_open, slot_in, plain_answers, free_answers, variant_promises, variant_answers, bound_answers, promised}
 
 -- the laws that the induction stands on
@@ -52,13 +55,16 @@ pub record Known (M : Type 0) : Type 0 where
   pub slots : narrow.SlotsUnder M
   pub jumps : narrow.JumpsUnder M
   pub firsts : narrow.FirstsUnder M
+  pub points : PointsUnder M
+  pub arrivals : ArrivalsFollow M
+  pub pointers : PointersAreFreeOrBound
   pub inlines : InlineAnswers M
 
 module _ {M : Type 0} (access : Access M) (y : Layout) (machine : Machine M) (words : List Binding → ℕ → Option ℕ) (closed : (pc address : ℕ) → Bool) (budget far : ℕ) (p : Program) (numbers : List ℕ)
     (loaded : IsLoaded access y machine words closed budget far p numbers) (known : Known M) where
   open loaded use {host}
 
-  module _ (k : ℕ) (below : Conventions access y machine budget far (source_levels p numbers k)) where
+  module _ (k : ℕ) (below : Conventions access y machine budget far (setting_of numbers p) (source_levels p numbers k)) where
     open called access y machine budget far p numbers k use {setting, levels, FC}
 
     abbrev Source : ℕ → (depth frames : ℕ) → List ℕ → World → Call
@@ -200,6 +206,9 @@ module _ {M : Type 0} (access : Access M) (y : Layout) (machine : Machine M) (wo
       slots = λ f depth frames args at i few slot. at_slot f depth frames args at i slot;
     }
 
-  pub all_keep : (k : ℕ) → Conventions access y machine budget far (source_levels p numbers k)
-  all_keep zero = tt
-  all_keep (suc k) = let below = all_keep k in (level_keeps k below, below)
+  points : (bound : Bound) → NextKeeps access y machine budget far bound → PointsKeep access y machine budget far (setting_of numbers p) bound
+  points = points_keep access y machine words closed budget far p numbers loaded known.points known.arrivals known.told known.pointers
+
+  pub all_keep : (k : ℕ) → Conventions access y machine budget far (setting_of numbers p) (source_levels p numbers k)
+  all_keep zero = points [] tt
+  all_keep (suc k) = let below = all_keep k in let level = level_keeps k below in (level, points (source_levels p numbers (suc k)) level, below)

@@ -14,6 +14,7 @@ use Rattle.mv_ir.specs.KnownFunctions.{seen_from}
 use Rattle.mv_ir.specs.World as ir
 use Rattle.mv_ir.specs.World.{World}
 use Rattle.mv_ir.specs.Outcome.{Call}
+use Rattle.mv_ir.specs.Programs.{setting_of}
 use Rattle.mv_ir.specs.Meaning.{Contents, body_from}
 use Rattle.mv_ir_worlds.specs.Functions.{IsFreeIn, IsBoundIn}
 use Rattle.mv_ir_worlds.specs.Laws.{FramesOfFree, FramesOfBound}
@@ -47,7 +48,7 @@ slot_in text at to h = record {
 }
 
 module _ {M : Type 0} (access : Access M) (y : Layout) (machine : Machine M) (words : List Binding → ℕ → Option ℕ) (closed : (pc address : ℕ) → Bool) (budget far : ℕ) (p : Program) (numbers : List ℕ)
-    (loaded : IsLoaded access y machine words closed budget far p numbers) (right : BodiesAreRight) (k : ℕ) (below : Conventions access y machine budget far (source_levels p numbers k))
+    (loaded : IsLoaded access y machine words closed budget far p numbers) (right : BodiesAreRight) (k : ℕ) (below : Conventions access y machine budget far (setting_of numbers p) (source_levels p numbers k))
     (f depth frames : ℕ) (args : List ℕ) (g : Function) (here : slice_get p.functions f ≡ Some g) (count : length args ≡ g.params) where
   open loaded use {host}
   open called access y machine budget far p numbers k use {setting, levels, FC}

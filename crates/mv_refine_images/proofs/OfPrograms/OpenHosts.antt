@@ -1,40 +1,21 @@
 -- A machine that is calm in any worlds, narrowed to fit ones.
-use Rattle.std.proofs.Common.{◌≡◌, ℕ, zero, suc, ◌+◌, Bool, true, List, [], ◌∷◌, length, Option, refl, ap, ◌∙◌}
+use Rattle.std.proofs.Common.{◌≡◌, ℕ, ◌+◌, Bool, true, List, length, Option}
 use Rattle.std.proofs.lemmas.Bool.{and_parts}
 use Rattle.mv_ast.specs.declared.program.Program.{Program}
 use Rattle.mv_bindings.specs.declared.binding.Binding.{Binding}
 use Rattle.mv_isa.specs.Execution.{Access}
-use Rattle.mv_ast.specs.Switches.{attributed_functions, word_at}
-use Rattle.mv_ast.specs.Numbering.{place_from}
 use Rattle.mv_ir.specs.World.{World}
-use Rattle.mv_ir.specs.Trees.{scalar}
-use Rattle.mv_ir.specs.KnownFunctions.{switched_at}
 use Rattle.mv_ir.specs.Programs.{setting_of}
 use Rattle.mv_ir_worlds.specs.Fit.{IsFit, is_fit}
 use Rattle.mv_ir_worlds.specs.Laws.{FitIsTold, KnownsKeepFit, FirstIsFit}
 use Rattle.mv_select_code.specs.Control.Runs.{Machine, outside}
 use Rattle.mv_select.specs.Calls.Convention.{Layout, Returns}
-use Rattle.mv_select.specs.Calls.Environment.{IsFree, ServesCalls}
+use Rattle.mv_select.specs.Calls.Environment.{ServesCalls}
 use Rattle.mv_select.specs.Functions.Functions.{part, alone}
 use Rattle.mv_select.specs.Slots.Narrowed.{narrowed, has_bindings, words_alone}
 use Rattle.mv_select.specs.Slots.Laws as narrow
 use Rattle.mv_refine_images.specs.Programs.Hosts.{IsHost, IsOpenHost}
 use Rattle.mv_refine_images.specs.Programs.Laws.{first_seen, HostsAreNarrowed, MainFollows, MainFollowsOpenly}
-
--- ---- calls through pointer switches
-
-word_is : (globals : List (List ℕ)) (g : ℕ) → word_at globals g 0 ≡ scalar globals g
-word_is [] g = refl
-word_is ([] ∷ globals) zero = refl
-word_is ((word ∷ words) ∷ globals) zero = refl
-word_is (words ∷ globals) (suc g) = word_is globals g
-
--- where there are no pointer switches, each is read from memory
-free_without : (p : Program) (numbers : List ℕ) → p.pointers ≡ [] → IsFree (setting_of numbers p)
-free_without p numbers none g w =
-    ap (λ gs. switched_at numbers (place_from (length (attributed_functions p)) gs g) g w) none ∙ word_is w.globals g
-
--- ---- hosts
 
 module _ {M : Type 0} (told : FitIsTold) (keep : KnownsKeepFit) (alike : narrow.NarrowedAreAlike M) (runs : narrow.NarrowedRuns M)
     (access : Access M) (y : Layout) (machine : Machine M) (words : List Binding → ℕ → Option ℕ) (closed : (pc address : ℕ) → Bool) (budget far : ℕ) (p : Program) (numbers : List ℕ) where
@@ -67,9 +48,11 @@ module _ {M : Type 0} (told : FitIsTold) (keep : KnownsKeepFit) (alike : narrow.
     runs_under = λ bs from to reach free s stands less.
         (runs access y machine (has_bindings bs)).1 (is_fit p) (part from to (words_alone (words bs))) machine.text s (h.runs_under bs from to reach free s stands less);
     entries = h.entries;
-    serves = record { calls = serves_calls h.count h.calls; stub = h.stub; free = free_without p numbers h.none };
+    serves = record { calls = serves_calls h.count h.calls; stub = h.stub };
     fit = λ w m calm. (told p w).0 (and_parts (is_fit p w) (machine.is_calm w m) calm).0;
+    count = h.count;
     slots = h.slots;
+    points = h.points;
   }
 
 pub hosts_narrowed : (M : Type 0) → FitIsTold → KnownsKeepFit → narrow.NarrowedAreAlike M → narrow.NarrowedRuns M → HostsAreNarrowed M
@@ -77,6 +60,8 @@ hosts_narrowed M told keep alike runs access y machine words closed budget far p
   formed = loaded.formed;
   host = host told keep alike runs access y machine words closed budget far p numbers loaded.host;
   functions = loaded.functions;
+  check = loaded.check;
+  pointed = loaded.pointed;
 }
 
 pub main_openly : (M : Type 0) → FitIsTold → FirstIsFit → narrow.NarrowedAreAlike M → HostsAreNarrowed M → MainFollows M → MainFollowsOpenly M

@@ -1,7 +1,9 @@
 -- The tables of the image that is linked of a program have what its orders and polls ask for.
-use Rattle.std.proofs.Common.{◌≡◌, ℕ, ◌+◌, ◌*◌, ◌<◌, ◌≤◌, Bool, true, false, ◌&&◌, ◌||◌, cond, nat_lt, List, [], ◌++◌, Option, Some, None, option_map, is_some, length, map, take, replicate, slice_get, All, refl, sym, ap, ap₂, ◌∙◌, subst, arith}
+use Rattle.std.proofs.Common.{◌≡◌, ℕ, suc, ◌+◌, ◌*◌, ◌<◌, ◌≤◌, Bool, true, false, ◌&&◌, ◌||◌, cond, nat_lt, if◌then◌else◌, List, [], ◌∷◌, ◌++◌, Option, Some, None, option_map, is_some, length, map, take, replicate, slice_get, All, refl, sym, ap, ap₂, ◌∙◌, subst, arith}
 use Rattle.std.specs.Prelude.{sum}
-use Rattle.std.proofs.lemmas.List.{append-nil, length-map}
+use Rattle.std.specs.List.{range_with_len}
+use Rattle.std.proofs.lemmas.Bool.{lt-ltb}
+use Rattle.std.proofs.lemmas.List.{length-map, replicate-append-replicate}
 use Rattle.std.proofs.lemmas.Option.{slice_get_within, slice_get-map, same_Some}
 use Rattle.mv_num.specs.Kinds.{kind_number, is_value}
 use Rattle.mv_ast.specs.declared.program.Program.{Program}
@@ -22,12 +24,14 @@ use Rattle.mv_bindings.specs.Bindings.{free}
 use Rattle.mv_ir_worlds.proofs.Functions as fit
 use Rattle.mv_descriptors.specs.declared.rows.SwitchRow.{SwitchRow}
 use Rattle.mv_descriptors.specs.declared.rows.FunctionRow.{FunctionRow}
+use Rattle.mv_descriptors.specs.declared.rows.PointerRow.{PointerRow}
+use Rattle.mv_descriptors.specs.declared.rows.TargetRow.{TargetRow}
 use Rattle.mv_image.specs.Spelling.{Fields}
 use Rattle.mv_ir.specs.declared.body.Body.{Body}
 use Rattle.mv_source_forms.specs.Names.{global_words, words_of_global}
 use Rattle.mv_source_forms.specs.Uses.{known_is_there}
-use Rattle.mv_source_forms.specs.WellFormed.{IsWellFormed, IsWellFormedSwitch}
-use Rattle.mv_patch.specs.Orders.{is_known_order}
+use Rattle.mv_source_forms.specs.WellFormed.{IsWellFormed, IsWellFormedPointer, IsWellFormedSwitch}
+use Rattle.mv_patch.specs.Orders.{first_bindings, is_known_order}
 use Rattle.mv_patch.specs.Tables.{patchable}
 use Rattle.mv_machine.specs.Actions as machine
 use Rattle.mv_machine.specs.Actions.{is_row_value}
@@ -36,22 +40,23 @@ use Rattle.mv_isa.specs.Code.{address, text_start}
 use Rattle.mv_linker.specs.declared.parts.Parts.{Parts}
 use Rattle.mv_linker.specs.Linked.{linked_lines}
 use Rattle.mv_linker.specs.Outcome.{IsLinked}
-use Rattle.mv_linker.specs.Tables.{data_start, switch_row, function_row, FitsPartSwitch}
+use Rattle.mv_linker.specs.Tables.{data_start, switch_row, function_row, pointer_row, pointer_addresses, point_count, slot_count, target_rows, FitsPartSwitch}
 use Rattle.mv_linker.specs.Tables as linker
 use Rattle.mv_linker.proofs.LinkedText.{linked_text}
-use Rattle.mv_linker.proofs.Sited.{site_length, slots_of_codes}
+use Rattle.mv_linker.proofs.Sited.{point_length, site_length, slots_of_codes}
 use Rattle.mv_link_data.specs.FirstData.{global_sizes}
 use Rattle.mv_variants.specs.declared.variant.Variant.{Variant}
 use Rattle.mv_variants.specs.Domains.{integer_kind, kind_or_int}
 use Rattle.mv_parts.specs.Laws.{PartsAreCounted}
 use Rattle.mv_parts.specs.Numbers.{attributed_numbers}
 use Rattle.mv_parts.specs.Parts.{ArePartsOf}
-use Rattle.mv_parts.specs.Switches.{part_switch, part_switches}
+use Rattle.mv_parts.specs.Switches.{part_pointer, part_pointers, part_switch, part_switches}
 use Rattle.mv_parts.proofs.LinkedNumbers.{as_many, number_of}
 use Rattle.mv_parts.proofs.LinkedParts.{as_many_parts, part_there}
 use Rattle.mv_parts.proofs.Lists.{map_at, one_of_all}
 use Rattle.mv_parts.proofs.Numbers as numbers
 use Rattle.mv_refine_machine.specs.Commits.Tabled.{IsTabled}
+use Rattle.mv_refine_images.specs.Layouts.{numbers_of}
 use Rattle.mv_refine_images.specs.Tables.Leads.{LeadsToVariants}
 use Rattle.mv_refine_images.specs.Tables.Rows.{IsNth}
 use Rattle.mv_refine_images.specs.Tables.Laws.{AttributedAreTabled, HaveTables, RowsLeadToVariants}
@@ -81,15 +86,26 @@ or_else true x e = refl
 or_else false x e = e
 
 -- how many functions and switches there are decides on an order, where its code doesn't
-abbrev is_counted : (code index functions switches : ℕ) → Bool
-is_counted code index functions switches = cond (nat_lt code 4) (nat_lt index functions) (nat_lt code 6 && nat_lt index switches)
+abbrev is_counted : (code index functions addressed : ℕ) → Bool
+is_counted code index functions addressed = cond (nat_lt code 4) (nat_lt index functions) (nat_lt code 6 && nat_lt index addressed)
 
-same_orders : (p : Program) (image : Fields) → length image.functions ≡ length (attributed_functions p) → length image.switches ≡ length p.switches + length p.pointers → (code index : ℕ) →
+same_orders : (p : Program) (image : Fields) → length image.functions ≡ length (attributed_functions p) →
+    length image.switches + length image.pointers ≡ length p.switches + length p.pointers → (code index : ℕ) →
     known_is_there p (Plan code index) ≡ true → is_known_order image code index ≡ true
 unfolding is_known_order
-same_orders p image functions switches code index is =
-    let same = ap₂ (is_counted code index) functions switches in
-    or_else (nat_lt code 2) (is_counted code index (length image.functions) (length image.switches)) (ap (cond (nat_lt code 2) true) same ∙ is)
+same_orders p image functions addressed code index is =
+    let same = ap₂ (is_counted code index) functions addressed in
+    or_else (nat_lt code 2) (is_counted code index (length image.functions) (length image.switches + length image.pointers)) (ap (cond (nat_lt code 2) true) same ∙ is)
+
+-- ---- targets
+
+-- the entries of targets are the addresses of the functions with their numbers
+target_entries : (entry : ℕ → ℕ) (number : ℕ) (names : List (List ℕ)) →
+    map (λ (target : TargetRow). target.entry) (target_rows entry number names) ≡ map entry (range_with_len number (length names))
+target_entries entry number [] = refl
+target_entries entry number (name ∷ rest) =
+    let next : suc number ≡ number + 1 = omega arith in
+    ap (λ more. entry number ∷ more) (target_entries entry (suc number) rest ∙ ap (λ n. map entry (range_with_len n (length rest))) next)
 
 -- ---- values of switches
 
@@ -101,7 +117,7 @@ of_integer (Pointer signature) w v e = absurd (let bad : ⊥ = cc in bad)
 
 -- ---- of a program
 
-module _ (leads : RowsLeadToVariants) (counted : PartsAreCounted) (p : Program) (formed : IsWellFormed p) (none : p.pointers ≡ []) (bodies : List Body) (tables : List (List Variant)) (parts : Parts)
+module _ (leads : RowsLeadToVariants) (counted : PartsAreCounted) (p : Program) (formed : IsWellFormed p) (bodies : List Body) (tables : List (List Variant)) (parts : Parts)
     (are : ArePartsOf p bodies tables parts) (image : Fields) (linked : IsLinked parts image) where
   open linked_text parts linked.sizing linked.text use {entry}
 
@@ -164,6 +180,31 @@ module _ (leads : RowsLeadToVariants) (counted : PartsAreCounted) (p : Program) 
       let row = ap (λ (all : List SwitchRow). slice_get all s) rows ∙ slice_get-map switch_row (part_switches p) s ∙ ap (option_map switch_row) (slice_get-map (part_switch p) p.switches s) in
       ap (λ (o : Option SwitchRow). is_row_value o v) row ∙ same_values s v (slice_get p.switches s) refl
 
+  pointers : image.pointers ≡ map pointer_row (part_pointers p)
+  pointers = ap (λ (i : Fields). i.pointers) linked.image_is ∙ ap (map pointer_row) are.pointers
+
+  pointers_count : length image.pointers ≡ length p.pointers
+  pointers_count = ap length pointers ∙ length-map (part_pointers p) pointer_row ∙ length-map p.pointers (part_pointer p)
+
+  pointer_at : (q g : ℕ) (row : PointerRow) → slice_get p.pointers q ≡ Some g → slice_get image.pointers q ≡ Some row → row.address ≡ (pointer_row (part_pointer p g)).address
+  pointer_at q g row at there =
+      let own = map_at pointer_row (part_pointers p) q (part_pointer p g) (map_at (part_pointer p) p.pointers q g at) in
+      let found = subst (λ (all : List PointerRow). slice_get all q ≡ Some (pointer_row (part_pointer p g))) (sym pointers) own in
+      ap (λ (r : PointerRow). r.address) (same_Some row (pointer_row (part_pointer p g)) (sym there ∙ found))
+
+  one_word_of_pointer : (q g : ℕ) → slice_get p.pointers q ≡ Some g → global_words p g ≡ 1
+  one_word_of_pointer q g at =
+      let h = one_of_all (IsWellFormedPointer p) p.pointers formed.pointers q g at in ap words_of_global h.there ∙ ap words_of_size h.scalar
+
+  -- where there is a pointer switch, the targets are all functions
+  targets : 0 < length p.pointers → map (λ (target : TargetRow). target.entry) image.targets ≡ numbers_of parts linked.sizing
+  targets some =
+      let names = are.targets ∙ ap (λ b. if b then map (λ (g : Function). g.name) p.functions else []) (lt-ltb 0 (length p.pointers) some) in
+      let count : length parts.targets ≡ length parts.functions =
+      ap length names ∙ length-map p.functions (λ (g : Function). g.name) ∙ sym are.codes.code.one_each in
+      ap (λ (i : Fields). map (λ (target : TargetRow). target.entry) i.targets) linked.image_is ∙ target_entries entry 0 parts.targets ∙
+      ap (λ n. map entry (range_with_len 0 n)) count
+
   leads_at : (n : ℕ) (g : Function) (one : IsOne n g) → LeadsToVariants p g image one.variants n
   leads_at n g one = leads p bodies tables parts are image linked n one.f g one.variants one.nth
 
@@ -176,7 +217,7 @@ module _ (leads : RowsLeadToVariants) (counted : PartsAreCounted) (p : Program) 
   there_at n g one =
       let a = part_there p bodies tables parts.functions parts.attributed are.codes n one.f one.nth.number in switches_there p bodies tables parts are n one.f g one.variants one.nth a.0 a.1
 
-  tabled : (y : Layout) → ((x : ℕ) → y.place x ≡ data_start + 4 * sum (take x (global_sizes p))) → ((x : ℕ) → y.size x ≡ global_words p x) → IsTabled p y image
+  tabled : (y : Layout) → ((x : ℕ) → y.place x ≡ data_start + 4 * sum (take x (global_sizes p))) → ((x : ℕ) → y.size x ≡ global_words p x) → IsTabled p (numbers_of parts linked.sizing) y image
   tabled y place size = record {
     switches = switches_count;
     switch = λ n s row at there. switch_address n s row at there ∙ sym (place s.global);
@@ -186,7 +227,10 @@ module _ (leads : RowsLeadToVariants) (counted : PartsAreCounted) (p : Program) 
     there = λ n g at. there_at n g (one_at n g at);
     combinations = λ n g vs at is. ap is_some ((leads_at n g (one_at n g at)).assignments vs is).fits;
     others = λ n g vs at. (leads_at n g (one_at n g at)).others vs;
-    none = none;
+    pointers = pointers_count;
+    pointer = λ q g row at there. pointer_at q g row at there ∙ sym (place g);
+    pointer_sizes = λ q g at. let word = size g ∙ one_word_of_pointer q g at in omega (arith, word);
+    targets = targets;
   }
 
   few_places : patchable image ≤ counts.patchable p
@@ -194,16 +238,22 @@ module _ (leads : RowsLeadToVariants) (counted : PartsAreCounted) (p : Program) 
   few_places =
       let functions : length image.functions ≡ length parts.attributed =
       ap (λ (i : Fields). length i.functions) linked.image_is ∙ length-map parts.attributed (function_row entry) in
-      let sites : length image.sites ≡ linker.site_count parts =
-      ap (λ (i : Fields). length i.sites) linked.image_is ∙ site_length (address text_start linked.sizing) (linker.attributed_numbers parts.attributed) (linked_lines parts) 0 ∙ slots_of_codes parts in
-      let places = (counted p formed bodies tables parts are.codes).places in omega (arith, functions, sites, places)
+      let sites : length image.sites ≡ slot_count (linked_lines parts) =
+      ap (λ (i : Fields). length i.sites) linked.image_is ∙ site_length (address text_start linked.sizing) (linker.attributed_numbers parts.attributed) (linked_lines parts) 0 in
+      let points : length image.points ≡ point_count (linked_lines parts) =
+      ap (λ (i : Fields). length i.points) linked.image_is ∙ point_length (address text_start linked.sizing) (pointer_addresses parts.pointers) (linked_lines parts) 0 in
+      let places = (counted p formed bodies tables parts are.codes).places in omega (arith, functions, sites, points, slots_of_codes parts, places)
 
-  pub have_tables : HaveTables p image
+  first_bindings_free : map (λ (g : Function). free) (attributed_functions p) ++ map (λ (g : ℕ). free) p.pointers ≡ first_bindings image
+  first_bindings_free =
+      ap₂ ◌++◌ (same_for_all free (attributed_functions p)) (same_for_all free p.pointers) ∙ replicate-append-replicate (length (attributed_functions p)) (length p.pointers) free ∙
+      ap₂ (λ n m. replicate (n + m) free) (sym functions_count) (sym pointers_count)
+
+  pub have_tables : HaveTables p (numbers_of parts linked.sizing) image
   have_tables = record {
     tabled = tabled;
     places = few_places;
-    orders = same_orders p image functions_count (let no_more = ap length none in omega (arith, switches_count, no_more));
+    orders = same_orders p image functions_count (ap₂ ◌+◌ switches_count pointers_count);
     fits = same_actions;
-    bindings = λ numbers hart bytes acts. ap (λ gs. map (λ f. free) (attributed_functions p) ++ map (λ g. free) gs) none ∙ append-nil (map (λ f. free) (attributed_functions p)) ∙
-        same_for_all free (attributed_functions p) ∙ ap (λ n. replicate n free) (sym functions_count);
+    bindings = λ numbers hart bytes acts. first_bindings_free;
   }

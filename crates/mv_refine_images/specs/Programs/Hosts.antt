@@ -1,15 +1,15 @@
 -- What it is for the functions of a program to stand on a machine whose text changes with the bindings.
-use Rattle.std.specs.Prelude.{ℕ, ◌≡◌, ◌+◌, ◌<◌, ◌≤◌, Bool, true, false, List, [], map, length, slice_get, slice_index, Option, Some, None, pos, ◌-ℤ◌}
+use Rattle.std.specs.Prelude.{ℕ, suc, ◌∷◌, ◌≡◌, ◌+◌, ◌<◌, ◌≤◌, Bool, true, false, List, [], map, length, slice_get, slice_index, Option, Some, None, pos, ◌-ℤ◌}
 use Rattle.std.specs.List.{zip}
 use Rattle.mv_ast.specs.declared.program.Program.{Program}
 use Rattle.mv_ast.specs.declared.program.Function.{Function}
 use Rattle.mv_bindings.specs.declared.binding.Binding.{Binding}
-use Rattle.mv_ast.specs.Switches.{attributed_before, switch_domain}
+use Rattle.mv_ast.specs.Switches.{attributed_before, attributed_functions, switch_domain}
 use Rattle.mv_isa.specs.declared.instr.Instr.{Instr}
 use Rattle.mv_isa.specs.declared.instr.Instr.TheVariants.{Addi, Jal}
 use Rattle.mv_isa.specs.Code.{IsPlace, distance}
 use Rattle.mv_isa.specs.Execution.{Access}
-use Rattle.mv_isa.specs.Standing.{InstrStands, SlotStands}
+use Rattle.mv_isa.specs.Standing.{InstrStands, SlotStands, PointStands}
 use Rattle.mv_isa.specs.Registers.{x0, sp}
 use Rattle.mv_ir.specs.declared.tree.Tree.{Tree}
 use Rattle.mv_ir.specs.declared.body.Body.{Body}
@@ -31,6 +31,8 @@ use Rattle.mv_select.specs.Functions.FunctionCode.{bytes_of, later_lines, functi
 use Rattle.mv_select.specs.Functions.Functions.{IsAmple, IsLaid, IsMemory, IsFunction, IsOpen, RunsWithin, alone, shape_of}
 use Rattle.mv_select.specs.Inline.InlineOf.{inline_of}
 use Rattle.mv_select.specs.Slots.Narrowed.{narrowed, under}
+use Rattle.mv_select.specs.Slots.Points.{CallsBound}
+use Rattle.mv_refine_machine.specs.Stubs.Stubs.{HasCheck}
 use Rattle.mv_select_code.specs.Statements.Frames.{Reach}
 
 -- What stands from one address to another in words that are never patched may load all that some code may: none of it is closed there.
@@ -39,7 +41,8 @@ IsOpenIn text closed from to reach = (pc a word : ℕ) → from ≤ pc → pc < 
 
 -- A machine for a program: memory has the words of its globals, and the stack; code of every frame that stands in them runs where what it may load is
 -- open, also in the words that stand while some bindings hold; a function's number is the address of its entry; the known functions that may be asked for
--- are served; wherever it is calm its bindings and the actions that are left fit; and slots are of attributed functions.
+-- are served; wherever it is calm its bindings and the actions that are left fit; slots are of attributed functions; and those of four words are of pointer
+-- switches, one for each address.
 pub record IsHost {M : Type 0} (access : Access M) (y : Layout) (machine : Machine M) (words : List Binding → ℕ → Option ℕ) (closed : (pc address : ℕ) → Bool) (budget far : ℕ) (p : Program) (numbers : List ℕ) : Type 0 where
   pub laid : IsLaid y
   pub memory : IsMemory access y machine
@@ -49,10 +52,12 @@ pub record IsHost {M : Type 0} (access : Access M) (y : Layout) (machine : Machi
   pub entries : (f : ℕ) → f < length numbers → (slice_index numbers f ≡ y.entry f) × IsPlace (y.entry f)
   pub serves : ServesKnown access y machine budget far (setting_of numbers p)
   pub fit : (w : World) (m : M) → machine.is_calm w m ≡ true → IsFit p w
+  pub count : length numbers ≡ length p.functions
   pub slots : (at f : ℕ) → machine.text.slot at ≡ Some f → IsPlace at × ((g : Function) → slice_get p.functions f ≡ Some g → g.attributed ≡ true)
+  pub points : (at a : ℕ) → machine.text.point at ≡ Some a → IsPlace at × ((q : ℕ) × (x : ℕ) × (slice_get p.pointers q ≡ Some x) × (y.place x ≡ a))
 
 -- A machine of which nothing is known of the worlds in which it is calm. Environment calls are served in any, orders and polls in fit ones. Each function has a
--- number, and there are no pointer switches.
+-- number.
 pub record IsOpenHost {M : Type 0} (access : Access M) (y : Layout) (machine : Machine M) (words : List Binding → ℕ → Option ℕ) (closed : (pc address : ℕ) → Bool) (budget far : ℕ) (p : Program) (numbers : List ℕ) : Type 0 where
   pub laid : IsLaid y
   pub memory : IsMemory access y machine
@@ -63,8 +68,8 @@ pub record IsOpenHost {M : Type 0} (access : Access M) (y : Layout) (machine : M
   pub calls : ServesCalls access y machine budget far (setting_of numbers p)
   pub stub : ServesOrders access y (narrowed machine (is_fit p) machine.text) budget far (setting_of numbers p)
   pub count : length numbers ≡ length p.functions
-  pub none : p.pointers ≡ []
   pub slots : (at f : ℕ) → machine.text.slot at ≡ Some f → IsPlace at × ((g : Function) → slice_get p.functions f ≡ Some g → g.attributed ≡ true)
+  pub points : (at a : ℕ) → machine.text.point at ≡ Some a → IsPlace at × ((q : ℕ) × (x : ℕ) × (slice_get p.pointers q ≡ Some x) × (y.place x ≡ a))
 
 module _ (y : Layout) (text : Text) (words : List Binding → ℕ → Option ℕ) (closed : (pc address : ℕ) → Bool) (p : Program) (numbers : List ℕ) (f : ℕ) (g : Function) where
   -- The code of a function that isn't attributed stands at its entry. It was selected from a body that means the same as the one the function is lowered
@@ -140,14 +145,28 @@ module _ (y : Layout) (text : Text) (words : List Binding → ℕ → Option ℕ
     pub plain : g.attributed ≡ false → IsPlain
     pub patched : g.attributed ≡ true → IsPatched
 
+-- The slots of four words of a pointer switch: while it is free they load it, and go to the check stub; while it is bound to a function they go there behind
+-- its test of the pointer, and call the function. What they load is open there, and the check stub is never patched.
+pub record ArePointed (y : Layout) (text : Text) (words : List Binding → ℕ → Option ℕ) (closed : (pc address : ℕ) → Bool) (p : Program) (numbers : List ℕ) (check : ℕ) : Type 0 where
+  pub stub : 0 < length p.pointers → (place : ℕ → ℕ) × IsLinked y place × HasCheck text place check
+  pub free : (bs : List Binding) (q x at : ℕ) → slice_get p.pointers q ≡ Some x → text.point at ≡ Some (y.place x) → IsFreeIn bs (length (attributed_functions p) + q) →
+      PointStands (words bs) at (at + 16) check (y.place x)
+  pub open_there : (q x at : ℕ) → slice_get p.pointers q ≡ Some x → text.point at ≡ Some (y.place x) → closed (at + 4) (y.place x) ≡ false
+  pub bound : (bs : List Binding) (q x f at : ℕ) → slice_get p.pointers q ≡ Some x → text.point at ≡ Some (y.place x) → f < length numbers →
+      IsBoundIn bs (length (attributed_functions p) + q) (suc f ∷ []) → CallsBound (words bs) at check (y.entry f)
+
 -- A well-formed program is loaded: a machine is a host for it, and the code of each function stands there.
 pub record IsLoaded {M : Type 0} (access : Access M) (y : Layout) (machine : Machine M) (words : List Binding → ℕ → Option ℕ) (closed : (pc address : ℕ) → Bool) (budget far : ℕ) (p : Program) (numbers : List ℕ) : Type 0 where
   pub formed : IsWellFormed p
   pub host : IsHost access y machine words closed budget far p numbers
   pub functions : (f : ℕ) (g : Function) → slice_get p.functions f ≡ Some g → IsSelected y machine.text words closed p numbers f g
+  pub check : ℕ
+  pub pointed : ArePointed y machine.text words closed p numbers check
 
 -- the same on a machine of which nothing is known of the worlds in which it is calm
 pub record IsOpenlyLoaded {M : Type 0} (access : Access M) (y : Layout) (machine : Machine M) (words : List Binding → ℕ → Option ℕ) (closed : (pc address : ℕ) → Bool) (budget far : ℕ) (p : Program) (numbers : List ℕ) : Type 0 where
   pub formed : IsWellFormed p
   pub host : IsOpenHost access y machine words closed budget far p numbers
   pub functions : (f : ℕ) (g : Function) → slice_get p.functions f ≡ Some g → IsSelected y machine.text words closed p numbers f g
+  pub check : ℕ
+  pub pointed : ArePointed y machine.text words closed p numbers check

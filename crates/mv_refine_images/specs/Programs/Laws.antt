@@ -9,6 +9,7 @@ use Rattle.mv_meaning.specs.Meaning.{hart_mean}
 use Rattle.mv_meaning_numbering.specs.Numberings.{IsNumbering}
 use Rattle.mv_isa.specs.Execution.{Access, reg}
 use Rattle.mv_isa.specs.Registers.{ra}
+use Rattle.mv_ir.specs.Programs.{setting_of}
 use Rattle.mv_ir.specs.Outcome.{Call, Returned}
 use Rattle.mv_ir.specs.Programs.{execution_of, run_of_main}
 use Rattle.mv_ir.specs.World.{World}
@@ -28,7 +29,7 @@ use Rattle.mv_refine_images.specs.Programs.Hosts.{IsLoaded, IsOpenlyLoaded}
 abbrev pub FunctionsKeepConvention : Type 0 → Type 0
 FunctionsKeepConvention M =
     (access : Access M) (y : Layout) (machine : Machine M) (words : List Binding → ℕ → Option ℕ) (closed : (pc address : ℕ) → Bool) (budget far : ℕ) (p : Program) (numbers : List ℕ) → IsLoaded access y machine words closed budget far p numbers →
-    (bound : ℕ) → Conventions access y machine budget far (source_levels p numbers bound)
+    (bound : ℕ) → Conventions access y machine budget far (setting_of numbers p) (source_levels p numbers bound)
 
 -- the first world of a program in a hart, as code sees it
 abbrev pub first_seen : Program → (numbers : List ℕ) → (hart : ℕ) → (input : List ℕ) → List Act → World

@@ -1,5 +1,5 @@
 -- What the tables have of a program in the image that is linked of its parts.
-use Rattle.std.specs.Prelude.{ℕ, ◌≡◌, ◌+◌, ◌*◌, ◌≤◌, true, List, [], take, sum, Some, slice_get}
+use Rattle.std.specs.Prelude.{ℕ, ◌≡◌, ◌+◌, ◌*◌, ◌≤◌, true, List, take, sum, Some, slice_get}
 use Rattle.mv_ast.specs.declared.program.Program.{Program}
 use Rattle.mv_ast.specs.declared.program.Function.{Function}
 use Rattle.mv_ast.specs.declared.program.Known.TheVariants.{Plan}
@@ -25,6 +25,7 @@ use Rattle.mv_link_data.specs.FirstData.{global_sizes}
 use Rattle.mv_variants.specs.declared.variant.Variant.{Variant}
 use Rattle.mv_parts.specs.Parts.{ArePartsOf}
 use Rattle.mv_refine_machine.specs.Commits.Tabled.{IsTabled}
+use Rattle.mv_refine_images.specs.Layouts.{numbers_of}
 use Rattle.mv_refine_images.specs.Tables.Leads.{IsLedTo, LeadsToVariants}
 use Rattle.mv_refine_images.specs.Tables.Rows.{IsNth, HasRowOf}
 
@@ -51,18 +52,18 @@ VariantsHaveRows =
 
 -- ---- the whole
 
--- Tables have of a program what serves its orders and polls: its switches and attributed functions in order; rows that lead from assignments and from no other
+-- Tables have of a program what serves its orders and polls: its switches, attributed functions and pointer switches in order, and its functions as targets; rows that lead from assignments and from no other
 -- words; no more words that may be patched than are counted of the program; each order that is there is one that a machine knows; the same actions fit; and in
 -- each hart the program and the machine start with the same bindings.
-pub record HaveTables (p : Program) (image : Fields) : Type 0 where
-  pub tabled : (y : Layout) → ((x : ℕ) → y.place x ≡ data_start + 4 * sum (take x (global_sizes p))) → ((x : ℕ) → y.size x ≡ global_words p x) → IsTabled p y image
+pub record HaveTables (p : Program) (numbers : List ℕ) (image : Fields) : Type 0 where
+  pub tabled : (y : Layout) → ((x : ℕ) → y.place x ≡ data_start + 4 * sum (take x (global_sizes p))) → ((x : ℕ) → y.size x ≡ global_words p x) → IsTabled p numbers y image
   pub places : patchable image ≤ counts.patchable p
   pub orders : (code index : ℕ) → known_is_there p (Plan code index) ≡ true → is_known_order image code index ≡ true
   pub fits : (action : Action) → machine.fits image.switches action ≡ source.fits p action
   pub bindings : (numbers : List ℕ) (hart : ℕ) (bytes : List ℕ) (acts : List Act) → (first_world_under p numbers hart bytes acts).bindings ≡ first_bindings image
 
--- So those of the image of a program without pointer switches, for which no table has a row.
+-- So those of the image of a program, whose functions have the addresses of their entries as numbers.
 abbrev pub ImagesHaveTables : Type 0
 ImagesHaveTables =
-    (p : Program) → IsWellFormed p → p.pointers ≡ [] → (bodies : List Body) (tables : List (List Variant)) (parts : Parts) → ArePartsOf p bodies tables parts → (image : Fields) → IsLinked parts image →
-    HaveTables p image
+    (p : Program) → IsWellFormed p → (bodies : List Body) (tables : List (List Variant)) (parts : Parts) → ArePartsOf p bodies tables parts →
+    (image : Fields) (linked : IsLinked parts image) → HaveTables p (numbers_of parts linked.sizing) image

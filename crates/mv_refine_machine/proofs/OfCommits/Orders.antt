@@ -109,7 +109,7 @@ there p switch value h = by_row (slice_get p.switches switch) refl h
 
 module _ (known : Laws) (attributed : List ℕ) (closed : (pc address : ℕ) → Bool) (image : Fields) (rules : Rules image) (input : List (Option ℕ)) (polls : PollActs) (words : All IsActOfWord polls.acts) (picks : List ℕ)
     (y : Layout) (laid : IsSetOut y) (place entry : ℕ → ℕ) (end : ℕ) (placed : Placed (machine_text attributed image) place entry commit_lines y.commit end) (free : IsPlanOpen closed y.commit)
-    (budget far : ℕ) (numbers : List ℕ) (p : Program) (numbered : length numbers ≡ length p.functions) (few : patchable image ≤ counts.patchable p) (tabled : IsTabled p y image)
+    (budget far : ℕ) (numbers : List ℕ) (p : Program) (numbered : length numbers ≡ length p.functions) (few : patchable image ≤ counts.patchable p) (tabled : IsTabled p numbers y image)
     (knows : (code index : ℕ) → y.may_ask (Plan code index) ≡ true → is_known_order image code index ≡ true) where
   abbrev machine : Machine Watched
   machine = narrowed (watched_machine attributed closed image input polls picks) (is_fit p) (machine_text attributed image)
@@ -186,7 +186,7 @@ module _ (known : Laws) (attributed : List ℕ) (closed : (pc address : ℕ) →
         let after = source.ordered p numbers code index (seen_from 0 (reg (Now i).regs live_register) w) in
         let g = subst (Given after (patch_cost p)) (sym next)
         (plan_gives known y laid machine budget far numbers p image rules few (Now i) of (under i) w quiet code index here.globals
-        (agrees p y image tabled w (run i).memory machine budget far here.globals code index numbers rules (knows code index may))) in
+        (agrees p numbers y image tabled w (run i).memory machine budget far here.globals code index rules (knows code index may))) in
         record { planned = g.planned; word = g.word; globals = g.globals (under (i + 1)); cost = g.paid }
 
   module _ (k : Known) (args : List ℕ) (back i : ℕ) (w : World) (may : y.may_ask k ≡ true) (other : IsDirect k → ⊥) (count : length args ≡ known_arguments k) (target : IsTarget back)

@@ -15,7 +15,7 @@ use Rattle.mv_fetch.specs.Held.{Held, Room, region_of, words_of, present, older_
 use Rattle.mv_rv32.specs.Stepping.{access, target}
 use Rattle.mv_image.specs.Spelling.{Fields}
 use Rattle.mv_image.specs.Faults.{Rules}
-use Rattle.mv_image.specs.Patched.{Bindings, ShowsAt, entry_at, site_at, site_before}
+use Rattle.mv_image.specs.Patched.{Bindings, ShowsAt, entry_at, site_at, site_before, point_at}
 use Rattle.mv_image.proofs.Limits.{is_within}
 use Rattle.mv_patch.specs.declared.prepared.Pair.{Pair}
 use Rattle.mv_patch.specs.Orders.{values_of}
@@ -126,8 +126,9 @@ unpatched_told image a word e = by_tests (may_be_patched image a) (eqb (a % 4) 0
     by_tests false true true below m q l u k = absurd (cc)
     by_tests false true false false m q l u k = absurd (cc)
     by_tests false true false true m q l u k =
-        let p = or_parts (is_some (entry_at image a)) (is_some (site_at image a) || is_some (site_before image a)) m in
-        let r = or_parts (is_some (site_at image a)) (is_some (site_before image a)) p.1 in
+        let p = or_parts (is_some (entry_at image a)) (is_some (site_at image a) || (is_some (site_before image a) || is_some (point_at image a))) m in
+        let r = or_parts (is_some (site_at image a)) (is_some (site_before image a) || is_some (point_at image a)) p.1 in
+        let s = or_parts (is_some (site_before image a)) (is_some (point_at image a)) r.1 in
         let even = eqb-true (a % 4) 0 q in
         let from = ltb-false a 0x1000 l in
         record {
@@ -135,14 +136,20 @@ unpatched_told image a word e = by_tests (may_be_patched image a) (eqb (a % 4) 0
           at = omega (arith, even, from);
           below = ltb-true a 0x0010_0000 u;
           there = k;
-          never = record { no_entry = none_is (entry_at image a) p.0; no_site = none_is (site_at image a) r.0; no_site_before = none_is (site_before image a) r.1 };
+          never = record {
+            no_entry = none_is (entry_at image a) p.0;
+            no_site = none_is (site_at image a) r.0;
+            no_site_before = none_is (site_before image a) s.0;
+            no_point = none_is (point_at image a) s.1;
+          };
         }
 
 -- nothing shows there
 never_shown : (image : Fields) (f a : ℕ) → IsNeverPatched image a → ShowsAt image f a → ⊥
 never_shown image f a never (inl e) = none_some (sym never.no_entry ∙ e)
 never_shown image f a never (inr (inl e)) = none_some (sym never.no_site ∙ e.1)
-never_shown image f a never (inr (inr e)) = none_some (sym never.no_site_before ∙ e.1)
+never_shown image f a never (inr (inr (inl e))) = none_some (sym never.no_site_before ∙ e.1)
+never_shown image f a never (inr (inr (inr e))) = none_some (sym never.no_point ∙ e.1)
 
 all_elsewhere : (image : Fields) (some other : Bindings) (a : ℕ) → IsNeverPatched image a → (pairs : List Pair)
     → All (λ (pair : Pair). (f : ℕ) × (some f ≢ other f) × ShowsAt image f pair.address) pairs → are_elsewhere a pairs ≡ true
@@ -156,7 +163,7 @@ all_elsewhere image some other a never (pair ∷ pairs) h =
 
 few_patchable : (image : Fields) → Rules image → patchable image < 65536
 unfolding patchable
-few_patchable image rules = let x = is_within image rules in omega (arith, x.functions, x.sites)
+few_patchable image rules = let x = is_within image rules in omega (arith, x.functions, x.places)
 
 module _ (known : Known) (closed : (pc address : ℕ) → Bool) (image : Fields) (rules : Rules image) (first : State) (picks : List ℕ) where
   abbrev W : ℕ → Option ℕ

@@ -1,5 +1,5 @@
 -- The texts of an image under bindings.
-use Rattle.std.proofs.Common.{◌≡◌, ◌≢◌, ⊎_elim, ℕ, ◌+◌, ◌*◌, ◌^◌, ◌<◌, ◌≤◌, eqb, List, [], ◌∷◌, ◌++◌, length, slice_get, slice_index, Option, Some, None, refl, sym, ap, ◌∙◌, subst, arith}
+use Rattle.std.proofs.Common.{◌≡◌, ◌≢◌, ⊎_elim, ℕ, zero, suc, ◌+◌, ◌-◌, ◌*◌, ◌/◌, ◌^◌, ◌<◌, ◌≤◌, eqb, List, [], ◌∷◌, ◌++◌, length, slice_get, slice_index, Option, Some, None, refl, sym, ap, ◌∙◌, subst, arith}
 use Rattle.std.specs.List.{All}
 use Rattle.std.specs.Option.{option_and_then}
 use Rattle.std.proofs.lemmas.Bool.{cases_lt, cond_both}
@@ -9,10 +9,12 @@ use Rattle.std.proofs.lemmas.Option.{slice_get_within, get_or_from_slice_get, sl
 use Rattle.mv_num.specs.Bytes.{AreWords}
 use Rattle.mv_descriptors.specs.declared.rows.VariantRow.{VariantRow}
 use Rattle.mv_descriptors.specs.declared.rows.SiteRow.{SiteRow}
+use Rattle.mv_descriptors.specs.declared.rows.PointRow.{PointRow}
+use Rattle.mv_descriptors.specs.declared.rows.TargetRow.{TargetRow}
 use Rattle.mv_image.specs.Spelling.{Fields}
 use Rattle.mv_image.specs.Faults.{Rules}
-use Rattle.mv_image.specs.Jumps.{distance, jal_word, jump}
-use Rattle.mv_image.specs.Patched.{Bindings, variant_under, at_entry, at_site, after_site, entry_at, site_at, site_before, word_by, word_under, text_of, ShowsAt}
+use Rattle.mv_image.specs.Jumps.{distance, jal_word, jump, bound_words}
+use Rattle.mv_image.specs.Patched.{Bindings, variant_under, target_under, pointer_number, at_entry, at_site, after_site, at_point, entry_at, site_at, site_before, point_at, word_by, word_through, word_under, text_of, ShowsAt}
 use Rattle.mv_image.proofs.PatchLaws.{text_size, text_at}
 use Rattle.mv_image.proofs.RulesAreTables.{rules_are_tables}
 use Rattle.mv_image.proofs.Limits.{is_within}
@@ -35,11 +37,11 @@ text_words a r = (rules_are_tables a r).0.words.text
 
 -- ---- words under bindings
 
-jump_word : (rd from to : ℕ) → rd ≤ 1 → jump rd from to < 2 ^ 32
+jump_word : (rd from to : ℕ) → rd < 32 → jump rd from to < 2 ^ 32
 unfolding jump
 jump_word rd from to le = jal_is_word rd (distance from to) le
   where
-    jal_is_word : (rd d : ℕ) → rd ≤ 1 → jal_word rd d < 2 ^ 32
+    jal_is_word : (rd d : ℕ) → rd < 32 → jal_word rd d < 2 ^ 32
     jal_is_word rd d le = omega arith
 
 -- the words of the inline body of a variant
@@ -76,9 +78,26 @@ by_word image r bound a word None (Some k) t h = site_word a word (variant_under
 by_word image r bound a word None None (Some k) h = next_word a word (variant_under image k.function (bound k.function)) (under_has_words image r k.function (bound k.function)) h
 by_word image r bound a word None None None h = h
 
+-- the words of a slot that is bound
+bound_are_words : (check at target : ℕ) → AreWords (bound_words check at target)
+unfolding bound_words
+bound_are_words check at target zero = jump_word 6 at (check + 8) (omega arith)
+bound_are_words check at target (suc zero) = omega arith
+bound_are_words check at target (suc (suc zero)) = omega arith
+bound_are_words check at target (suc (suc (suc zero))) = jump_word 1 (at + 12) target (omega arith)
+bound_are_words check at target (suc (suc (suc (suc k)))) = omega arith
+
+point_word : (image : Fields) (point : PointRow) (a word : ℕ) (o : Option TargetRow) → word < 2 ^ 32 → at_point image point a word o < 2 ^ 32
+point_word image point a word None h = h
+point_word image point a word (Some target) h = bound_are_words image.check point.address target.entry ((a - point.address) / 4)
+
+through_word : (image : Fields) → Rules image → (bound : Bindings) (a word : ℕ) (point : Option PointRow) → word < 2 ^ 32 → word_through image bound a word point < 2 ^ 32
+through_word image r bound a word None h = by_word image r bound a word (entry_at image a) (site_at image a) (site_before image a) h
+through_word image r bound a word (Some point) h = point_word image point a word (target_under image (bound (pointer_number image point.pointer))) h
+
 under_word : (image : Fields) → Rules image → (bound : Bindings) (a word : ℕ) → word < 2 ^ 32 → word_under image bound a word < 2 ^ 32
 unfolding word_under
-under_word image r bound a word h = by_word image r bound a word (entry_at image a) (site_at image a) (site_before image a) h
+under_word image r bound a word h = through_word image r bound a word (point_at image a) h
 
 under_words : (image : Fields) → Rules image → (bound : Bindings) → AreWords (text_of image bound)
 under_words image r bound i = ⊎_elim
@@ -126,7 +145,7 @@ all_show image some other =
 
 never_under : (image : Fields) (bound : Bindings) (a w : ℕ) → IsNeverPatched image a → word_under image bound a w ≡ w
 unfolding word_under
-never_under image bound a w h = rw (h.no_entry, h.no_site, h.no_site_before) refl
+never_under image bound a w h = rw (h.no_point, h.no_entry, h.no_site, h.no_site_before) refl
 
 pub plain_stays : (image : Fields) (some other : Bindings) → Rules image → (room : Room) → IsSettled (text_of image some) room → (done left : List Pair) → done ++ left ≡ pairs_between (text_of image some) (text_of image other)
     → (k w : ℕ) → IsNeverPatched image (place k) → slice_get image.text k ≡ Some w → choices (stored_all room done).held (place k) ≡ w ∷ []
@@ -144,5 +163,5 @@ pairs_fit image some other r =
     let few = few_pairs image r some other in
     let limits = is_within image r in
     let functions = limits.functions in
-    let sites = limits.sites in
-    omega (arith, few, functions, sites)
+    let places = limits.places in
+    omega (arith, few, functions, places)

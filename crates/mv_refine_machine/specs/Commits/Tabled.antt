@@ -1,5 +1,5 @@
 -- The tables of an image are a program's, and so the stub serves the program's orders and polls.
-use Rattle.std.specs.Prelude.{ℕ, ◌≡◌, ◌<◌, ◌≤◌, ◌^◌, Bool, true, List, [], length, map, take, is_some, slice_get, Option, Some, None}
+use Rattle.std.specs.Prelude.{ℕ, ◌≡◌, ◌<◌, ◌≤◌, ◌^◌, Bool, true, List, length, map, take, is_some, slice_get, Option, Some, None}
 use Rattle.std.specs.List.{All}
 use Rattle.mv_ast.specs.declared.program.Program.{Program}
 use Rattle.mv_ast.specs.declared.program.Function.{Function}
@@ -10,6 +10,8 @@ use Rattle.mv_ast.specs.Counts as counts
 use Rattle.mv_ast.specs.Switches.{attributed_functions, switch_domain}
 use Rattle.mv_descriptors.specs.declared.rows.SwitchRow.{SwitchRow}
 use Rattle.mv_descriptors.specs.declared.rows.FunctionRow.{FunctionRow}
+use Rattle.mv_descriptors.specs.declared.rows.PointerRow.{PointerRow}
+use Rattle.mv_descriptors.specs.declared.rows.TargetRow.{TargetRow}
 use Rattle.mv_image.specs.Spelling.{Fields}
 use Rattle.mv_image.specs.Faults.{Rules}
 use Rattle.mv_image.specs.Patched.{fitting_variant}
@@ -30,8 +32,9 @@ use Rattle.mv_refine_machine.specs.Commits.Watched.{access, watched_machine}
 use Rattle.mv_refine_machine.specs.Commits.Served.{IsPlanOpen}
 
 -- Rows of switches and of functions stand in the program's order; some variant of a function fits words, one for each of its switches, exactly where they are
--- a combination of the domains. There is no pointer switch, for which these tables have no row.
-pub record IsTabled (p : Program) (y : Layout) (image : Fields) : Type 0 where
+-- a combination of the domains; and so do those of pointer switches. The targets are all functions where there is a pointer switch: each function that has a
+-- number is the first target with this entry.
+pub record IsTabled (p : Program) (numbers : List ℕ) (y : Layout) (image : Fields) : Type 0 where
   pub switches : length image.switches ≡ length p.switches
   pub switch : (n : ℕ) (s : Switch) (row : SwitchRow) → slice_get p.switches n ≡ Some s → slice_get image.switches n ≡ Some row → row.address ≡ y.place s.global
   pub sizes : (n : ℕ) (s : Switch) → slice_get p.switches n ≡ Some s → 0 < y.size s.global
@@ -42,7 +45,10 @@ pub record IsTabled (p : Program) (y : Layout) (image : Fields) : Type 0 where
       is_some (fitting_variant image n vs) ≡ true
   pub others : (n : ℕ) (g : Function) (vs : List ℕ) → slice_get (attributed_functions p) n ≡ Some g → length vs ≡ length g.switches → All (λ v. v < 2 ^ 32) vs →
       (IsCombination (map (switch_domain p) g.switches) vs → ⊥) → fitting_variant image n vs ≡ None
-  pub none : p.pointers ≡ []
+  pub pointers : length image.pointers ≡ length p.pointers
+  pub pointer : (q g : ℕ) (row : PointerRow) → slice_get p.pointers q ≡ Some g → slice_get image.pointers q ≡ Some row → row.address ≡ y.place g
+  pub pointer_sizes : (q g : ℕ) → slice_get p.pointers q ≡ Some g → 0 < y.size g
+  pub targets : 0 < length p.pointers → map (λ (target : TargetRow). target.entry) image.targets ≡ numbers
 
 -- Where such an image's text has the stub, it serves all orders and polls of each hart from worlds that fit, if each order that may be asked for is one that
 -- the machine knows.
@@ -50,6 +56,6 @@ abbrev pub TabledOrdersAreServed : Type 0
 TabledOrdersAreServed =
     (attributed : List ℕ) (closed : (pc address : ℕ) → Bool) (image : Fields) → Rules image → (input : List (Option ℕ)) (polls : PollActs) → All IsActOfWord polls.acts → (picks : List ℕ) (y : Layout) → IsSetOut y →
     (place entry : ℕ → ℕ) (end : ℕ) → Placed (machine_text attributed image) place entry commit_lines y.commit end → IsPlanOpen closed y.commit →
-    (budget far : ℕ) (numbers : List ℕ) (p : Program) → length numbers ≡ length p.functions → patchable image ≤ counts.patchable p → IsTabled p y image →
+    (budget far : ℕ) (numbers : List ℕ) (p : Program) → length numbers ≡ length p.functions → patchable image ≤ counts.patchable p → IsTabled p numbers y image →
     ((code index : ℕ) → y.may_ask (Plan code index) ≡ true → is_known_order image code index ≡ true) →
     ServesOrders access y (narrowed (watched_machine attributed closed image input polls picks) (is_fit p) (machine_text attributed image)) budget far (setting_of numbers p)

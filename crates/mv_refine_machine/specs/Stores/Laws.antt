@@ -6,7 +6,7 @@ use Rattle.mv_fetch.specs.Held.{Held, Room, IsInText, choices, older_at}
 use Rattle.mv_rv32.specs.Stepping.{access}
 use Rattle.mv_image.specs.Spelling.{Fields}
 use Rattle.mv_image.specs.Faults.{Rules}
-use Rattle.mv_image.specs.Patched.{Bindings, entry_at, site_at, site_before, text_of, ShowsAt}
+use Rattle.mv_image.specs.Patched.{Bindings, entry_at, site_at, site_before, point_at, text_of, ShowsAt}
 use Rattle.mv_patch.specs.declared.prepared.Pair.{Pair}
 use Rattle.mv_patch.specs.Pairs.{place, pairs_between}
 use Rattle.mv_patch.specs.Tables.{patchable}
@@ -55,6 +55,7 @@ pub record IsNeverPatched (image : Fields) (a : ℕ) : Type 0 where
   pub no_entry : entry_at image a ≡ None
   pub no_site : site_at image a ≡ None
   pub no_site_before : site_before image a ≡ None
+  pub no_point : point_at image a ≡ None
 
 -- For an image, any two bindings give two texts; their pairs stand where a function that is bound differently shows, and with their count in front they
 -- fit into the plan area.

@@ -10,13 +10,14 @@ use Rattle.mv_image.specs.Spelling.{Fields}
 use Rattle.mv_ir.specs.World.{World}
 use Rattle.mv_machine.specs.Runs.{Exit, Trap, bytes_to_come}
 use Rattle.mv_select_code.specs.Statements.StatementCode.{first, trap_label}
-use Rattle.mv_select_code.specs.Control.Placed.{Placed}
+use Rattle.mv_select_code.specs.Control.Placed.{Text, Placed}
 use Rattle.mv_select_code.specs.Control.Runs.{Machine}
 use Rattle.mv_select.specs.Calls.Convention.{Layout, Stands}
+use Rattle.mv_linker.specs.Linked.{check_lines}
 use Rattle.mv_refine_machine.specs.Calm.{Rest}
 use Rattle.mv_refine_machine.specs.Laws.{IsFirst}
 use Rattle.mv_refine_machine.specs.MachineRuns.{access, machine_of, machine_text, run_of}
-use Rattle.mv_refine_machine.specs.Stubs.Stubs.{stack_end, start_address, return_address, start_lines, trap_lines}
+use Rattle.mv_refine_machine.specs.Stubs.Stubs.{stack_end, start_address, return_address, start_lines, trap_lines, HasCheck}
 use Rattle.mv_refine_machine.specs.Stubs.Ends.{ComesTo, EndsAfter}
 
 -- The data of an image are the globals of a world, one behind the other from the start of the data on. They are words, and there is room for them.
@@ -59,3 +60,7 @@ TrapIsRight =
     (place entry : ℕ → ℕ) (at end : ℕ) → Placed (machine_text attributed image) place entry (trap_lines code) at end →
     (i : ℕ) (w : World) → ComesTo closed image input polls picks (place (trap_label code)) w i →
     EndsAfter closed image input polls picks w (i + 2) (Trap code)
+
+-- Where the lines of the stub of calls through pointer switches are placed, it stands.
+abbrev pub ChecksStand : Type 0
+ChecksStand = (text : Text) (place entry : ℕ → ℕ) (check end : ℕ) → Placed text place entry check_lines check end → HasCheck text place check

@@ -1,13 +1,16 @@
 -- Stubs: the code before that of the functions, which starts a program, and the code to which traps jump.
-use Rattle.std.specs.Prelude.{ℕ, List, [], ◌∷◌, pos}
+use Rattle.std.specs.Prelude.{ℕ, ◌+◌, List, [], ◌∷◌, pos}
 use Rattle.mv_num.specs.Regions.{text_start, plan_area, plan_upper}
-use Rattle.mv_bindings.specs.Traps.{depth_limit}
+use Rattle.mv_bindings.specs.Traps.{depth_limit, null_call, call_too_deep}
 use Rattle.mv_isa.specs.declared.instr.Instr.TheVariants.{Lui, Addi, Ecall}
 use Rattle.mv_isa.specs.declared.labelled.Line.{Line}
 use Rattle.mv_isa.specs.declared.labelled.Line.TheVariants.{Word, Label, Jump}
 use Rattle.mv_isa.specs.Requests as requests
+use Rattle.mv_isa.specs.Code.{IsPlace}
 use Rattle.mv_isa.specs.Registers.{x0, ra, sp, a7, s11}
 use Rattle.mv_select_code.specs.Statements.StatementCode.{first, trap_label}
+use Rattle.mv_select_code.specs.Control.Placed.{Text}
+use Rattle.mv_select.specs.Slots.Points.{CheckStands}
 
 -- where the stack ends
 abbrev pub stack_end : ℕ
@@ -31,3 +34,11 @@ start_lines main_label = Word (Lui sp (pos plan_upper)) ∷ Word (Addi s11 x0 (p
 -- the run ends with the code of a trap
 abbrev pub trap_lines : ℕ → List Line
 trap_lines code = Label (trap_label code) ∷ Word (Addi first x0 (pos code)) ∷ request_lines requests.trap
+
+-- The stub of calls through pointer switches stands at an address, with the stubs of its traps in text.
+pub record HasCheck (text : Text) (place : ℕ → ℕ) (check : ℕ) : Type 0 where
+  pub stands : CheckStands text.word check (place (trap_label null_call)) (place (trap_label call_too_deep))
+  pub here : IsPlace check
+  pub last : IsPlace (check + 20)
+  pub null : IsPlace (place (trap_label null_call))
+  pub deep : IsPlace (place (trap_label call_too_deep))

@@ -1,4 +1,4 @@
-ghost use Rattle.mv_refine_machine.specs.Stubs.Laws.{StartIsRight, ExitIsRight, TrapIsRight};
+ghost use Rattle.mv_refine_machine.specs.Stubs.Laws.{StartIsRight, ExitIsRight, TrapIsRight, ChecksStand};
 
 use crate::{calm_is_tested, environment_calls, runs_are_runs, runs_begin_in_calm};
 
@@ -29,3 +29,8 @@ pub fn trap_is_right()
     runs_are_runs();
     environment_calls();
 }
+
+/// The stub of calls through pointer switches stands where its lines are placed, and so do those of its traps.
+pub fn checks_stand()
+    ensures { ChecksStand }
+{}

@@ -1,15 +1,15 @@
 -- Where labels and slots of a function's code stand, wherever the code stands.
-use Rattle.std.proofs.Common.{◌≡◌, ℕ, zero, suc, ◌+◌, ◌<◌, ◌≤◌, ◌⊎◌, inl, inr, ⊎_elim, List, [], ◌∷◌, ◌++◌, length, Option, Some, None, pos, ◌-ℤ◌, refl, sym, ap, ◌∙◌, subst, arith}
+use Rattle.std.proofs.Common.{◌≡◌, ℕ, zero, suc, ◌+◌, ◌<◌, ◌≤◌, ◌⊎◌, inl, inr, ⊎_elim, true, false, List, [], ◌∷◌, ◌++◌, length, Option, Some, None, pos, ◌-ℤ◌, refl, sym, ap, ◌∙◌, subst, arith}
 use Rattle.std.proofs.lemmas.Bool.{cases_lt}
 use Rattle.std.proofs.lemmas.List.Sums.{sum_by_more}
 use Rattle.mv_isa.specs.declared.instr.Instr.{Instr}
 use Rattle.mv_isa.specs.declared.instr.Instr.TheVariants.{Addi}
 use Rattle.mv_isa.specs.declared.labelled.Line.{Line}
-use Rattle.mv_isa.specs.declared.labelled.Line.TheVariants.{Word, Label, Jump, Branch, Entry, Slot}
+use Rattle.mv_isa.specs.declared.labelled.Line.TheVariants.{Word, Label, Jump, Branch, Entry, Slot, Point}
 use Rattle.mv_isa.specs.Code.{line_at, least_words, offset, label_index, label_address, IsSizing}
 use Rattle.mv_select.specs.Functions.FunctionCode.{bytes_of, end_label, lowered_lines, body_lines, epilogue_lines, function_lines}
-use Rattle.mv_select.specs.Bodies.Lines.{counts_call, IsCounted, Links, FirstsAreNoLabels, NoLinkIsSlot}
-use Rattle.mv_select.proofs.OfBodies.FunctionNames.{function_counted}
+use Rattle.mv_select.specs.Bodies.Lines.{Stays, StaysBefore, IsApart, Links, FirstsAreNoLabels, NoLinkIsSlot}
+use Rattle.mv_select.proofs.OfBodies.FunctionNames.{function_apart}
 use Rattle.mv_isa.proofs.Common.{offset-cons}
 
 -- ---- offsets
@@ -45,62 +45,102 @@ firsts_are_no_labels place size is_attributed shape code base sizing sizes l =
 
 -- ---- slots
 
-abbrev Before : Option Instr → List Line → ℕ → Type 0
-Before before lines k = ((k ≡ 0) × (before ≡ Some counts_call)) ⊎ ((i : ℕ) × (k ≡ suc i) × (line_at lines i ≡ Word counts_call))
+abbrev IsSlot : Line → Type 0
+IsSlot (Slot f) = Unit {0}
+IsSlot (Point a) = Unit {0}
+IsSlot _ = ⊥
+
+slot_words : (x : Line) → IsSlot x → 2 ≤ least_words x
+slot_words (Word i) h = absurd h
+slot_words (Label l) h = absurd h
+slot_words (Jump rd l) h = absurd h
+slot_words (Branch funct3 a b l) h = absurd h
+slot_words (Entry rd f) h = absurd h
+slot_words (Slot f) h = omega arith
+slot_words (Point a) h = omega arith
+
+stays_words : (x : Line) → Stays x → 1 ≤ least_words x
+stays_words (Word i) h = omega arith
+stays_words (Label l) h = absurd h
+stays_words (Jump rd l) h = absurd h
+stays_words (Branch funct3 a b l) h = absurd h
+stays_words (Entry rd f) h = omega arith
+stays_words (Slot f) h = absurd h
+stays_words (Point a) h = absurd h
+
+stays_links : (x : Line) → Stays x → Links x → ⊥
+stays_links (Word i) h k = let wrong : true ≡ false = sym k ∙ h in cc
+stays_links (Label l) h k = h
+stays_links (Jump rd l) h k = h
+stays_links (Branch funct3 a b l) h k = h
+stays_links (Entry rd f) h k = k
+stays_links (Slot f) h k = h
+stays_links (Point a) h k = h
+
+-- before the line of an index stands one that stays
+abbrev Before : Option Line → List Line → ℕ → Type 0
+Before before lines k = ((k ≡ 0) × StaysBefore before) ⊎ ((i : ℕ) × (k ≡ suc i) × Stays (line_at lines i))
+
+abbrev Behind : List Line → ℕ → Type 0
+Behind lines k = (i : ℕ) × (k ≡ suc i) × Stays (line_at lines i)
 
 -- one line on
-on : (x : Line) (lines : List Line) (k : ℕ) → Before None lines k → (i : ℕ) × (suc k ≡ suc i) × (line_at (x ∷ lines) i ≡ Word counts_call)
-on x lines k (inl h) = let wrong = h.1 in absurd cc
+on : (x : Line) (lines : List Line) (k : ℕ) → Before (Some x) lines k → Behind (x ∷ lines) (suc k)
+on x lines k (inl h) = (0, ap suc h.0, h.1)
 on x lines k (inr h) = (suc h.0, ap suc h.1, h.2)
 
--- a slot stands behind the word that counts the call
-slot_counted : (lines : List Line) (before : Option Instr) → IsCounted before lines → (k f : ℕ) → k < length lines → line_at lines k ≡ Slot f
-    → Before before lines k
-slot_counted [] before h k f lt e = absurd (omega arith)
-slot_counted (Slot g ∷ lines) before h zero f lt e = inl (refl, h.0)
-slot_counted (Word i ∷ lines) before h zero f lt e = absurd (let w : Word i ≡ Slot f = e in cc)
-slot_counted (Label l ∷ lines) before h zero f lt e = absurd (let w : Label l ≡ Slot f = e in cc)
-slot_counted (Jump rd l ∷ lines) before h zero f lt e = absurd (let w : Jump rd l ≡ Slot f = e in cc)
-slot_counted (Branch funct3 a b l ∷ lines) before h zero f lt e = absurd (let w : Branch funct3 a b l ≡ Slot f = e in cc)
-slot_counted (Entry rd g ∷ lines) before h zero f lt e = absurd (let w : Entry rd g ≡ Slot f = e in cc)
-slot_counted (Word i ∷ lines) before h (suc k) f lt e = ⊎_elim
-    (λ (x : (k ≡ 0) × (Some i ≡ Some counts_call)). let same : i ≡ counts_call = let y = x.1 in cc in inr (0, ap suc x.0, ap Word same))
-    (λ (x : (n : ℕ) × (k ≡ suc n) × (line_at lines n ≡ Word counts_call)). inr (suc x.0, ap suc x.1, x.2))
-    (slot_counted lines (Some i) h k f (omega arith) e)
-slot_counted (Label l ∷ lines) before h (suc k) f lt e = inr (on (Label l) lines k (slot_counted lines None h k f (omega arith) e))
-slot_counted (Jump rd l ∷ lines) before h (suc k) f lt e = inr (on (Jump rd l) lines k (slot_counted lines None h k f (omega arith) e))
-slot_counted (Branch funct3 a b l ∷ lines) before h (suc k) f lt e = inr (on (Branch funct3 a b l) lines k (slot_counted lines None h k f (omega arith) e))
-slot_counted (Entry rd g ∷ lines) before h (suc k) f lt e = inr (on (Entry rd g) lines k (slot_counted lines None h k f (omega arith) e))
-slot_counted (Slot g ∷ lines) before h (suc k) f lt e = inr (on (Slot g) lines k (slot_counted lines None h.1 k f (omega arith) e))
+on_slot : (x : Line) (lines : List Line) (k : ℕ) → Before None lines k → Behind (x ∷ lines) (suc k)
+on_slot x lines k (inl h) = absurd h.1
+on_slot x lines k (inr h) = (suc h.0, ap suc h.1, h.2)
 
-module _ (lines : List Line) (counted : IsCounted None lines) (sizing : List ℕ) (sizes : IsSizing lines sizing) (j k f : ℕ) (lt : j < length lines) (lt' : k < length lines)
-    (links : Links (line_at lines j)) (slot : line_at lines k ≡ Slot f) (same : offset sizing (j + 1) ≡ offset sizing k) where
+-- a slot stands behind such a line
+slot_apart : (lines : List Line) (before : Option Line) → IsApart before lines → (k : ℕ) → k < length lines → IsSlot (line_at lines k) → Before before lines k
+slot_apart [] before h k lt s = absurd (omega arith)
+slot_apart (Slot f ∷ lines) before h zero lt s = inl (refl, h.0)
+slot_apart (Point a ∷ lines) before h zero lt s = inl (refl, h.0)
+slot_apart (Word i ∷ lines) before h zero lt s = absurd s
+slot_apart (Label l ∷ lines) before h zero lt s = absurd s
+slot_apart (Jump rd l ∷ lines) before h zero lt s = absurd s
+slot_apart (Branch funct3 a b l ∷ lines) before h zero lt s = absurd s
+slot_apart (Entry rd g ∷ lines) before h zero lt s = absurd s
+slot_apart (Word i ∷ lines) before h (suc k) lt s = inr (on (Word i) lines k (slot_apart lines (Some (Word i)) h k (omega arith) s))
+slot_apart (Label l ∷ lines) before h (suc k) lt s = inr (on (Label l) lines k (slot_apart lines (Some (Label l)) h k (omega arith) s))
+slot_apart (Jump rd l ∷ lines) before h (suc k) lt s = inr (on (Jump rd l) lines k (slot_apart lines (Some (Jump rd l)) h k (omega arith) s))
+slot_apart (Branch funct3 a b l ∷ lines) before h (suc k) lt s =
+    inr (on (Branch funct3 a b l) lines k (slot_apart lines (Some (Branch funct3 a b l)) h k (omega arith) s))
+slot_apart (Entry rd g ∷ lines) before h (suc k) lt s = inr (on (Entry rd g) lines k (slot_apart lines (Some (Entry rd g)) h k (omega arith) s))
+slot_apart (Slot f ∷ lines) before h (suc k) lt s = inr (on_slot (Slot f) lines k (slot_apart lines None h.1 k (omega arith) s))
+slot_apart (Point a ∷ lines) before h (suc k) lt s = inr (on_slot (Point a) lines k (slot_apart lines None h.1 k (omega arith) s))
+
+module _ (lines : List Line) (sizing : List ℕ) (sizes : IsSizing lines sizing) (j k : ℕ) (lt : j < length lines) (lt' : k < length lines)
+    (links : Links (line_at lines j)) (slot : IsSlot (line_at lines k)) (same : offset sizing (j + 1) ≡ offset sizing k) where
   -- the slot stands before the end of the line
   slot_ends : k ≤ j → ⊥
-  slot_ends le =
-      let two : 2 ≤ least_words (line_at lines k) = subst (λ x. 2 ≤ least_words x) (sym slot) (omega arith) in
-      omega (arith, behind lines sizing sizes k 2 lt' two, offset_rises sizing (k + 1) (j + 1) (omega arith), same)
+  slot_ends le = omega (arith, behind lines sizing sizes k 2 lt' (slot_words (line_at lines k) slot), offset_rises sizing (k + 1) (j + 1) (omega arith), same)
 
-  module _ (i : ℕ) (next : k ≡ suc i) (count : line_at lines i ≡ Word counts_call) where
-    -- so does the word that counts its call
-    count_ends : j < i → ⊥
-    count_ends less =
-        let one : 1 ≤ least_words (line_at lines i) = subst (λ x. 1 ≤ least_words x) (sym count) (omega arith) in
+  module _ (i : ℕ) (next : k ≡ suc i) (stays : Stays (line_at lines i)) where
+    -- so does the line before it
+    before_ends : j < i → ⊥
+    before_ends less =
         let here : offset sizing (i + 1) ≡ offset sizing k = ap (offset sizing) (omega (arith, next)) in
-        omega (arith, behind lines sizing sizes i 1 (omega (arith, lt', next)) one, here, offset_rises sizing (j + 1) i (omega arith), same)
+        omega (arith, behind lines sizing sizes i 1 (omega (arith, lt', next)) (stays_words (line_at lines i) stays), here, offset_rises sizing (j + 1) i (omega arith), same)
 
     itself : j ≡ i → ⊥
-    itself e = subst Links (ap (line_at lines) e ∙ count) links
+    itself e = stays_links (line_at lines i) stays (subst Links (ap (line_at lines) e) links)
 
     nowhere : ⊥
-    nowhere = ⊎_elim count_ends (λ (le : i ≤ j). ⊎_elim (λ (less : i < j). slot_ends (omega (arith, less, next))) (λ (ge : j ≤ i). itself (omega (arith, le, ge))) (cases_lt i j)) (cases_lt j i)
+    nowhere = ⊎_elim before_ends (λ (le : i ≤ j). ⊎_elim (λ (less : i < j). slot_ends (omega (arith, less, next))) (λ (ge : j ≤ i). itself (omega (arith, le, ge))) (cases_lt i j)) (cases_lt j i)
 
   no_link : Before None lines k → ⊥
-  no_link (inl h) = let wrong = h.1 in cc
+  no_link (inl h) = h.1
   no_link (inr h) = nowhere h.0 h.1 h.2
 
+either_slot : (x : Line) (n : ℕ) → (x ≡ Slot n) ⊎ (x ≡ Point n) → IsSlot x
+either_slot x n (inl e) = subst IsSlot (sym e) tt
+either_slot x n (inr e) = subst IsSlot (sym e) tt
+
 pub no_link_is_slot : NoLinkIsSlot
-no_link_is_slot place size is_attributed shape code base sizing sizes j k f lt lt' links slot same =
+no_link_is_slot place size is_attributed shape code base sizing sizes j k n lt lt' links slot same =
     let lines = function_lines place size is_attributed shape code in
-    let counted = function_counted place size is_attributed shape code in
-    no_link lines counted sizing sizes j k f lt lt' links slot (omega (arith, same)) (slot_counted lines None counted k f lt' slot)
+    let is = either_slot (line_at lines k) n slot in
+    no_link lines sizing sizes j k lt lt' links is (omega (arith, same)) (slot_apart lines None (function_apart place size is_attributed shape code) k lt' is)

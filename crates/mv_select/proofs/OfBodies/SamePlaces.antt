@@ -3,7 +3,7 @@ use Rattle.std.proofs.Common.{◌≡◌, ℕ, suc, ◌+◌, Bool, true, cond, Li
 use Rattle.mv_ast.specs.declared.program.Known.{Known}
 use Rattle.mv_isa.specs.declared.instr.Instr.TheVariants.{Lui, Lw, Sw, Addi}
 use Rattle.mv_isa.specs.declared.labelled.Line.{Line}
-use Rattle.mv_isa.specs.declared.labelled.Line.TheVariants.{Word, Label, Jump, Branch}
+use Rattle.mv_isa.specs.declared.labelled.Line.TheVariants.{Word, Label, Jump, Branch, Point}
 use Rattle.mv_isa.specs.Registers.{a7 as request_register, t3 as scratch_register}
 use Rattle.mv_ir.specs.declared.tree.Tree.{Tree}
 use Rattle.mv_ir.specs.declared.tree.Tree.TheOpen.{Tree-F}
@@ -33,7 +33,7 @@ use Rattle.mv_select_code.specs.Control.FlowCode.{Plan, Emitted, both, branch_co
 use Rattle.mv_select_code.specs.Control.FlowCode as flow_code
 use Rattle.mv_select_code.specs.Control.Layouts.{size_in}
 use Rattle.mv_select_code.proofs.OfControl.StatementsDo.{code_roll}
-use Rattle.mv_select.specs.Calls.CallCode.{request_of, pointer_lines, argument_lines, transfer_lines, call_lines, order_lines, ask_lines, result_lines, known_lines}
+use Rattle.mv_select.specs.Calls.CallCode.{request_of, back_lines, pad_lines, pointer_lines, argument_lines, transfer_lines, call_lines, order_lines, ask_lines, result_lines, known_lines}
 use Rattle.mv_select.specs.Functions.FunctionCode.{end_label, Shape, bytes_of, plan, prologue_lines, epilogue_lines, function_lines}
 use Rattle.mv_select.specs.Functions.Functions.{shape_of}
 use Rattle.mv_select.specs.Bodies.SelectedBodies.{CodeIsTheSame}
@@ -96,13 +96,13 @@ module _ (is_known : ℕ → Bool) where
         transfer_lines place is_attributed f r ≡ transfer_lines place' is_attributed f r
     same_transfer is_attributed (callee.Direct f) r h k = refl
     same_transfer is_attributed (callee.Through t) r h k = ap (λ l. l ++ pointer_lines r) (same_tree t h.0 scratch_register)
-    same_transfer is_attributed (callee.Switched g) r h k = ap (λ a. load_lines a scratch_register ++ pointer_lines r) (same_place g k.0)
+    same_transfer is_attributed (callee.Switched g) r h k = ap (λ a. Point a ∷ back_lines r) (same_place g k.0)
 
     same_call : (is_attributed : ℕ → Bool) (r : Option ℕ) (f : Callee) (args : List Tree) → Each ReadsKnown (callee_trees f ++ args) → Each IsKnownArray (callee_named f) →
         call_lines place is_attributed r f args ≡ call_lines place' is_attributed r f args
     same_call is_attributed r f args h k =
-        ap (λ l. l ++ transfer_lines place is_attributed f r) (same_arguments first args (each_right ReadsKnown (callee_trees f) args h)) ∙
-        ap (λ l. argument_lines place' first args ++ l) (same_transfer is_attributed f r (each_first ReadsKnown (callee_trees f) args h) k)
+        ap (λ l. pad_lines f args ++ (l ++ transfer_lines place is_attributed f r)) (same_arguments first args (each_right ReadsKnown (callee_trees f) args h)) ∙
+        ap (λ l. pad_lines f args ++ (argument_lines place' first args ++ l)) (same_transfer is_attributed f r (each_first ReadsKnown (callee_trees f) args h) k)
 
     same_known_call : (r : Option ℕ) (k : Known) (args : List Tree) → Each ReadsKnown args → known_lines place r k args ≡ known_lines place' r k args
     same_known_call r k args h =

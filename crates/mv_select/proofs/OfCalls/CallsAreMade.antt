@@ -1,21 +1,23 @@
 -- What holds of single lines and of lines that are put together holds of the code of calls.
-use Rattle.std.proofs.Common.{◌≡◌, ℕ, suc, Bool, true, false, cond, List, [], ◌∷◌, ◌++◌, pos, Option, Some, None, All, refl}
+use Rattle.std.proofs.Common.{◌≡◌, ℕ, suc, Bool, true, false, cond, List, [], ◌∷◌, ◌++◌, pos, Option, Some, None, All, refl, subst, append_assoc}
 use Rattle.std.proofs.lemmas.List.Elements.{All-head}
 use Rattle.mv_ast.specs.declared.program.Known.{Known}
 use Rattle.mv_ast.specs.declared.program.Known.TheVariants.{Getchar, Putchar, Poll, Plan}
-use Rattle.mv_isa.specs.declared.instr.Instr.TheVariants.{Addi, Lui, Lw, Jalr, Ecall}
+use Rattle.mv_isa.specs.declared.instr.Instr.TheVariants.{Addi, Jalr, Ecall}
 use Rattle.mv_isa.specs.declared.labelled.Line.{Line}
-use Rattle.mv_isa.specs.declared.labelled.Line.TheVariants.{Word, Jump, Branch, Entry}
+use Rattle.mv_isa.specs.declared.labelled.Line.TheVariants.{Word, Jump, Branch, Entry, Point}
+use Rattle.mv_isa.specs.Code.{nop}
 use Rattle.mv_isa.specs.Registers.{ra as link_register, s11 as left_register, a7 as request_register, t3 as scratch_register}
 use Rattle.mv_ir.specs.declared.tree.Tree.{Tree}
 use Rattle.mv_ir.specs.declared.stm.Callee.{Callee}
 use Rattle.mv_ir.specs.declared.stm.Callee.TheVariants as callee
-use Rattle.mv_select_code.specs.Trees.TreeCode.{one, upper_bits, lower_bits, number_lines, load_lines, minus_one, tree_into, tree_lines}
+use Rattle.mv_select_code.specs.Trees.TreeCode.{one, number_lines, minus_one, tree_into, tree_lines}
 use Rattle.mv_select_code.specs.Statements.StatementCode.{first, second, trap_label, write_temp}
-use Rattle.mv_select_code.specs.Control.Labels.{tree_functions, callee_functions, functions_of_all}
+use Rattle.mv_select_code.specs.Control.Labels.{tree_functions, callee_functions, functions_of_all, callee_pointers}
 use Rattle.mv_select_code.proofs.OfControl.TreeNames.{all_front, all_back}
 use Rattle.mv_select_code.proofs.OfControl.StatementsAreMade.{LineByLine, number_made, tree_made, into_made}
 use Rattle.mv_select.specs.Calls.CallCode.{request_of, commit_label, result_lines, back_lines, guarded_lines, slot_lines, jump_lines, pointer_lines, argument_lines, transfer_lines, call_lines, order_lines, ask_lines, known_lines}
+use Rattle.mv_select.proofs.OfCalls.Closing.{Closes, arguments_close}
 
 module _ {P : List Line → Type 0} {L J Q : ℕ → Type 0} (made : LineByLine P L J Q) where
   pub result_made : (r : Option ℕ) → P (result_lines r)
@@ -52,15 +54,19 @@ module _ {P : List Line → Type 0} {L J Q : ℕ → Type 0} (made : LineByLine 
         (made.after (order_lines k) (one request ++ asked) (order_made k)
         (made.after (one request) asked (made.word request) (made.after (ask_lines k) (result_lines r) (ask_made k) (result_made r))))
 
-  -- ---- of functions, where it holds of a slot of the kind S behind the word that counts the call
+  -- ---- of functions, where it holds of a slot of the kind S behind the word that counts the call, and of one of four words, of the kind A, behind lines
+  -- where it may stand
 
-  module _ {S : ℕ → Type 0} (slot : (f : ℕ) → S f → P (Word (Addi left_register left_register minus_one) ∷ slot_lines f)) (null : J (trap_label 3)) (depth : J (trap_label 4)) where
+  module _ {S A : ℕ → Type 0} (slot : (f : ℕ) → S f → P (Word (Addi left_register left_register minus_one) ∷ slot_lines f))
+      (point : (front : List Line) (a : ℕ) → A a → P front → Closes front → P (front ++ (Point a ∷ []))) (null : J (trap_label 3)) (depth : J (trap_label 4)) where
+    back_made : (r : Option ℕ) → P (back_lines r)
+    back_made r = let more = Addi left_register left_register (pos 1) in made.after (one more) (result_lines r) (made.word more) (result_made r)
+
     guarded_made : (go : List Line) (r : Option ℕ) → P (Word (Addi left_register left_register minus_one) ∷ go) → P (guarded_lines go r)
     guarded_made go r h =
         let less = Addi left_register left_register minus_one in
-        let more = Addi left_register left_register (pos 1) in
         made.after (Branch 0 left_register 0 (trap_label 4) ∷ []) (Word less ∷ (go ++ back_lines r)) (made.branch 0 left_register 0 (trap_label 4) depth)
-        (made.after (Word less ∷ go) (back_lines r) h (made.after (one more) (result_lines r) (made.word more) (result_made r)))
+        (made.after (Word less ∷ go) (back_lines r) h (back_made r))
 
     jumped_made : (r : Option ℕ) → P (guarded_lines jump_lines r)
     jumped_made r =
@@ -77,16 +83,23 @@ module _ {P : List Line → Type 0} {L J Q : ℕ → Type 0} (made : LineByLine 
     direct_made false f r h is = made.after (Entry scratch_register f ∷ []) (guarded_lines jump_lines r) (made.entry scratch_register f h) (jumped_made r)
 
     module _ (place : ℕ → ℕ) (is_attributed : ℕ → Bool) (slots : (f : ℕ) → Q f → is_attributed f ≡ true → S f) where
-      transfer_made : (f : Callee) (r : Option ℕ) → All Q (callee_functions f) → P (transfer_lines place is_attributed f r)
-      transfer_made (callee.Direct f) r h = let named = All-head Q f [] h in direct_made (is_attributed f) f r named (slots f named)
-      transfer_made (callee.Through t) r h = made.after (tree_lines place t scratch_register) (pointer_lines r) (tree_made made place t h scratch_register) (pointer_made r)
-      transfer_made (callee.Switched g) r h =
-          let upper = Lui scratch_register (pos (upper_bits (place g))) in
-          let load = Lw scratch_register scratch_register (lower_bits (place g)) in
-          made.after (load_lines (place g) scratch_register) (pointer_lines r) (made.after (one upper) (one load) (made.word upper) (made.word load)) (pointer_made r)
+      passed_made : (f : Callee) (args : List Tree) (r : Option ℕ) → All Q (callee_functions f ++ functions_of_all args) → P (transfer_lines place is_attributed f r)
+          → P (argument_lines place first args ++ transfer_lines place is_attributed f r)
+      passed_made f args r h of_transfer =
+          made.after (argument_lines place first args) (transfer_lines place is_attributed f r) (argument_made place first args (all_back Q (callee_functions f) (functions_of_all args) h)) of_transfer
 
-      pub call_made : (r : Option ℕ) (f : Callee) (args : List Tree) → All Q (callee_functions f ++ functions_of_all args) → P (call_lines place is_attributed r f args)
-      call_made r f args h =
-          let of_callee = all_front Q (callee_functions f) (functions_of_all args) h in
-          let of_args = all_back Q (callee_functions f) (functions_of_all args) h in
-          made.after (argument_lines place first args) (transfer_lines place is_attributed f r) (argument_made place first args of_args) (transfer_made f r of_callee)
+      pub call_made : (r : Option ℕ) (f : Callee) (args : List Tree) → All Q (callee_functions f ++ functions_of_all args) → All (λ g. A (place g)) (callee_pointers f)
+          → P (call_lines place is_attributed r f args)
+      call_made r (callee.Direct f) args h k =
+          let named = All-head Q f (functions_of_all args) h in
+          passed_made (callee.Direct f) args r h (direct_made (is_attributed f) f r named (slots f named))
+      call_made r (callee.Through t) args h k =
+          passed_made (callee.Through t) args r h
+          (made.after (tree_lines place t scratch_register) (pointer_lines r) (tree_made made place t (all_front Q (tree_functions t) (functions_of_all args) h) scratch_register) (pointer_made r))
+      call_made r (callee.Switched g) [] h k =
+          made.after (one nop ++ (Point (place g) ∷ [])) (back_lines r) (point (one nop) (place g) (All-head (λ g. A (place g)) g [] k) (made.word nop) refl) (back_made r)
+      call_made r (callee.Switched g) (t ∷ ts) h k =
+          let front = argument_lines place first (t ∷ ts) in
+          let at = Point (place g) ∷ [] in
+          subst P (append_assoc front at (back_lines r))
+          (made.after (front ++ at) (back_lines r) (point front (place g) (All-head (λ g. A (place g)) g [] k) (argument_made place first (t ∷ ts) h) (arguments_close place first t ts)) (back_made r))

@@ -5,9 +5,9 @@ use Rattle.std.proofs.lemmas.Int.{ints}
 use Rattle.std.proofs.lemmas.List.Elements.{All-cons, All-nil, All-head, All-tail}
 use Rattle.mv_ast.specs.declared.program.Known.{Known}
 use Rattle.mv_ast.specs.declared.program.Known.TheVariants.{Getchar, Putchar, Poll, Plan}
-use Rattle.mv_isa.specs.declared.instr.Instr.TheVariants.{Addi, Lui, Lw, Jalr, Ecall}
+use Rattle.mv_isa.specs.declared.instr.Instr.TheVariants.{Addi, Jalr, Ecall}
 use Rattle.mv_isa.specs.declared.labelled.Line.{Line}
-use Rattle.mv_isa.specs.declared.labelled.Line.TheVariants.{Jump, Branch, Entry, Slot}
+use Rattle.mv_isa.specs.declared.labelled.Line.TheVariants.{Jump, Branch, Entry, Slot, Point}
 use Rattle.mv_isa.specs.Code.{LineFits}
 use Rattle.mv_isa.specs.Registers.{ra as link_register, s11 as left_register, a7 as request_register, t3 as scratch_register}
 use Rattle.mv_ir.specs.declared.tree.Tree.{Tree}
@@ -15,15 +15,15 @@ use Rattle.mv_ir.specs.declared.stm.Callee.{Callee}
 use Rattle.mv_ir.specs.declared.stm.Callee.TheVariants as callee
 use Rattle.mv_ir.specs.Measures.{callee_trees}
 use Rattle.mv_ir.specs.Trees.{nodes, nodes_of_all}
-use Rattle.mv_select_code.specs.Trees.TreeCode.{one, upper_bits, lower_bits, number_lines, load_lines, minus_one, tree_into, tree_lines}
+use Rattle.mv_select_code.specs.Trees.TreeCode.{one, number_lines, minus_one, tree_into, tree_lines}
 use Rattle.mv_select_code.proofs.OfTrees.TreesAreShort.{number_size, into_short}
-use Rattle.mv_select_code.proofs.OfTrees.TreesFit.{lower_fits, upper_fits, small_fits, number_fits, into_fits}
+use Rattle.mv_select_code.proofs.OfTrees.TreesFit.{small_fits, number_fits, into_fits}
 use Rattle.mv_select_code.specs.Statements.StatementCode.{first, second, trap_label, write_temp}
 use Rattle.mv_select_code.specs.Statements.Encoded.{IsCode, IsSmall}
 use Rattle.mv_select_code.proofs.OfStatements.EncodedCode.{both, wider, single, branch, write_fits, tree_code}
 use Rattle.mv_select_code.specs.Control.FlowCode.{fine_known}
 use Rattle.mv_select_code.specs.Control.Layouts.{any_global, any_known, is_small}
-use Rattle.mv_select.specs.Calls.CallCode.{request_of, commit_label, result_lines, guard_lines, back_lines, guarded_lines, slot_lines, jump_lines, pointer_lines, argument_lines, transfer_lines, call_lines, order_lines, ask_lines, known_lines}
+use Rattle.mv_select.specs.Calls.CallCode.{request_of, commit_label, result_lines, guard_lines, back_lines, guarded_lines, slot_lines, jump_lines, pointer_lines, argument_lines, transfer_lines, pad_lines, call_lines, order_lines, ask_lines, known_lines}
 use Rattle.mv_select.specs.Calls.Lines.{CallsHaveCode}
 use Rattle.mv_select.proofs.OfCalls.Small.{HasRoom, FineParts, call_callee, call_parts, known_order, known_parts}
 use Rattle.mv_num.proofs.Booleans.{and_left}
@@ -51,13 +51,16 @@ result_code (Some t) h = single (write_temp t first) (write_fits t first h (omeg
 
 -- ---- calls of functions
 
+back_code : (r : Option ℕ) → HasRoom r → IsCode 2 (back_lines r)
+back_code r room = both 1 1 (one (Addi left_register left_register (pos 1))) (result_lines r) (add left_register left_register 1 (omega arith) (omega arith) (omega arith)) (result_code r room)
+
 guarded_code : (n : ℕ) (go : List Line) (r : Option ℕ) → HasRoom r → IsCode n go → IsCode (3 + (n + 2)) (guarded_lines go r)
 guarded_code n go r room h =
     let less = Addi left_register left_register minus_one in
     both 3 (n + 2) guard_lines (go ++ back_lines r)
     (both 2 1 (Branch 0 left_register 0 (trap_label 4) ∷ []) (one less) (branch 0 left_register 0 (trap_label 4) (inl (omega arith)) (omega arith) (omega arith))
     (single less (omega arith, omega arith, (omega (arith, ints), omega (arith, ints)))))
-    (both n 2 go (back_lines r) h (both 1 1 (one (Addi left_register left_register (pos 1))) (result_lines r) (add left_register left_register 1 (omega arith) (omega arith) (omega arith)) (result_code r room)))
+    (both n 2 go (back_lines r) h (back_code r room))
 
 jump_code : (r : Option ℕ) → HasRoom r → IsCode 6 (guarded_lines jump_lines r)
 jump_code r room = guarded_code 1 jump_lines r room (single (Jalr link_register scratch_register (pos 0)) (omega arith, omega arith, small_fits 0 (omega arith)))
@@ -66,11 +69,15 @@ pointer_code : (r : Option ℕ) → HasRoom r → IsCode 8 (pointer_lines r)
 pointer_code r room =
     both 2 6 (Branch 0 scratch_register 0 (trap_label 3) ∷ []) (guarded_lines jump_lines r) (branch 0 scratch_register 0 (trap_label 3) (inl (omega arith)) (omega arith) (omega arith)) (jump_code r room)
 
-load_code : (at : ℕ) → IsCode 2 (load_lines at scratch_register)
-load_code at =
-    let upper = Lui scratch_register (pos (upper_bits at)) in
-    let load = Lw scratch_register scratch_register (lower_bits at) in
-    both 1 1 (one upper) (one load) (single upper (omega arith, upper_fits at)) (single load (omega arith, omega arith, lower_fits at))
+-- of a call by a slot of four words
+point_code : (a : ℕ) (r : Option ℕ) → HasRoom r → IsCode 6 (Point a ∷ back_lines r)
+point_code a r room = both 4 2 (Point a ∷ []) (back_lines r) (All-cons LineFits (Point a) [] tt (All-nil LineFits), omega arith) (back_code r room)
+
+pad_code : (f : Callee) (args : List Tree) → IsCode 1 (pad_lines f args)
+pad_code (callee.Direct f) args = wider 0 1 [] (omega arith) nothing
+pad_code (callee.Through t) args = wider 0 1 [] (omega arith) nothing
+pad_code (callee.Switched g) [] = add 0 0 0 (omega arith) (omega arith) (omega arith)
+pad_code (callee.Switched g) (t ∷ ts) = wider 0 1 [] (omega arith) nothing
 
 direct_code : (is_slot : Bool) (f : ℕ) (r : Option ℕ) → HasRoom r
     → IsCode 8 (cond is_slot (guarded_lines (slot_lines f) r) (Entry scratch_register f ∷ guarded_lines jump_lines r))
@@ -96,7 +103,7 @@ module _ (place : ℕ → ℕ) where
         let tree = tree_lines place t scratch_register in
         wider (2 * nodes t + 8) (2 * nodes_of_all (t ∷ []) + 10) (tree ++ pointer_lines r) (omega arith)
         (both (2 * nodes t) 8 tree (pointer_lines r) (tree_code place t scratch_register (omega arith) (All-head IsSmall t [] h)) (pointer_code r room))
-    transfer_code (callee.Switched g) r room h = both 2 8 (load_lines (place g) scratch_register) (pointer_lines r) (load_code (place g)) (pointer_code r room)
+    transfer_code (callee.Switched g) r room h = wider 6 10 (Point (place g) ∷ back_lines r) (omega arith) (point_code (place g) r room)
 
     callee_nodes : (f : Callee) (args : List Tree) → nodes_of_all (callee_trees f ++ args) ≡ nodes_of_all (callee_trees f) + nodes_of_all args
     callee_nodes (callee.Direct f) args = omega arith
@@ -111,8 +118,10 @@ module _ (place : ℕ → ℕ) where
         let k = 2 * nodes_of_all (callee_trees f) + 10 in
         let n = 2 * nodes_of_all args in
         let go = transfer_lines place is_attributed f r in
-        wider (n + k) (2 * nodes_of_all (callee_trees f ++ args) + 16) (argument_lines place first args ++ go) (omega (arith, few, total))
-        (both n k (argument_lines place first args) go (arguments_code first args (omega (arith, few)) fine.trees) (transfer_code f r fine.room h))
+        let passed = argument_lines place first args ++ go in
+        wider (1 + (n + k)) (2 * nodes_of_all (callee_trees f ++ args) + 16) (pad_lines f args ++ passed) (omega (arith, few, total))
+        (both 1 (n + k) (pad_lines f args) passed (pad_code f args)
+        (both n k (argument_lines place first args) go (arguments_code first args (omega (arith, few)) fine.trees) (transfer_code f r fine.room h)))
 
   -- ---- calls of known functions
 

@@ -1,36 +1,33 @@
 -- The code of a call of a function does what the call means.
-use Rattle.std.proofs.Common.{◌≡◌, inl, inr, ℕ, suc, ◌+◌, ◌*◌, ◌<◌, ◌≤◌, Bool, true, false, ◌&&◌, cond, eqb, ltb, List, [], ◌∷◌, length, map, slice_index, Option, Some, None, refl, sym, ap, ◌∙◌, subst, arith, unwrap_or}
+use Rattle.std.proofs.Common.{◌≡◌, inl, inr, ℕ, suc, ◌+◌, ◌*◌, ◌<◌, ◌≤◌, Bool, true, false, ◌&&◌, cond, eqb, ltb, List, [], ◌∷◌, ◌++◌, length, map, sum_by, pos, slice_index, Option, Some, None, refl, sym, ap, ◌∙◌, subst, arith, unwrap_or}
 use Rattle.std.proofs.lemmas.Bool.{ltb-true, eqb-true, eqb-false}
 use Rattle.std.proofs.lemmas.List.{length-map}
 use Rattle.std.proofs.lemmas.Option.{none-some}
 use Rattle.mv_isa.specs.declared.labelled.Line.{Line}
 use Rattle.mv_isa.specs.declared.labelled.Line.TheVariants.{Entry, Slot}
-use Rattle.mv_isa.specs.Code.{IsPlace}
-use Rattle.mv_isa.specs.Execution.{Access, reg, put}
+use Rattle.mv_num.specs.Words.{add}
+use Rattle.mv_isa.specs.Code.{IsPlace, greatest_words, nop}
+use Rattle.mv_isa.specs.Execution.{Access, Goes as GoesOn, reg, put}
 use Rattle.mv_isa.specs.Registers.{t3 as scratch_register}
 use Rattle.mv_ir.specs.declared.tree.Tree.{Tree}
-use Rattle.mv_ir.specs.declared.tree.Tree as at_tree
-use Rattle.mv_ir.specs.declared.tree.Tree.TheOpen as tree
-use Rattle.mv_ir.specs.declared.tree.Tree.TheVariants.{rolls-Global}
 use Rattle.mv_ir.specs.declared.stm.Callee.{Callee}
 use Rattle.mv_ir.specs.declared.stm.Callee.TheVariants as callee
 use Rattle.mv_ir.specs.declared.stm.Stm.TheOpen as stm
 use Rattle.mv_ir.specs.World as ir
+use Rattle.mv_ir.specs.World.{World}
 use Rattle.mv_ir.specs.Outcome.{State, Run, Bound}
-use Rattle.mv_ir.specs.Trees.{scalar, read_as, nodes, nodes_of_all, depth}
+use Rattle.mv_ir.specs.Trees.{nodes, nodes_of_all}
 use Rattle.mv_ir.specs.Meaning as meaning
 use Rattle.mv_ir.specs.Meaning.{of_tree, Null, At, goal_at, goal, callee_nodes, call_to}
 use Rattle.mv_ir.specs.WellFormed.{all_true}
-use Rattle.mv_ir.proofs.Rolls.{value_roll, depth_roll}
-use Rattle.mv_select_code.specs.Trees.TreeCode.{load_lines, tree_lines}
-use Rattle.mv_select_code.specs.Trees.Straight.{Straight}
-use Rattle.mv_select_code.specs.Trees.View.{is_in_view}
-use Rattle.mv_select_code.proofs.OfTrees.Equations.{into_global}
-use Rattle.mv_select_code.proofs.OfTrees.Rolls.{lines_are, in_view_roll}
-use Rattle.mv_select_code.proofs.OfTrees.Registers.{put_same, put_other, changes_put}
+use Rattle.mv_select_code.specs.Trees.TreeCode.{tree_lines}
+use Rattle.mv_select_code.specs.Trees.Straight.{Sets, Straight}
+use Rattle.mv_select_code.proofs.OfTrees.Instructions.{addi_sets}
+use Rattle.mv_select_code.proofs.OfTrees.Registers.{reg_zero, put_same, put_other, changes_put}
 use Rattle.mv_select_code.proofs.OfTrees.TreesAreShort.{trees_are_short}
+use Rattle.mv_select_code.proofs.OfTrees.Words.{zero_add}
 use Rattle.mv_select_code.specs.Statements.StatementCode.{first}
-use Rattle.mv_select_code.specs.Statements.Frames.{Site, view_of, IsFine, IsFit, Shows}
+use Rattle.mv_select_code.specs.Statements.Frames.{Site, IsFine, IsFit, Shows}
 use Rattle.mv_select_code.specs.Statements.Leads.{limited}
 use Rattle.mv_select_code.proofs.OfStatements.FrameChanges.{frame_scratch}
 use Rattle.mv_select_code.proofs.OfStatements.TreesFirst.{tree_first}
@@ -39,19 +36,20 @@ use Rattle.mv_select_code.specs.Control.FlowCode.{fine_target, fine_callee, fine
 use Rattle.mv_select_code.specs.Control.Runs.{Machine, IsRun}
 use Rattle.mv_select_code.specs.Control.Laws.{uses_of, LinesDo}
 use Rattle.mv_select_code.specs.Control.Flow.{IsWithin}
-use Rattle.mv_select_code.proofs.OfControl.Walk.{placed_split, to_stands}
-use Rattle.mv_select.specs.Calls.CallCode.{argument_lines, guarded_lines, jump_lines, pointer_lines, transfer_lines, call_lines}
+use Rattle.mv_select_code.proofs.OfControl.Walk.{put_zero, placed_split, to_stands}
+use Rattle.mv_select.specs.Calls.CallCode.{argument_lines, guarded_lines, jump_lines, pointer_lines, transfer_lines, pad_lines, call_lines}
 use Rattle.mv_select.specs.Calls.Convention.{Layout, Conventions}
-use Rattle.mv_select.specs.Calls.Environment.{IsFree}
 use Rattle.mv_select.specs.Calls.Laws.{IsCaller, IsLinked}
 use Rattle.mv_select.proofs.OfCalls.Arguments.{at_scratch, arguments_short, values, arguments_first}
 use Rattle.mv_select.proofs.OfCalls.Transfers.{Transfers, slot_transfers, jump_transfers}
 use Rattle.mv_select.proofs.OfCalls.Guarded.{straight_walk, zero_traps, other_passes, guarded_does}
+use Rattle.mv_select.proofs.OfCalls.PointCalls.{points_keep, point_does}
 use Rattle.mv_select.proofs.OfCalls.CallCourse.{call_course}
 use Rattle.mv_num.proofs.Booleans.{and_right, and_left}
+use Rattle.mv_num.proofs.Numbers.{word_of_pos}
 
 -- where a number is found, a function has it
-abbrev Found : List ℕ → (v at f : ℕ) → Type 0
+abbrev pub Found : List ℕ → (v at f : ℕ) → Type 0
 Found numbers v at f = (k : ℕ) × (f ≡ at + k) × (k < length numbers) × (slice_index numbers k ≡ v)
 
 by_first : (n : ℕ) (numbers : List ℕ) (v at f : ℕ) (b : Bool) → eqb n v ≡ b → cond b (Some at) (meaning.place numbers v (suc at)) ≡ Some f
@@ -59,14 +57,14 @@ by_first : (n : ℕ) (numbers : List ℕ) (v at f : ℕ) (b : Bool) → eqb n v 
 by_first n numbers v at f true is e rest = let same : at ≡ f = ap (λ o. unwrap_or o 0) e in (0, omega (arith, same), omega arith, eqb-true n v is)
 by_first n numbers v at f false is e rest = let r = rest e in let same = r.1 in let below = r.2 in (suc r.0, omega (arith, same), omega (arith, below), r.3)
 
-place_found : (numbers : List ℕ) (v at f : ℕ) → meaning.place numbers v at ≡ Some f → Found numbers v at f
+pub place_found : (numbers : List ℕ) (v at f : ℕ) → meaning.place numbers v at ≡ Some f → Found numbers v at f
 place_found [] v at f e = absurd (none-some f e)
 place_found (n ∷ numbers) v at f e = by_first n numbers v at f (eqb n v) refl e (place_found numbers v (suc at) f)
 
 module _ {M : Type 0} (access : Access M) (y : Layout) (s : Site) (setting : ir.Setting) (frame : ir.Frame) (fit : IsFit s access setting frame) (caller : IsCaller y s setting frame)
     (machine : Machine M) (ok : IsRun access s machine) (budget far : ℕ) (place : ℕ → ℕ) (end : ℕ) (linked : IsLinked y place)
-    (is_fine : Tree → Bool) (fine_trees : (t : Tree) → is_fine t ≡ true → IsFine s setting frame t) (is_attributed : ℕ → Bool) (free : IsFree setting) where
-  open call_course access s machine ok place end budget far use {of.{Placed as P, Follows as F}, Stands as W}
+    (is_fine : Tree → Bool) (fine_trees : (t : Tree) → is_fine t ≡ true → IsFine s setting frame t) (is_attributed : ℕ → Bool) where
+  open call_course access s machine ok place end budget far use {of.{Placed as P, Follows as F}, Stands as W, Reaches as R}
 
   abbrev Goes : List Line → ℕ → List ℕ → State → List ℕ → M → Type 0
   Goes = Transfers access y s setting frame fit caller machine ok budget far place end linked is_fine
@@ -79,7 +77,7 @@ module _ {M : Type 0} (access : Access M) (y : Layout) (s : Site) (setting : ir.
     pub few : length args < 9
     pub shown : Shows s access l regs m
     pub held : (j : ℕ) → j < length args → reg regs (first + j) ≡ slice_index args j
-    pub keep : Conventions access y machine budget far bound
+    pub keep : Conventions access y machine budget far setting bound
 
   -- a call to the function whose address stands in t3
   by_jump : (result : Option ℕ) (f : ℕ) (args : List ℕ) (spare pc next : ℕ) (around : List Enclosing) (bound : Bound) (l : State) (regs : List ℕ) (m : M) (i : ℕ)
@@ -140,29 +138,11 @@ module _ {M : Type 0} (access : Access M) (y : Layout) (s : Site) (setting : ir.
       let b = other_passes access y s setting frame fit caller machine ok budget far place end linked is_fine 3 scratch_register v l.world pc p.0 regs m i holds (eqb-false v 0 null) p.1 a in
       by_jump result f args spare p.0 next around bound l regs m (i + 1) fine x at (caller.entry_places f there) p.2 b (omega (arith, paid)) (omega (arith, asked))
 
-  -- ---- pointer switches
-
-  -- the tree that reads one
-  abbrev read_of : ℕ → Tree
-  read_of g = at_tree.Global g
-
-  switch_fine : (g : ℕ) → s.reach.is_read g ≡ true → IsFine s setting frame (read_of g)
-  switch_fine g h = record {
-    named = λ l count. ap (is_in_view (view_of s setting frame l)) (sym (rolls-Global g)) ∙ in_view_roll (view_of s setting frame l) (tree.Global g) ∙ h;
-    shallow = let one : depth (read_of g) ≡ 1 = ap depth (sym (rolls-Global g)) ∙ depth_roll (tree.Global g) in omega (arith, one);
-  }
-
-  switch_value : (g : ℕ) (l : State) → s.reach.is_read g ≡ true → of_tree setting frame (read_of g) l ≡ scalar l.world.globals g
-  switch_value g l h =
-      ap (λ t. of_tree setting frame t l) (sym (rolls-Global g)) ∙
-      ap (λ (f : List ℕ → List (List ℕ) → ℕ). f l.temps l.world.globals) (value_roll setting.numbers frame.bound (tree.Global g)) ∙
-      ap (λ o. read_as o (scalar l.world.globals g)) (fit.free g h)
-
   -- the call itself, its arguments in their registers
   transfer_does : (result : Option ℕ) (f : Callee) (args : List ℕ) (spare pc next : ℕ) (around : List Enclosing) (bound : Bound) (l : State) (regs : List ℕ) (m : M) (i : ℕ)
       → fine_target is_fine s.may_ask s.temps (uses_of s) result ≡ true → fine_callee is_fine s.may_ask s.temps (uses_of s) f ≡ true → Passed args bound l regs m
       → P (transfer_lines s.place is_attributed f result) pc next → W l.world pc regs m i
-      → i + (spare + 60 + 3 * callee_nodes setting frame f + (ToGoal (goal setting frame f l) result args bound l).cost) ≤ budget → far ≤ i + length bound
+      → i + (spare + 59 + 3 * callee_nodes setting frame f + (ToGoal (goal setting frame f l) result args bound l).cost) ≤ budget → far ≤ i + length bound
       → F spare (length bound) around next (ToGoal (goal setting frame f l) result args bound l).outcome
   transfer_does result (callee.Direct f) args spare pc next around bound l regs m i fine trees x p a paid asked = by_kind (is_attributed f) p
     where
@@ -180,23 +160,32 @@ module _ {M : Type 0} (access : Access M) (y : Layout) (s : Site) (setting : ir.
       by_value result v args spare q.0 next around bound l z.after m r.time (eqb v 0) (meaning.place setting.numbers v 0) refl refl fine
       (passed_scratch args bound l regs z.after m x z.shown (λ n lt. z.changes.others n (inl lt))) z.holds q.2 r.stands (omega (arith, paid, soon)) (omega (arith, asked, late))
   transfer_does result (callee.Switched g) args spare pc next around bound l regs m i fine may x p a paid asked =
-      let v = setting.switched g l.world in
-      let z = tree_first access s setting frame fit scratch_register (read_of g) l regs m at_scratch (switch_fine g may) x.shown in
-      let ls = load_lines (s.place g) scratch_register in
-      let runs = subst (λ ls. Straight (limited access s) m s.entry ls regs z.after) (lines_are s.place (read_of g) scratch_register ∙ into_global s.place g scratch_register scratch_register) z.runs in
-      let q = placed_split machine.text place s.entry ls (pointer_lines result) pc next p in
-      let r = straight_walk access y s setting frame fit caller machine ok budget far place end linked is_fine ls 2 l.world pc q.0 regs z.after m i (omega arith) q.1 runs a in
-      let late = r.late in let soon = r.soon in
-      by_value result v args spare q.0 next around bound l z.after m r.time (eqb v 0) (meaning.place setting.numbers v 0) refl refl fine
-      (passed_scratch args bound l regs z.after m x z.shown (λ n lt. z.changes.others n (inl lt))) (z.holds ∙ switch_value g l may ∙ sym (free g l.world)) q.2 r.stands (omega (arith, paid, soon)) (omega (arith, asked, late))
+      point_does access y s setting frame fit caller machine ok budget far place end linked is_fine result g args spare pc next around bound l regs m i fine may x.few x.shown x.held
+      (points_keep access y machine budget far setting bound x.keep) p a (omega (arith, paid)) asked
 
   -- the functions keep the convention at each lower bound
-  conventions_within : (bound top : Bound) → IsWithin bound top → Conventions access y machine budget far top → Conventions access y machine budget far bound
-  conventions_within bound [] e keep = subst (Conventions access y machine budget far) (sym e) keep
-  conventions_within bound (calls ∷ below) (inl e) keep = subst (Conventions access y machine budget far) (sym e) keep
-  conventions_within bound (calls ∷ below) (inr h) keep = conventions_within bound below h keep.1
+  conventions_within : (bound top : Bound) → IsWithin bound top → Conventions access y machine budget far setting top → Conventions access y machine budget far setting bound
+  conventions_within bound [] e keep = subst (Conventions access y machine budget far setting) (sym e) keep
+  conventions_within bound (calls ∷ below) (inl e) keep = subst (Conventions access y machine budget far setting) (sym e) keep
+  conventions_within bound (calls ∷ below) (inr h) keep = conventions_within bound below h keep.2
 
-  pub call_done : (top : Bound) → Conventions access y machine budget far top → (result : Option ℕ) (f : Callee) (args : List Tree) → fine_layer is_fine s.may_ask s.temps (uses_of s) (stm.Call result f args) ≡ true
+  -- what stands before a call through a pointer switch without arguments changes nothing
+  nop_sets : (regs : List ℕ) (m : M) → Sets (limited access s) m nop regs regs
+  nop_sets regs m pc =
+      addi_sets (limited access s) m 0 0 (pos 0) regs 0 0 0 (reg_zero regs) (word_of_pos 0 (omega arith)) (zero_add 0 (omega arith)) pc ∙ ap (λ rs. GoesOn rs (add pc 4) m) (put_zero regs 0)
+
+  pad_walk : (f : Callee) (args : List Tree) (w : World) (pc next : ℕ) (regs : List ℕ) (m : M) (i : ℕ) → P (pad_lines f args) pc next → W w pc regs m i → R w next regs m i 1
+  pad_walk f args w pc next regs m i p a =
+      let pad = pads f args in
+      straight_walk access y s setting frame fit caller machine ok budget far place end linked is_fine (pad_lines f args) 1 w pc next regs regs m i pad.0 p (pad.1 regs m) a
+    where
+      pads : (f : Callee) (args : List Tree) → (sum_by greatest_words (pad_lines f args) ≤ 1) × ((regs : List ℕ) (m : M) → Straight (limited access s) m s.entry (pad_lines f args) regs regs)
+      pads (callee.Direct f) args = (omega arith, λ regs m. refl)
+      pads (callee.Through t) args = (omega arith, λ regs m. refl)
+      pads (callee.Switched g) [] = (omega arith, λ regs m. (regs, nop_sets regs m, refl))
+      pads (callee.Switched g) (t ∷ ts) = (omega arith, λ regs m. refl)
+
+  pub call_done : (top : Bound) → Conventions access y machine budget far setting top → (result : Option ℕ) (f : Callee) (args : List Tree) → fine_layer is_fine s.may_ask s.temps (uses_of s) (stm.Call result f args) ≡ true
       → LinesDo access s setting frame machine place end budget far is_fine top (call_lines s.place is_attributed result f args) (stm.Call result f args)
   call_done top keep result f args fine spare around pc next bound within p l i h =
       let trees = all_true (map is_fine args) in
@@ -207,13 +196,18 @@ module _ {M : Type 0} (access : Access M) (y : Layout) (s : Site) (setting : ir.
       let regs = (machine.run i).regs in
       let z = arguments_first access s setting frame fit is_fine fine_trees args first l regs m (omega arith) (omega (arith, few)) (and_right (fine_callee is_fine s.may_ask s.temps (uses_of s) f) trees both) h.shows in
       let ls = argument_lines s.place first args in
-      let q = placed_split machine.text place s.entry ls (transfer_lines s.place is_attributed f result) pc next p in
+      let go = transfer_lines s.place is_attributed f result in
+      let o = placed_split machine.text place s.entry (pad_lines f args) (ls ++ go) pc next p in
+      let q = placed_split machine.text place s.entry ls go o.0 next o.2 in
       let cost = (ToGoal (goal setting frame f l) result (values access s setting frame fit is_fine fine_trees args l) bound l).cost in
-      let r = straight_walk access y s setting frame fit caller machine ok budget far place end linked is_fine ls (2 * nodes_of_all args) l.world pc q.0 regs z.after m i (arguments_short s.place first args) q.1 z.runs
+      let b = pad_walk f args l.world pc o.0 regs m i o.1
       (to_stands access s machine ok place end budget far 0 (spare + (60 + 3 * (callee_nodes setting frame f + nodes_of_all args) + cost)) (length bound) pc l i h) in
+      let r = straight_walk access y s setting frame fit caller machine ok budget far place end linked is_fine ls (2 * nodes_of_all args) l.world o.0 q.0 regs z.after m b.time (arguments_short s.place first args) q.1 z.runs
+      b.stands in
+      let begun = b.late in let begins = b.soon in
       let late = r.late in let soon = r.soon in let paid = h.paid in let asked = h.asked in
       transfer_does result f (values access s setting frame fit is_fine fine_trees args l) spare q.0 next around bound l z.after m r.time
       (and_left (fine_target is_fine s.may_ask s.temps (uses_of s) result) (fine_callee is_fine s.may_ask s.temps (uses_of s) f && trees) parts)
       (and_left (fine_callee is_fine s.may_ask s.temps (uses_of s) f) trees both)
       (record { few = omega (arith, few, length-map args (λ t. of_tree setting frame t l)); shown = z.shown; held = λ j lt. z.hold j (omega (arith, lt, length-map args (λ t. of_tree setting frame t l))); keep = conventions_within bound top within keep })
-      q.2 r.stands (omega (arith, paid, soon)) (omega (arith, asked, late))
+      q.2 r.stands (omega (arith, paid, soon, begins)) (omega (arith, asked, late, begun))

@@ -98,7 +98,7 @@ module _ {M : Type 0} (access : Access M) (y : Layout) (s : Site) (setting : ir.
 
   -- a call that is left is made, at each bound
   made : (go : List Line) (result : Option ℕ) (f : ℕ) (args : List ℕ) (spare pc mid next : ℕ) (around : List Enclosing) (bound : Bound) (l : State) (regs : List ℕ) (m : M) (i : ℕ)
-      → fine_target is_fine s.may_ask s.temps (uses_of s) result ≡ true → (s.register left_register ≡ 0 → ⊥) → Shows s access l regs m → Conventions access y machine budget far bound → Goes go f args l regs m
+      → fine_target is_fine s.may_ask s.temps (uses_of s) result ≡ true → (s.register left_register ≡ 0 → ⊥) → Shows s access l regs m → Conventions access y machine budget far setting bound → Goes go f args l regs m
       → IsPlaced machine.text place s.entry pc mid (Branch 0 left_register 0 (trap_label 4)) → P (Word (Addi left_register left_register minus_one) ∷ (go ++ back_lines result)) mid next
       → W l.world pc regs m i
       → i + (spare + 52 + (within bound (λ calls. made_call result l (calls f args frame.depth frame.live l.world)) l).cost) ≤ budget → far ≤ i + length bound
@@ -117,7 +117,7 @@ module _ {M : Type 0} (access : Access M) (y : Layout) (s : Site) (setting : ir.
       (call_follows access y s setting frame fit caller machine ok budget far place end linked is_fine result end_of n spare (length below) x.0 q.0 next around l regs m fine e sh x.1 q.2 x.2)
 
   pub guarded_does : (go : List Line) (result : Option ℕ) (f : ℕ) (args : List ℕ) (spare pc next : ℕ) (around : List Enclosing) (bound : Bound) (l : State) (regs : List ℕ) (m : M) (i : ℕ)
-      → fine_target is_fine s.may_ask s.temps (uses_of s) result ≡ true → Shows s access l regs m → Conventions access y machine budget far bound → Goes go f args l regs m
+      → fine_target is_fine s.may_ask s.temps (uses_of s) result ≡ true → Shows s access l regs m → Conventions access y machine budget far setting bound → Goes go f args l regs m
       → P (guarded_lines go result) pc next → W l.world pc regs m i → i + (spare + 52 + (call_to (At f) frame.depth frame.live result args bound l).cost) ≤ budget → far ≤ i + length bound
       → F spare (length bound) around next (call_to (At f) frame.depth frame.live result args bound l).outcome
   guarded_does go result f args spare pc next around bound l regs m i fine sh keep goes p a paid asked = by_depth (ltb frame.depth 512) refl paid

@@ -85,16 +85,36 @@ module _ {M : Type 0} (access : Access M) (y : Layout) (s : Site) (setting : ir.
   abbrev Ret : (spare k i back : ℕ) → World → ℕ → Type 0
   Ret = Returns access y machine budget far
 
+  -- A call has come back at a time: what a callee sets back is as it was before the call, but that s11 counts the call still.
+  pub record Back (regs : List ℕ) (m : M) (spare k back : ℕ) (w : World) (j : ℕ) : Type 0 where
+    pub stands : convention.Stands access y machine budget far back w j
+    pub registers : (q : ℕ) → IsSaved q → (q ≡ left_register → ⊥) → reg (machine.run j).regs q ≡ reg regs q
+    pub counted : reg (machine.run j).regs left_register + 1 ≡ s.register left_register
+    pub stack : (b : ℕ) → IsAbove y (s.register 2) b → access.load (machine.run j).memory b 4 ≡ access.load m b 4
+    pub paid : j + spare ≤ budget
+    pub asked : far ≤ j + k
+
+  -- what follows a call, by what was before it
+  abbrev pub FollowsBack : (regs : List ℕ) (m : M) (spare k back : ℕ) → End → Type 0
+  FollowsBack regs m spare k back (Returned None w) = (j : ℕ) × Back regs m spare k back w j
+  FollowsBack regs m spare k back (Returned (Some v) w) = (j : ℕ) × Back regs m spare k back w j × (reg (machine.run j).regs first ≡ v)
+  FollowsBack regs m spare k back (Trapped c w) = (j : ℕ) × convention.Stops access y machine budget far c w j
+  FollowsBack regs m spare k back (More w) = (j : ℕ) × convention.IsLate access y machine budget far w j
+  FollowsBack regs m spare k back Stuck = Unit {0}
+
+  left_held : (l : State) (regs : List ℕ) (m : M) → Shows s access l regs m → reg regs left_register ≡ s.register left_register
+  left_held l regs m f = f.left left_register (inr (omega arith, omega arith))
+
   -- one call more is left again, and the frame is shown in the world that the call left
-  back_shown : (n spare k i back mid : ℕ) (l : State) (w : World) (regs : List ℕ) (m : M) (j : ℕ) → n + 1 ≡ s.register left_register → Shows s access l regs m → Was regs n m i
-      → Ret spare k i back w j → IsPlaced machine.text place s.entry back mid (Word (Addi left_register left_register (pos 1)))
-      → W w mid (put (machine.run j).regs left_register (n + 1)) (machine.run j).memory (j + 1)
-      × Shows s access (with_world l w) (put (machine.run j).regs left_register (n + 1)) (machine.run j).memory
-  back_shown n spare k i back mid l w regs m j e f was r p = (
+  back_shown : (spare k back mid : ℕ) (l : State) (w : World) (regs : List ℕ) (m : M) (j : ℕ) → Shows s access l regs m → Back regs m spare k back w j
+      → IsPlaced machine.text place s.entry back mid (Word (Addi left_register left_register (pos 1)))
+      → W w mid (put (machine.run j).regs left_register (s.register left_register)) (machine.run j).memory (j + 1)
+      × Shows s access (with_world l w) (put (machine.run j).regs left_register (s.register left_register)) (machine.run j).memory
+  back_shown spare k back mid l w regs m j f r p = (
     sets_on (Addi left_register left_register (pos 1)) w back mid now after memory j
-        (addi_sets (limited access s) memory left_register left_register (pos 1) now n 1 (n + 1) count (word_of_pos 1 (omega arith)) (add_small n 1 (omega (arith, small)))) p
+        (addi_sets (limited access s) memory left_register left_register (pos 1) now n 1 (s.register left_register) refl (word_of_pos 1 (omega arith)) (add_small n 1 small ∙ r.counted)) p
         (stands_at access s machine ok place end budget far w (machine.run j).pc back now memory j r.stands.at (record { is = refl; calm = r.stands.calm; sound = r.stands.sound })),
-    shows_after access y s setting frame caller machine budget far l w regs after m memory f r.stands.globals are saved stack,
+    shows_after access y s setting frame caller machine budget far l w regs after m memory f r.stands.globals are saved r.stack,
   )
     where
       now : List ℕ
@@ -103,69 +123,92 @@ module _ {M : Type 0} (access : Access M) (y : Layout) (s : Site) (setting : ir.
       memory : M
       memory = (machine.run j).memory
 
+      n : ℕ
+      n = reg (machine.run j).regs left_register
+
       after : List ℕ
-      after = put (machine.run j).regs left_register (n + 1)
+      after = put (machine.run j).regs left_register (s.register left_register)
 
-      -- a register as it was at the call
-      at_call : (q : ℕ) → IsSaved q → reg (machine.run j).regs q ≡ reg (put regs left_register n) q
-      at_call q h = r.kept.registers q h ∙ was.registers q h
+      high : s.register left_register < 2 ^ 32
+      high = subst (λ z. z < 2 ^ 32) (left_held l regs m f) (f.are.words left_register)
 
-      count : reg (machine.run j).regs left_register ≡ n
-      count = at_call left_register (inr (inr (omega arith, omega arith))) ∙ put_same regs left_register n (omega arith) (omega (arith, f.are.count))
+      small : reg (machine.run j).regs left_register + 1 < 2 ^ 32
+      small = subst (λ z. z < 2 ^ 32) (sym r.counted) high
 
-      left_held : reg regs left_register ≡ s.register left_register
-      left_held = f.left left_register (inr (omega arith, omega arith))
+      are : AreRegisters (put (machine.run j).regs left_register (s.register left_register))
+      are = put_registers (machine.run j).regs left_register (s.register left_register) r.stands.are (omega arith) (omega arith) high
 
-      small : n + 1 < 2 ^ 32
-      small = subst (λ z. z < 2 ^ 32) (left_held ∙ sym e) (f.are.words left_register)
-
-      are : AreRegisters (put (machine.run j).regs left_register (n + 1))
-      are = put_registers (machine.run j).regs left_register (n + 1) r.stands.are (omega arith) (omega arith) small
-
-      saved : (q : ℕ) → IsSaved q → reg (put (machine.run j).regs left_register (n + 1)) q ≡ reg regs q
+      saved : (q : ℕ) → IsSaved q → reg (put (machine.run j).regs left_register (s.register left_register)) q ≡ reg regs q
       saved q h = ⊎_elim
-          (λ (same : q ≡ left_register). ap (reg after) same ∙ put_same now left_register (n + 1) (omega arith) (omega (arith, r.stands.are.count)) ∙ e ∙ sym left_held ∙ ap (reg regs) (sym same))
-          (λ (ne : q ≡ left_register → ⊥). put_other now left_register q (n + 1) (omega arith) ne ∙ at_call q h ∙ put_other regs left_register q n (omega arith) ne)
+          (λ (same : q ≡ left_register).
+          ap (reg after) same ∙ put_same now left_register (s.register left_register) (omega arith) (omega (arith, r.stands.are.count)) ∙ sym (left_held l regs m f) ∙ ap (reg regs) (sym same))
+          (λ (ne : q ≡ left_register → ⊥). put_other now left_register q (s.register left_register) (omega arith) ne ∙ r.registers q h ne)
           (cases_eq q left_register)
 
-      sp_held : reg (machine.run i).regs 2 ≡ s.register 2
-      sp_held = was.registers 2 (inl refl) ∙ put_other regs left_register 2 n (omega arith) (λ q. omega (arith, q)) ∙ f.left 2 (inl refl)
-
-      stack : (b : ℕ) → IsAbove y (s.register 2) b → access.load (machine.run j).memory b 4 ≡ access.load m b 4
-      stack b h = r.kept.stack b (subst (λ sp. IsAbove y sp b) (sym sp_held) h) ∙ ap (λ (x : M). access.load x b 4) was.memory
-
   -- a call has come back with a value
-  returned : (result : Option ℕ) (v n spare k i back next : ℕ) (l : State) (w : World) (regs : List ℕ) (m : M) (j : ℕ) → fine_target is_fine s.may_ask s.temps (uses_of s) result ≡ true
-      → n + 1 ≡ s.register left_register → Shows s access l regs m → Was regs n m i → Ret (spare + 2) k i back w j → reg (machine.run j).regs first ≡ v → P (back_lines result) back next
+  returned : (result : Option ℕ) (v spare k back next : ℕ) (l : State) (w : World) (regs : List ℕ) (m : M) (j : ℕ) → fine_target is_fine s.may_ask s.temps (uses_of s) result ≡ true
+      → Shows s access l regs m → Back regs m (spare + 2) k back w j → reg (machine.run j).regs first ≡ v → P (back_lines result) back next
       → (t : ℕ) × H 0 spare k next (meaning.put result v (with_world l w)) t
-  returned result v n spare k i back next l w regs m j fine e f was r value p =
-      let b = back_shown n (spare + 2) k i back p.0 l w regs m j e f was r p.1 in
+  returned result v spare k back next l w regs m j fine f r value p =
+      let b = back_shown (spare + 2) k back p.0 l w regs m j f r p.1 in
       let paid = r.paid in let asked = r.asked in
-      result_stands result v spare k p.0 next (with_world l w) w (put (machine.run j).regs left_register (n + 1)) (machine.run j).memory (j + 1) fine
-      (put_other (machine.run j).regs left_register first (n + 1) (omega arith) (λ q. omega (arith, q)) ∙ value) b.1 refl p.2 b.0 (omega (arith, paid)) (omega (arith, asked))
+      result_stands result v spare k p.0 next (with_world l w) w (put (machine.run j).regs left_register (s.register left_register)) (machine.run j).memory (j + 1) fine
+      (put_other (machine.run j).regs left_register first (s.register left_register) (omega arith) (λ q. omega (arith, q)) ∙ value) b.1 refl p.2 b.0 (omega (arith, paid)) (omega (arith, asked))
 
   -- a callee's trap, and where the bound was used up in a callee
-  trapped : (c i k : ℕ) (w : World) (j : ℕ) → convention.Stops access y machine budget far c w j → AtTrap access s machine place end budget far c w j
-  trapped c i k w j h = record { at = h.at ∙ sym (linked.traps c); calm = h.calm; sound = h.sound; paid = h.paid }
+  trapped : (c : ℕ) (w : World) (j : ℕ) → convention.Stops access y machine budget far c w j → AtTrap access s machine place end budget far c w j
+  trapped c w j h = record { at = h.at ∙ sym (linked.traps c); calm = h.calm; sound = h.sound; paid = h.paid }
 
   late : (w : World) (j : ℕ) → convention.IsLate access y machine budget far w j → IsCut access s machine place end budget far w j
   late w j h = record { calm = h.calm; sound = h.sound; paid = h.paid; asked = h.asked }
 
   -- what follows a call for its caller
+  pub back_follows : (result : Option ℕ) (x : End) (spare k back next : ℕ) (around : List Enclosing) (l : State) (regs : List ℕ) (m : M)
+      → fine_target is_fine s.may_ask s.temps (uses_of s) result ≡ true → Shows s access l regs m → P (back_lines result) back next
+      → FollowsBack regs m (spare + 2) k back x → F spare k around next (call_end result l x)
+  back_follows None (Returned None w) spare k back next around l regs m fine f p h =
+      returned None (reg (machine.run h.0).regs first) spare k back next l w regs m h.0 fine f h.1 refl p
+  back_follows None (Returned (Some v) w) spare k back next around l regs m fine f p h = returned None v spare k back next l w regs m h.0 fine f h.1 h.2 p
+  back_follows (Some t) (Returned None w) spare k back next around l regs m fine f p h = tt
+  back_follows (Some t) (Returned (Some v) w) spare k back next around l regs m fine f p h = returned (Some t) v spare k back next l w regs m h.0 fine f h.1 h.2 p
+  back_follows None (Trapped c w) spare k back next around l regs m fine f p h = (h.0, trapped c w h.0 h.1)
+  back_follows (Some t) (Trapped c w) spare k back next around l regs m fine f p h = (h.0, trapped c w h.0 h.1)
+  back_follows None (More w) spare k back next around l regs m fine f p h = (h.0, late w h.0 h.1)
+  back_follows (Some t) (More w) spare k back next around l regs m fine f p h = (h.0, late w h.0 h.1)
+  back_follows None Stuck spare k back next around l regs m fine f p h = tt
+  back_follows (Some t) Stuck spare k back next around l regs m fine f p h = tt
+
+  -- a callee that finds one call less left sets that back
+  set_back : (n spare k i back : ℕ) (l : State) (w : World) (regs : List ℕ) (m : M) (j : ℕ) → n + 1 ≡ s.register left_register → Shows s access l regs m → Was regs n m i
+      → Ret spare k i back w j → Back regs m spare k back w j
+  set_back n spare k i back l w regs m j e f was r = record {
+    stands = r.stands;
+    registers = λ q h ne. r.kept.registers q h ∙ was.registers q h ∙ put_other regs left_register q n (omega arith) ne;
+    counted = ap (λ z. z + 1) (r.kept.registers left_register left_saved ∙ was.registers left_register left_saved ∙ put_same regs left_register n (omega arith) (omega (arith, f.are.count))) ∙ e;
+    stack = λ b h. r.kept.stack b (subst (λ sp. IsAbove y sp b) (sym sp_held) h) ∙ ap (λ (x : M). access.load x b 4) was.memory;
+    paid = r.paid;
+    asked = r.asked;
+  }
+    where
+      left_saved : IsSaved left_register
+      left_saved = inr (inr (omega arith, omega arith))
+
+      sp_held : reg (machine.run i).regs 2 ≡ s.register 2
+      sp_held = was.registers 2 (inl refl) ∙ put_other regs left_register 2 n (omega arith) (λ q. omega (arith, q)) ∙ f.left 2 (inl refl)
+
+  came_back : (x : End) (n spare k i back : ℕ) (l : State) (regs : List ℕ) (m : M) → n + 1 ≡ s.register left_register → Shows s access l regs m → Was regs n m i
+      → FC spare k i back x → FollowsBack regs m spare k back x
+  came_back (Returned None w) n spare k i back l regs m e f was h = (h.0, set_back n spare k i back l w regs m h.0 e f was h.1)
+  came_back (Returned (Some v) w) n spare k i back l regs m e f was h = (h.0, set_back n spare k i back l w regs m h.0 e f was h.1, h.2)
+  came_back (Trapped c w) n spare k i back l regs m e f was h = h
+  came_back (More w) n spare k i back l regs m e f was h = h
+  came_back Stuck n spare k i back l regs m e f was h = tt
+
   pub call_follows : (result : Option ℕ) (x : End) (n spare k i back next : ℕ) (around : List Enclosing) (l : State) (regs : List ℕ) (m : M)
       → fine_target is_fine s.may_ask s.temps (uses_of s) result ≡ true → n + 1 ≡ s.register left_register → Shows s access l regs m → Was regs n m i → P (back_lines result) back next
       → FC (spare + 2) k i back x → F spare k around next (call_end result l x)
-  call_follows None (Returned None w) n spare k i back next around l regs m fine e f was p h =
-      returned None (reg (machine.run h.0).regs first) n spare k i back next l w regs m h.0 fine e f was h.1 refl p
-  call_follows None (Returned (Some v) w) n spare k i back next around l regs m fine e f was p h = returned None v n spare k i back next l w regs m h.0 fine e f was h.1 h.2 p
-  call_follows (Some t) (Returned None w) n spare k i back next around l regs m fine e f was p h = tt
-  call_follows (Some t) (Returned (Some v) w) n spare k i back next around l regs m fine e f was p h = returned (Some t) v n spare k i back next l w regs m h.0 fine e f was h.1 h.2 p
-  call_follows None (Trapped c w) n spare k i back next around l regs m fine e f was p h = (h.0, trapped c i k w h.0 h.1)
-  call_follows (Some t) (Trapped c w) n spare k i back next around l regs m fine e f was p h = (h.0, trapped c i k w h.0 h.1)
-  call_follows None (More w) n spare k i back next around l regs m fine e f was p h = (h.0, late w h.0 h.1)
-  call_follows (Some t) (More w) n spare k i back next around l regs m fine e f was p h = (h.0, late w h.0 h.1)
-  call_follows None Stuck n spare k i back next around l regs m fine e f was p h = tt
-  call_follows (Some t) Stuck n spare k i back next around l regs m fine e f was p h = tt
+  call_follows result x n spare k i back next around l regs m fine e f was p h =
+      back_follows result x spare k back next around l regs m fine f p (came_back x n (spare + 2) k i back l regs m e f was h)
 
   -- ---- the way to the callee
 

@@ -5,7 +5,7 @@ use Rattle.mv_isa.specs.declared.instr.Instr.{Instr}
 use Rattle.mv_isa.specs.declared.instr.Instr.TheVariants.{Ecall}
 use Rattle.mv_isa.specs.Encoding.{encode}
 use Rattle.mv_isa.specs.declared.labelled.Line.{Line}
-use Rattle.mv_isa.specs.declared.labelled.Line.TheVariants.{Word, Label, Jump, Branch, Entry, Slot}
+use Rattle.mv_isa.specs.declared.labelled.Line.TheVariants.{Word, Label, Jump, Branch, Entry, Slot, Point}
 use Rattle.mv_isa.specs.Execution.{Access}
 use Rattle.mv_isa.specs.Standing.{InstrStands}
 use Rattle.mv_ir.specs.World as ir
@@ -14,7 +14,7 @@ use Rattle.mv_ir.specs.Meaning.{body_from}
 use Rattle.mv_ir.specs.Outcome.{End, Returned, Trapped, More, Stuck, Call, Bound}
 use Rattle.mv_select_code.specs.Control.Placed.{Text, StandsIn, Placed}
 use Rattle.mv_select_code.specs.Control.Runs.{Machine}
-use Rattle.mv_select.specs.Calls.Convention.{Layout, Stands, Enters, Returns, FollowsCall, Answers, Conventions}
+use Rattle.mv_select.specs.Calls.Convention.{Layout, Stands, Enters, Returns, FollowsCall, Answers, Comes, ReturnsCounted, FollowsCounted, call_through, PointsKeep, Conventions}
 use Rattle.mv_select.specs.Calls.Environment.{ServesKnown}
 use Rattle.mv_select.specs.Functions.FunctionCode.{later_lines, function_lines}
 use Rattle.mv_select.specs.Functions.Functions as functions
@@ -35,6 +35,7 @@ line_after text place entry at end (Branch funct3 rs1 rs2 l) (inl h) = omega (ar
 line_after text place entry at end (Branch funct3 rs1 rs2 l) (inr h) = omega (arith, h.end_is)
 line_after text place entry at end (Entry rd f) h = omega (arith, h.end_is)
 line_after text place entry at end (Slot f) h = omega (arith, h.1)
+line_after text place entry at end (Point a) h = omega (arith, h.1)
 
 lines_after : (text : Text) (place entry : ℕ → ℕ) (lines : List Line) (at end : ℕ) → Placed text place entry lines at end → at ≤ end
 lines_after text place entry [] at end h = omega (arith, h)
@@ -67,6 +68,7 @@ module _ (text : Text) (place entry : ℕ → ℕ) (from to : ℕ) where
     end_is = h.end_is;
   }
   line_in at end (Slot f) le up h = (ap (λ c. cond c (text.slot at) None) (inside text from to at le (omega (arith, up, h.1))) ∙ h.0, h.1)
+  line_in at end (Point a) le up h = (ap (λ c. cond c (text.point at) None) (inside text from to at le (omega (arith, up, h.1))) ∙ h.0, h.1)
 
   pub placed_in : (lines : List Line) (at : ℕ) → from ≤ at → Placed text place entry lines at to → Placed (part from to text) place entry lines at to
   placed_in [] at le h = h
@@ -135,9 +137,32 @@ module _ {M : Type 0} (access : Access M) (y : Layout) (machine : Machine M) (fr
     answers_back extra k pc back depth frames args call i answers spare w stands enters paid asked =
         follows_back spare k i back (call w).end (answers spare w (stands_alone pc w i stands) (enters_alone depth frames args i enters) paid asked)
 
-    conventions_alone : (levels : Bound) → Conventions access y machine budget far levels → Conventions access y alone budget far levels
-    conventions_alone [] keep = tt
-    conventions_alone (calls ∷ below) keep = (
+    comes_back : (depth frames : ℕ) (args : List ℕ) (i : ℕ) → Comes access y alone budget far depth frames args i → Comes access y machine budget far depth frames args i
+    comes_back depth frames args i e = record { arguments = e.arguments; live = e.live; counts = e.counts; left = e.left; even = e.even; room = e.room; within = e.within }
+
+    counted_alone : (spare k i back : ℕ) (w : World) (j : ℕ) → ReturnsCounted access y machine budget far spare k i back w j → ReturnsCounted access y alone budget far spare k i back w j
+    counted_alone spare k i back w j h = record {
+      stands = stands_alone back w j h.stands;
+      kept = record { registers = h.kept.registers; counted = h.kept.counted; stack = h.kept.stack };
+      paid = h.paid;
+      asked = h.asked;
+    }
+
+    follows_counted_alone : (spare k i back : ℕ) (e : End) → FollowsCounted access y machine budget far spare k i back e → FollowsCounted access y alone budget far spare k i back e
+    follows_counted_alone spare k i back (Returned None w) f = (f.0, counted_alone spare k i back w f.0 f.1)
+    follows_counted_alone spare k i back (Returned (Some v) w) f = (f.0, counted_alone spare k i back w f.0 f.1, f.2)
+    follows_counted_alone spare k i back (Trapped c w) f = (f.0, record { at = f.1.at; calm = f.1.calm; sound = f.1.sound; paid = f.1.paid })
+    follows_counted_alone spare k i back (More w) f = (f.0, record { calm = f.1.calm; sound = f.1.sound; paid = f.1.paid; asked = f.1.asked })
+    follows_counted_alone spare k i back Stuck f = tt
+
+    points_alone : (setting : ir.Setting) (bound : Bound) → PointsKeep access y machine budget far setting bound → PointsKeep access y alone budget far setting bound
+    points_alone setting bound keep g depth frames args at i some few point spare w stands comes paid asked =
+        follows_counted_alone spare (length bound) i (at + 16) (call_through setting bound g args depth frames w).end
+        (keep g depth frames args at i some few (in_whole (leb from at && ltb at to) (machine.text.point at) (y.place g) point) spare w (stands_back at w i stands) (comes_back depth frames args i comes) paid asked)
+
+    conventions_alone : (setting : ir.Setting) (levels : Bound) → Conventions access y machine budget far setting levels → Conventions access y alone budget far setting levels
+    conventions_alone setting [] keep = points_alone setting [] keep
+    conventions_alone setting (calls ∷ below) keep = (
       record {
         functions = λ f depth frames args back i few target ra.
             answers_alone 45 (length below) (y.entry f) back depth frames args (calls f args depth frames) i (keep.0.functions f depth frames args back i few target ra);
@@ -145,7 +170,8 @@ module _ {M : Type 0} (access : Access M) (y : Layout) (machine : Machine M) (fr
             answers_alone 47 (length below) at (at + 8) depth frames args (calls f args depth frames) i
             (keep.0.slots f depth frames args at i few (in_whole (leb from at && ltb at to) (machine.text.slot at) f slot));
       },
-      conventions_alone below keep.1,
+      points_alone setting (calls ∷ below) keep.1,
+      conventions_alone setting below keep.2,
     )
 
     serves_alone : (setting : ir.Setting) → ServesKnown access y machine budget far setting → ServesKnown access y alone budget far setting
@@ -158,7 +184,6 @@ module _ {M : Type 0} (access : Access M) (y : Layout) (machine : Machine M) (fr
           let s = serves.stub k args back i may indirect count target ra spare bound w (stands_back y.commit w i stands)
           (record { number = asks.number; arguments = asks.arguments; order = asks.order; high = asks.high }) paid asked in
           (s.0, returns_alone spare bound i back _ s.0 s.1, s.2);
-      free = serves.free;
     }
 
 -- ---- functions
@@ -168,7 +193,7 @@ functions_keep M access y laid machine memory setting entries budget far serves 
     let own = functions.alone machine pc next in
     let k =
     called_keeps access y laid own (memory_alone access y machine pc next memory) reach ample runs setting entries budget far (serves_alone access y machine pc next budget far setting serves) levels
-    (conventions_alone access y machine pc next budget far levels keep) attributed bound is_fine body fn place linked is_attributed pc next
+    (conventions_alone access y machine pc next budget far setting levels keep) attributed bound is_fine body fn place linked is_attributed pc next
     (placed_in machine.text place y.entry pc next (function_lines y.place y.size is_attributed (shape_of attributed body) body.code) pc (omega arith) placed) back i target ra depth live args count in
     (k.0, answers_back access y machine pc next budget far 44 (length levels) pc back depth live args (body_from setting (frame_in attributed bound depth live) k.0 body args levels) i k.1)
 
@@ -179,7 +204,7 @@ later_keeps M access y laid machine memory setting entries budget far serves lev
       contents,
       answers_back access y machine mid next budget far 44 (length levels) pc back depth live args (body_from setting (frame_in attributed bound depth live) contents body args levels) i (λ spare w stands enters paid asked.
           keeps.later_keeps access y laid own (memory_alone access y machine mid next memory) reach ample runs setting entries budget far (serves_alone access y machine mid next budget far setting serves) levels
-          (conventions_alone access y machine mid next budget far levels keep) attributed bound is_fine body fn place linked is_attributed pc mid next
+          (conventions_alone access y machine mid next budget far setting levels keep) attributed bound is_fine body fn place linked is_attributed pc mid next
           (placed_in machine.text place y.entry mid next (later_lines y.place y.size is_attributed (shape_of attributed body) body.code) mid (omega arith) placed)
           (depth + 1) live args back i count target ra w stands (begun_called access y own i budget far attributed depth live args enters) (record { goes = lowers.goes; sound = lowers.sound }) spare paid asked),
     )
@@ -192,7 +217,7 @@ main_keeps M access y laid machine memory setting entries budget far serves leve
       λ spare w stands begins paid asked.
           follows_back access y machine pc next budget far spare (length levels) i back (body_from setting (main_frame bound) contents body [] levels w).end
           (function_keeps access y laid own (memory_alone access y machine pc next memory) reach ample runs setting entries budget far (serves_alone access y machine pc next budget far setting serves) levels
-          (conventions_alone access y machine pc next budget far levels keep) false bound is_fine body fn place linked is_attributed pc next
+          (conventions_alone access y machine pc next budget far setting levels keep) false bound is_fine body fn place linked is_attributed pc next
           (placed_in machine.text place y.entry pc next (function_lines y.place y.size is_attributed (shape_of false body) body.code) pc (omega arith) placed) back i target ra
           0 0 [] (sym none) spare w (stands_alone access y machine pc next budget far pc w i stands)
           (begun_main access y own i (record { live = begins.live; left = begins.left; even = begins.even; room = begins.room; within = begins.within })) paid asked),

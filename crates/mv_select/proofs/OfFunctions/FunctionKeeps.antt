@@ -50,7 +50,7 @@ within_self (calls ∷ below) = inl refl
 module _ {M : Type 0} (access : Access M) (y : Layout) (laid : IsLaid y) (machine : Machine M) (memory : IsMemory access y machine)
     (reach : Reach) (ample : IsAmple y reach) (runs : RunsWithin access y machine reach) (setting : ir.Setting)
     (entries : (f : ℕ) → f < length setting.numbers → (slice_index setting.numbers f ≡ y.entry f) × IsPlace (y.entry f))
-    (budget far : ℕ) (serves : ServesKnown access y machine budget far setting) (levels : Bound) (keep : Conventions access y machine budget far levels)
+    (budget far : ℕ) (serves : ServesKnown access y machine budget far setting) (levels : Bound) (keep : Conventions access y machine budget far setting levels)
     (attributed : Bool) (bound : List (ℕ × ℕ)) (is_fine : Tree → Bool) (body : Body) (fn : IsFunction y setting attributed bound reach is_fine body)
     (place : ℕ → ℕ) (linked : IsLinked y place) (is_attributed : ℕ → Bool) (pc mid next : ℕ)
     (placed : Placed machine.text place y.entry (later_lines y.place y.size is_attributed (shape_of attributed body) body.code) mid next)
@@ -166,7 +166,7 @@ module _ {M : Type 0} (access : Access M) (y : Layout) (laid : IsLaid y) (machin
 
   calls_do : CallsDo access S setting frame machine place end_label budget far is_fine levels (calls_of y.place is_attributed)
   calls_do = record {
-    call = call_done access y S setting frame fit calls machine okS budget far place end_label linked is_fine fine_trees is_attributed serves.free levels keep;
+    call = call_done access y S setting frame fit calls machine okS budget far place end_label linked is_fine fine_trees is_attributed levels keep;
     known = known_done access y S setting frame fit calls machine okS budget far place end_label linked is_fine fine_trees serves levels;
   }
 

@@ -107,7 +107,7 @@ module _ {M : Type 0} (access : Access M) (y : Layout) (machine : Machine M) (te
         i + (spare + slot_cost + (call w).cost) ≤ budget → far ≤ i + k → FollowsCall access y machine budget far spare k i (at + 8) (call w).end
     slots_under laid runs to at slot here there k depth frames args call keeps answers i spare w t stands enters paid asked =
         follows_too spare k i (at + 8) (call w).end
-        (slot_answers access y laid narrowed runs budget far to at slot here there k depth frames args call within i spare w (stands_narrowed at w i t stands) (enters_narrowed depth frames args i enters) paid asked)
+        (slot_answers access y laid narrowed nothing runs budget far to at slot here there k depth frames args call within i spare w (stands_narrowed at w i t stands) (enters_narrowed depth frames args i enters) paid asked)
       where
         within : (back j : ℕ) → IsTarget back → reg (machine.run j).regs link_register ≡ back → Answers access y narrowed budget far entry_cost k to back depth frames args call j
         within back j target ra spare u s e paid asked =
@@ -121,11 +121,11 @@ module _ {M : Type 0} (access : Access M) (y : Layout) (machine : Machine M) (te
     jumps_under laid runs to at jump here there depth frames args w i t stands enters =
         record { registers = same_regs; stands = stands_too to w (i + 1) next.stands; enters = entered; follows = follows }
       where
-        does : LineRuns (own access y laid narrowed runs budget far) text.word (machine.run i).memory at (at + 4) to (machine.run i).regs (line.Jump 0 0)
-        does = line_runs (own access y laid narrowed runs budget far) (machine.run i).memory text.word (λ l. to) (λ l. to) at (at + 4) (line.Jump 0 0) (record { jump = jump; end_is = refl }) (omega arith) here there (machine.run i).regs stands.are.count
+        does : LineRuns (own access y laid narrowed nothing runs budget far) text.word (machine.run i).memory at (at + 4) to (machine.run i).regs (line.Jump 0 0)
+        does = line_runs (own access y laid narrowed nothing runs budget far) (machine.run i).memory text.word (λ l. to) (λ l. to) at (at + 4) (line.Jump 0 0) (record { jump = jump; end_is = refl }) (omega arith) here there (machine.run i).regs stands.are.count
 
-        next : Stepped access y laid narrowed runs budget far to (put (machine.run i).regs 0 (at + 4)) w i
-        next = stepped access y laid narrowed runs budget far at to (put (machine.run i).regs 0 (at + 4)) w i (subst (λ r. AreRegisters r) (sym (put_zero (machine.run i).regs (at + 4))) stands.are) does
+        next : Stepped access y laid narrowed nothing runs budget far to (put (machine.run i).regs 0 (at + 4)) w i
+        next = stepped access y laid narrowed nothing runs budget far at to (put (machine.run i).regs 0 (at + 4)) w i (subst (λ r. AreRegisters r) (sym (put_zero (machine.run i).regs (at + 4))) stands.are) does
             (stands_narrowed at w i t stands)
 
         same_regs : (machine.run (i + 1)).regs ≡ (machine.run i).regs
@@ -165,7 +165,7 @@ module _ {M : Type 0} (access : Access M) (y : Layout) (machine : Machine M) (te
     firsts_under laid runs bytes at first here w i some enough t stands = record { goes = next.is; sound = next.sound i (omega arith) }
       where
         ok : IsRun access (words_site y nothing) narrowed
-        ok = on_run access y laid narrowed runs budget far
+        ok = on_run access y laid narrowed nothing runs budget far
 
         before : walk.Stands access (words_site y nothing) narrowed ok y.entry 0 budget far w at (machine.run i).regs (machine.run i).memory i
         before = stands_at access (words_site y nothing) narrowed ok y.entry 0 budget far w (machine.run i).pc at (machine.run i).regs (machine.run i).memory i stands.at
@@ -173,8 +173,8 @@ module _ {M : Type 0} (access : Access M) (y : Layout) (machine : Machine M) (te
 
         next : walk.Stands access (words_site y nothing) narrowed ok y.entry 0 budget far w (at + 4) (put (machine.run i).regs 2 (reg (machine.run i).regs 2 - bytes)) (machine.run i).memory (i + 1)
         next = steps_on access (words_site y nothing) narrowed ok y.entry 0 budget far w at (at + 4) (machine.run i).regs (put (machine.run i).regs 2 (reg (machine.run i).regs 2 - bytes)) (machine.run i).memory (machine.run i).memory i
-            (stands_steps (own access y laid narrowed runs budget far) (machine.run i).memory text.word (machine.run i).regs at (Addi 2 2 (pos 0 -ℤ pos bytes)) first
-            ∙ lowers_sp (own access y laid narrowed runs budget far) (machine.run i).memory bytes (reg (machine.run i).regs 2) (machine.run i).regs some enough (stands.are.words 2) refl at
+            (stands_steps (own access y laid narrowed nothing runs budget far) (machine.run i).memory text.word (machine.run i).regs at (Addi 2 2 (pos 0 -ℤ pos bytes)) first
+            ∙ lowers_sp (own access y laid narrowed nothing runs budget far) (machine.run i).memory bytes (reg (machine.run i).regs 2) (machine.run i).regs some enough (stands.are.words 2) refl at
             ∙ ap (λ z. Goes (put (machine.run i).regs 2 (reg (machine.run i).regs 2 - bytes)) z (machine.run i).memory) (add_small at 4 (omega (arith, here.1)))) (inl refl) before
 
 module _ {M : Type 0} (access : Access M) (y : Layout) (machine : Machine M) (test : World → Bool) where

@@ -12,14 +12,14 @@ use Rattle.mv_ir.specs.Outcome.{End, Returned, Trapped, More, Stuck, Call}
 use Rattle.mv_select_code.specs.Trees.View.{AreRegisters}
 use Rattle.mv_select_code.proofs.OfTrees.Registers.{put_same, put_other, put_registers}
 use Rattle.mv_select_code.specs.Statements.StatementCode.{first}
+use Rattle.mv_select_code.specs.Statements.Frames.{Reach}
 use Rattle.mv_select_code.specs.Statements.Leads.{limited}
 use Rattle.mv_select_code.specs.Control.Runs.{Spot, Machine, outside, IsRun}
 use Rattle.mv_select_code.proofs.OfControl.Walk as walk
 use Rattle.mv_select_code.proofs.OfControl.Walk.{steps_on, stands_at}
 use Rattle.mv_select.specs.Calls.Convention.{Layout, IsTarget, IsSaved, HoldsGlobals, Stands, Enters, Returns, FollowsCall, Answers, entry_cost, slot_cost}
-use Rattle.mv_select.specs.Functions.Functions.{IsLaid}
+use Rattle.mv_select.specs.Functions.Functions.{IsLaid, RunsWithin}
 use Rattle.mv_select.proofs.OfFunctions.FrameWords.{words_site, words_stand}
-use Rattle.mv_select.specs.Slots.Laws.{Runs, nothing}
 
 -- what a callee sets back isn't ra
 saved_other : (q : ℕ) → IsSaved q → q ≢ link_register
@@ -27,12 +27,12 @@ saved_other q (inl e) same = omega (arith, e, same)
 saved_other q (inr (inl e)) same = omega (arith, e, same)
 saved_other q (inr (inr h)) same = omega (arith, h.0, same)
 
-module _ {M : Type 0} (access : Access M) (y : Layout) (laid : IsLaid y) (machine : Machine M) (runs : Runs access y machine) (budget far : ℕ) where
-  abbrev pub on_run : IsRun access (words_site y nothing) machine
-  on_run = runs (words_site y nothing) (words_stand y nothing laid) (λ a h. h)
+module _ {M : Type 0} (access : Access M) (y : Layout) (laid : IsLaid y) (machine : Machine M) (reach : Reach) (runs : RunsWithin access y machine reach) (budget far : ℕ) where
+  abbrev pub on_run : IsRun access (words_site y reach) machine
+  on_run = runs (words_site y reach) (words_stand y reach laid) (λ a h. h)
 
   abbrev pub own : Access M
-  own = limited access (words_site y nothing)
+  own = limited access (words_site y reach)
 
   abbrev At : ℕ → World → ℕ → Type 0
   At = Stands access y machine budget far
@@ -56,11 +56,11 @@ module _ {M : Type 0} (access : Access M) (y : Layout) (laid : IsLaid y) (machin
       are = subst AreRegisters (sym (ap (λ (x : Spot M). x.regs) a.is)) are;
     };
   } where
-    here : walk.Stands access (words_site y nothing) machine on_run y.entry 0 budget far w pc (machine.run i).regs (machine.run i).memory i
-    here = stands_at access (words_site y nothing) machine on_run y.entry 0 budget far w (machine.run i).pc pc (machine.run i).regs (machine.run i).memory i h.at (record { is = refl; calm = h.calm; sound = h.sound })
+    here : walk.Stands access (words_site y reach) machine on_run y.entry 0 budget far w pc (machine.run i).regs (machine.run i).memory i
+    here = stands_at access (words_site y reach) machine on_run y.entry 0 budget far w (machine.run i).pc pc (machine.run i).regs (machine.run i).memory i h.at (record { is = refl; calm = h.calm; sound = h.sound })
 
-    a : walk.Stands access (words_site y nothing) machine on_run y.entry 0 budget far w to regs (machine.run i).memory (i + 1)
-    a = steps_on access (words_site y nothing) machine on_run y.entry 0 budget far w pc to (machine.run i).regs regs (machine.run i).memory (machine.run i).memory i leads (inl refl) here
+    a : walk.Stands access (words_site y reach) machine on_run y.entry 0 budget far w to regs (machine.run i).memory (i + 1)
+    a = steps_on access (words_site y reach) machine on_run y.entry 0 budget far w pc to (machine.run i).regs regs (machine.run i).memory (machine.run i).memory i leads (inl refl) here
 
     same : (machine.run (i + 1)).memory ≡ (machine.run i).memory
     same = ap (λ (x : Spot M). x.memory) a.is

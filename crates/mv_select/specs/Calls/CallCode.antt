@@ -6,14 +6,15 @@ use Rattle.mv_ast.specs.declared.program.Known.TheVariants.{Getchar, Putchar, Po
 use Rattle.mv_bindings.specs.Traps as traps
 use Rattle.mv_isa.specs.declared.instr.Instr.TheVariants.{Addi, Jalr, Ecall}
 use Rattle.mv_isa.specs.declared.labelled.Line.{Line}
-use Rattle.mv_isa.specs.declared.labelled.Line.TheVariants.{Word, Jump, Branch, Entry, Slot}
+use Rattle.mv_isa.specs.declared.labelled.Line.TheVariants.{Word, Jump, Branch, Entry, Slot, Point}
 pub use Rattle.mv_isa.specs.Labels.{commit_label}
+use Rattle.mv_isa.specs.Code.{nop}
 use Rattle.mv_isa.specs.Requests as requests
 use Rattle.mv_isa.specs.Registers.{x0, ra, a7, s11, t3}
 use Rattle.mv_ir.specs.declared.tree.Tree.{Tree}
 use Rattle.mv_ir.specs.declared.stm.Callee.{Callee}
 use Rattle.mv_ir.specs.declared.stm.Callee.TheVariants as callee
-use Rattle.mv_select_code.specs.Trees.TreeCode.{one, number_lines, load_lines, minus_one, tree_into, tree_lines}
+use Rattle.mv_select_code.specs.Trees.TreeCode.{one, number_lines, minus_one, tree_into, tree_lines}
 use Rattle.mv_select_code.specs.Statements.StatementCode.{first, second, trap_label, write_temp}
 use Rattle.mv_select_code.specs.Control.FlowCode.{CallLines}
 
@@ -61,22 +62,28 @@ jump_lines = one (Jalr ra t3 (pos 0))
 abbrev pub pointer_lines : Option ℕ → List Line
 pointer_lines result = Branch 0 t3 x0 (trap_label traps.null_call) ∷ guarded_lines jump_lines result
 
+-- what stands before a call through a pointer switch that has no arguments: so no other call returns to the first word of its slot
+abbrev pub pad_lines : Callee → List Tree → List Line
+pad_lines (callee.Switched g) [] = one nop
+pad_lines _ _ = []
+
 module _ (place : ℕ → ℕ) where
   -- arguments into registers from one on
   abbrev pub argument_lines : ℕ → List Tree → List Line
   argument_lines r [] = []
   argument_lines r (t ∷ ts) = tree_into place t r t3 ++ argument_lines (suc r) ts
 
-  -- A call of a function: of an attributed one by a slot; through a pointer, with a trap where it is null. A pointer switch is a pointer like any other.
+  -- A call of a function: of an attributed one by a slot; through a pointer, with a trap where it is null; through a pointer switch by a slot of four words,
+  -- which counts the call itself.
   abbrev pub transfer_lines : (ℕ → Bool) → Callee → Option ℕ → List Line
   transfer_lines is_attributed (callee.Direct f) result =
       cond (is_attributed f) (guarded_lines (slot_lines f) result) (Entry t3 f ∷ guarded_lines jump_lines result)
   transfer_lines is_attributed (callee.Through t) result =
       tree_lines place t t3 ++ pointer_lines result
-  transfer_lines is_attributed (callee.Switched g) result = load_lines (place g) t3 ++ pointer_lines result
+  transfer_lines is_attributed (callee.Switched g) result = Point (place g) ∷ back_lines result
 
   abbrev pub call_lines : (ℕ → Bool) → Option ℕ → Callee → List Tree → List Line
-  call_lines is_attributed result f args = argument_lines first args ++ transfer_lines is_attributed f result
+  call_lines is_attributed result f args = pad_lines f args ++ (argument_lines first args ++ transfer_lines is_attributed f result)
 
 -- ---- calls of known functions
 

@@ -1,4 +1,4 @@
--- What the known functions do on a run: environment calls, and the stub that carries out orders and polls; and what calls through pointer switches see.
+-- What the known functions do on a run: environment calls, and the stub that carries out orders and polls.
 use Rattle.std.specs.Prelude.{ℕ, ◌≡◌, ◌+◌, ◌<◌, ◌≤◌, true, List, length, slice_index, Some}
 use Rattle.mv_ast.specs.declared.program.Known.{Known}
 use Rattle.mv_ast.specs.declared.program.Known.TheVariants.{Getchar, Putchar, Plan}
@@ -8,7 +8,6 @@ use Rattle.mv_isa.specs.Execution.{Access, reg}
 use Rattle.mv_isa.specs.Registers.{ra, sp, a7, s10}
 use Rattle.mv_ir.specs.World as ir
 use Rattle.mv_ir.specs.World.{World}
-use Rattle.mv_ir.specs.Trees.{scalar}
 use Rattle.mv_ir.specs.WellFormed.{known_arguments}
 use Rattle.mv_select_code.specs.Statements.StatementCode.{first, second}
 use Rattle.mv_select_code.specs.Control.Runs.{Machine}
@@ -25,10 +24,6 @@ IsDirect _ = ⊥
 abbrev pub HoldsOrder : Known → List ℕ → Type 0
 HoldsOrder (Plan code index) regs = (reg regs first ≡ code) × (reg regs second ≡ index)
 HoldsOrder _ regs = Unit {0}
-
--- a call through a pointer switch sees what is in memory
-abbrev pub IsFree : ir.Setting → Type 0
-IsFree setting = (g : ℕ) (w : World) → setting.switched g w ≡ scalar w.globals g
 
 -- of what a known function costs, what is left at the stub
 abbrev pub stub_cost : ℕ
@@ -65,4 +60,3 @@ module _ {M : Type 0} (access : Access M) (y : Layout) (machine : Machine M) (bu
   pub record ServesKnown : Type 0 where
     pub calls : ServesCalls
     pub stub : ServesOrders
-    pub free : IsFree setting

@@ -49,7 +49,7 @@ abbrev pub CallsAreDone : Type 0 → Type 0
 CallsAreDone M =
     (access : Access M) (y : Layout) (s : Site) (setting : ir.Setting) (frame : ir.Frame) → IsFit s access setting frame → IsCaller y s setting frame →
     (machine : Machine M) → IsRun access s machine → (budget far : ℕ) → ServesKnown access y machine budget far setting →
-    (top : Bound) → Conventions access y machine budget far top →
+    (top : Bound) → Conventions access y machine budget far setting top →
     (is_fine : Tree → Bool) → ((t : Tree) → is_fine t ≡ true → IsFine s setting frame t) →
     (place : ℕ → ℕ) (end : ℕ) → IsLinked y place → (is_attributed : ℕ → Bool) →
     CallsDo access s setting frame machine place end budget far is_fine top (calls_of s.place is_attributed)

@@ -65,6 +65,7 @@ abbrev pub part : (from to : ℕ) → Text → Text
 part from to text = record {
   word = λ a. cond (leb from a && ltb a to) (text.word a) None;
   slot = λ a. cond (leb from a && ltb a to) (text.slot a) None;
+  point = λ a. cond (leb from a && ltb a to) (text.point a) None;
 }
 
 -- the same run, where no other text stands
@@ -126,7 +127,7 @@ FunctionsKeep M =
     (access : Access M) (y : Layout) → IsLaid y → (machine : Machine M) → IsMemory access y machine →
     (setting : ir.Setting) →
     ((f : ℕ) → f < length setting.numbers → (slice_index setting.numbers f ≡ y.entry f) × IsPlace (y.entry f)) →
-    (budget far : ℕ) → ServesKnown access y machine budget far setting → (levels : Bound) → Conventions access y machine budget far levels →
+    (budget far : ℕ) → ServesKnown access y machine budget far setting → (levels : Bound) → Conventions access y machine budget far setting levels →
     (attributed : Bool) (bound : List (ℕ × ℕ)) (reach : Reach) (is_fine : Tree → Bool) (body : Body) → IsAmple y reach → IsFunction y setting attributed bound reach is_fine body →
     (place : ℕ → ℕ) → IsLinked y place → (is_attributed : ℕ → Bool) (pc next : ℕ) → RunsWithin access y (alone machine pc next) reach →
     Placed machine.text place y.entry (function_lines y.place y.size is_attributed (shape_of attributed body) body.code) pc next →
@@ -151,7 +152,7 @@ LaterKeeps M =
     (access : Access M) (y : Layout) → IsLaid y → (machine : Machine M) → IsMemory access y machine →
     (setting : ir.Setting) →
     ((f : ℕ) → f < length setting.numbers → (slice_index setting.numbers f ≡ y.entry f) × IsPlace (y.entry f)) →
-    (budget far : ℕ) → ServesKnown access y machine budget far setting → (levels : Bound) → Conventions access y machine budget far levels →
+    (budget far : ℕ) → ServesKnown access y machine budget far setting → (levels : Bound) → Conventions access y machine budget far setting levels →
     (attributed : Bool) (bound : List (ℕ × ℕ)) (reach : Reach) (is_fine : Tree → Bool) (body : Body) → IsAmple y reach → IsFunction y setting attributed bound reach is_fine body →
     (place : ℕ → ℕ) → IsLinked y place → (is_attributed : ℕ → Bool) (pc mid next : ℕ) → RunsWithin access y (alone machine mid next) reach →
     Placed machine.text place y.entry (later_lines y.place y.size is_attributed (shape_of attributed body) body.code) mid next →
@@ -183,7 +184,7 @@ MainKeeps M =
     (access : Access M) (y : Layout) → IsLaid y → (machine : Machine M) → IsMemory access y machine →
     (setting : ir.Setting) →
     ((f : ℕ) → f < length setting.numbers → (slice_index setting.numbers f ≡ y.entry f) × IsPlace (y.entry f)) →
-    (budget far : ℕ) → ServesKnown access y machine budget far setting → (levels : Bound) → Conventions access y machine budget far levels →
+    (budget far : ℕ) → ServesKnown access y machine budget far setting → (levels : Bound) → Conventions access y machine budget far setting levels →
     (bound : List (ℕ × ℕ)) (reach : Reach) (is_fine : Tree → Bool) (body : Body) → IsAmple y reach → IsFunction y setting false bound reach is_fine body → body.params ≡ 0 →
     (place : ℕ → ℕ) → IsLinked y place → (is_attributed : ℕ → Bool) (pc next : ℕ) → RunsWithin access y (alone machine pc next) reach →
     Placed machine.text place y.entry (function_lines y.place y.size is_attributed (shape_of false body) body.code) pc next →

@@ -20,7 +20,7 @@ same_bindings (a ∷ as') (b ∷ bs) = is_same_binding a b && same_bindings as' 
 
 -- words, and no slots
 abbrev pub words_alone : (ℕ → Option ℕ) → Text
-words_alone words = record { word = words; slot = λ a. None }
+words_alone words = record { word = words; slot = λ a. None; point = λ a. None }
 
 -- the worlds with some bindings
 abbrev pub has_bindings : List Binding → World → Bool

@@ -4,7 +4,7 @@ ghost use Rattle.std.specs.Prelude.{◌≡◌, ◌+◌, ◌<◌, ◌≤◌, ◌+
 ghost use Rattle.mv_ir.specs.Measures.{callee_trees};
 ghost use Rattle.mv_select_code.specs.Trees.Rooms.{place_in};
 ghost use Rattle.mv_select_code.specs.Statements.Encoded.{IsSmall};
-ghost use Rattle.mv_select.specs.Calls.CallCode.{result_lines, argument_lines, guard_lines, back_lines, slot_lines, guarded_lines, jump_lines, pointer_lines, transfer_lines, call_lines, order_lines, ask_lines, known_lines, request_of, is_marked};
+ghost use Rattle.mv_select.specs.Calls.CallCode.{result_lines, argument_lines, guard_lines, back_lines, slot_lines, guarded_lines, jump_lines, pointer_lines, transfer_lines, pad_lines, call_lines, order_lines, ask_lines, known_lines, request_of, is_marked};
 
 use mv_ast::program::Known;
 use mv_bindings::traps::{CALL_TOO_DEEP, NULL_CALL};
@@ -17,7 +17,7 @@ use mv_isa::labels::{COMMIT, TRAPS};
 use mv_isa::requests::{PLAN, POLL, READ, WRITE};
 use mv_num::list::List;
 use mv_select_code::statements::write_temp;
-use mv_select_code::trees::{place_of, push_into, push_load, push_number, push_one, push_tree};
+use mv_select_code::trees::{place_of, push_into, push_number, push_one, push_tree};
 use std::alloc::AllocError;
 
 /// The return address, ra.
@@ -32,6 +32,12 @@ const REQUEST: u8 = 17;
 const LEFT: u8 = 27;
 /// The address that a call goes to, t3. An argument is computed by way of it and the registers behind it.
 const SCRATCH: u8 = 28;
+/// The instruction that does nothing.
+const NOP: Instr = Instr::Addi {
+    rd: 0,
+    rs1: 0,
+    imm: 0,
+};
 
 // The result of a call into a temporary, if it has one.
 fn push_result(code: &mut List<Line>, temp: Option<u32>) -> Result<(), AllocError>
@@ -153,14 +159,25 @@ fn push_transfer(
             push_pointer(code, temp)
         }
         Callee::Switched(global) => {
-            push_load(code, place_of(rooms, *global), SCRATCH)?;
-            push_pointer(code, temp)
+            code.push(Line::Point(place_of(rooms, *global)))?;
+            push_back(code, temp)
         }
     }
 }
 
+// What stands before a call through a pointer switch that has no arguments, so that no other call returns to its first word.
+fn push_pad(code: &mut List<Line>, callee: &Callee, arguments: &[Tree]) -> Result<(), AllocError>
+    ensures { OnOk result (code.new ≡ code.old ++ pad_lines callee.now arguments.now) }
+{
+    match callee {
+        Callee::Switched(_) if arguments.is_empty() => push_one(code, NOP),
+        _ => Ok(()),
+    }
+}
+
 /// Calls a function, and puts its result into a temporary where one is named. `marked` has the attributed functions that are
-/// called directly: such a call is a slot. Null is trap 3, and a call too many trap 4.
+/// called directly: such a call is a slot, and one through a pointer switch a slot of four words. Null is trap 3, and a call too
+/// many trap 4.
 pub fn push_call(
     code: &mut List<Line>,
     rooms: &[Room],
@@ -175,6 +192,7 @@ pub fn push_call(
     requires small_callee { All IsSmall (callee_trees callee.now) }
     ensures { OnOk result (code.new ≡ code.old ++ call_lines (place_in rooms.now) (is_marked marked.now) temp callee.now arguments.now) }
 {
+    push_pad(code, callee, arguments)?;
     push_arguments(code, rooms, arguments)?;
     push_transfer(code, rooms, marked, callee, temp)
 }

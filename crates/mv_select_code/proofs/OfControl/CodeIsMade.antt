@@ -17,13 +17,13 @@ use Rattle.mv_select_code.specs.Trees.TreeCode.{operand_lines, operand_register}
 use Rattle.mv_select_code.specs.Statements.StatementCode.{first, second, bounds_lines, clear_lines, trap_label}
 use Rattle.mv_select_code.specs.declared.control.enclosing.Enclosing.{Enclosing}
 use Rattle.mv_select_code.specs.Control.FlowCode.{Plan, Emitted, in_turn, enclosing_at, branch_lines, loop_at, block_at, home, size, code_layer, code_of, statement_code}
-use Rattle.mv_select_code.specs.Control.Labels.{named_layer, stm_functions, tree_functions, callee_functions, functions_of_all, functions}
+use Rattle.mv_select_code.specs.Control.Labels.{named_layer, stm_functions, tree_functions, callee_functions, functions_of_all, functions, callee_pointers, pointers_layer, stm_pointers, pointers}
 use Rattle.mv_select_code.proofs.OfControl.StatementsDo.{code_roll}
-use Rattle.mv_select_code.proofs.OfControl.TreeNames.{all_front, all_back, named_roll}
+use Rattle.mv_select_code.proofs.OfControl.TreeNames.{all_front, all_back, named_roll, pointers_roll}
 use Rattle.mv_select_code.proofs.OfControl.StatementsAreMade.{LineByLine, operand_made, set_made, set_global_made, divide_made, check_made, read_made, write_made, bounds_made, clear_made, return_made}
 
-module _ {P : List Line → Type 0} {L J Q : ℕ → Type 0} (made : LineByLine P L J Q) (plan : Plan)
-    (call : (r : Option ℕ) (f : Callee) (args : List Tree) → All Q (callee_functions f ++ functions_of_all args) → P (plan.calls.call r f args))
+module _ {P : List Line → Type 0} {L J Q : ℕ → Type 0} (made : LineByLine P L J Q) (plan : Plan) (R : ℕ → Type 0)
+    (call : (r : Option ℕ) (f : Callee) (args : List Tree) → All Q (callee_functions f ++ functions_of_all args) → All R (callee_pointers f) → P (plan.calls.call r f args))
     (known : (r : Option ℕ) (k : Known) (args : List Tree) → All Q (functions_of_all args) → P (plan.calls.known r k args))
     (end : J plan.end) (division : J (trap_label 1)) (index : J (trap_label 2)) where
   -- what encloses some code is of the kind J, and the labels that the code takes are of both kinds
@@ -46,27 +46,31 @@ module _ {P : List Line → Type 0} {L J Q : ℕ → Type 0} (made : LineByLine 
   end_is (e ∷ around) zero h = All-head (λ e. J e.end) e around h
   end_is (e ∷ around) (suc n) h = end_is around n (All-tail (λ e. J e.end) e around h)
 
-  abbrev CodeIsMade : List ℕ → Emitted → Type 0
-  CodeIsMade names code = All Q names → (around : List Enclosing) → Starts around → Ends around → (label : ℕ) → Own label code.labels → P (code.lines around label)
+  abbrev CodeIsMade : (names points : List ℕ) → Emitted → Type 0
+  CodeIsMade names points code = All Q names → All R points → (around : List Enclosing) → Starts around → Ends around → (label : ℕ) → Own label code.labels → P (code.lines around label)
 
   abbrev StmIsMade : Stm → Type 0
-  StmIsMade s = CodeIsMade (stm_functions s) (statement_code plan s)
+  StmIsMade s = CodeIsMade (stm_functions s) (stm_pointers s) (statement_code plan s)
 
   abbrev LayerIsMade : Stm-F Stm → Type 0
-  LayerIsMade x = CodeIsMade (named_layer (map-Stm Stm (List ℕ) stm_functions x)) (code_layer plan (map-Stm Stm Emitted (statement_code plan) x))
+  LayerIsMade x =
+      CodeIsMade (named_layer (map-Stm Stm (List ℕ) stm_functions x)) (pointers_layer (map-Stm Stm (List ℕ) stm_pointers x)) (code_layer plan (map-Stm Stm Emitted (statement_code plan) x))
 
   from_layer : (x : Stm-F Stm) → LayerIsMade x → StmIsMade (roll-Stm x)
-  from_layer x h = subst (CodeIsMade (stm_functions (roll-Stm x))) (sym (code_roll plan x)) (λ names. h (subst (All Q) (named_roll x) names))
+  from_layer x h =
+      subst (CodeIsMade (stm_functions (roll-Stm x)) (stm_pointers (roll-Stm x))) (sym (code_roll plan x))
+      (λ names points. h (subst (All Q) (named_roll x) names) (subst (All R) (pointers_roll x) points))
 
-  in_order_made : (code : List Stm) → Each StmIsMade code → CodeIsMade (joined (map stm_functions code)) (in_turn (map (statement_code plan) code))
-  in_order_made [] h names around starts ends label own = made.none
-  in_order_made (s ∷ code) h names around starts ends label own =
+  in_order_made : (code : List Stm) → Each StmIsMade code → CodeIsMade (joined (map stm_functions code)) (joined (map stm_pointers code)) (in_turn (map (statement_code plan) code))
+  in_order_made [] h names points around starts ends label own = made.none
+  in_order_made (s ∷ code) h names points around starts ends label own =
       let here = statement_code plan s in
       let rest = in_turn (map (statement_code plan) code) in
       let others = joined (map stm_functions code) in
+      let pointed = joined (map stm_pointers code) in
       made.after (here.lines around label) (rest.lines around (label + here.labels))
-      (h.0 (all_front Q (stm_functions s) others names) around starts ends label (λ l p q. own l p (omega (arith, q))))
-      (in_order_made code h.1 (all_back Q (stm_functions s) others names) around starts ends (label + here.labels) (λ l p q. own l (omega (arith, p)) (omega (arith, q))))
+      (h.0 (all_front Q (stm_functions s) others names) (all_front R (stm_pointers s) pointed points) around starts ends label (λ l p q. own l p (omega (arith, q))))
+      (in_order_made code h.1 (all_back Q (stm_functions s) others names) (all_back R (stm_pointers s) pointed points) around starts ends (label + here.labels) (λ l p q. own l (omega (arith, p)) (omega (arith, q))))
 
   -- two trees
   left : (a b : Tree) → All Q (tree_functions a ++ tree_functions b) → All Q (tree_functions a)
@@ -76,13 +80,13 @@ module _ {P : List Line → Type 0} {L J Q : ℕ → Type 0} (made : LineByLine 
   right a b = all_back Q (tree_functions a) (tree_functions b)
 
   layer : (x : Stm-F Stm) → StmChildren StmIsMade x → LayerIsMade x
-  layer (stm.Set t v) h names around starts ends label own = set_made made plan.place t v names
-  layer (stm.SetGlobal g v) h names around starts ends label own = set_global_made made plan.place g v names
-  layer (stm.Divide t o a b) h names around starts ends label own = divide_made made plan.place t o a b division (left a b names) (right a b names)
-  layer (stm.Check a i) h names around starts ends label own = check_made made plan.place (size plan a) i index names
-  layer (stm.Read t a i) h names around starts ends label own = read_made made plan.place t (size plan a) (home plan a) i index names
-  layer (stm.Write a i v) h names around starts ends label own = write_made made plan.place (size plan a) (home plan a) i v index (left i v names) (right i v names)
-  layer (stm.Zero a) h names around starts ends label own =
+  layer (stm.Set t v) h names points around starts ends label own = set_made made plan.place t v names
+  layer (stm.SetGlobal g v) h names points around starts ends label own = set_global_made made plan.place g v names
+  layer (stm.Divide t o a b) h names points around starts ends label own = divide_made made plan.place t o a b division (left a b names) (right a b names)
+  layer (stm.Check a i) h names points around starts ends label own = check_made made plan.place (size plan a) i index names
+  layer (stm.Read t a i) h names points around starts ends label own = read_made made plan.place t (size plan a) (home plan a) i index names
+  layer (stm.Write a i v) h names points around starts ends label own = write_made made plan.place (size plan a) (home plan a) i v index (left i v names) (right i v names)
+  layer (stm.Zero a) h names points around starts ends label own =
       let go = Jump 0 (label + 1) ∷ [] in
       let turn = Label label ∷ [] in
       let tested = Label (label + 1) ∷ [] in
@@ -94,19 +98,19 @@ module _ {P : List Line → Type 0} {L J Q : ℕ → Type 0} (made : LineByLine 
       (made.after turn (clear_lines ++ (tested ++ test)) (made.label label at_turn.0)
       (made.after clear_lines (tested ++ test) (clear_made made)
       (made.after tested test (made.label (label + 1) at_test.0) (made.branch 1 first second label at_turn.1)))))
-  layer (stm.Return v) h names around starts ends label own = return_made made plan.place plan.end v end names
-  layer (stm.Break n) h names around starts ends label own = made.jump (enclosing_at around n plan.end).end (end_is around n ends)
-  layer (stm.Back n) h names around starts ends label own = made.jump (enclosing_at around n plan.end).start (start_is around n starts)
-  layer (stm.Call r f args) h names around starts ends label own = call r f args names
-  layer (stm.Known r k args) h names around starts ends label own = known r k args names
-  layer (stm.Block b) h names around starts ends label own =
+  layer (stm.Return v) h names points around starts ends label own = return_made made plan.place plan.end v end names
+  layer (stm.Break n) h names points around starts ends label own = made.jump (enclosing_at around n plan.end).end (end_is around n ends)
+  layer (stm.Back n) h names points around starts ends label own = made.jump (enclosing_at around n plan.end).start (start_is around n starts)
+  layer (stm.Call r f args) h names points around starts ends label own = call r f args names points
+  layer (stm.Known r k args) h names points around starts ends label own = known r k args names
+  layer (stm.Block b) h names points around starts ends label own =
       let inner = in_turn (map (statement_code plan) b) in
       let here = own label (omega arith) (omega arith) in
       made.after (inner.lines (block_at label ∷ around) (label + 1)) (Label label ∷ [])
-      (in_order_made b h names (block_at label ∷ around) (All-cons (λ e. J e.start) (block_at label) around here.1 starts) (All-cons (λ e. J e.end) (block_at label) around here.1 ends)
+      (in_order_made b h names points (block_at label ∷ around) (All-cons (λ e. J e.start) (block_at label) around here.1 starts) (All-cons (λ e. J e.end) (block_at label) around here.1 ends)
       (label + 1) (λ l p q. own l (omega (arith, p)) (omega (arith, q))))
       (made.label label here.0)
-  layer (stm.Loop b) h names around starts ends label own =
+  layer (stm.Loop b) h names points around starts ends label own =
       let inner = in_turn (map (statement_code plan) b) in
       let body = inner.lines (loop_at label ∷ around) (label + 2) in
       let back = Jump 0 label ∷ [] in
@@ -115,12 +119,14 @@ module _ {P : List Line → Type 0} {L J Q : ℕ → Type 0} (made : LineByLine 
       let at_stop = own (label + 1) (omega arith) (omega arith) in
       made.after (Label label ∷ []) (body ++ (back ++ stop)) (made.label label at_start.0)
       (made.after body (back ++ stop)
-      (in_order_made b h names (loop_at label ∷ around) (All-cons (λ e. J e.start) (loop_at label) around at_start.1 starts) (All-cons (λ e. J e.end) (loop_at label) around at_stop.1 ends)
+      (in_order_made b h names points (loop_at label ∷ around) (All-cons (λ e. J e.start) (loop_at label) around at_start.1 starts) (All-cons (λ e. J e.end) (loop_at label) around at_stop.1 ends)
       (label + 2) (λ l p q. own l (omega (arith, p)) (omega (arith, q))))
       (made.after back stop (made.jump label at_start.1) (made.label (label + 1) at_stop.0)))
-  layer (stm.If t a b) h names around starts ends label own =
+  layer (stm.If t a b) h names points around starts ends label own =
       let in_a = joined (map stm_functions a) in
       let in_b = joined (map stm_functions b) in
+      let by_a = joined (map stm_pointers a) in
+      let by_b = joined (map stm_pointers b) in
       let one = in_turn (map (statement_code plan) a) in
       let other = in_turn (map (statement_code plan) b) in
       let ls = one.lines around (label + 2) in
@@ -135,11 +141,11 @@ module _ {P : List Line → Type 0} {L J Q : ℕ → Type 0} (made : LineByLine 
       made.after (operand_lines plan.place t first) (branch_lines q label ls ls') (operand_made made plan.place t (all_front Q (tree_functions t) (in_a ++ in_b) names) first)
       (made.after (Branch 0 q 0 label ∷ []) (ls ++ (skip ++ (past ++ (ls' ++ stop)))) (made.branch 0 q 0 label at_past.1)
       (made.after ls (skip ++ (past ++ (ls' ++ stop)))
-      (in_order_made a h.0 (all_front Q in_a in_b lists) around starts ends (label + 2) (λ l p q. own l (omega (arith, p)) (omega (arith, q))))
+      (in_order_made a h.0 (all_front Q in_a in_b lists) (all_front R by_a by_b points) around starts ends (label + 2) (λ l p q. own l (omega (arith, p)) (omega (arith, q))))
       (made.after skip (past ++ (ls' ++ stop)) (made.jump (label + 1) at_stop.1)
       (made.after past (ls' ++ stop) (made.label label at_past.0)
       (made.after ls' stop
-      (in_order_made b h.1 (all_back Q in_a in_b lists) around starts ends (label + 2 + one.labels) (λ l p q. own l (omega (arith, p)) (omega (arith, q))))
+      (in_order_made b h.1 (all_back Q in_a in_b lists) (all_back R by_a by_b points) around starts ends (label + 2 + one.labels) (λ l p q. own l (omega (arith, p)) (omega (arith, q))))
       (made.label (label + 1) at_stop.0))))))
 
   statement_made : (s : Stm) → StmIsMade s
@@ -147,5 +153,5 @@ module _ {P : List Line → Type 0} {L J Q : ℕ → Type 0} (made : LineByLine 
 
   -- the code of statements within others
   pub code_made : (code : List Stm) (around : List Enclosing) → Starts around → Ends around → (label : ℕ) → Own label (code_of plan code).labels → All Q (functions code)
-      → P ((code_of plan code).lines around label)
-  code_made code around starts ends label own names = in_order_made code (stms_ind StmIsMade statement_made code) names around starts ends label own
+      → All R (pointers code) → P ((code_of plan code).lines around label)
+  code_made code around starts ends label own names points = in_order_made code (stms_ind StmIsMade statement_made code) names points around starts ends label own

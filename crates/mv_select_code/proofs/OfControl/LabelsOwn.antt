@@ -3,7 +3,7 @@ use Rattle.std.proofs.Common.{◌≡◌, ⊎_elim, ℕ, ◌+◌, ◌*◌, ◌<�
 use Rattle.std.proofs.lemmas.List.Elements.{All-nil, All-head, All-tail}
 use Rattle.std.proofs.lemmas.Bool.{cases_lt, ne_eqb}
 use Rattle.mv_isa.specs.declared.labelled.Line.{Line}
-use Rattle.mv_isa.specs.declared.labelled.Line.TheVariants.{Word, Label, Jump, Branch, Entry, Slot}
+use Rattle.mv_isa.specs.declared.labelled.Line.TheVariants.{Word, Label, Jump, Branch, Entry, Slot, Point}
 use Rattle.mv_isa.specs.Code.{is_label}
 use Rattle.mv_ir.specs.declared.tree.Tree.{Tree}
 use Rattle.mv_ir.specs.declared.stm.Stm.{Stm}
@@ -17,7 +17,7 @@ use Rattle.mv_select_code.specs.Trees.TreeCode.{operand_lines, operand_register}
 use Rattle.mv_select_code.specs.Statements.StatementCode.{first, second, bounds_lines, clear_lines}
 use Rattle.mv_select_code.specs.declared.control.enclosing.Enclosing.{Enclosing}
 use Rattle.mv_select_code.specs.Control.FlowCode.{Plan, Emitted, in_turn, plain, enclosing_at, zero_lines, branch_lines, loop_lines, block_lines, loop_at, block_at, home, size, code_layer, statement_code}
-use Rattle.mv_select_code.specs.Control.Labels.{Names, CallsName, OwnLabels, LabelsAreOwn, LabelsAreFew, tree_functions}
+use Rattle.mv_select_code.specs.Control.Labels.{Names, CallsName, OwnLabels, LabelsAreOwn, LabelsAreFew, tree_functions, callee_pointers}
 use Rattle.mv_select_code.proofs.OfControl.StatementsDo.{code_roll}
 use Rattle.mv_select_code.proofs.OfControl.TreeNames.{AnyNumber, all_any}
 use Rattle.mv_select_code.proofs.OfControl.StatementsAreMade.{LineByLine, names_made, operand_made, set_made, set_global_made, divide_made, check_made, read_made, write_made, bounds_made, clear_made, return_made}
@@ -48,6 +48,7 @@ silent P (Jump rd m) h l = refl
 silent P (Branch f a b m) h l = refl
 silent P (Entry rd m) h l = refl
 silent P (Slot m) h l = refl
+silent P (Point a) h l = refl
 
 pub none : (P : ℕ → Type 0) (xs : List Line) → All (Names P) xs → (l : ℕ) → count_by (is_label l) xs ≡ 0
 none P [] h l = refl
@@ -206,7 +207,7 @@ module _ (plan : Plan) (calls : CallsName AnyNumber plan.calls) where
   layer (stm.Return v) h around label = plain_own _ (return_made named plan.place plan.end v tt (all_any _)) around label
   layer (stm.Break n) h around label = let to = (enclosing_at around n plan.end).end in silent_own AnyNumber label (Jump 0 to ∷ []) (named.jump to tt)
   layer (stm.Back n) h around label = let to = (enclosing_at around n plan.end).start in silent_own AnyNumber label (Jump 0 to ∷ []) (named.jump to tt)
-  layer (stm.Call r f args) h around label = plain_own _ (calls.call r f args (all_any _)) around label
+  layer (stm.Call r f args) h around label = plain_own _ (calls.call r f args (all_any _) (all_any (callee_pointers f))) around label
   layer (stm.Known r k args) h around label = plain_own _ (calls.known r k args (all_any _)) around label
   layer (stm.Block b) h around label =
       let inner = in_turn (map (statement_code plan) b) in

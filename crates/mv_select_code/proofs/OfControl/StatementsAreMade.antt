@@ -32,7 +32,7 @@ module _ {P : List Line → Type 0} {L J Q : ℕ → Type 0} (made : LineByLine 
   words_made i j = made.after (one i) (one j) (made.word i) (made.word j)
 
   pub number_made : (n r : ℕ) → P (number_lines n r)
-  number_made = trees.number_made P made.none made.word made.after
+  number_made = trees.number_made P P made.none (λ a h. h) (λ i plain. made.word i) made.after
 
   keep_made : (t : ℕ) → P (keep_lines t)
   unfolding keep_lines
@@ -68,13 +68,13 @@ module _ {P : List Line → Type 0} {L J Q : ℕ → Type 0} (made : LineByLine 
 
   module _ (place : ℕ → ℕ) where
     pub tree_made : (t : Tree) → Fs t → (r : ℕ) → P (tree_lines place t r)
-    tree_made = trees.lines_made P made.none made.word made.after Fs (functions_inside Q) entry_made place
+    tree_made = trees.lines_made P P made.none (λ a h. h) (λ i plain. made.word i) made.after Fs (functions_inside Q) entry_made place
 
     pub operand_made : (t : Tree) → Fs t → (r : ℕ) → P (operand_lines place t r)
-    operand_made = trees.operand_made P made.none made.word made.after Fs (functions_inside Q) entry_made place
+    operand_made = trees.operand_made P P made.none (λ a h. h) (λ i plain. made.word i) made.after Fs (functions_inside Q) entry_made place
 
     pub into_made : (t : Tree) → Fs t → (d r : ℕ) → P (tree_into place t d r)
-    into_made = trees.into_made P made.none made.word made.after Fs (functions_inside Q) entry_made place
+    into_made = trees.into_made P P made.none (λ a h. h) (λ i plain. made.word i) made.after Fs (functions_inside Q) entry_made place
 
     pub set_made : (t : ℕ) (v : Tree) → Fs v → P (set_lines place t v)
     set_made t v h = made.after (tree_into place v (target t) first) (keep_lines t) (into_made v h (target t) first) (keep_made t)

@@ -2,8 +2,9 @@
 use Rattle.std.proofs.Common.{List, [], ◌∷◌, All}
 use Rattle.std.proofs.lemmas.List.Elements.{All-append, All-cons, All-nil, All-weaker}
 use Rattle.mv_isa.specs.declared.labelled.Line.{Line}
-use Rattle.mv_isa.specs.declared.labelled.Line.TheVariants.{Word, Label, Jump, Branch, Entry, Slot}
+use Rattle.mv_isa.specs.declared.labelled.Line.TheVariants.{Word, Label, Jump, Branch, Entry, Slot, Point}
 use Rattle.mv_isa.specs.Code.{StandsOnce, TargetStands}
+use Rattle.mv_isa.specs.Labels.{check_label}
 use Rattle.mv_select_code.specs.Control.Labels.{Names, TargetsStand}
 use Rattle.mv_select_code.proofs.OfControl.StatementsAreMade.{LineByLine}
 use Rattle.mv_select_code.proofs.OfControl.CodeIsMade.{code_made}
@@ -16,6 +17,7 @@ module _ (whole : List Line) where
   stands (Branch f a b l) h = h
   stands (Entry rd l) h = h
   stands (Slot l) h = h
+  stands (Point a) h = h
 
   named : (xs : List Line) → All (Names (StandsOnce whole)) xs → All (TargetStands whole) xs
   named = All-weaker (Names (StandsOnce whole)) (TargetStands whole) stands
@@ -36,5 +38,5 @@ module _ (whole : List Line) where
 
 pub targets_stand : TargetsStand
 targets_stand whole plan calls code around label h =
-    code_made (stand_made whole) plan (λ r f args names. named whole _ (calls.call r f args names)) (λ r k args names. named whole _ (calls.known r k args names)) h.end h.division h.index code around h.starts h.ends label
-    (λ l p q. (tt, h.own l p q)) h.functions
+    code_made (stand_made whole) plan (λ g. StandsOnce whole check_label) (λ r f args names points. named whole _ (calls.call r f args names points)) (λ r k args names. named whole _ (calls.known r k args names)) h.end h.division h.index code around h.starts h.ends label
+    (λ l p q. (tt, h.own l p q)) h.functions h.check

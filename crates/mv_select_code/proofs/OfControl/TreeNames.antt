@@ -11,7 +11,7 @@ use Rattle.mv_ir.specs.declared.stm.Stm.TheOpen.{Stm-F}
 use Rattle.mv_ir.specs.declared.stm.Stm.TheViews.{roll-Stm}
 use Rattle.mv_ir.specs.declared.stm.Stm.TheFolds.{fold-roll-Stm, map-Stm}
 use Rattle.mv_ir.proofs.Induction.{Each, TreeChildren}
-use Rattle.mv_select_code.specs.Control.Labels.{functions_layer, tree_functions, named_layer, stm_functions}
+use Rattle.mv_select_code.specs.Control.Labels.{functions_layer, tree_functions, named_layer, stm_functions, pointers_layer, stm_pointers}
 
 -- where nothing is asked of a number
 abbrev pub AnyNumber : ℕ → Type 0
@@ -55,3 +55,7 @@ function_named P f h = All-head P f [] (subst (All P) (functions_roll (tree.Func
 pub named_roll : (x : Stm-F Stm) → stm_functions (roll-Stm x) ≡ named_layer (map-Stm Stm (List ℕ) stm_functions x)
 unfolding stm_functions
 named_roll x = fold-roll-Stm (List ℕ) named_layer x
+
+pub pointers_roll : (x : Stm-F Stm) → stm_pointers (roll-Stm x) ≡ pointers_layer (map-Stm Stm (List ℕ) stm_pointers x)
+unfolding stm_pointers
+pointers_roll x = fold-roll-Stm (List ℕ) pointers_layer x

@@ -3,7 +3,7 @@ use Rattle.std.proofs.Common.{◌≡◌, inl, inr, ⊎_elim, ℕ, ◌+◌, ◌<�
 use Rattle.std.proofs.lemmas.Bool.{cases_eq}
 use Rattle.mv_num.specs.Words.{add}
 use Rattle.mv_isa.specs.declared.labelled.Line.{Line}
-use Rattle.mv_isa.specs.declared.labelled.Line.TheVariants.{Word, Label, Jump, Branch, Entry, Slot}
+use Rattle.mv_isa.specs.declared.labelled.Line.TheVariants.{Word, Label, Jump, Branch, Entry, Slot, Point}
 use Rattle.mv_isa.specs.Execution.{Access, Goes, reg, put, step}
 use Rattle.mv_isa.specs.Standing.{LineStands}
 use Rattle.mv_isa.specs.LineSteps.{branch_holds, named, BranchRuns, LineRuns}
@@ -144,6 +144,7 @@ module _ {M : Type 0} (access : Access M) (s : Site) (machine : Machine M) (ok :
       let c = steps_on w (pc + 4) p.0 e.0 (put regs rd (s.entry f)) m m (i + 1) e.2 (inl refl) b in
       reaches_more w (target exit next) regs' m' (i + 1 + 1) i h.0 n (omega arith) (omega (arith, h.1)) (leads_walk ls h.0 w p.0 next (put regs rd (s.entry f)) m exit regs' m' (i + 1 + 1) p.2 h.2 c)
   leads_walk (Slot f ∷ ls) n w pc next regs m exit regs' m' i p h a = absurd h
+  leads_walk (Point b ∷ ls) n w pc next regs m exit regs' m' i p h a = absurd h
 
   -- ---- between what is shown and what stands
 

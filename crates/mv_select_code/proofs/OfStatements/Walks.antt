@@ -5,7 +5,7 @@ use Rattle.mv_num.specs.Words.{word_of, add}
 use Rattle.mv_isa.specs.declared.instr.Instr.{Instr}
 use Rattle.mv_isa.specs.declared.instr.Instr.TheVariants.{Sw}
 use Rattle.mv_isa.specs.declared.labelled.Line.{Line}
-use Rattle.mv_isa.specs.declared.labelled.Line.TheVariants.{Word, Label, Jump, Branch, Entry, Slot}
+use Rattle.mv_isa.specs.declared.labelled.Line.TheVariants.{Word, Label, Jump, Branch, Entry, Slot, Point}
 use Rattle.mv_isa.specs.Code.{greatest_words}
 use Rattle.mv_isa.specs.Execution.{Access, Goes, reg, stored, stores, execute}
 use Rattle.mv_select_code.specs.Trees.Straight.{Straight}
@@ -26,6 +26,7 @@ module _ {M : Type 0} (access : Access M) (s : Site) where
   leads_more (Branch funct3 rs1 rs2 l ∷ ls) n k regs m exit regs' m' le (inr h) = inr (h.0, h.1, omega (arith, h.2, le), h.3)
   leads_more (Entry rd f ∷ ls) n k regs m exit regs' m' le h = (h.0, omega (arith, h.1, le), h.2)
   leads_more (Slot f ∷ ls) n k regs m exit regs' m' le h = absurd h
+  leads_more (Point a ∷ ls) n k regs m exit regs' m' le h = absurd h
 
   -- lines behind straight ones
   pub leads_straight : (ls ks : List Line) (n : ℕ) (regs mid : List ℕ) (m : M) (exit : Exit) (regs' : List ℕ) (m' : M) → Straight (limited access s) m s.entry ls regs mid → L ks n mid m exit regs' m'
@@ -40,6 +41,7 @@ module _ {M : Type 0} (access : Access M) (s : Site) where
   leads_straight (Jump rd l ∷ ls) ks n regs mid m exit regs' m' h k = absurd h.1
   leads_straight (Branch funct3 rs1 rs2 l ∷ ls) ks n regs mid m exit regs' m' h k = absurd h.1
   leads_straight (Slot f ∷ ls) ks n regs mid m exit regs' m' h k = absurd h.1
+  leads_straight (Point a ∷ ls) ks n regs mid m exit regs' m' h k = absurd h.1
 
   -- a single instruction
   pub leads_one : (i : Instr) (regs : List ℕ) (m : M) (regs' : List ℕ) (m' : M) → Moves access s i regs m regs' m' → L (Word i ∷ []) 1 regs m Past regs' m'

@@ -3,8 +3,9 @@ use Rattle.std.specs.Prelude.{ℕ, ◌≡◌, ◌+◌, ◌*◌, ◌<◌, ◌≤�
 use Rattle.mv_ast.specs.declared.program.Known.{Known}
 use Rattle.mv_bindings.specs.Traps as traps
 use Rattle.mv_isa.specs.declared.labelled.Line.{Line}
-use Rattle.mv_isa.specs.declared.labelled.Line.TheVariants.{Word, Label, Jump, Branch, Entry, Slot}
+use Rattle.mv_isa.specs.declared.labelled.Line.TheVariants.{Word, Label, Jump, Branch, Entry, Slot, Point}
 use Rattle.mv_isa.specs.Code.{is_label, StandsOnce, TargetStands}
+use Rattle.mv_isa.specs.Labels.{check_label}
 use Rattle.mv_ir.specs.declared.tree.Tree.{Tree}
 use Rattle.mv_ir.specs.declared.tree.Tree.TheOpen.{Tree-F}
 use Rattle.mv_ir.specs.declared.tree.Tree.TheOpen as tree
@@ -67,6 +68,26 @@ stm_functions = fold-Stm (List ℕ) named_layer
 abbrev pub functions : List Stm → List ℕ
 functions code = joined (map stm_functions code)
 
+-- ---- the pointer switches that code calls through, by their globals
+
+abbrev pub callee_pointers : Callee → List ℕ
+callee_pointers (callee.Direct f) = []
+callee_pointers (callee.Through t) = []
+callee_pointers (callee.Switched g) = g ∷ []
+
+abbrev pub pointers_layer : Stm-F (List ℕ) → List ℕ
+pointers_layer (stm.If t a b) = joined a ++ joined b
+pointers_layer (stm.Loop b) = joined b
+pointers_layer (stm.Block b) = joined b
+pointers_layer (stm.Call r f args) = callee_pointers f
+pointers_layer _ = []
+
+unfoldable pub stm_pointers : Stm → List ℕ
+stm_pointers = fold-Stm (List ℕ) pointers_layer
+
+abbrev pub pointers : List Stm → List ℕ
+pointers code = joined (map stm_pointers code)
+
 -- ---- labels
 
 -- a line isn't a label, and one that it names is of a kind
@@ -77,10 +98,12 @@ Names P (Jump rd l) = P l
 Names P (Branch funct3 rs1 rs2 l) = P l
 Names P (Entry rd l) = P l
 Names P (Slot l) = P l
+Names P (Point a) = P check_label
 
--- no label stands in the code of calls, and it names what it calls and others of a kind
+-- no label stands in the code of calls, and it names what it calls and others of a kind, as the stub of calls through pointer switches where it makes one
 pub record CallsName (P : ℕ → Type 0) (calls : CallLines) : Type 0 where
-  pub call : (r : Option ℕ) (f : Callee) (args : List Tree) → All P (callee_functions f ++ functions_of_all args) → All (Names P) (calls.call r f args)
+  pub call : (r : Option ℕ) (f : Callee) (args : List Tree) → All P (callee_functions f ++ functions_of_all args) → All (λ g. P check_label) (callee_pointers f) →
+      All (Names P) (calls.call r f args)
   pub known : (r : Option ℕ) (k : Known) (args : List Tree) → All P (functions_of_all args) → All (Names P) (calls.known r k args)
 
 -- each of so many labels from a first one on stands once in some lines, and no other label does
@@ -101,8 +124,8 @@ abbrev pub LabelsAreFew : Type 0
 LabelsAreFew = (plan : Plan) (code : List Stm) → (code_of plan code).labels ≤ 2 * statements code
 
 -- Wherever code may name a label, the label stands once in all lines: what encloses the code, the labels of the code itself, the end of the function,
--- the stubs of the traps 1 and 2, and the functions.
-pub record NamedStand (whole : List Line) (plan : Plan) (around : List Enclosing) (label count : ℕ) (named : List ℕ) : Type 0 where
+-- the stubs of the traps 1 and 2, the functions, and the stub of calls through pointer switches where there is one.
+pub record NamedStand (whole : List Line) (plan : Plan) (around : List Enclosing) (label count : ℕ) (named points : List ℕ) : Type 0 where
   pub own : (l : ℕ) → label ≤ l → l < label + count → StandsOnce whole l
   pub starts : All (λ e. StandsOnce whole e.start) around
   pub ends : All (λ e. StandsOnce whole e.end) around
@@ -110,11 +133,12 @@ pub record NamedStand (whole : List Line) (plan : Plan) (around : List Enclosing
   pub division : StandsOnce whole (trap_label traps.division_by_zero)
   pub index : StandsOnce whole (trap_label traps.index_outside)
   pub functions : All (StandsOnce whole) named
+  pub check : All (λ g. StandsOnce whole check_label) points
 
 -- then so is each label that the code names
 abbrev pub TargetsStand : Type 0
 TargetsStand =
     (whole : List Line) (plan : Plan) → CallsName (StandsOnce whole) plan.calls →
     (code : List Stm) (around : List Enclosing) (label : ℕ) →
-    NamedStand whole plan around label (code_of plan code).labels (functions code) →
+    NamedStand whole plan around label (code_of plan code).labels (functions code) (pointers code) →
     All (TargetStands whole) ((code_of plan code).lines around label)

@@ -1,10 +1,17 @@
 -- Lines that run one after the other and leave memory alone.
-use Rattle.std.specs.Prelude.{ℕ, ◌≡◌, List, [], ◌∷◌}
+use Rattle.std.specs.Prelude.{ℕ, ◌≡◌, Bool, true, false, List, [], ◌∷◌}
 use Rattle.mv_num.specs.Words.{add}
 use Rattle.mv_isa.specs.declared.instr.Instr.{Instr}
+use Rattle.mv_isa.specs.declared.instr.Instr.TheVariants.{Jal, Jalr}
 use Rattle.mv_isa.specs.declared.labelled.Line.{Line}
 use Rattle.mv_isa.specs.declared.labelled.Line.TheVariants.{Word, Label, Entry}
 use Rattle.mv_isa.specs.Execution.{Access, Goes, put, execute}
+
+-- an instruction that puts the address behind it into a register
+abbrev pub is_link : Instr → Bool
+is_link (Jal rd imm) = true
+is_link (Jalr rd rs1 imm) = true
+is_link _ = false
 
 module _ {M : Type 0} (access : Access M) (m : M) where
   -- wherever an instruction stands, it goes on to the next one, with other registers and the same memory

@@ -1,5 +1,5 @@
-use Rattle.std.proofs.Common.{◌≡◌, ◌<◌, ◌≤◌, ◌+◌, ◌||◌, ℕ, zero, suc, true, false, Some, None, [], ◌∷◌, slice_index, pos, All, refl, ap, sym, subst, inl, inr, arith, rules}
-use Rattle.std.proofs.lemmas.List.Elements.{All-from_recursion}
+use Rattle.std.proofs.Common.{◌≡◌, ◌<◌, ◌≤◌, ◌||◌, ℕ, zero, suc, true, false, Some, None, [], ◌∷◌, slice_index, pos, All, refl, ap, sym, subst, inl, inr, arith, rules}
+use Rattle.std.proofs.lemmas.List.Elements.{All-from_recursion, All-nil}
 use Rattle.std.proofs.lemmas.Grind.{common_steps}
 use Rattle.mv_num.specs.Kinds.{is_value, is_at_most}
 use Rattle.mv_num.specs.declared.kind.Kind.TheVariants as kinds
@@ -15,7 +15,7 @@ use Rattle.mv_linker.specs.declared.parts.PartFunction.{PartFunction}
 use Rattle.mv_linker.specs.declared.parts.PartVariant.{PartVariant}
 use Rattle.mv_linker.specs.declared.parts.Datum.TheVariants.{Number, Function}
 use Rattle.mv_linker.specs.Linked.{NamesAreThere, IsFunction, IsDatum, AreParts}
-use Rattle.mv_linker.specs.Tables.{BeginsWithWords, CallsAmong, IsName, IsRange, FitsPartSwitch, FitsPartFunction, FitsPartVariant, FitTables}
+use Rattle.mv_linker.specs.Tables.{BeginsWithWords, CallsAmong, GoesThrough, IsName, IsRange, FitsPartSwitch, FitsPartFunction, FitsPartVariant, FitsPartPointer, FitTables}
 use Rattle.mv_test_linker.proofs.two_functions.Goals as goal
 
 abbrev called : Labelled
@@ -40,30 +40,30 @@ abbrev function : PartFunction
 function = record { name = 102 ∷ []; function = 0; switches = 0 ∷ []; variants = variant ∷ [] }
 
 abbrev both : Parts
-both = record { functions = called ∷ caller ∷ []; main = 1; globals = Number 7 ∷ Function 1 ∷ Function 0 ∷ []; switches = switch ∷ []; attributed = function ∷ [] }
+both = record { functions = called ∷ caller ∷ []; main = 1; globals = Number 7 ∷ Function 1 ∷ Function 0 ∷ []; switches = switch ∷ []; attributed = function ∷ []; pointers = []; targets = [] }
 
-called_fits : IsFunction 2 called
+called_fits : IsFunction 2 false called
 called_fits = record {
   fields = All-from_recursion LineFits called.items (search rules);
-  names = All-from_recursion (NamesAreThere 2 called) called.items (inl (omega arith, refl), (inr (inl (omega arith, omega arith)), (omega arith, (tt, tt))));
+  names = All-from_recursion (NamesAreThere 2 false called) called.items (inl (omega arith, refl), (inr (inl (omega arith, omega arith)), (omega arith, (tt, tt))));
 }
 
-caller_fits : IsFunction 2 caller
+caller_fits : IsFunction 2 false caller
 caller_fits = record {
   fields = All-from_recursion LineFits caller.items (search rules);
-  names = All-from_recursion (NamesAreThere 2 caller) caller.items (omega arith, (omega arith, (omega arith, (inl (omega arith, refl), tt))));
+  names = All-from_recursion (NamesAreThere 2 false caller) caller.items (omega arith, (omega arith, (omega arith, (inl (omega arith, refl), tt))));
 }
 
-bound_fits : IsFunction 2 bound
+bound_fits : IsFunction 2 false bound
 bound_fits = record {
   fields = All-from_recursion LineFits bound.items (search rules);
-  names = All-from_recursion (NamesAreThere 2 bound) bound.items (tt, (omega arith, (tt, tt)));
+  names = All-from_recursion (NamesAreThere 2 false bound) bound.items (tt, (omega arith, (tt, tt)));
 }
 
 are_parts : AreParts both
 are_parts = record {
   main = omega arith;
-  functions = All-from_recursion (IsFunction 2) (called ∷ caller ∷ bound ∷ []) (called_fits, (caller_fits, (bound_fits, tt)));
+  functions = All-from_recursion (IsFunction 2 false) (called ∷ caller ∷ bound ∷ []) (called_fits, (caller_fits, (bound_fits, tt)));
   globals = All-from_recursion (IsDatum 2) both.globals (tt, (omega arith, (omega arith, tt)));
   labels = omega arith;
 }
@@ -114,10 +114,10 @@ range = record { low = low; high = high; ordered = ordered; low_unused = low_unu
     high_unused (suc (suc (suc (suc (suc (suc i)))))) from below = absurd (omega (arith, below))
 
 called_begins : (code : Labelled) → Some called ≡ Some code → BeginsWithWords code
-called_begins code is = let same : called ≡ code = cc in subst BeginsWithWords same (record { some = omega arith; no_slot = refl })
+called_begins code is = let same : called ≡ code = cc in subst BeginsWithWords same (record { some = omega arith; no_slot = refl; no_point = refl })
 
 variant_fits : FitsPartVariant (5 ∷ []) variant
-variant_fits = record { begins = record { some = omega arith; no_slot = refl }; some = omega arith; ranges = All-from_recursion (IsRange (5 ∷ [])) (guard ∷ []) (range, tt) }
+variant_fits = record { begins = record { some = omega arith; no_slot = refl; no_point = refl }; some = omega arith; ranges = All-from_recursion (IsRange (5 ∷ [])) (guard ∷ []) (range, tt) }
 
 function_fits : FitsPartFunction both function
 function_fits = record {
@@ -155,6 +155,19 @@ fit_tables = record {
       (All-from_recursion (CallsAmong (0 ∷ [])) bound.items (tt, ((0, refl), (tt, tt))), tt),
     ),
   );
+  few_pointers = omega arith;
+  pointers = All-nil (FitsPartPointer 3);
+  through = All-from_recursion (λ (code : Labelled). All (GoesThrough []) code.items) (called ∷ caller ∷ bound ∷ []) (
+    All-from_recursion (GoesThrough []) called.items (tt, (tt, (tt, (tt, tt)))),
+    (
+      All-from_recursion (GoesThrough []) caller.items (tt, (tt, (tt, (tt, tt)))),
+      (All-from_recursion (GoesThrough []) bound.items (tt, (tt, (tt, tt))), tt),
+    ),
+  );
+  few_targets = omega arith;
+  targets = All-nil IsName;
+  targets_there = omega arith;
+  targets_begin = λ some. absurd (some refl);
 }
 
 pub returns-clause-parts : goal.returns-clause-parts

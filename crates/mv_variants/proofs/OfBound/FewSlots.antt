@@ -1,4 +1,4 @@
--- A variant has no more slots than its function has calls of attributed functions.
+-- A variant has no more sites than its function has call sites.
 use Rattle.std.proofs.Common.{arith, ◌≡◌, ℕ, suc, ◌+◌, ◌*◌, ◌<◌, ◌≤◌, length, get_or, ◌⊎◌, inl, inr, Bool, true, false, cond, eqb, ◌&&◌, ◌||◌, List, [], ◌∷◌, sym, ◌∙◌, subst, ap}
 use Rattle.std.specs.Prelude.{slice_get, sum_by}
 use Rattle.std.proofs.lemmas.Bool.{eqb-true}
@@ -29,14 +29,14 @@ use Rattle.mv_merge.specs.declared.rows.Bound.{Bound}
 use Rattle.mv_merge.specs.declared.rows.Variants.{Variants}
 use Rattle.mv_merge.specs.Guards.{IsMerged}
 use Rattle.mv_variants.specs.Bound.Led.{AreMade}
-use Rattle.mv_variants.specs.Bound.Slots.{slots, one_each, SlotsAreFew, OwnSlotsAreFew, RenamedSlotsAreFew, variant_slots, AllSlotsAreFew, VariantSlotsAreFew}
+use Rattle.mv_variants.specs.Bound.Slots.{sites, one_each, SlotsAreFew, OwnSlotsAreFew, RenamedSlotsAreFew, variant_slots, AllSlotsAreFew, VariantSlotsAreFew}
 use Rattle.mv_variants.proofs.OfBound.Meant.{made}
 use Rattle.mv_variants.proofs.OfBound.Led.{bodies_made}
 use Rattle.mv_variants.proofs.OfBound.Groups.{groups_fit}
-use Rattle.mv_variants.proofs.OfBound.Measures.{renamed_no_more}
-use Rattle.mv_variants.proofs.OfBound.Weights.{w_roll, weights}
-use Rattle.mv_variants.proofs.OfBound.Variants.{made_calls, worked_calls}
-use Rattle.mv_variants.proofs.OfBound.Slots.{slots_are_calls}
+use Rattle.mv_source_forms.proofs.Sites.{sites_are}
+use Rattle.mv_variants.proofs.OfBound.Weights.{w_roll, weights, throughs}
+use Rattle.mv_variants.proofs.OfBound.Variants.{CountsNoMore, renamed_counts_no_more, worked_no_more, made_no_more}
+use Rattle.mv_variants.proofs.OfBound.Slots.{slots_are_calls, points_are_calls}
 use Rattle.mv_num.proofs.Booleans.{and_left}
 use Rattle.mv_variants.proofs.OfBound.Fitting.{bool_cases}
 
@@ -112,30 +112,32 @@ marked_once p g f = by (bool_cases (is_marked (lower_function p g).marked f))
         let own : one_each (is_marked (lower_function p g).marked) f ≡ 1 = ap (λ b. cond b 1 0) e in
         omega (arith, one, own)
 
--- ---- slots
+-- ---- sites
 
-few : (p : Program) (g : Function) → CallsAsOften p g (lower_function p g) → (result : Body) → result.marked ≡ (lower_function p g).marked →
-    ((direct : ℕ → ℕ) → code_weight direct 0 result.code ≤ code_weight direct 0 (lower_function p g).code) →
-    (place sizes : ℕ → ℕ) (shape : Shape) → slots (function_lines place sizes (is_marked result.marked) shape result.code) ≤ counts.calls p g
-few p g often result same fewer place sizes shape =
-    let count = slots_are_calls place sizes (is_marked result.marked) shape result.code in
+few : (p : Program) (g : Function) → CallsAsOften p g (lower_function p g) → (result : Body) → result.marked ≡ (lower_function p g).marked → CountsNoMore (lower_function p g) result →
+    (place sizes : ℕ → ℕ) (shape : Shape) → sites (function_lines place sizes (is_marked result.marked) shape result.code) ≤ counts.call_sites p g
+few p g often result same no_more place sizes shape =
+    let slots = slots_are_calls place sizes (is_marked result.marked) shape result.code in
+    let points = points_are_calls place sizes (is_marked result.marked) shape result.code (λ a. true) in
+    let fewer = no_more _ _ (weights (one_each (is_marked result.marked)) 0) in
+    let fewer_through = no_more _ _ (throughs (λ x. true)) in
     let less : code_weight (one_each (is_marked result.marked)) 0 (lower_function p g).code ≤ code_weight (attributed_once p) 0 (lower_function p g).code =
     subst (λ l. code_weight (one_each (is_marked l)) 0 (lower_function p g).code ≤ code_weight (attributed_once p) 0 (lower_function p g).code) (sym same)
     (more_weight (one_each (is_marked (lower_function p g).marked)) (attributed_once p) (marked_once p g) (lower_function p g).code)
     in
-    omega (arith, count, fewer (one_each (is_marked result.marked)), less, often.attributed)
+    omega (arith, slots, points, fewer, fewer_through, less, often.attributed, often.pointers (λ x. true), sites_are p g)
 
 pub few_slots : SlotsAreFew
-few_slots p g often ps result m = few p g often result (made ps (lower_function p g) result m).marked (λ direct. made_calls direct 0 ps (lower_function p g) result m)
+few_slots p g often ps result m =
+    few p g often result (made ps (lower_function p g) result m).marked (λ layer count of. made_no_more of ps (lower_function p g) result m)
 
 pub own_few_slots : OwnSlotsAreFew
 own_few_slots p g often folded result is_folded is_renamed =
-    few p g often result (ap (λ (b : Body). b.marked) is_renamed.changes ∙ is_folded.marked) (λ direct. worked_calls direct 0 (lower_function p g) folded result is_folded is_renamed)
+    few p g often result (ap (λ (b : Body). b.marked) is_renamed.changes ∙ is_folded.marked) (λ layer count of. worked_no_more of (lower_function p g) folded result is_folded is_renamed)
 
 pub renamed_few_slots : RenamedSlotsAreFew
 renamed_few_slots p g often result is_renamed =
-    let body = lower_function p g in
-    few p g often result (ap (λ (b : Body). b.marked) is_renamed.changes) (λ direct. subst (λ c. code_weight direct 0 c ≤ code_weight direct 0 body.code) (sym (ap (λ (b : Body). b.code) is_renamed.changes)) (renamed_no_more (weights direct 0) is_renamed.numbers body.code))
+    few p g often result (ap (λ (b : Body). b.marked) is_renamed.changes) (λ layer count of. renamed_counts_no_more of (lower_function p g) result is_renamed)
 
 -- one and what is no more than some are no more than one and some
 pub one_and_more : (n m k : ℕ) → m ≤ k → n + m * n ≤ n * (1 + k)
@@ -146,22 +148,22 @@ one_and_more n m k le =
     omega (arith, less, all)
 
 sum_few : (p : Program) (g : Function) → CallsAsOften p g (lower_function p g) → (domains : List Domain) (rows : List Bound) (variants : Variants) → IsMerged domains rows variants →
-    AreMade (lower_function p g) rows → (place sizes : ℕ → ℕ) (any : Body) → sum_by (variant_slots place sizes) variants.bodies ≤ length variants.bodies * counts.calls p g
+    AreMade (lower_function p g) rows → (place sizes : ℕ → ℕ) (any : Body) → sum_by (variant_slots place sizes) variants.bodies ≤ length variants.bodies * counts.call_sites p g
 sum_few p g often domains rows variants merged made_rows place sizes any =
     let each = λ (i : ℕ) (lt : i < length variants.bodies).
     let from = bodies_made domains rows variants merged (lower_function p g) made_rows i (get_or variants.bodies i any) (slice_get-get_or variants.bodies i any lt) in
     few_slots p g often _ (get_or variants.bodies i any) from.2 place sizes (shape_of true (get_or variants.bodies i any)) in
-    sum_by-le (variant_slots place sizes) (counts.calls p g) variants.bodies (All-from_get_or (λ b. variant_slots place sizes b ≤ counts.calls p g) variants.bodies any each)
+    sum_by-le (variant_slots place sizes) (counts.call_sites p g) variants.bodies (All-from_get_or (λ b. variant_slots place sizes b ≤ counts.call_sites p g) variants.bodies any each)
 
 pub variant_few_slots : VariantSlotsAreFew
 variant_few_slots p g often domains rows variants merged made_rows place sizes =
     let all = sum_few p g often domains rows variants merged made_rows place sizes (lower_function p g) in
-    let more : length variants.bodies * counts.calls p g ≤ length rows * counts.calls p g = mul-le-mul_right (counts.calls p g) (groups_fit domains rows variants merged).bodies in
-    let turned : length rows * counts.calls p g ≡ counts.calls p g * length rows = mul_comm (length rows) (counts.calls p g) in
+    let more : length variants.bodies * counts.call_sites p g ≤ length rows * counts.call_sites p g = mul-le-mul_right (counts.call_sites p g) (groups_fit domains rows variants merged).bodies in
+    let turned : length rows * counts.call_sites p g ≡ counts.call_sites p g * length rows = mul_comm (length rows) (counts.call_sites p g) in
     omega (arith, all, more, turned)
 
 pub all_few_slots : AllSlotsAreFew
 all_few_slots p g often folded own is_folded is_renamed domains rows variants merged made_rows place sizes =
     let sum = sum_few p g often domains rows variants merged made_rows place sizes own in
-    let first : variant_slots place sizes own ≤ counts.calls p g = own_few_slots p g often folded own is_folded is_renamed place sizes (shape_of true own) in
-    omega (arith, sum, first, one_and_more (counts.calls p g) (length variants.bodies) (length rows) (groups_fit domains rows variants merged).bodies)
+    let first : variant_slots place sizes own ≤ counts.call_sites p g = own_few_slots p g often folded own is_folded is_renamed place sizes (shape_of true own) in
+    omega (arith, sum, first, one_and_more (counts.call_sites p g) (length variants.bodies) (length rows) (groups_fit domains rows variants merged).bodies)

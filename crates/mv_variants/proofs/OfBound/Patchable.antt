@@ -1,13 +1,12 @@
--- The slots of a program are within what a plan can patch.
+-- The sites of a program are within what a plan can patch.
 use Rattle.std.proofs.Common.{arith, ◌≡◌, ℕ, suc, ◌+◌, ◌*◌, ◌≤◌, Bool, true, false, cond, List, [], ◌∷◌, map, ◌∙◌, ap, refl}
 use Rattle.std.specs.Prelude.{sum}
 use Rattle.std.specs.List.{filter}
-use Rattle.std.proofs.Math.Nat.{mul_comm, mul-le-mul_right, suc-mul}
+use Rattle.std.proofs.Math.Nat.{mul_comm, suc-mul}
 use Rattle.mv_ast.specs.declared.program.Program.{Program}
 use Rattle.mv_ast.specs.declared.program.Function.{Function}
 use Rattle.mv_ast.specs.Counts as counts
 use Rattle.mv_ast.specs.Switches.{attributed_functions}
-use Rattle.mv_source_forms.proofs.Sites.{calls_are_sites}
 use Rattle.mv_variants.specs.Bound.Slots.{AtMost, SlotsArePatchable}
 use Rattle.mv_num.proofs.Lists.{sum_cons}
 
@@ -38,25 +37,15 @@ sum_both c a (g ∷ gs) =
     let rest = sum_both c a gs in
     omega (arith, rest, one_more (c g) (a g), sum_cons (c g) (map c gs), sum_cons (c g * a g) (map (λ g. c g * a g) gs), sum_cons (c g * (1 + a g)) (map (λ g. c g * (1 + a g)) gs))
 
--- all slots are no more than the direct calls, once and once more for each assignment
-pub slots_called : (p : Program) (own variants : List ℕ) → AtMost (counts.calls p) p.functions own → AtMost (λ g. counts.calls p g * counts.assignments p g) (attributed_functions p) variants →
-    sum own + sum variants ≤ sum (map (λ g. counts.calls p g * (1 + counts.assignments p g)) p.functions)
+-- all sites are no more than the call sites, once and once more for each assignment
+pub slots_called : (p : Program) (own variants : List ℕ) → AtMost (counts.call_sites p) p.functions own →
+    AtMost (λ g. counts.call_sites p g * counts.assignments p g) (attributed_functions p) variants →
+    sum own + sum variants ≤ sum (map (λ g. counts.call_sites p g * (1 + counts.assignments p g)) p.functions)
 slots_called p own variants h k =
-    let first = sum_most (counts.calls p) p.functions own h in
-    let second = sum_most (λ g. counts.calls p g * counts.assignments p g) (attributed_functions p) variants k in
-    let fewer = sum_filter (λ g. counts.calls p g * counts.assignments p g) p.functions in
-    omega (arith, first, second, fewer, sum_both (counts.calls p) (counts.assignments p) p.functions)
-
--- and there are as many call sites or more
-called_most : (p : Program) (gs : List Function) →
-    sum (map (λ g. counts.calls p g * (1 + counts.assignments p g)) gs) ≤ sum (map (λ g. counts.call_sites p g * (1 + counts.assignments p g)) gs)
-called_most p [] = omega arith
-called_most p (g ∷ gs) =
-    let here : counts.calls p g * (1 + counts.assignments p g) ≤ counts.call_sites p g * (1 + counts.assignments p g) = mul-le-mul_right (1 + counts.assignments p g) (calls_are_sites p g) in
-    let called = sum_cons (counts.calls p g * (1 + counts.assignments p g)) (map (λ g. counts.calls p g * (1 + counts.assignments p g)) gs) in
-    let sites = sum_cons (counts.call_sites p g * (1 + counts.assignments p g)) (map (λ g. counts.call_sites p g * (1 + counts.assignments p g)) gs) in
-    let rest = called_most p gs in
-    omega (arith, here, called, sites, rest)
+    let first = sum_most (counts.call_sites p) p.functions own h in
+    let second = sum_most (λ g. counts.call_sites p g * counts.assignments p g) (attributed_functions p) variants k in
+    let fewer = sum_filter (λ g. counts.call_sites p g * counts.assignments p g) p.functions in
+    omega (arith, first, second, fewer, sum_both (counts.call_sites p) (counts.assignments p) p.functions)
 
 pub slots_patchable : SlotsArePatchable
-slots_patchable p own variants h k = let called = slots_called p own variants h k in let most = called_most p p.functions in omega (arith, called, most)
+slots_patchable p own variants h k = let called = slots_called p own variants h k in omega (arith, called)

@@ -1,7 +1,8 @@
--- One slot stands in the code of a function for each direct call of an attributed function, and it is the callee's.
+-- One slot stands in the code of a function for each direct call of an attributed function, and it is the callee's; and one of four words for each call
+-- through a pointer switch, and it goes through that.
 use Rattle.std.proofs.Common.{◌≡◌, ℕ, ◌+◌, Bool, true, false, cond, List, [], ◌∷◌, ◌++◌, Option, map, refl, sym, subst, ap, ◌∙◌, arith}
 use Rattle.mv_isa.specs.declared.labelled.Line.{Line}
-use Rattle.mv_isa.specs.declared.labelled.Line.TheVariants.{Word, Label, Jump, Branch, Entry, Slot}
+use Rattle.mv_isa.specs.declared.labelled.Line.TheVariants.{Label, Jump, Entry, Slot, Point}
 use Rattle.mv_isa.specs.Registers.{t3 as scratch_register}
 use Rattle.mv_ir.specs.declared.tree.Tree.{Tree}
 use Rattle.mv_ir.specs.declared.stm.Callee.{Callee}
@@ -13,171 +14,201 @@ use Rattle.mv_ir.specs.declared.stm.Stm.TheViews.{roll-Stm}
 use Rattle.mv_ir.specs.declared.stm.Stm.TheFolds.{map-Stm}
 use Rattle.mv_ir.proofs.Induction.{Each, StmChildren, stm_ind, stms_ind}
 use Rattle.mv_select_code.specs.Trees.TreeCode.{tree_lines, operand_lines, operand_register}
-use Rattle.mv_select_code.specs.Statements.StatementCode.{first, set_lines, set_global_lines, divide_lines, check_lines, read_lines, write_lines, return_lines}
+use Rattle.mv_select_code.specs.Statements.StatementCode.{first}
 use Rattle.mv_select_code.specs.declared.control.enclosing.Enclosing.{Enclosing}
 use Rattle.mv_select_code.specs.Control.FlowCode.{Plan, Emitted, in_turn, branch_lines, loop_at, block_at, home, size, code_layer, statement_code}
 use Rattle.mv_select_code.proofs.OfControl.StatementsDo.{code_roll}
 use Rattle.mv_select_code.proofs.OfControl.TreeNames.{AnyNumber, all_any}
 use Rattle.mv_select_code.proofs.OfControl.StatementsAreMade.{LineByLine, tree_made, operand_made, set_made, set_global_made, divide_made, check_made, read_made, write_made, return_made}
-use Rattle.mv_select.specs.Calls.CallCode.{result_lines, guarded_lines, slot_lines, jump_lines, pointer_lines, argument_lines, transfer_lines, call_lines, known_lines}
+use Rattle.mv_select.specs.Calls.CallCode.{result_lines, guarded_lines, slot_lines, jump_lines, pad_lines, pointer_lines, argument_lines, transfer_lines, call_lines}
 use Rattle.mv_select.proofs.OfCalls.CallsAreMade.{result_made, argument_made, known_made}
 use Rattle.mv_select.specs.Functions.FunctionCode.{Shape, bytes_of, end_label, plan, body_lines, prologue_lines, epilogue_lines, function_lines}
 use Rattle.mv_select.proofs.OfFunctions.FramesAreMade.{prologue_made, epilogue_made}
-use Rattle.mv_lower_spec.specs.Shape.Calls.{callee_weight, layer_weight, stm_weight, code_weight}
-use Rattle.mv_variants.specs.Bound.Slots.{slots, slot_weight, weight_where, SlotsAreCalls, SlotsWeighAsCalls}
-use Rattle.mv_variants.proofs.OfBound.Weights.{w_roll}
+use Rattle.mv_ir.specs.Measures.{total}
+use Rattle.mv_lower_spec.specs.Shape.Calls.{stm_weight, stm_through}
+use Rattle.mv_variants.specs.Bound.Slots.{slots, slot_weight, points_where, one_each, weight_where, SlotsAreCalls, PointsAreCalls, SlotsWeighAsCalls}
+use Rattle.mv_variants.proofs.OfBound.Weights.{w_roll, through_roll}
 
-abbrev Has : ℕ → List Line → Type 0
-Has n lines = slots lines ≡ n
+-- The weight of some lines: a slot weighs what its function does, and one of four words what its address does.
+abbrev weigh : (slot point : ℕ → ℕ) → List Line → ℕ
+weigh slot point [] = 0
+weigh slot point (Slot f ∷ rest) = slot f + weigh slot point rest
+weigh slot point (Point a ∷ rest) = point a + weigh slot point rest
+weigh slot point (_ ∷ rest) = weigh slot point rest
 
-abbrev HasNone : List Line → Type 0
-HasNone = Has 0
+slots_weighed : (w : ℕ → ℕ) (lines : List Line) → slot_weight w lines ≡ weigh w (λ a. 0) lines
+slots_weighed w [] = refl
+slots_weighed w (Slot f ∷ lines) = let rest = slots_weighed w lines in omega (arith, rest)
+slots_weighed w (Point a ∷ lines) = let rest = slots_weighed w lines in omega (arith, rest)
+slots_weighed w (line ∷ lines) = slots_weighed w lines
 
-weight_append : (w : ℕ → ℕ) (a b : List Line) → slot_weight w (a ++ b) ≡ slot_weight w a + slot_weight w b
-weight_append w [] b = omega arith
-weight_append w (Word i ∷ a) b = weight_append w a b
-weight_append w (Label l ∷ a) b = weight_append w a b
-weight_append w (Jump rd l ∷ a) b = weight_append w a b
-weight_append w (Branch funct3 rs1 rs2 l ∷ a) b = weight_append w a b
-weight_append w (Entry rd f ∷ a) b = weight_append w a b
-weight_append w (Slot f ∷ a) b = let rest = weight_append w a b in omega (arith, rest)
+points_weighed : (test : ℕ → Bool) (lines : List Line) → points_where test lines ≡ weigh (λ f. 0) (one_each test) lines
+points_weighed test [] = refl
+points_weighed test (Slot f ∷ lines) = let rest = points_weighed test lines in omega (arith, rest)
+points_weighed test (Point a ∷ lines) = let rest = points_weighed test lines in omega (arith, rest)
+points_weighed test (line ∷ lines) = points_weighed test lines
 
--- with a weight of one for each function they are counted
+-- with a weight of one for each function the slots are counted
 slots_counted : (lines : List Line) → slots lines ≡ slot_weight (λ f. 1) lines
 slots_counted [] = refl
-slots_counted (Word i ∷ lines) = slots_counted lines
-slots_counted (Label l ∷ lines) = slots_counted lines
-slots_counted (Jump rd l ∷ lines) = slots_counted lines
-slots_counted (Branch funct3 rs1 rs2 l ∷ lines) = slots_counted lines
-slots_counted (Entry rd f ∷ lines) = slots_counted lines
 slots_counted (Slot f ∷ lines) = let rest = slots_counted lines in omega (arith, rest)
+slots_counted (line ∷ lines) = slots_counted lines
 
-slots_append : (a b : List Line) → slots (a ++ b) ≡ slots a + slots b
-slots_append a b = omega (arith, weight_append (λ f. 1) a b, slots_counted (a ++ b), slots_counted a, slots_counted b)
+-- the weight of a statement's calls, by that of whom they call
+abbrev calls_layer : (Callee → ℕ) → Stm-F ℕ → ℕ
+calls_layer of (stm.If t a b) = total a + total b
+calls_layer of (stm.Loop b) = total b
+calls_layer of (stm.Block b) = total b
+calls_layer of (stm.Call r f args) = of f
+calls_layer of _ = 0
 
--- ---- lines without slots
+module _ (slot point : ℕ → ℕ) where
+  weigh_append : (a b : List Line) → weigh slot point (a ++ b) ≡ weigh slot point a + weigh slot point b
+  weigh_append [] b = omega arith
+  weigh_append (Slot f ∷ a) b = let rest = weigh_append a b in omega (arith, rest)
+  weigh_append (Point p ∷ a) b = let rest = weigh_append a b in omega (arith, rest)
+  weigh_append (line ∷ a) b = weigh_append a b
 
-none_made : LineByLine HasNone AnyNumber AnyNumber AnyNumber
-none_made = record {
-  none = refl;
-  after = λ a b h k. omega (arith, slots_append a b, h, k);
-  word = λ i. refl;
-  label = λ l h. refl;
-  jump = λ l h. refl;
-  branch = λ funct3 a b l h. refl;
-  entry = λ r f h. refl;
-}
-
--- they weigh nothing
-none_weighs : (w : ℕ → ℕ) (a : List Line) → HasNone a → slot_weight w a ≡ 0
-none_weighs w [] h = refl
-none_weighs w (Word i ∷ a) h = none_weighs w a h
-none_weighs w (Label l ∷ a) h = none_weighs w a h
-none_weighs w (Jump rd l ∷ a) h = none_weighs w a h
-none_weighs w (Branch funct3 rs1 rs2 l ∷ a) h = none_weighs w a h
-none_weighs w (Entry rd f ∷ a) h = none_weighs w a h
-none_weighs w (Slot f ∷ a) h = absurd (omega (arith, h))
-
-module _ (w : ℕ → ℕ) where
   abbrev Weighs : ℕ → List Line → Type 0
-  Weighs n lines = slot_weight w lines ≡ n
+  Weighs n lines = weigh slot point lines ≡ n
 
-  -- lines without slots before some, and behind some
-  behind : {n : ℕ} (a b : List Line) → HasNone a → Weighs n b → Weighs n (a ++ b)
-  behind a b h k = let none = none_weighs w a h in omega (arith, weight_append w a b, none, k)
+  abbrev WeighNone : List Line → Type 0
+  WeighNone = Weighs 0
 
-  ahead : {n : ℕ} (a b : List Line) → Weighs n a → HasNone b → Weighs n (a ++ b)
-  ahead a b h k = let none = none_weighs w b k in omega (arith, weight_append w a b, h, none)
+  -- lines without slots
+  none_made : LineByLine WeighNone AnyNumber AnyNumber AnyNumber
+  none_made = record {
+    none = refl;
+    after = λ a b h k. omega (arith, weigh_append a b, h, k);
+    word = λ i. refl;
+    label = λ l h. refl;
+    jump = λ l h. refl;
+    branch = λ funct3 a b l h. refl;
+    entry = λ r f h. refl;
+  }
 
-module _ (weight : ℕ → ℕ) (place : ℕ → ℕ) (is_attributed : ℕ → Bool) where
-  abbrev direct : ℕ → ℕ
-  direct = weight_where is_attributed weight
+  no_result : (r : Option ℕ) → WeighNone (result_lines r)
+  no_result = result_made none_made
 
-  transfer_has : (f : Callee) (r : Option ℕ) → Weighs weight (callee_weight direct 0 f) (transfer_lines place is_attributed f r)
-  transfer_has (callee.Direct f) r = by (is_attributed f)
-    where
-      by : (b : Bool) → Weighs weight (cond b (weight f) 0) (cond b (guarded_lines (slot_lines f) r) (Entry scratch_register f ∷ guarded_lines jump_lines r))
-      by true = let none = none_weighs weight (result_lines r) (result_made none_made r) in omega (arith, none)
-      by false = none_weighs weight (result_lines r) (result_made none_made r)
-  transfer_has (callee.Through t) r =
-      behind weight (tree_lines place t scratch_register) (pointer_lines r) (tree_made none_made place t (all_any _) scratch_register) (none_weighs weight (result_lines r) (result_made none_made r))
-  transfer_has (callee.Switched g) r = none_weighs weight (result_lines r) (result_made none_made r)
+  -- such lines before some, and behind some
+  behind : {n : ℕ} (a b : List Line) → WeighNone a → Weighs n b → Weighs n (a ++ b)
+  behind a b h k = omega (arith, weigh_append a b, h, k)
 
-  call_has : (r : Option ℕ) (f : Callee) (args : List Tree) → Weighs weight (callee_weight direct 0 f) (call_lines place is_attributed r f args)
-  call_has r f args = behind weight (argument_lines place first args) (transfer_lines place is_attributed f r) (argument_made none_made place first args (all_any _)) (transfer_has f r)
+  ahead : {n : ℕ} (a b : List Line) → Weighs n a → WeighNone b → Weighs n (a ++ b)
+  ahead a b h k = omega (arith, weigh_append a b, h, k)
 
-  -- ---- statements
+  no_pad : (f : Callee) (args : List Tree) → WeighNone (pad_lines f args)
+  no_pad (callee.Switched g) [] = refl
+  no_pad _ _ = refl
 
-  module _ (sizes : ℕ → ℕ) (shape : Shape) where
-    abbrev P : Plan
-    P = plan place sizes is_attributed shape
+  module _ (place : ℕ → ℕ) (is_attributed : ℕ → Bool) (direct : ℕ → ℕ) (direct_is : (f : ℕ) → weight_where is_attributed slot f ≡ direct f) where
+    -- a call of an attributed function weighs what its slot does, and one through a pointer switch what its place does
+    abbrev callee_weighs : Callee → ℕ
+    callee_weighs (callee.Direct f) = direct f
+    callee_weighs (callee.Through t) = 0
+    callee_weighs (callee.Switched g) = point (place g)
 
-    abbrev CodeHas : ℕ → Emitted → Type 0
-    CodeHas n code = (around : List Enclosing) (label : ℕ) → Weighs weight n (code.lines around label)
+    transfer_weighs : (f : Callee) (r : Option ℕ) → Weighs (callee_weighs f) (transfer_lines place is_attributed f r)
+    transfer_weighs (callee.Direct f) r = by (is_attributed f) ∙ direct_is f
+      where
+        by : (b : Bool) → Weighs (cond b (slot f) 0) (cond b (guarded_lines (slot_lines f) r) (Entry scratch_register f ∷ guarded_lines jump_lines r))
+        by true = let none = no_result r in omega (arith, none)
+        by false = no_result r
+    transfer_weighs (callee.Through t) r =
+        behind (tree_lines place t scratch_register) (pointer_lines r) (tree_made none_made place t (all_any _) scratch_register) (no_result r)
+    transfer_weighs (callee.Switched g) r = let none = no_result r in omega (arith, none)
 
-    abbrev w : Stm → ℕ
-    w = stm_weight direct 0
+    call_weighs : (r : Option ℕ) (f : Callee) (args : List Tree) → Weighs (callee_weighs f) (call_lines place is_attributed r f args)
+    call_weighs r f args =
+        let passed = behind (argument_lines place first args) (transfer_lines place is_attributed f r) (argument_made none_made place first args (all_any _)) (transfer_weighs f r) in
+        behind (pad_lines f args) (argument_lines place first args ++ transfer_lines place is_attributed f r) (no_pad f args) passed
 
-    abbrev StmHas : Stm → Type 0
-    StmHas s = CodeHas (w s) (statement_code P s)
+    -- ---- statements, each with the weight of its calls
 
-    in_order_has : (code : List Stm) → Each StmHas code → CodeHas (code_weight direct 0 code) (in_turn (map (statement_code P) code))
-    in_order_has [] h around label = refl
-    in_order_has (s ∷ code) h around label =
-        let here = statement_code P s in
-        let rest = in_turn (map (statement_code P) code) in
-        weight_append weight (here.lines around label) (rest.lines around (label + here.labels)) ∙ ap (λ n. n + slot_weight weight (rest.lines around (label + here.labels))) (h.0 around label) ∙ ap (λ n. w s + n) (in_order_has code h.1 around (label + here.labels))
+    module _ (sizes : ℕ → ℕ) (shape : Shape) (w : Stm → ℕ) (w_roll : (x : Stm-F Stm) → w (roll-Stm x) ≡ calls_layer callee_weighs (map-Stm Stm ℕ w x)) where
+      abbrev P : Plan
+      P = plan place sizes is_attributed shape
 
-    -- lines without slots
-    plain : (lines : List Line) → HasNone lines → Weighs weight 0 lines
-    plain = none_weighs weight
+      abbrev all : List Stm → ℕ
+      all code = total (map w code)
 
-    layer : (x : Stm-F Stm) → StmChildren StmHas x → CodeHas (layer_weight direct 0 (map-Stm Stm ℕ w x)) (code_layer P (map-Stm Stm Emitted (statement_code P) x))
-    layer (stm.Set t v) h around label = plain (set_lines place t v) (set_made none_made place t v (all_any _))
-    layer (stm.SetGlobal g v) h around label = plain (set_global_lines place g v) (set_global_made none_made place g v (all_any _))
-    layer (stm.Divide t o a b) h around label = plain (divide_lines place t o a b) (divide_made none_made place t o a b tt (all_any _) (all_any _))
-    layer (stm.Check a i) h around label = plain (check_lines place (size P a) i) (check_made none_made place (size P a) i tt (all_any _))
-    layer (stm.Read t a i) h around label = plain (read_lines place t (home P a) (size P a) i) (read_made none_made place t (size P a) (home P a) i tt (all_any _))
-    layer (stm.Write a i v) h around label = plain (write_lines place (home P a) (size P a) i v) (write_made none_made place (size P a) (home P a) i v tt (all_any _) (all_any _))
-    layer (stm.Zero a) h around label = refl
-    layer (stm.If t a b) h around label =
-        let one_code = in_turn (map (statement_code P) a) in
-        let other = in_turn (map (statement_code P) b) in
-        let ls = one_code.lines around (label + 2) in
-        let ls' = other.lines around (label + 2 + one_code.labels) in
-        let rest = ls' ++ (Label (label + 1) ∷ []) in
-        let later : Weighs weight (code_weight direct 0 b) rest = ahead weight ls' (Label (label + 1) ∷ []) (in_order_has b h.1 around (label + 2 + one_code.labels)) refl in
-        let both : Weighs weight (code_weight direct 0 a + code_weight direct 0 b) (ls ++ (Jump 0 (label + 1) ∷ Label label ∷ rest)) =
-        weight_append weight ls (Jump 0 (label + 1) ∷ Label label ∷ rest) ∙ ap (λ n. n + slot_weight weight rest) (in_order_has a h.0 around (label + 2)) ∙ ap (λ n. code_weight direct 0 a + n) later
-        in
-        behind weight (operand_lines place t first) (branch_lines (operand_register t first) label ls ls') (operand_made none_made place t (all_any _) first) both
-    layer (stm.Loop b) h around label =
-        let inner = in_turn (map (statement_code P) b) in
-        ahead weight (inner.lines (loop_at label ∷ around) (label + 2)) (Jump 0 label ∷ Label (label + 1) ∷ []) (in_order_has b h (loop_at label ∷ around) (label + 2)) refl
-    layer (stm.Block b) h around label =
-        let inner = in_turn (map (statement_code P) b) in
-        ahead weight (inner.lines (block_at label ∷ around) (label + 1)) (Label label ∷ []) (in_order_has b h (block_at label ∷ around) (label + 1)) refl
-    layer (stm.Break n) h around label = refl
-    layer (stm.Back n) h around label = refl
-    layer (stm.Call r f args) h around label = call_has r f args
-    layer (stm.Known r k args) h around label = plain (known_lines place r k args) (known_made none_made refl place r k args (all_any _))
-    layer (stm.Return v) h around label = plain (return_lines place end_label v) (return_made none_made place end_label v tt (all_any _))
+      abbrev CodeWeighs : ℕ → Emitted → Type 0
+      CodeWeighs n code = (around : List Enclosing) (label : ℕ) → Weighs n (code.lines around label)
 
-    from_layer : (x : Stm-F Stm) → StmChildren StmHas x → StmHas (roll-Stm x)
-    from_layer x h = subst (λ n. CodeHas n (statement_code P (roll-Stm x))) (sym (w_roll direct 0 x)) (subst (CodeHas (layer_weight direct 0 (map-Stm Stm ℕ w x))) (sym (code_roll P x)) (layer x h))
+      abbrev StmWeighs : Stm → Type 0
+      StmWeighs s = CodeWeighs (w s) (statement_code P s)
 
-    code_has : (code : List Stm) → Weighs weight (code_weight direct 0 code) (body_lines place sizes is_attributed shape code)
-    code_has code = in_order_has code (stms_ind StmHas (stm_ind StmHas from_layer) code) [] (end_label + 1)
+      in_order : (code : List Stm) → Each StmWeighs code → CodeWeighs (all code) (in_turn (map (statement_code P) code))
+      in_order [] h around label = refl
+      in_order (s ∷ code) h around label =
+          let here = statement_code P s in
+          let rest = in_turn (map (statement_code P) code) in
+          weigh_append (here.lines around label) (rest.lines around (label + here.labels))
+          ∙ ap (λ n. n + weigh slot point (rest.lines around (label + here.labels))) (h.0 around label)
+          ∙ ap (λ n. w s + n) (in_order code h.1 around (label + here.labels))
+
+      layer : (x : Stm-F Stm) → StmChildren StmWeighs x → CodeWeighs (calls_layer callee_weighs (map-Stm Stm ℕ w x)) (code_layer P (map-Stm Stm Emitted (statement_code P) x))
+      layer (stm.Set t v) h around label = set_made none_made place t v (all_any _)
+      layer (stm.SetGlobal g v) h around label = set_global_made none_made place g v (all_any _)
+      layer (stm.Divide t o a b) h around label = divide_made none_made place t o a b tt (all_any _) (all_any _)
+      layer (stm.Check a i) h around label = check_made none_made place (size P a) i tt (all_any _)
+      layer (stm.Read t a i) h around label = read_made none_made place t (size P a) (home P a) i tt (all_any _)
+      layer (stm.Write a i v) h around label = write_made none_made place (size P a) (home P a) i v tt (all_any _) (all_any _)
+      layer (stm.Zero a) h around label = refl
+      layer (stm.If t a b) h around label =
+          let one_code = in_turn (map (statement_code P) a) in
+          let other = in_turn (map (statement_code P) b) in
+          let ls = one_code.lines around (label + 2) in
+          let ls' = other.lines around (label + 2 + one_code.labels) in
+          let rest = ls' ++ (Label (label + 1) ∷ []) in
+          let later : Weighs (all b) rest = ahead ls' (Label (label + 1) ∷ []) (in_order b h.1 around (label + 2 + one_code.labels)) refl in
+          let both : Weighs (all a + all b) (ls ++ (Jump 0 (label + 1) ∷ Label label ∷ rest)) =
+          weigh_append ls (Jump 0 (label + 1) ∷ Label label ∷ rest) ∙ ap (λ n. n + weigh slot point rest) (in_order a h.0 around (label + 2)) ∙ ap (λ n. all a + n) later
+          in
+          behind (operand_lines place t first) (branch_lines (operand_register t first) label ls ls') (operand_made none_made place t (all_any _) first) both
+      layer (stm.Loop b) h around label =
+          let inner = in_turn (map (statement_code P) b) in
+          ahead (inner.lines (loop_at label ∷ around) (label + 2)) (Jump 0 label ∷ Label (label + 1) ∷ []) (in_order b h (loop_at label ∷ around) (label + 2)) refl
+      layer (stm.Block b) h around label =
+          let inner = in_turn (map (statement_code P) b) in
+          ahead (inner.lines (block_at label ∷ around) (label + 1)) (Label label ∷ []) (in_order b h (block_at label ∷ around) (label + 1)) refl
+      layer (stm.Break n) h around label = refl
+      layer (stm.Back n) h around label = refl
+      layer (stm.Call r f args) h around label = call_weighs r f args
+      layer (stm.Known r k args) h around label = known_made none_made refl place r k args (all_any _)
+      layer (stm.Return v) h around label = return_made none_made place end_label v tt (all_any _)
+
+      from_layer : (x : Stm-F Stm) → StmChildren StmWeighs x → StmWeighs (roll-Stm x)
+      from_layer x h =
+          subst (λ n. CodeWeighs n (statement_code P (roll-Stm x))) (sym (w_roll x)) (subst (CodeWeighs (calls_layer callee_weighs (map-Stm Stm ℕ w x))) (sym (code_roll P x)) (layer x h))
+
+      lines_weigh : (code : List Stm) → Weighs (all code) (function_lines place sizes is_attributed shape code)
+      lines_weigh code =
+          let enter = prologue_lines shape.attributed shape.params shape.temps (bytes_of shape) in
+          let end = Label end_label ∷ epilogue_lines shape.attributed shape.temps (bytes_of shape) in
+          let body = body_lines place sizes is_attributed shape code in
+          let body_weighs = in_order code (stms_ind StmWeighs (stm_ind StmWeighs from_layer) code) [] (end_label + 1) in
+          behind enter (body ++ end) (prologue_made none_made shape.attributed shape.params shape.temps (bytes_of shape))
+          (ahead body end body_weighs (epilogue_made none_made shape.attributed shape.temps (bytes_of shape)))
 
 -- ---- functions
 
 pub slots_weigh : SlotsWeighAsCalls
 slots_weigh place sizes is_attributed shape code weight =
-    let end = Label end_label ∷ epilogue_lines shape.attributed shape.temps (bytes_of shape) in
-    let body = body_lines place sizes is_attributed shape code in
-    behind weight (prologue_lines shape.attributed shape.params shape.temps (bytes_of shape)) (body ++ end) (prologue_made none_made shape.attributed shape.params shape.temps (bytes_of shape))
-    (ahead weight body end (code_has weight place is_attributed sizes shape code) (epilogue_made none_made shape.attributed shape.temps (bytes_of shape)))
+    let direct = weight_where is_attributed weight in
+    slots_weighed weight (function_lines place sizes is_attributed shape code)
+    ∙ lines_weigh weight (λ a. 0) place is_attributed direct (λ f. refl) sizes shape (stm_weight direct 0) (w_roll direct 0) code
 
 pub slots_are_calls : SlotsAreCalls
 slots_are_calls place sizes is_attributed shape code =
     slots_counted (function_lines place sizes is_attributed shape code) ∙ slots_weigh place sizes is_attributed shape code (λ f. 1)
+
+pub points_are_calls : PointsAreCalls
+points_are_calls place sizes is_attributed shape code test =
+    let through = λ (g : ℕ). test (place g) in
+    points_weighed test (function_lines place sizes is_attributed shape code)
+    ∙ lines_weigh (λ f. 0) (one_each test) place is_attributed (λ f. 0) (λ f. by (is_attributed f)) sizes shape (stm_through through) (through_roll through) code
+  where
+    by : (b : Bool) → ◌≡◌ {A = ℕ} (cond b 0 0) 0
+    by true = refl
+    by false = refl

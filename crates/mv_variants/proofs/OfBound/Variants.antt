@@ -1,6 +1,7 @@
--- A body that is bound, with numbers carried, folded and renamed is one that code can be selected for.
-use Rattle.std.proofs.Common.{arith, ◌≡◌, ℕ, ◌+◌, ◌*◌, ◌/◌, ◌<◌, ◌≤◌, true, None, List, length, sym, ap, subst, Contains}
+-- A body that is bound, with numbers carried, folded and renamed counts no more by a measure of statements, and is one that code can be selected for.
+use Rattle.std.proofs.Common.{arith, ◌≡◌, ℕ, ◌+◌, ◌*◌, ◌/◌, ◌<◌, ◌≤◌, true, None, List, length, map, sym, ap, subst, Contains}
 use Rattle.mv_ir.specs.declared.stm.Stm.{Stm}
+use Rattle.mv_ir.specs.declared.stm.Stm.TheOpen.{Stm-F}
 use Rattle.mv_ir.specs.declared.body.Body.{Body}
 use Rattle.mv_ir.specs.Measures.{total, arrays_read}
 use Rattle.mv_ir.specs.Trees.{found}
@@ -10,13 +11,12 @@ use Rattle.mv_select.specs.Functions.FunctionCode.{arrays_start, frame_bytes}
 use Rattle.mv_select.specs.Bodies.SelectedBodies.{AreRooms, knowns}
 use Rattle.mv_fold.specs.Folded.{IsFolded}
 use Rattle.mv_regalloc.specs.Intervals.{IsRenamed}
-use Rattle.mv_lower_spec.specs.Shape.Calls.{code_weight}
 use Rattle.mv_variants.specs.Bound.Meant.{IsMadeUnder}
 use Rattle.mv_variants.specs.Bound.Names.{NamesNoMore}
 use Rattle.mv_variants.specs.Bound.Variants.{MadeNameNoMore, MadeCallNoMore, MadeAreInProgram, MadeFramesAreNoLarger}
 use Rattle.mv_variants.proofs.OfBound.Meant.{made}
 use Rattle.mv_variants.proofs.OfBound.NamesKept.{binding_names, carrying_names, folding_names, renaming_names}
-use Rattle.mv_variants.proofs.OfBound.Measures.{bound_no_more, carried_no_more, folded_no_more, renamed_no_more}
+use Rattle.mv_variants.proofs.OfBound.Measures.{Measure, bound_no_more, carried_no_more, folded_no_more, renamed_no_more}
 use Rattle.mv_variants.proofs.OfBound.Weights.{weights}
 use Rattle.mv_num.proofs.Lists.{contains_all}
 
@@ -38,27 +38,34 @@ made_names ps body result words m =
     let bound_and_carried = names_after body.code m.bound.code m.carried.code first second in
     names_after body.code m.folded.code result.code (names_after body.code m.carried.code m.folded.code bound_and_carried third) fourth
 
--- ---- calls
+-- ---- what a measure counts
 
-pub worked_calls : (direct : ℕ → ℕ) (through : ℕ) (bound folded result : Body) → IsFolded bound folded → IsRenamed folded result → code_weight direct through result.code ≤ code_weight direct through bound.code
-worked_calls direct through bound folded result is_folded is_renamed =
-    let first : code_weight direct through folded.code ≤ code_weight direct through bound.code =
-    subst (λ c. code_weight direct through c ≤ code_weight direct through bound.code) (sym is_folded.code.2) (folded_no_more (weights direct through) is_folded.code.0 bound.temps bound.code)
-    in
-    let second : code_weight direct through result.code ≤ code_weight direct through folded.code =
-    subst (λ c. code_weight direct through c ≤ code_weight direct through folded.code) (sym (ap (λ (b : Body). b.code) is_renamed.changes)) (renamed_no_more (weights direct through) is_renamed.numbers folded.code)
-    in
-    omega (arith, first, second)
+-- each measure counts no more in a body than in another
+abbrev pub CountsNoMore : (body result : Body) → Type 0
+CountsNoMore body result = (layer : Stm-F ℕ → ℕ) (m : Stm → ℕ) → Measure layer m → total (map m result.code) ≤ total (map m body.code)
+
+module _ {layer : Stm-F ℕ → ℕ} {m : Stm → ℕ} (of : Measure layer m) where
+  abbrev all : List Stm → ℕ
+  all code = total (map m code)
+
+  pub renamed_counts_no_more : (body result : Body) → IsRenamed body result → all result.code ≤ all body.code
+  renamed_counts_no_more body result r = subst (λ c. all c ≤ all body.code) (sym (ap (λ (b : Body). b.code) r.changes)) (renamed_no_more of r.numbers body.code)
+
+  pub worked_no_more : (bound folded result : Body) → IsFolded bound folded → IsRenamed folded result → all result.code ≤ all bound.code
+  worked_no_more bound folded result is_folded is_renamed =
+      let first : all folded.code ≤ all bound.code = subst (λ c. all c ≤ all bound.code) (sym is_folded.code.2) (folded_no_more of is_folded.code.0 bound.temps bound.code) in
+      omega (arith, first, renamed_counts_no_more folded result is_renamed)
+
+  pub made_no_more : (ps : List (ℕ × ℕ)) (body result : Body) → IsMadeUnder ps body result → all result.code ≤ all body.code
+  made_no_more ps body result h =
+      let first : all h.bound.code ≤ all body.code = subst (λ c. all c ≤ all body.code) (sym h.is_bound.code) (bound_no_more of ps body.code) in
+      let second : all h.carried.code ≤ all h.bound.code =
+      subst (λ c. all c ≤ all h.bound.code) (sym h.is_carried.code) (carried_no_more of h.bound.temps h.bound.code)
+      in
+      omega (arith, first, second, worked_no_more h.carried h.folded result h.is_folded h.is_renamed)
 
 pub made_calls : MadeCallNoMore
-made_calls direct through ps body result m =
-    let first : code_weight direct through m.bound.code ≤ code_weight direct through body.code =
-    subst (λ c. code_weight direct through c ≤ code_weight direct through body.code) (sym m.is_bound.code) (bound_no_more (weights direct through) ps body.code)
-    in
-    let second : code_weight direct through m.carried.code ≤ code_weight direct through m.bound.code =
-    subst (λ c. code_weight direct through c ≤ code_weight direct through m.bound.code) (sym m.is_carried.code) (carried_no_more (weights direct through) m.bound.temps m.bound.code)
-    in
-    omega (arith, first, second, worked_calls direct through m.carried m.folded result m.is_folded m.is_renamed)
+made_calls direct through = made_no_more (weights direct through)
 
 -- ---- frames
 

@@ -1,12 +1,12 @@
--- Calls, each with a weight, are a measure of statements.
-use Rattle.std.proofs.Common.{arith, ◌≡◌, ℕ, ap, refl}
+-- Calls, each with a weight, are a measure of statements, and so are the calls through pointer switches that a test picks.
+use Rattle.std.proofs.Common.{arith, ◌≡◌, ℕ, Bool, ap, refl}
 use Rattle.mv_ir.specs.declared.stm.Callee.{Callee}
 use Rattle.mv_ir.specs.declared.stm.Callee.TheVariants as callee
 use Rattle.mv_ir.specs.declared.stm.Stm.{Stm}
 use Rattle.mv_ir.specs.declared.stm.Stm.TheOpen.{Stm-F}
 use Rattle.mv_ir.specs.declared.stm.Stm.TheViews.{roll-Stm}
 use Rattle.mv_ir.specs.declared.stm.Stm.TheFolds.{map-Stm, fold-roll-Stm}
-use Rattle.mv_lower_spec.specs.Shape.Calls.{callee_weight, layer_weight, stm_weight}
+use Rattle.mv_lower_spec.specs.Shape.Calls.{callee_weight, layer_weight, stm_weight, callee_through, layer_through, stm_through}
 use Rattle.mv_variants.proofs.OfBound.Measures.{SameGoal, Measure}
 
 module _ (direct : ℕ → ℕ) (through : ℕ) where
@@ -43,6 +43,39 @@ module _ (direct : ℕ → ℕ) (through : ℕ) where
     blocked = λ a. omega arith;
     break = λ n k. refl;
     call = λ r s f g xs ys e. same_weight f g e;
+    known = λ r s k xs ys. refl;
+    return = λ v w. refl;
+  }
+
+module _ (counts : ℕ → Bool) where
+  pub through_roll : (x : Stm-F Stm) → stm_through counts (roll-Stm x) ≡ layer_through counts (map-Stm Stm ℕ (stm_through counts) x)
+  unfolding stm_through
+  through_roll x = fold-roll-Stm ℕ (layer_through counts) x
+
+  same_through : (f g : Callee) → SameGoal f g → callee_through counts f ≡ callee_through counts g
+  same_through (callee.Direct f) (callee.Direct g) e = refl
+  same_through (callee.Through t) (callee.Through u) e = refl
+  same_through (callee.Switched g) (callee.Switched h) e = ap (λ x. callee_through counts (callee.Switched x)) e
+  same_through _ _ e = absurd e
+
+  pub throughs : Measure (layer_through counts) (stm_through counts)
+  throughs = record {
+    roll = through_roll;
+    set = λ t u v w. refl;
+    store = λ g h v w. refl;
+    divide = λ t u o p a b c d. refl;
+    divided = λ t u o v a b. omega arith;
+    check = λ r s i j. refl;
+    read = λ t u r s i j. refl;
+    write = λ r s i j v w. refl;
+    branch = λ t u a b c d h k. omega (arith, h, k);
+    chosen = λ t a b. omega arith;
+    loop = λ a b h. h;
+    block = λ a b h. h;
+    looped = λ a. omega arith;
+    blocked = λ a. omega arith;
+    break = λ n k. refl;
+    call = λ r s f g xs ys e. same_through f g e;
     known = λ r s k xs ys. refl;
     return = λ v w. refl;
   }

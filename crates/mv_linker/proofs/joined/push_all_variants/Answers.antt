@@ -1,4 +1,4 @@
-use Rattle.std.proofs.Common.{◌≡◌, ◌+◌, [], ◌∷◌, drop}
+use Rattle.std.proofs.Common.{◌≡◌, ◌+◌, drop}
 use Rattle.mv_linker.specs.Linked.{function_variants, variant_codes}
 use Rattle.mv_linker.specs.Joining.{with_codes}
 use Rattle.mv_linker.proofs.Joining.{same_labels, same_entries, more_codes, function_codes_at}

@@ -1,9 +1,10 @@
-use Rattle.std.proofs.Common.{◌-◌, ◌+◌, [], ◌++◌, length, refl, sym, ap, ◌∙◌, arith, None, append-nil}
+use Rattle.std.proofs.Common.{◌-◌, ◌+◌, [], ◌++◌, refl, sym, ap, ◌∙◌, arith, None, append-nil}
 use Rattle.mv_bindings.specs.Bindings.{events_from}
 use Rattle.mv_image.specs.Spelling.{Fields}
 use Rattle.mv_io.specs.Outside.{Rose}
 use Rattle.mv_probe.proofs.Logs.{told_nothing, told_then, patient_after}
 use Rattle.mv_machine.specs.Moves.{seen}
+use Rattle.mv_patch.specs.Orders.{binding_count}
 use Rattle.mv_machine.proofs.Logged.{Also, turns_logged, adds_none, adds_more, comes_to, has_count, added}
 use Rattle.mv_machine.proofs.Walks.{goes_none, goes_more, goes_at, goes_on, turns_by, turns_since}
 use Rattle.mv_machine.proofs.turning.walk.Goals as goal
@@ -18,7 +19,7 @@ loop-left-init g c = record {
   goes = goes_at _ _ _ _ _ 0 (c.args.steps - c.args.steps) (omega arith) (goes_none _ _ _ (told_nothing _ _ c.args.probes.now.items c.requires.patient, refl));
   image = refl;
   number = refl;
-  quiet = λ none. refl;
+  quiet = λ none no_pointers. refl;
   input = omega arith;
   output = omega arith;
   reading = refl;
@@ -31,7 +32,7 @@ settle-stopped-requires g c = let i = c.loop-left.invariant in patient_after _ _
 pub note_bindings-requires : goal.note_bindings-requires
 note_bindings-requires g c =
     let i = c.loop-left.invariant in
-    has_count _ _ _ i.come (c.loop-left.engine.ready.count ∙ ap (λ (f : Fields). length f.functions) (sym c.settle-stopped.ensures.image))
+    has_count _ _ _ i.come (c.loop-left.engine.ready.count ∙ ap binding_count (sym c.settle-stopped.ensures.image))
 
 pub loop-left-preserved : goal.loop-left-preserved
 loop-left-preserved g c =
@@ -64,7 +65,7 @@ loop-left-preserved g c =
           (λ xs ys before behind. (told_then _ _ xs ys c.args.probes.now.items l.probes.items n.probes.items before.0 behind.0, added [] i.events xs ys (i.events ++ more) before.1 behind.1)) goes turn);
       image = c.in_default.ensures.image ∙ i.image;
       number = c.in_default.ensures.number ∙ i.number;
-      quiet = λ none. c.in_default.ensures.quiet (ap (λ (f : Fields). f.functions) i.image ∙ none) ∙ i.quiet none;
+      quiet = λ none no_pointers. c.in_default.ensures.quiet (ap (λ (f : Fields). f.functions) i.image ∙ none) (ap (λ (f : Fields). f.pointers) i.image ∙ no_pointers) ∙ i.quiet none no_pointers;
       input = omega (arith, i.input, c.in_default.ensures.input);
       output = omega (arith, i.output, c.in_default.ensures.output);
       reading = c.in_default.ensures.reading ∙ i.reading;

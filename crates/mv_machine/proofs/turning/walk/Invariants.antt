@@ -19,7 +19,7 @@ invariant-loop-left g l =
           (WithEvents (λ was now events. Fates (Becomes (λ probe. object_at probe.ptr probe.vtable) (λ probe. hearing ((goal.Probe-dyn g (probe.vtable, probe.value)).told probe.value) ((goal.Probe-dyn g (probe.vtable, probe.value)).patience probe.value)) events) was now) (l.initial.probes.items, []) (l.probes.items, events));
       image : l.engine.image ≡ l.initial.engine.image;
       number : l.engine.number ≡ l.initial.engine.number;
-      quiet : l.initial.engine.image.functions ≡ [] → l.probes ≡ l.initial.probes;
+      quiet : l.initial.engine.image.functions ≡ [] → l.initial.engine.image.pointers ≡ [] → l.probes ≡ l.initial.probes;
       input : g.I.Source.faults l.initial.source ≤ g.I.Source.faults l.source;
       output : g.O.Sink.faults l.initial.sink ≤ g.O.Sink.faults l.sink;
       reading : g.I.Source.faults l.source ≡ g.I.Source.faults l.initial.source;

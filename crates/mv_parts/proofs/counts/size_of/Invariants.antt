@@ -3,4 +3,4 @@ use Rattle.mv_parts.specs.Fronts.{IsSizeOf}
 use Rattle.mv_parts.proofs.counts.size_of.Given as goal
 
 abbrev pub invariant-loop-code : goal.invariant-loop-code
-invariant-loop-code l = IsSizeOf (take l.code-index l.functions) l.size
+invariant-loop-code l = IsSizeOf l.program (take l.code-index l.functions) l.size

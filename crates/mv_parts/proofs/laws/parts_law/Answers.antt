@@ -15,6 +15,8 @@ pub returns-clause-parts : goal.returns-clause-parts
 returns-clause-parts c =
     let laws : Laws = record {
       there = c.lowered_names_are_there.ensures.functions;
+      pointers = c.lowered_names_are_there.ensures.pointers;
+      well_formed = c.lowered_forms_are_right.ensures.well_formed;
       keeps = c.renaming_keeps_names.ensures;
       name_no_more = c.variants_can_be_selected.ensures.names;
       made = c.made_bodies_are_variants.ensures.all;

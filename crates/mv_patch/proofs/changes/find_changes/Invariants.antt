@@ -1,19 +1,17 @@
-use Rattle.std.proofs.Common.{◌≡◌, ◌+◌, ◌*◌, ◌≤◌, ◌++◌, length, drop, vec_capacity}
+use Rattle.std.proofs.Common.{◌≡◌, ◌≤◌, ◌++◌, length, vec_capacity}
 use Rattle.mv_image.specs.Faults.{Rules}
-use Rattle.mv_image.specs.Patched.{Bindings, text_of}
-use Rattle.mv_patch.specs.Shown.{AreShown}
-use Rattle.mv_patch.specs.Tables.{entries, site_words, merged, patched_places, pairs_at}
+use Rattle.mv_patch.specs.Orders.{values_of}
+use Rattle.mv_patch.specs.Tables.{patched_places, changes_at, IsPassed, count_passed, places_left}
 use Rattle.mv_patch.proofs.changes.find_changes.Given as goal
 
-abbrev pub invariant-loop-passed : goal.invariant-loop-passed
-invariant-loop-passed l = record {
-  functions : l.function ≤ length l.image.functions;
-  words : l.word ≤ 2 * length l.image.sites;
-  passed : l.function + l.word ≡ l.passed;
-  few : length l.pairs.items ≤ l.passed;
+abbrev pub invariant-loop-place : goal.invariant-loop-place
+invariant-loop-place l = record {
+  passed : IsPassed l.image l.passed;
+  count : count_passed l.passed ≡ l._place;
+  few : length l.pairs.items ≤ l._place;
   room : vec_capacity l.fn.pairs ≤ vec_capacity l.pairs;
   found :
-      (some other : Bindings) → Rules l.image → AreShown l.image some l.before → AreShown l.image other l.after →
-      l.pairs.items ++ pairs_at (text_of l.image some) (text_of l.image other) (merged (drop l.function (entries l.image)) (drop l.word (site_words l.image.sites))) ≡
-      pairs_at (text_of l.image some) (text_of l.image other) (patched_places l.image);
+      Rules l.image →
+      l.pairs.items ++ changes_at l.image (values_of l.before.bound.now) (values_of l.after.bound.now) (places_left l.image l.passed) ≡
+      changes_at l.image (values_of l.before.bound.now) (values_of l.after.bound.now) (patched_places l.image);
 }

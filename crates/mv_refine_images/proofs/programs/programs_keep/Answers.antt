@@ -19,6 +19,9 @@ returns-clause-functions g c access y machine words closed budget far p numbers 
       slots = c.narrow_runs_law.ensures.slots;
       jumps = c.narrow_runs_law.ensures.jumps;
       firsts = c.narrow_runs_law.ensures.firsts;
+      points = c.narrow_runs_law.ensures.points;
+      arrivals = c.narrow_runs_law.ensures.arrivals;
+      pointers = c.fit_frames_law.ensures.pointers;
       inlines = c.inline_law.ensures.answers;
     }) bound
 
@@ -39,6 +42,9 @@ returns-clause-main g c access y machine words closed budget far p numbers loade
       slots = c.narrow_runs_law.ensures.slots;
       jumps = c.narrow_runs_law.ensures.jumps;
       firsts = c.narrow_runs_law.ensures.firsts;
+      points = c.narrow_runs_law.ensures.points;
+      arrivals = c.narrow_runs_law.ensures.arrivals;
+      pointers = c.fit_frames_law.ensures.pointers;
       inlines = c.inline_law.ensures.answers;
     }) c.function_code_law.ensures.main c.main_is_right.ensures c.main_ends_alike.ensures
     numbering hart input actions fit back i target ra begins stands bound

@@ -1,5 +1,6 @@
 use Rattle.mv_select.proofs.OfSlots.Bindings.{bindings_are_told}
 use Rattle.mv_select.proofs.OfSlots.Forms.{alike, runs, slots, jumps, firsts}
+use Rattle.mv_select.proofs.OfSlots.Points.{points_under, arrivals_follow}
 use Rattle.mv_select.proofs.slots.narrow_runs_law.Goals as goal
 
 pub returns-clause-told : goal.returns-clause-told
@@ -19,3 +20,9 @@ returns-clause-jumps g c = jumps _
 
 pub returns-clause-firsts : goal.returns-clause-firsts
 returns-clause-firsts g c = firsts _
+
+pub returns-clause-points : goal.returns-clause-points
+returns-clause-points g c = points_under _
+
+pub returns-clause-arrivals : goal.returns-clause-arrivals
+returns-clause-arrivals g c = arrivals_follow _

@@ -1,10 +1,13 @@
-use Rattle.mv_variants.proofs.OfBound.Slots.{slots_are_calls, slots_weigh}
+use Rattle.mv_variants.proofs.OfBound.Slots.{slots_are_calls, points_are_calls, slots_weigh}
 use Rattle.mv_variants.proofs.OfBound.FewSlots.{few_slots, own_few_slots, renamed_few_slots, all_few_slots, variant_few_slots}
 use Rattle.mv_variants.proofs.OfBound.Patchable.{slots_patchable}
 use Rattle.mv_variants.proofs.bound.slots_are_counted.Goals as goal
 
 pub returns-clause-code : goal.returns-clause-code
 returns-clause-code c = slots_are_calls
+
+pub returns-clause-points : goal.returns-clause-points
+returns-clause-points c = points_are_calls
 
 pub returns-clause-weights : goal.returns-clause-weights
 returns-clause-weights c = slots_weigh

@@ -6,7 +6,7 @@ use Rattle.mv_select.proofs.calls.laws.call_code_law.Goals as goal
 
 pub returns-clause-done : goal.returns-clause-done
 returns-clause-done g c access y s setting frame fit caller machine ok budget far serves top keep is_fine fine_trees place end linked is_attributed = record {
-  call = call_done access y s setting frame fit caller machine ok budget far place end linked is_fine fine_trees is_attributed serves.free top keep;
+  call = call_done access y s setting frame fit caller machine ok budget far place end linked is_fine fine_trees is_attributed top keep;
   known = known_done access y s setting frame fit caller machine ok budget far place end linked is_fine fine_trees serves top;
 }
 

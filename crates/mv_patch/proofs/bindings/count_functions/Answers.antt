@@ -3,7 +3,7 @@ use Rattle.std.proofs.lemmas.Option.{slice_get-get_or}
 use Rattle.mv_bindings.specs.declared.binding.Binding.{Binding}
 use Rattle.mv_patch.specs.Orders.{code_of, index_of, is_ordered}
 use Rattle.mv_patch.proofs.Rebinding.{one_counted}
-use Rattle.mv_patch.proofs.bindings.count_bound.Goals as goal
+use Rattle.mv_patch.proofs.bindings.count_functions.Goals as goal
 use Rattle.mv_num.proofs.Booleans.{one_or_none}
 
 pub loop-i-preserved : goal.loop-i-preserved

@@ -1,6 +1,6 @@
 use Rattle.std.proofs.Common.{◌≡◌, ◌+◌, ◌≤◌, drop}
 use Rattle.mv_patch.specs.Orders.{code_of, index_of, is_ordered, bound_rows}
-use Rattle.mv_patch.proofs.bindings.count_bound.Given as goal
+use Rattle.mv_patch.proofs.bindings.count_functions.Given as goal
 
 abbrev pub invariant-loop-i : goal.invariant-loop-i
 invariant-loop-i l = record {
