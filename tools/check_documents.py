@@ -5,8 +5,9 @@
 
 Looked up are: in README.md and docs/*.md each row of a table of commands, with its output and its last line, and each command of a block
 `console`; the examples of docs/refusals.ini; and each `examples/NAME.out`, which is the output of what has the input NAME.in, or of NAME.c. A program
-in a block `c` is a file of `examples/`, and what the rows have beside them of `examples/` is the same there. The tables of docs/refusals.md are those of docs/refusals.ini. Of what `list` writes the rows have ADDRESS in
-place of each address. And no line of prose in README.md and docs/*.md is above 160 columns.
+in a block `c` is a file of `examples/`, each other block `c` of docs/idioms.md a part of one, each program of `examples/` that a document leads to is one
+that some row names, and what the rows have beside them of `examples/` is the same there. The tables of docs/refusals.md are those of docs/refusals.ini. Of
+what `list` writes the rows have ADDRESS in place of each address. And no line of prose in README.md and docs/*.md is above 160 columns.
 """
 import filecmp
 import glob
@@ -30,6 +31,8 @@ COLUMNS = 160
 COMMANDS = "| Command | Output | Last line |\n|---|---|---|\n"
 SYNOPSES = "| Command | What it does |\n|---|---|\n"
 SESSION = re.compile(r"^\$ \./(multiverse|mvharts) ", re.M)
+# Where a document leads to a program.
+LINKED = re.compile(r"\((?:\.\./)?examples/([\w/]+\.[cs])\)")
 # The addresses of a listing.
 ADDRESS = re.compile(r"\b0x[0-9a-f]{8}\b")
 # The lines on a run that stand before a last line.
@@ -105,15 +108,26 @@ def wrong_in(document, known):
             yield f"`{command}` gives {has!r}"
         elif said and said != explanation(command, answer):
             yield f"of `{command}` is said {explanation(command, answer)!r}"
-    examples = [text_of(file) for file in glob.glob(os.path.join(TOP, "examples", "*.c"))]
-    for kind, block in BLOCK.findall(text):
-        if kind == "c" and "int main(void)" in block and block not in examples:
-            yield f"a program is no file of examples/: {block.splitlines()[0]}"
     synopses = known["help", ""].splitlines() + explanations.SYNOPSES["mvharts"].splitlines()
     for table in text.split(SYNOPSES)[1:]:
         for command in re.findall(r"^\| `(.*?)`", re.match(r"(\|.*\n?)*", table)[0], re.M):
             if all(command not in (line, line.rpartition("] ")[2]) for line in synopses):
                 yield f"`{command}` is no line of the synopsis"
+
+
+def wrong_programs_in(document, known):
+    """Returns what a document has of programs that is none of examples/, or that no row names."""
+    text = text_of(document)
+    examples = [text_of(file) for file in glob.glob(os.path.join(TOP, "examples", "*.c"))]
+    blocks = [block for kind, block in BLOCK.findall(text) if kind == "c"]
+    for block in blocks:
+        if "int main(void)" in block and block not in examples:
+            yield f"a program is no file of examples/: {block.splitlines()[0]}"
+        elif os.path.basename(document) == "idioms.md" and all(block not in example for example in examples):
+            yield f"an idiom is no part of a file of examples/: {block.splitlines()[0]}"
+    for name in sorted(set(LINKED.findall(text))):
+        if all(name not in command.split() for command, _ in known):
+            yield f"examples/{name} is named by no row"
 
 
 def too_long_in(document):
@@ -159,10 +173,11 @@ def wrong_copies():
 def main():
     known = rows()
     documents = [os.path.join(TOP, "README.md"), *sorted(glob.glob(os.path.join(TOP, "docs", "*.md")))]
-    wrong = [f"{os.path.relpath(it, TOP)}: {what}" for it in documents for what in [*wrong_in(it, known), *too_long_in(it)]]
+    wrong = [f"{os.path.relpath(it, TOP)}: {what}" for it in documents for what in [*wrong_in(it, known), *wrong_programs_in(it, known), *too_long_in(it)]]
     wrong += [*wrong_refusals(known), *wrong_outputs(known), *wrong_copies()]
     print(*wrong, sep="\n", end="\n" * bool(wrong))
     return 1 if wrong else 0
 
 
-sys.exit(main())
+if __name__ == "__main__":
+    sys.exit(main())

@@ -3,9 +3,10 @@
 
   check_headers.py [ROOT]
 
-Of each text in back quotes it looks at the paths, and at the names in headers and README.md. A path has to be a file or folder of the repository, or of the crate whose header it
-stands in, or in a document of some crate, where `.antt` may be left out. A name has to be that of a crate or of a file at the top, or a word of the sources of some crate. It prints
-what isn't there, and ends with 1 where there is something.
+Of each text in back quotes it looks at the paths, and at the names: in headers and README.md at each word, in docs/ at those of several words, as
+`of_parts` and `OfParts`. A path has to be a file or folder of the repository, or of the crate whose header it stands in, or in a document of some crate,
+where `.antt` may be left out. A name has to be that of a crate or of a file at the top, or a word of the sources of some crate. It prints what isn't there,
+and ends with 1 where there is something.
 """
 import glob
 import os
@@ -15,8 +16,10 @@ import sys
 WORD = re.compile(r"[A-Za-z_][A-Za-z0-9_]*")
 QUOTED = re.compile(r"`([^`]+)`")
 PATH = re.compile(r"^[\w.]+(/[\w.*]+)+/?$")
-# Words of C, of the commands and of shells, which stand in no source of ours.
-OUTSIDE = {"EOF", "rt", "ci", "gcc", "clang", "as", "objdump", "llvm"}
+# A name of several words.
+NAME_OF_WORDS = re.compile(r"[a-z][a-z0-9]*(_[a-z0-9]+)+|([A-Z][a-z0-9]+){2,}")
+# Words of C, of Rust, of the commands and of shells, which stand in no source of ours.
+OUTSIDE = {"EOF", "ptr_eq", "rt", "ci", "gcc", "clang", "as", "objdump", "llvm"}
 
 
 def words_below(folder):
@@ -57,6 +60,12 @@ def missing_paths(text, root):
     return [path for path in paths if not is_there(path, root, root)]
 
 
+def missing_names(text, every, crates):
+    """Returns the names of several words that a text has which aren't there."""
+    words = {word for quoted in QUOTED.findall(text) if re.fullmatch(r"[\w:{}, ]+", quoted) for word in WORD.findall(quoted)}
+    return sorted(it for it in words if NAME_OF_WORDS.fullmatch(it) and it not in every and it not in crates and it not in OUTSIDE)
+
+
 def missing(text, root, crate, every, crates):
     """Returns what a text names that isn't there."""
     found = []
@@ -90,7 +99,7 @@ def main():
         with open(file, encoding="utf-8") as it:
             text = re.sub(r"```.*?```", "", it.read(), flags=re.S)
         is_readme = os.path.dirname(file) == root
-        for lacks in missing(text, root, root, every, crates) if is_readme else missing_paths(text, root):
+        for lacks in missing(text, root, root, every, crates) if is_readme else [*missing_paths(text, root), *missing_names(text, every, crates)]:
             print(f"{os.path.relpath(file, root)}: {lacks} isn't there")
             bad += 1
     return 1 if bad else 0
@@ -98,4 +107,3 @@ def main():
 
 if __name__ == "__main__":
     sys.exit(main())
-##### take_fast.py

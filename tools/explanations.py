@@ -81,6 +81,26 @@ def places_of_files(name, words):
     return operands(words, 0)[:1] if name == "mvharts" else operands(words, 1)
 
 
+def written(word):
+    """Returns a word as it is shown: each of its bytes that is no text by its number."""
+    return os.fsencode(word).decode(errors="backslashreplace")
+
+
+def of_words(words, told):
+    """Returns the lines that say what no command knows of these words, by what the program tells of its commands."""
+    strange = [f"`{written(it)}` is no UTF-8 text" for it in words if written(it) != it]
+    asks_for_help = any(it in ("--help", "-h") for it in words)
+    known = {line.split()[0]: line for line in told.splitlines()[1:] if line.strip() and not line.startswith(" ")}
+    named = words[1:2] if words[:1] == ["help"] else words[:1]
+    if not known or not named or strange or asks_for_help:
+        return strange
+    if named[0] not in known:
+        return [f"`{named[0]}` is no command"]
+    options = [it.partition("=")[0] for it in words[1:] if it.startswith("-") and it != "-"]
+    options = options[: options.index("--")] if "--" in options else options
+    return [f"`{words[0]}` has no `{it}`" for it in options if it not in re.findall(r"--\w+", known[words[0]])][:1]
+
+
 def of_difference(last_line, files):
     """Returns the line that explains where an image differs from that of a source, if this last line says so."""
     if not last_line.startswith("differs "):
@@ -95,8 +115,10 @@ def of_notes(name, notes, words, source=None, told=lambda: ""):
     """
     last_line = notes.rstrip("\n").rpartition("\n")[2]
     if last_line == "usage":
-        return [*SYNOPSES[name].splitlines(), *told().splitlines()]
-    files = [words[at] for at in places_of_files(name, words)]
+        help_of_all = told()
+        return [*of_words(words, help_of_all), *SYNOPSES[name].splitlines(), *help_of_all.splitlines()]
+    paths = [words[at] for at in places_of_files(name, words)]
+    files = [written(it) for it in paths]
     if last_line == "shelf fault" and len(files) > 1 and words[0] != "check":
         return [f"{files[0]} can't be read, or isn't there; or {files[1]} can't be written"]
     if last_line == "shelf fault":
@@ -105,11 +127,11 @@ def of_notes(name, notes, words, source=None, told=lambda: ""):
         what = "holds no image" if words[0] == "unelf" else "is no image, as `build` saves one"
         return [f"{files[0]} {what}: {FAULTS[last_line.split()[2]]} at byte {last_line.split()[3]}"]
     if source is None and files:
-        source = text_of(files[0])
+        source = text_of(paths[0])
     if source is not None and ACCEPTED.match(last_line) and (name == "mvharts" or words[0] in COMPILING):
         found = hints.hints(source.decode("latin-1"))
         return of_difference(last_line, files) + [f"{files[0]}:{line}:{column}: hint: {text}" for (line, column), text in found]
-    explained = refusals.explained(last_line)
+    explained = refusals.explained(last_line, source)
     if not explained:
         return []
     place, cause, remedy = explained

@@ -26,6 +26,7 @@ class Token:
 @dataclass
 class Function:
     name: str
+    place: tuple
     body: list
 
 
@@ -149,8 +150,8 @@ def note_objects(unit, declaration):
         values = shared if values is None else values
         if values is None or not names or any(it.text in "([*" for it in head):
             continue
-        domain = [value_of(it, unit.enumerators) for it in values] or (enum if enum is not None else [0, 1])
-        unit.switches[names[-1].text] = Switch(names[-1].place, list(dict.fromkeys(domain)))
+        domain = [value_of(it, unit.enumerators) for it in values] or (list(dict.fromkeys(enum)) if enum is not None else [0, 1])
+        unit.switches[names[-1].text] = Switch(names[-1].place, domain)
 
 
 def unit_of(tokens):
@@ -172,7 +173,7 @@ def unit_of(tokens):
         elif text == "{" and tokens[at - 1].text == ")":
             kept, values = without_attributes(tokens[start:at])
             opening = [it.text for it in kept].index("(")
-            unit.functions.append(Function(kept[opening - 1].text, kept[opening:] + tokens[at:end]))
+            unit.functions.append(Function(kept[opening - 1].text, kept[opening - 1].place, kept[opening:] + tokens[at:end]))
             if values is not None:
                 unit.attributed.add(kept[opening - 1].text)
             start = end
@@ -180,24 +181,40 @@ def unit_of(tokens):
     return unit
 
 
+def declares_pointer(body, at):
+    """Whether the name at a place in a function's tokens is that of a pointer to a function which is declared there."""
+    star = at - 1 - (body[at - 1].text == "const")
+    return body[star].text == "*" and body[star - 1].text == "(" and (body[star - 2].text in TYPES or body[star - 3].text == "enum")
+
+
+def brace_kind(body, at):
+    """Returns whether the `{` at a place in a function's tokens opens a list of values, one of enumerators or a block."""
+    return "list" if body[at - 1].text == "=" else "enum" if "enum" in (body[at - 1].text, body[at - 2].text) else "block"
+
+
 def names_of_globals(body):
     """Returns the places in a function's tokens, its parameters first, whose names mean nothing that the function declares."""
-    found, scopes, declaring, depth = [], [set()], True, 0
+    found, scopes, braces, declaring, depth = [], [set()], [], 1, 0
     for at, token in enumerate(body):
-        before = body[at - 1].text if at else "("
-        if token.text == "{" and before not in ("=", "enum") and body[at - 2].text != "enum":
-            scopes.append(set())
-        elif token.text == "}" and len(scopes) > 1:
-            scopes.pop()
-        depth += (token.text in "([") - (token.text in ")]")
-        if token.text in TYPES:
+        text, before = token.text, body[at - 1].text if at else "("
+        if text == "{":
+            braces.append(brace_kind(body, at))
+            if braces[-1] == "block":
+                scopes.append(set())
+        depth += text in ("(", "[") or text == "{" and braces[-1] == "list"
+        depth -= text in (")", "]") or text == "}" and braces[-1] == "list"
+        if text in TYPES and (declaring is None or depth <= declaring):
             declaring = depth
-        elif token.text in ";{}" or declaring is not False and depth < declaring:
-            declaring = False
-        is_declared = token.kind == "name" and declaring is not False and depth == declaring
-        if is_declared and token.text not in TYPES and (before in TYPES or before in ("*", ",") or body[at - 2].text == "enum"):
-            scopes[-1].add(token.text)
-        elif token.kind == "name" and not any(token.text in it for it in scopes):
+        elif text == ";" or text in ("{", "}") and braces[-1] == "block" or declaring is not None and depth < declaring:
+            declaring = None
+        if text == "}" and braces.pop() == "block":
+            scopes.pop()
+        is_behind = declaring == depth and before in (",", "{", "}")
+        if token.kind != "name" or text in TYPES:
+            continue
+        if before in TYPES or body[at - 2].text == "enum" or is_behind or declares_pointer(body, at):
+            scopes[-1].add(text)
+        elif not any(text in it for it in scopes):
             found.append(at)
     return found
 

@@ -20,6 +20,8 @@ import preprocessing
 NO_PROGRAM = 125
 # The signals that end this program, and what it has started.
 ENDING = (signal.SIGINT, signal.SIGTERM, signal.SIGHUP)
+# How long the proved program takes to be made.
+PROOF = ".ci/run makes the proved one, in half an hour to two and a half hours on four processors"
 # What a program runs while it is copied, which goes on, and the words with which it does.
 GUEST = "int main(void) { putchar('.'); while (1) ; }\n"
 # The stack of an unproved program: its checks take some ten times what a proved one does.
@@ -75,7 +77,7 @@ class Launcher:
 
     def make(self, known_sum):
         """Has `rt try` make an unproved program, and keeps a copy of it."""
-        self.say("no program is kept of these sources: an unproved one is made, once, in a minute or more")
+        self.say(f"no program is kept of these sources: an unproved one is made, once, in some minutes; {PROOF}")
         with tempfile.TemporaryDirectory(prefix="multiverse-") as room:
             guest, notes = os.path.join(room, "guest.c"), os.path.join(room, "notes")
             with open(guest, "w", encoding="utf-8") as it:

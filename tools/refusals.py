@@ -10,6 +10,8 @@ import configparser
 import os
 import re
 
+import causes
+
 DOCS = os.path.join(os.path.dirname(os.path.dirname(os.path.realpath(__file__))), "docs")
 LINE = re.compile(r"refused (\d+)(?: (\d+):(\d+))?(?: (rule|limit) (\d+))?")
 MARKED = re.compile(r"(<!-- (\w+): (.*) -->\n\|.*\n\|.*\n)((?:\|.*\n)*)")
@@ -36,8 +38,16 @@ def advice(last_line, before, after):
     return re.sub(r"\[(.*?)\]\(.*?\)", r"\1", max(found, key=lambda it: it[0])[1]) if found else None
 
 
-def explained(last_line):
-    """Returns the place that a refusal names, or None, its cause, and what to do; None where the table has no such refusal."""
+def whole_cause(section):
+    """Returns all that a section has for its cause, in one line."""
+    return "; ".join(section["cause"].split("\n"))
+
+
+def explained(last_line, source):
+    """Returns the place of a refusal, or None, its cause, and what to do; None where the table has no such refusal.
+
+    Of a rule with several causes it is the one that holds, and by a limit of functions that which passes it, where a source is told that shows them.
+    """
     read = LINE.match(last_line)
     if not read:
         return None
@@ -47,9 +57,15 @@ def explained(last_line):
     if name not in known:
         return None
     found = known[name]
-    is_placed = line and "LINE:" in found.get("line", "LINE:")
-    cause = ", at most ".join(found[key] for key in ("cause", "greatest") if key in found)
-    return (int(line), int(column)) if is_placed else None, f"{name}: {cause}" if kind else cause, found["do"]
+    cause = ", at most ".join([whole_cause(found), *([found["greatest"]] if "greatest" in found else [])])
+    place = (int(line), int(column)) if line and "LINE:" in found.get("line", "LINE:") else None
+    if source is not None and kind == "rule":
+        held = causes.cause_of(int(detail), source, place)
+        cause = cause if held is None else found["cause"].split("\n")[held]
+    elif source is not None and kind == "limit":
+        passing = causes.passing_function(int(detail), int(last_line.split()[-1]), source)
+        place, cause = (passing[0], f"{cause}: {passing[1]}") if passing else (place, cause)
+    return place, f"{name}: {cause}" if kind else cause, found["do"]
 
 
 def place_in(example):
@@ -66,7 +82,7 @@ def with_place(answer, place):
 
 def cell(section, key):
     """Returns what a table has of a section under a key."""
-    text = section[key]
+    text = whole_cause(section) if key == "cause" else section[key]
     if key == "answer":
         text = f"`{with_place(text, place_in(section['example'])[0])}`"
     elif key == "example":

@@ -1,7 +1,7 @@
 #!/usr/bin/env python3
 """Tests ./multiverse and ./mvharts, and what .ci/run keeps for them, with a stand-in toolchain and a stand-in program: test_launcher.py [LAUNCHER]
 
-LAUNCHER is tried in the place of tools/launcher.py.
+LAUNCHER is tried in the place of tools/launcher.py. With these run the tests of what is said behind a program's notes, and of the header for other compilers.
 """
 import os
 import pty
@@ -13,6 +13,12 @@ import sys
 import tempfile
 import time
 import unittest
+
+sys.dont_write_bytecode = True
+from test_explanations import Explanations
+from test_header import Header
+from test_hints import Hints
+from test_preprocessing import Preprocessing
 
 TOP = os.path.dirname(os.path.dirname(os.path.realpath(__file__)))
 LAUNCHER = os.path.abspath(sys.argv.pop()) if len(sys.argv) == 2 else os.path.join(TOP, "tools", "launcher.py")
@@ -75,7 +81,7 @@ class Launcher(unittest.TestCase):
         self.room = os.path.join(self.scratch, "tmp")
         for folder in ("bin", "bare", "tmp", "top/tools", "top/docs", "top/.ci", "top/crates/mv_cli/src", "top/crates/mv_harts_cli/src"):
             os.makedirs(os.path.join(self.scratch, folder))
-        for name in ("kept_program.py", "explanations.py", "hints.py", "preprocessing.py", "refusals.py"):
+        for name in ("kept_program.py", "explanations.py", "hints.py", "causes.py", "preprocessing.py", "refusals.py"):
             shutil.copy(os.path.join(TOP, "tools", name), os.path.join(self.top, "tools"))
         shutil.copy(os.path.join(TOP, "docs", "refusals.ini"), os.path.join(self.top, "docs"))
         shutil.copy(os.path.join(TOP, ".ci", "run"), os.path.join(self.top, ".ci"))
@@ -104,13 +110,13 @@ class Launcher(unittest.TestCase):
         with open(os.path.join(self.scratch, name), encoding="utf-8") as it:
             return it.read()
 
-    def environment(self, tools="bin"):
+    def environment(self, tools="bin", compiler="cc"):
         path = [os.path.join(self.scratch, tools)] + ["/usr/bin", "/bin"] * (tools == "bin")
-        return {"PATH": os.pathsep.join(path), "SCRATCH": self.scratch, "TMPDIR": self.room, "LANG": "C.UTF-8"}
+        return {"PATH": os.pathsep.join(path), "SCRATCH": self.scratch, "TMPDIR": self.room, "LANG": "C.UTF-8", "CC": compiler}
 
-    def start(self, *words, name="multiverse", launcher=None, tools="bin", **how):
+    def start(self, *words, name="multiverse", launcher=None, tools="bin", compiler="cc", **how):
         how = {"stdin": subprocess.DEVNULL, "stdout": subprocess.PIPE, "stderr": subprocess.PIPE, "cwd": self.scratch, **how}
-        return subprocess.Popen([launcher or os.path.join(self.top, name), *words], env=self.environment(tools), **how)
+        return subprocess.Popen([launcher or os.path.join(self.top, name), *words], env=self.environment(tools, compiler), **how)
 
     def run_it(self, *words, **how):
         """Returns the status of a run, what it wrote and its notes."""
@@ -196,6 +202,16 @@ class Launcher(unittest.TestCase):
         self.gate()
         self.assertEqual(self.run_it("run", "a.c"), (0, "[run]\n[a.c]\n", "ended 3\n"))
 
+    def test_first_sight(self):
+        self.write("slow", "")
+        with self.start("run", "a.c") as run:
+            said = run.stderr.readline().decode()
+            self.assertIsNone(run.poll())
+            run.terminate()
+            run.communicate()
+        made = "multiverse: no program is kept of these sources: an unproved one is made, once, in some minutes; "
+        self.assertEqual(said, f"{made}.ci/run makes the proved one, in half an hour to two and a half hours on four processors\n")
+
     def test_unproved_program_says_so(self):
         self.assertIn("unproved", self.run_it("run", "a.c")[2])
         self.assertIn("unproved", self.run_it("run", "a.c")[2])
@@ -251,7 +267,7 @@ class Launcher(unittest.TestCase):
         self.assertEqual(self.run_it("--build", stderr=None, preexec_fn=lambda: os.close(2))[:2], (0, ""))
 
     def test_words_that_are_no_text(self):
-        self.assertIn("\\udcff.c can't be read", self.explained("shelf fault", "run", b"\xff.c"))
+        self.assertTrue(self.explained("usage", "run", b"\xff.c").startswith("usage\nmultiverse: `\\xff.c` is no UTF-8 text\n"))
 
     def test_much_output(self):
         self.write("long", "")
@@ -352,7 +368,8 @@ class Launcher(unittest.TestCase):
 
     def explained(self, notes, *words, **how):
         self.write("notes", f"{notes}\n")
-        self.gate()
+        if not os.path.exists(os.path.join(self.top, "out")):
+            self.gate()
         whole = self.run_at_terminal(*words, **how)
         self.assertTrue(whole.startswith(f"{notes}\n"))
         self.assertEqual(self.run_at_terminal("--explain", "off", *words, **how), f"{notes}\n")
@@ -363,28 +380,11 @@ class Launcher(unittest.TestCase):
         self.assertIn("\nmultiverse: usage: ./multiverse [--explain on|off] [--preprocess] COMMAND\n", self.explained("usage", "fly"))
 
     def test_usage_is_explained_by_what_the_program_tells(self):
-        self.assertTrue(self.explained("usage", "fly").endswith("\nmultiverse: [help]\n"))
+        for words in (("fly",), ("--help",), ("run", "--help")):
+            self.assertTrue(self.explained("usage", *words).endswith("\nmultiverse: [help]\n"))
 
     def test_shelf_fault_is_explained(self):
         self.assertIn("none.c", self.explained("shelf fault", "run", "none.c", "--steps", "3"))
-
-    def test_shelf_fault_of_a_file_that_is_written_is_explained(self):
-        whole = self.explained("shelf fault", "build", "a.c", "a.img")
-        self.assertIn("a.c can't be read", whole)
-        self.assertIn("a.img can't be written", whole)
-
-    def test_shelf_fault_of_two_files_that_are_read_is_explained(self):
-        self.assertIn("multiverse: a.c or a.img can't be read, or isn't there\n", self.explained("shelf fault", "check", "a.c", "a.img"))
-
-    def test_options_are_no_files(self):
-        whole = self.explained("shelf fault", "exec", "--steps", "3", "--at=1:s=1", "--words", "none.img")
-        self.assertIn("multiverse: none.img can't be read", whole)
-
-    def test_bad_image_is_explained(self):
-        self.assertIn("a.img is no image, as `build` saves one: something is missing at byte 8", self.explained("bad image 10 8", "list", "a.img"))
-
-    def test_elf_file_without_an_image_is_explained(self):
-        self.assertIn("a.elf holds no image: it is made for something else at byte 18", self.explained("bad image 22 18", "unelf", "a.elf", "a.img"))
 
     def test_difference_is_explained(self):
         self.write("a.c", "int main(void) { }\n")
@@ -403,64 +403,24 @@ class Launcher(unittest.TestCase):
         self.assertIn("isn't declared before its use", whole)
 
     def test_advice_is_by_what_was_written(self):
-        for notes, line, advice in (
-            ("refused 4 1:25", 'int main(void) { printf("Hi\\n"); }', "a string is only the first value of a global `char` array"),
-            ("refused 4 1:5", "int *a;", "there are no pointers to objects"),
-            ("refused 2 1:1", "#include <stdlib.h>", "`<stdio.h>` and `<multiverse.h>` alone may be included"),
-            ("refused 2 1:1", "struct point { int x, y; };", "an array for each member, and an index for each object"),
-            ("refused 2 1:20", "int a[10]; int n = sizeof a;", "the number of elements, as an enumerator"),
-            ("refused 2 1:1", "#define SIZE 10", "`enum { SIZE = 10 };`"),
-            ("refused 2 1:33", "int main(void) { int p; return p->x; }", "there are no structs and no pointers to them"),
-            ("refused 2 1:33", "int main(void) { int p; return p.x; }", "there are no structs: "),
-            ("refused 2 1:1", "long total;", "`int`, or two words of `unsigned int`"),
-            ("refused 2 1:1", "typedef unsigned int word;", "the type itself"),
-            ("refused 2 1:18", "int main(void) { goto done; }", "`break`, `continue`, `return`, a loop or a function"),
-            ("refused 6 1:24 rule 1", "int (*handler)(void) = NULL; int main(void) { }", "`0`"),
-            ("refused 4 1:1", "bool done;", "`_Bool`"),
-            ("refused 6 1:38 rule 1", "int main(void) { while (getchar() != EOF) ; }", "`-1`, or `enum { EOF = -1 };`"),
-            ("refused 6 1:18 rule 1", "int main(void) { printf('H'); }", "of the standard library there are `getchar` and `putchar` alone; examples/text.c"),
-            ("refused 6 1:18 rule 1", "int main(void) { totl = 1; }", "declare it further up; a function by a prototype"),
-        ):
-            with self.subTest(line=line):
-                self.write("a.c", f"{line}\n")
-                self.assertIn(f"\nmultiverse: what to do: {advice}", self.explained(notes, "run", "a.c"))
+        self.write("a.c", "long total;\n")
+        self.assertTrue(self.explained("refused 2 1:1", "run", "a.c").endswith("\nmultiverse: what to do: `int`, or two words of `unsigned int`\n"))
 
-    def hinted(self, source, *words, notes="ended 0", **how):
-        """Returns the hints on a source, without the file's name."""
-        file = self.write("hinted.c", source)
-        lines = self.explained(notes, *words, file, **how).splitlines()[1:]
-        before = f"{how.get('name', 'multiverse')}: {file}:"
-        self.assertTrue(all(it.startswith(before) for it in lines))
-        return [it.removeprefix(before) for it in lines]
-
-    def test_hint_on_a_read_without_an_attribute(self):
-        marked = "__attribute__((multiverse)) int a;\n__attribute__((multiverse)) void f(void) { if (a) putchar('f'); }\n"
-        reads = "int g(int b) { return a + b; }\nint local(int a) { return a; }\nvoid turned(void) { a = !a; }\nint main(void) { return g(1) + a; }\n"
-        self.assertEqual(self.hinted(marked + reads, "run"), ["3:23: hint: `g` reads the switch `a` and has no attribute: no commit changes it"])
-
-    def test_hint_on_a_switch_that_nothing_reads(self):
-        source = "__attribute__((multiverse)) int a, b;\n__attribute__((multiverse)) int f(void) { return a; }\nint main(void) { return f(); }\n"
-        expected = ["1:36: hint: no attributed function reads the switch `b`: no commit changes any code for it"]
-        self.assertEqual(self.hinted(source, "run", notes="steps"), expected)
-        self.assertEqual(self.hinted(source, name="mvharts"), expected)
-        self.assertEqual(self.hinted(source, "exec"), [])
-
-    def test_hint_on_a_commit_in_an_attributed_function(self):
-        source = "__attribute__((multiverse)) int f(void);\nint f(void) {\n  return multiverse_commit();\n}\nint main(void) { return f(); }\n"
-        self.assertEqual(self.hinted(source, "eval"), ["3:10: hint: `f` is attributed and live here: `multiverse_commit` answers -1 and changes nothing"])
-
-    def test_hint_on_a_value_outside_the_domain(self):
-        marked = "enum mode { OFF, ON = 3 };\nstatic __attribute__((multiverse)) enum mode m = ON;\nint k __attribute__((multiverse(1, 0x10)));\n"
-        reads = "__attribute__((multiverse)) int f(void) { return k + m; }\n"
-        stores = "int main(void) {\n  m = 7; m = ON; multiverse_commit();\n  m = 1;\n  multiverse_commit_refs(&m);\n  k = 16; multiverse_commit();\n  k = 2;\n}\n"
-        expected = ["7:3: hint: 1 is no value of the switch `m` (0, 3): the commit in line 8 frees what reads it"]
-        self.assertEqual(self.hinted(marked + reads + stores, "run"), expected)
+    def test_hint_is_given(self):
+        self.write("a.c", "__attribute__((multiverse)) int b;\nint main(void) { }\n")
+        hint = "a.c:1:33: hint: no attributed function reads the switch `b`: no commit changes any code for it"
+        self.assertEqual(self.explained("steps", "run", "a.c"), f"steps\nmultiverse: {hint}\n")
+        self.assertEqual(self.explained("done", "a.c", "2", "7", "100", name="mvharts"), f"done\nmvharts: {hint}\n")
 
     def test_explained_off_a_terminal_where_it_is_asked_for(self):
-        self.write("notes", "usage\n")
+        self.write("a.c", "int main(void) { return y; }\n")
         self.gate()
-        status, output, notes = self.run_it("--explain", "on", "fly")
-        self.assertTrue(notes.startswith("usage\nmultiverse: usage: ./multiverse [--explain on|off] [--preprocess] COMMAND\n"))
+        for notes, *words, line in (
+            ("usage", "fly", "usage: ./multiverse [--explain on|off] [--preprocess] COMMAND"),
+            ("refused 6 1:25 rule 1", "run", "a.c", "a.c:1:25: rule 1: a name, a tag or a function isn't declared before its use (6.5.1, 6.7.2.3)"),
+        ):
+            self.write("notes", f"{notes}\n")
+            self.assertTrue(self.run_it("--explain", "on", *words)[2].startswith(f"{notes}\nmultiverse: {line}\n"))
 
     def write_source_to_preprocess(self):
         self.write("own.h", "/* names */\nenum { TEN = 10 };\nint twice(int n);\n")
@@ -482,6 +442,13 @@ class Launcher(unittest.TestCase):
         self.assertIn("multiverse: a.c:8:12: rule 1", notes)
         self.assertIn("multiverse:         return 3;\nmultiverse:                ^\n", notes)
 
+    def test_no_preprocessor(self):
+        self.write_source_to_preprocess()
+        self.gate()
+        for compiler in ("no-such-compiler", "no-such-compiler -m32"):
+            status, out, notes = self.run_it("--preprocess", "run", "a.c", compiler=compiler)
+            self.assertEqual((status, out, notes), (NO_PROGRAM, "", "multiverse: no-such-compiler can't be run: No such file or directory\n"))
+
     def test_nothing_to_preprocess(self):
         self.gate()
         for words, reason in ((("list", "a.img"), "--preprocess stands before"), (("run", "none.c"), "none.c"), (("fly",), "--preprocess stands before")):
@@ -498,9 +465,6 @@ class Launcher(unittest.TestCase):
         ):
             self.assertIn(f"\n{reason}", self.explained(notes, "a.c", "2", "7", "100", name="mvharts"))
         self.assertEqual(self.explained("done", "a.c", "2", "7", "100", name="mvharts"), "done\n")
-
-    def test_limit_is_explained(self):
-        self.assertIn("parameters of a function", self.explained("refused 7 limit 3 count 9", "run", "a.c"))
 
     def test_item_is_explained(self):
         self.assertIn("a.c: the I-th item of `--at`", self.explained("refused 15 count 2", "run", "a.c", "--at", "1:s=1,2:t=1"))

@@ -15,6 +15,8 @@ HERE = os.path.dirname(os.path.realpath(__file__))
 PROGRAM = os.environ.get("PROGRAM", os.path.join(HERE, "..", "..", "crates", "mv_cli", "out", "mv_cli"))
 PROGRAMS = os.path.join(HERE, "..", "..", "examples", "programs")
 TEXT_START, DATA_START = 0x1000, 0x100000
+# The bytes of the header, in version 2.
+HEADER = 64
 WORD = 0xFFFFFFFF
 EXIT, GETCHAR, PUTCHAR = 0, 1, 2
 
@@ -55,9 +57,8 @@ class Guest:
     """A program that runs, and the kinds of what it has executed."""
 
     def __init__(self, image, given):
-        header = struct.unpack("<12I", image[:48])
-        self.pc, text, data = header[2:5]
-        words = struct.unpack(f"<{text + data}I", image[48 : 48 + 4 * (text + data)])
+        self.pc, text, data = struct.unpack("<3I", image[8:20])
+        words = struct.unpack(f"<{text + data}I", image[HEADER : HEADER + 4 * (text + data)])
         self.text = words[:text]
         self.memory = {DATA_START + 4 * at: word for at, word in enumerate(words[text:])}
         self.registers = [0] * 32

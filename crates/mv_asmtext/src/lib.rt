@@ -6,6 +6,7 @@
 //! - `print`: the text that the definition gives for the code: an instruction where the word is the instruction's, else a
 //!   number. The definition reads that text as the code, where an image has room for it and its entry is the address of
 //!   one of its words of text (`read_back`): so `scan` gives the code again, whatever its words.
+//! - `push_word`: the text of one word, as `print` has it in a line.
 //! - Only tested: the words of every instruction and every name of a register against GNU as 2.40, what `print` writes of
 //!   them, and the refusals.
 //! - Measured: the time grows with the text, whatever its names; 16 MiB take 0.1 to 0.8 s of processor time, and some 4 s
@@ -35,6 +36,7 @@ mod statement;
 pub use crate::code::Code;
 pub use crate::error::ScanError;
 use crate::printing::push_code;
+pub use crate::printing::push_word;
 use crate::scanning::scan_text;
 use std::alloc::{AllocError, Global};
 

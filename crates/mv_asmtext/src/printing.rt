@@ -116,7 +116,7 @@ fn push_raw(out: &mut Vec<u8>, word: u32) -> Result<(), AllocError>
 
 /// Adds a word: its instruction where that has this word, and else a number.
 #[tactic(auto, unfolding(crate::specs::Printing::word_text))]
-fn push_word(out: &mut Vec<u8>, word: u32) -> Result<(), AllocError>
+pub fn push_word(out: &mut Vec<u8>, word: u32) -> Result<(), AllocError>
     ensures { OnOk result (out.new.items ≡ out.old.items ++ word_text word) }
 {
     match decode(word) {

@@ -33,7 +33,7 @@ abbrev pub order : Asked → ℕ
 order (Runs file options) = 0
 order (Builds file image) = 1
 order (Executes image options) = 2
-order (Lists image) = 3
+order (Lists image words) = 3
 order (Evaluates file bound) = 4
 order (Generates number source) = 5
 order (Converts conversion from to) = 6
@@ -45,7 +45,7 @@ pub placed : (name : Text) (rows : List Row) (a : Asked) → Asks name rows a �
 placed name rows (Runs file options) h = ap place h.0
 placed name rows (Builds file image) h = ap place h.0
 placed name rows (Executes image options) h = ap place h.0
-placed name rows (Lists image) h = ap place h.0
+placed name rows (Lists image words) h = ap place h.0
 placed name rows (Evaluates file bound) h = ap place h.0
 placed name rows (Generates number source) h = ap place h.0
 placed name rows (Converts Upgrade from to) h = ap place h.0
@@ -101,7 +101,7 @@ same_asks : (name : Text) (rows : List Row) (a b : Asked) → Asks name rows a �
 same_asks name rows (Runs f o) (Runs g p) h k = ap₂ Runs (same_text h.1 k.1) (same_options rows o p h.2 k.2)
 same_asks name rows (Builds f i) (Builds g j) h k = ap₂ Builds (same_text h.1 k.1) (same_text h.2 k.2)
 same_asks name rows (Executes f o) (Executes g p) h k = ap₂ Executes (same_text h.1 k.1) (same_options rows o p h.2 k.2)
-same_asks name rows (Lists i) (Lists j) h k = ap Lists (same_text h.1 k.1)
+same_asks name rows (Lists i s) (Lists j t) h k = ap₂ Lists (same_text h.1 k.1) (h.2 ∙ sym k.2)
 same_asks name rows (Evaluates f m) (Evaluates g n) h k =
     ap₂ Evaluates (same_text h.1 k.1) (decimal_injective m n (omega (arith, h.3)) (omega (arith, k.3)) (same_text h.2 k.2))
 same_asks name rows (Generates m s) (Generates n t) h k =

@@ -102,7 +102,7 @@ pub data Asked : Type 0 where
   Runs : (file : List ℕ) → RunOptions → Asked
   Builds : (file image : List ℕ) → Asked
   Executes : (image : List ℕ) → RunOptions → Asked
-  Lists : (image : List ℕ) → Asked
+  Lists : (image : List ℕ) → (words : Bool) → Asked
   Evaluates : (file : List ℕ) → (bound : ℕ) → Asked
   Generates : (number : ℕ) → (source : Bool) → Asked
   Converts : Conversion → (from to : List ℕ) → Asked
@@ -114,7 +114,7 @@ abbrev pub asked : Command → Asked
 asked (command.Run file options) = Runs file.now options
 asked (command.Build file image) = Builds file.now image.now
 asked (command.Exec image options) = Executes image.now options
-asked (command.List image) = Lists image.now
+asked (command.List image words) = Lists image.now words
 asked (command.Eval file bound) = Evaluates file.now bound
 asked (command.Gen number source) = Generates number source
 asked (command.Convert conversion from to) = Converts conversion from.now to.now
@@ -127,7 +127,7 @@ abbrev pub Asks : (name : Text) → List Row → Asked → Type 0
 Asks name rows (Runs file options) = (name ≡ spelled.run) × (given spelled.file rows ≡ Some file) × AreOptions rows options
 Asks name rows (Builds file image) = (name ≡ spelled.build) × (given spelled.file rows ≡ Some file) × (given spelled.image rows ≡ Some image)
 Asks name rows (Executes image options) = (name ≡ spelled.exec) × (given spelled.image rows ≡ Some image) × AreOptions rows options
-Asks name rows (Lists image) = (name ≡ spelled.list) × (given spelled.image rows ≡ Some image)
+Asks name rows (Lists image words) = (name ≡ spelled.list) × (given spelled.image rows ≡ Some image) × (words ≡ is_set spelled.words rows)
 Asks name rows (Evaluates file bound) = (name ≡ spelled.eval) × (given spelled.file rows ≡ Some file) × (given spelled.bound rows ≡ Some (decimal bound)) × (bound ≤ spelled.most_bound)
 Asks name rows (Generates number source) = (name ≡ spelled.gen) × (given spelled.number rows ≡ Some (decimal number)) × (number ≤ spelled.most_number) × (source ≡ is_set spelled.source rows)
 Asks name rows (Converts conversion from to) = (name ≡ name_of conversion) × (given (from_of conversion) rows ≡ Some from) × (given (to_of conversion) rows ≡ Some to)
@@ -156,7 +156,7 @@ abbrev pub oracle_asked : Asked → Oracle
 oracle_asked (Runs file options) = options.oracle
 oracle_asked (Builds file image) = Oldest
 oracle_asked (Executes image options) = options.oracle
-oracle_asked (Lists image) = Oldest
+oracle_asked (Lists image words) = Oldest
 oracle_asked (Evaluates file bound) = Oldest
 oracle_asked (Generates number source) = Oldest
 oracle_asked (Converts conversion from to) = Oldest

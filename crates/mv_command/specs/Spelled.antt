@@ -160,7 +160,8 @@ commands =
     form run (codes "compiles FILE and runs it") (source_file ∷ of_runs) ∷
     form build (codes "compiles FILE and saves its image as IMAGE") (source_file ∷ image_file ∷ []) ∷
     form exec (codes "runs IMAGE") (image_file ∷ of_runs) ∷
-    form list (codes "writes what stands in IMAGE") (image_file ∷ []) ∷
+    form list (codes "writes what stands in IMAGE")
+    (image_file ∷ argument Flag words [] (codes "writes in place of that the words that commits change, as instructions") ∷ []) ∷
     form eval (codes "evaluates what FILE means at the bound K")
     (source_file ∷ argument Needed bound (codes "K") (codes "0 to 4294967295, for calls within calls and turns of loops") ∷ []) ∷
     form gen (codes "makes the program of NUMBER and runs it")

@@ -52,6 +52,8 @@ pub enum Command<'a> {
     List {
         /// The name of the image.
         image: &'a str,
+        /// Whether the words that commits change are shown, in place of its tables.
+        words: bool,
     },
     /// Evaluates what the file means.
     Eval {
@@ -221,7 +223,10 @@ fn list<'a>(found: &ArgMatches<'a>) -> Option<Command<'a>>
     ensures { IsReading LIST.now (rows_of (found_of found.now)) result }
 {
     let image = given(found, IMAGE)?;
-    Some(Command::List { image })
+    Some(Command::List {
+        image,
+        words: is_set(found, WORDS),
+    })
 }
 
 fn eval<'a>(found: &ArgMatches<'a>) -> Option<Command<'a>>

@@ -85,7 +85,15 @@ pub const COMMANDS: [Form; 14] = [
     Form {
         name: LIST,
         does: "writes what stands in IMAGE",
-        arguments: &[IMAGE_FILE],
+        arguments: &[
+            IMAGE_FILE,
+            Argument {
+                kind: Flag,
+                name: WORDS,
+                value: "",
+                about: "writes in place of that the words that commits change, as instructions",
+            },
+        ],
     },
     Form {
         name: EVAL,
@@ -354,7 +362,7 @@ pub const MOST_PICK: u64 = 4_294_967_295;
 /// Asks for a line for each attributed function and pointer switch with its binding.
 pub const BINDINGS: &str = "bindings";
 
-/// Asks for a line for each word of text that isn't as it was built.
+/// Asks for a line for each word of text that isn't as it was built, or of `list` for the words that commits change.
 pub const WORDS: &str = "words";
 
 /// Asks for a line for each changed binding.

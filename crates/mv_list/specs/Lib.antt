@@ -3,3 +3,4 @@ pub mod Changes
 pub mod Events
 pub mod Listing
 pub mod Numbers
+pub mod Places

@@ -28,7 +28,7 @@ pub(crate) fn switch_name(image: &Image, switch: usize) -> &[u8]
 }
 
 /// The name of a function.
-pub(crate) fn function_name(image: &Image, function: usize) -> &[u8]
+pub fn function_name(image: &Image, function: usize) -> &[u8]
     ensures { result.now ≡ function_name image.now function }
 {
     let names = behind(image.names().as_slice(), image.switches().len());
@@ -36,7 +36,7 @@ pub(crate) fn function_name(image: &Image, function: usize) -> &[u8]
 }
 
 /// The name of a pointer switch.
-pub(crate) fn pointer_name(image: &Image, pointer: usize) -> &[u8]
+pub fn pointer_name(image: &Image, pointer: usize) -> &[u8]
     ensures { result.now ≡ pointer_name image.now pointer }
 {
     let names = behind(image.names().as_slice(), image.switches().len());
@@ -44,7 +44,7 @@ pub(crate) fn pointer_name(image: &Image, pointer: usize) -> &[u8]
 }
 
 /// The name of a target.
-pub(crate) fn target_name(image: &Image, target: usize) -> &[u8]
+pub fn target_name(image: &Image, target: usize) -> &[u8]
     ensures { result.now ≡ target_name image.now target }
 {
     let names = behind(image.names().as_slice(), image.switches().len());

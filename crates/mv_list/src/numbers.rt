@@ -9,7 +9,7 @@ use std::alloc::{AllocError, Global};
 
 /// Adds an address, in eight hexadecimal digits.
 #[tactic(auto, unfolding(crate::specs::Numbers::address_text))]
-pub(crate) fn push_address(alloc: Global, out: &mut Vec<u8>, address: u32) -> Result<(), AllocError>
+pub fn push_address(alloc: Global, out: &mut Vec<u8>, address: u32) -> Result<(), AllocError>
     ensures { OnOk result (out.new.items ≡ out.old.items ++ address_text address) }
 {
     let text = format!(in alloc; "0x{address:08x}")?;

@@ -1,6 +1,7 @@
 pub mod Turns
 pub mod Moved
 pub mod Calls
+pub mod Departing
 pub mod Walks
 pub mod Logged
 pub mod Resumed

@@ -1,5 +1,5 @@
 -- Moves of what is seen, one after the other.
-use Rattle.std.proofs.Common.{ℕ, ◌≡◌, ◌<◌, ◌≤◌, ◌+◌, add-one, ◌⊎◌, inl, inr, List, [], ◌∷◌, ◌++◌, length, slice_index, Option, Some, None, option_map, Ok, refl, sym, ap, ap₂, ◌∙◌, subst, arith, append_assoc, append-nil, mod-eq_of_lt}
+use Rattle.std.proofs.Common.{ℕ, ◌≡◌, ◌<◌, ◌≤◌, ◌+◌, add-one, Bool, ◌⊎◌, inl, inr, List, [], ◌∷◌, ◌++◌, length, slice_index, Option, Some, None, option_map, Ok, refl, sym, ap, ap₂, ◌∙◌, subst, arith, append_assoc, append-nil, mod-eq_of_lt}
 use Rattle.std.proofs.lemmas.List.{get_or_append_left, get_or_at, length-append}
 use Rattle.std.proofs.lemmas.Bool.{cases_lt}
 use Rattle.mv_bindings.specs.declared.binding.Event.{Event}
@@ -10,9 +10,10 @@ use Rattle.mv_io.specs.declared.outside.Failed.{Failed}
 use Rattle.mv_probe.specs.Ways.{Way, Follows, pick_of, way_after}
 use Rattle.mv_machine.specs.Runs.{Stop, Going, State, next_read, later_reads, bytes_to_come, choices_at, fetched_step, turn, runs_from, executed}
 use Rattle.mv_io.proofs.Common.{lost_both, lost_same, may_come}
-use Rattle.mv_machine.specs.Snapshots.{Under}
+use Rattle.mv_machine.specs.Snapshots.{Under, Departs}
 use Rattle.mv_machine.specs.Moves.{Seen, shown, Meets, Moves}
 use Rattle.mv_machine.proofs.Turns.{runs_more, adds_by, executed_more, runs_append, executed_append}
+use Rattle.mv_machine.proofs.Departing.{Notes, departs_append, departs_more}
 
 -- ---- the sink
 
@@ -133,16 +134,16 @@ under_more (Some w) v way' s picks pick count n len is follows c under = λ j lt
         let e : n ≡ j = omega (arith, ge, all, length-append picks (pick ∷ []), len) in
         subst (λ k. slice_index (picks ++ pick ∷ []) k ≡ pick_of (way_after w k) (choices_at (runs_from s (picks ++ pick ∷ []) k))) e (under_next w s picks pick n len (f.0 ∙ ap (λ k. pick_of (way_after w n) k) (sym c)))
 
--- what is seen after so many instructions, and how many were executed
-abbrev pub SoFar : Option Way → (picks : List ℕ) (n : ℕ) → State → Type 0
-SoFar way picks n s = Under way s picks × (executed s picks n ≡ n)
+-- what is seen after so many instructions, how many were executed, and the place
+abbrev pub SoFar : (wanted : Bool) → (place : Option ℕ) → Option Way → (picks : List ℕ) (n : ℕ) → State → Type 0
+SoFar wanted place way picks n s = Under way s picks × (executed s picks n ≡ n) × Departs wanted place s picks n
 
 -- what was told so far and what was told then
 abbrev pub Joins : (Before Behind Told : List Event → Type 0) → Type 0
 Joins Before Behind Told = (xs ys : List Event) → Before xs → Behind ys → Told (xs ++ ys)
 
-pub meets_more : (x y z : Seen) (stop : Stop) (way v way' : Option Way) (Before Behind Told : List Event → Type 0) → Joins Before Behind Told → (picks : List ℕ) (pick n : ℕ) → length picks ≡ n → v ≡ option_map (λ w. way_after w n) way → Follows v way' (length (choices y.room.held y.pc)) pick → Meets (SoFar way picks n) (λ s. runs_from s picks n) x y Going Before → Moves (λ s. turn s pick) y z stop Behind → Meets (SoFar way (picks ++ pick ∷ []) (n + 1)) (λ s. runs_from s (picks ++ pick ∷ []) (n + 1)) x z stop Told
-meets_more x y z stop way v way' Before Behind Told joins picks pick n len is follows m t =
+pub meets_more : (wanted : Bool) (place place' : Option ℕ) (x y z : Seen) (stop : Stop) → Notes wanted place place' y z stop → (way v way' : Option Way) (Before Behind Told : List Event → Type 0) → Joins Before Behind Told → (picks : List ℕ) (pick n : ℕ) → length picks ≡ n → v ≡ option_map (λ w. way_after w n) way → Follows v way' (length (choices y.room.held y.pc)) pick → Meets (SoFar wanted place way picks n) (λ s. runs_from s picks n) x y Going Before → Moves (λ s. turn s pick) y z stop Behind → Meets (SoFar wanted place' way (picks ++ pick ∷ []) (n + 1)) (λ s. runs_from s (picks ++ pick ∷ []) (n + 1)) x z stop Told
+meets_more wanted place place' x y z stop noted way v way' Before Behind Told joins picks pick n len is follows m t =
     let all : List ℕ = picks ++ pick ∷ [] in
     let le : n ≤ length picks = omega (arith, len) in (
       m.0 ++ t.0,
@@ -159,15 +160,18 @@ meets_more x y z stop way v way' Before Behind Told joins picks pick n len is fo
             let at : runs_from s all n ≡ shown y Going mid (o ++ m.0) (log ++ m.1) = runs_append s picks (pick ∷ []) n le ∙ here.1 in
             let count : choices_at (runs_from s picks n) ≡ length (choices y.room.held y.pc) = ap choices_at here.1 ∙ count_is y Going mid (o ++ m.0) (log ++ m.1) in
             let one : adds_by (runs_from s all n).stop ≡ 1 = ap (λ (e : State). adds_by e.stop) at in
-            subst (λ (bytes : List ℕ). SoFar way all (n + 1) (shown x Going (bytes_to_come bytes) o log)
+            let end : runs_from s all (n + 1) ≡ shown z stop (bytes_to_come later) (o ++ (m.0 ++ t.0)) (log ++ (m.1 ++ t.1)) =
+            runs_more s all n ∙ ap₂ turn at (get_or_at picks pick [] 0 n len) ∙ (t.4.2 later may (o ++ m.0) (log ++ m.1)).1
+            ∙ ap₂ (λ (out : List ℕ) (events : List Event). shown z stop (bytes_to_come later) out events) (append_assoc o m.0 t.0) (append_assoc log m.1 t.1) in
+            subst (λ (bytes : List ℕ). SoFar wanted place' way all (n + 1) (shown x Going (bytes_to_come bytes) o log)
             × (runs_from (shown x Going (bytes_to_come bytes) o log) all (n + 1) ≡ shown z stop (bytes_to_come later) (o ++ (m.0 ++ t.0)) (log ++ (m.1 ++ t.1))))
             (sym (append_assoc m.4.0 t.4.0 later)) (
               (
                 under_more way v way' s picks pick (length (choices y.room.held y.pc)) n len is follows count here.0.0,
                 omega (arith, executed_more s all n, executed_append s picks (pick ∷ []) n le, here.0.1, one),
+                departs_more wanted place place' s all n (shown y Going mid (o ++ m.0) (log ++ m.1)) (shown z stop (bytes_to_come later) (o ++ (m.0 ++ t.0)) (log ++ (m.1 ++ t.1))) at end noted (departs_append wanted place s picks (pick ∷ []) n le here.0.2),
               ),
-              runs_more s all n ∙ ap₂ turn at (get_or_at picks pick [] 0 n len) ∙ (t.4.2 later may (o ++ m.0) (log ++ m.1)).1
-                  ∙ ap₂ (λ (out : List ℕ) (events : List Event). shown z stop (bytes_to_come later) out events) (append_assoc o m.0 t.0) (append_assoc log m.1 t.1),
+              end,
             ),
       ),
     )

@@ -1,5 +1,5 @@
 -- From a walk over what is seen to a call of `run`.
-use Rattle.std.proofs.Common.{ℕ, ◌≡◌, ◌<◌, ◌+◌, ◌-◌, ◌%◌, mod-eq_of_lt, inl, inr, List, [], ◌∷◌, ◌++◌, length, slice_index, slice_get, Option, Some, None, option_map, unwrap_or, IfSome, IsSomeAnd, refl, sym, ap, ap₂, ◌∙◌, subst, arith, append-nil}
+use Rattle.std.proofs.Common.{ℕ, ◌≡◌, ◌<◌, ◌+◌, ◌-◌, ◌%◌, mod-eq_of_lt, Bool, inl, inr, List, [], ◌∷◌, ◌++◌, length, slice_index, slice_get, Option, Some, None, option_map, unwrap_or, IfSome, IsSomeAnd, refl, sym, ap, ap₂, ◌∙◌, subst, arith, append-nil}
 use Rattle.std.proofs.lemmas.List.{length-append, get_or_at, nil_from_length}
 use Rattle.mv_bindings.specs.declared.action.Action.{Action}
 use Rattle.mv_bindings.specs.declared.binding.Event.{Event}
@@ -14,9 +14,10 @@ use Rattle.mv_probe.specs.Ways.{Way, Follows, way_after}
 use Rattle.mv_machine.specs.declared.machine.Stopped.{Stopped}
 use Rattle.mv_machine.specs.declared.machine.Stopped.TheVariants as answer
 use Rattle.mv_machine.specs.Runs.{Stop, Going, Exit, Trap, Fault, State, Request, Reads, Writes, request_of, bytes_to_come, stopped, choices_at, fetched_step, turn, runs_from, executed}
-use Rattle.mv_machine.specs.Snapshots.{Snapshot, resumed, Under, Asks, Reached, Whole, Broken, Answered, Counts, WantsMemory, Ran, Unless, last_of, is_input_fault, is_output_fault}
+use Rattle.mv_machine.specs.Snapshots.{Snapshot, resumed, Under, Asks, Reached, Whole, Broken, Answered, Counts, Departs, WantsMemory, Ran, Unless, last_of, is_input_fault, is_output_fault}
 use Rattle.mv_machine.specs.Moves.{Seen, shown, Meets, Moves, Called, Wanting, Turns, Goes, Walked, executed_of, FaultAt, input_failed, output_failed}
 use Rattle.mv_machine.proofs.Turns.{turn_by, turn_faults, runs_more, adds_by, executed_more, runs_over, executed_over, runs_append, IsOver}
+use Rattle.mv_machine.proofs.Departing.{departs_append, departs_more, over_notes}
 use Rattle.mv_machine.proofs.Moved.{SoFar, way_more, under_more, Joins, meets_more}
 
 -- what is seen of a machine
@@ -85,7 +86,7 @@ pub unless : (o : Option Stopped) (X : Type 0) → X → Unless o X
 unless None X h = h
 unless (Some last) X h = tt
 
-module _ (was is : Snapshot) (x y : Seen) (a : IsSeen was x) (b : IsSeen is y) (rows : is.image ≡ was.image) (way way' : Option Way) (A B : Type 0) {P : Type 0} (Tell : P → P → List Event → Type 0) (joins : (k l m : P) → Joins (Tell k l) (Tell l m) (Tell k m)) (p q : P) (steps count : ℕ) where
+module _ (was is : Snapshot) (x y : Seen) (a : IsSeen was x) (b : IsSeen is y) (rows : is.image ≡ was.image) (way way' : Option Way) (A B : Type 0) {P : Type 0} (Tell : P → P → List Event → Type 0) (joins : (k l m : P) → Joins (Tell k l) (Tell l m) (Tell k m)) (p q : P) (wanted : Bool) (place : Option ℕ) (steps count : ℕ) where
   abbrev Told : List Event → Type 0
   Told = Tell p q
 
@@ -93,7 +94,7 @@ module _ (was is : Snapshot) (x y : Seen) (a : IsSeen was x) (b : IsSeen is y) (
   At later e stop = Reached e stop is (bytes_to_come later) x.written y.written Told
 
   abbrev Runs : Stopped → Type 0
-  Runs r = Ran steps r count was is x.actions x.left y.left x.written y.written way way' A B Told
+  Runs r = Ran steps r count wanted place was is x.actions x.left y.left x.written y.written way way' A B Told
 
   from_meets : (f : State → State) (P : State → Type 0) (stop : Stop) (Q : List ℕ → State → Type 0) → Meets P f x y stop Told → ((later : List ℕ) (s : State) → P s → At later (f s) stop → Q later s) →
       OnInput x.left y.left (λ taken later. Q later (resumed was (bytes_to_come (taken ++ later)) x.actions))
@@ -107,18 +108,22 @@ module _ (was is : Snapshot) (x y : Seen) (a : IsSeen was x) (b : IsSeen is y) (
         subst (λ (e : State). Q later e) (resumed_is was x input a) (q later s here.0 (reached (f s) y stop is (bytes_to_come later) m.0 m.1 x.written Told b m.2 m.3 here.1)),
   )
 
+  departs_at : (n : ℕ) (s : State) (picks : List ℕ) → count ≡ n → Departs wanted place s picks n → Departs wanted place s picks count
+  departs_at n s picks counted departs = subst (λ (k : ℕ). Departs wanted place s picks k) (sym counted) departs
+
   -- the steps were used up
-  pub all_steps : count ≡ steps → Goes steps x y way way' Told → Runs answer.Steps
+  pub all_steps : count ≡ steps → Goes wanted place steps x y way way' Told → Runs answer.Steps
   all_steps counted g = record {
     image = rows;
     picks = g.0;
     way_is = g.2 ∙ ap (λ (n : ℕ). option_map (λ w. way_after w n) way) (sym g.1);
-    run = from_meets (λ s. runs_from s g.0 steps) (SoFar way g.0 steps) Going (λ later s. Under way s g.0 × Answered answer.Steps steps s g.0 (At later) A B × Counts answer.Steps steps s g.0 count) g.3
-        (λ later s p r. (p.0, record { reached = r; picked = p.1 ∙ sym g.1 }, p.1 ∙ sym counted));
+    run = from_meets (λ s. runs_from s g.0 steps) (SoFar wanted place way g.0 steps) Going
+        (λ later s. Under way s g.0 × Answered answer.Steps steps s g.0 (At later) A B × Counts answer.Steps steps s g.0 count × Departs wanted place s g.0 count) g.3
+        (λ later s p r. (p.0, record { reached = r; picked = p.1 ∙ sym g.1 }, p.1 ∙ sym counted, departs_at steps s g.0 counted p.2));
   }
 
   -- an instruction ended the run
-  module _ (n : ℕ) (mid : Seen) (l : P) (v : Option Way) (lt : n < steps) (g : Goes n x mid way v (Tell p l)) (pick : ℕ) (below : pick < length (choices mid.room.held mid.pc)) (follows : Follows v way' (length (choices mid.room.held mid.pc)) pick) where
+  module _ (n : ℕ) (mid : Seen) (l : P) (v : Option Way) (lt : n < steps) (g : Goes wanted place n x mid way v (Tell p l)) (pick : ℕ) (below : pick < length (choices mid.room.held mid.pc)) (follows : Follows v way' (length (choices mid.room.held mid.pc)) pick) where
     abbrev all : List ℕ
     all = g.0 ++ pick ∷ []
 
@@ -138,7 +143,7 @@ module _ (was is : Snapshot) (x y : Seen) (a : IsSeen was x) (b : IsSeen is y) (
         let k : steps ≡ (steps - (n + 1)) + (n + 1) = omega (arith, lt) in
         ap (λ (i : ℕ). executed s all i) k ∙ executed_over s all (n + 1) (steps - (n + 1)) (subst (λ t. IsOver t) (sym e) over)
 
-    whole : (stop : Stop) → IsOver stop → (later : List ℕ) (s : State) → SoFar way all (n + 1) s → At later (runs_from s all (n + 1)) stop → Whole s all steps (At later) stop
+    whole : (stop : Stop) → IsOver stop → (later : List ℕ) (s : State) → SoFar wanted place way all (n + 1) s → At later (runs_from s all (n + 1)) stop → Whole s all steps (At later) stop
     whole stop over later s p r = record {
       reached = subst (λ (e : State). At later e stop) (sym (to_end s stop over r.stopped)) r;
       picked = executed_to_end s stop over r.stopped ∙ p.1 ∙ sym len;
@@ -150,11 +155,12 @@ module _ (was is : Snapshot) (x y : Seen) (a : IsSeen was x) (b : IsSeen is y) (
       image = rows;
       picks = all;
       way_is = way_all;
-      run = from_meets (λ s. runs_from s all (n + 1)) (SoFar way all (n + 1)) stop (λ later s. Under way s all × Answered r steps s all (At later) A B × Counts r steps s all count)
-          (meets_more x mid y stop way v way' (Tell p l) (Tell l q) Told (joins p l q) g.0 pick n g.1 g.2 follows g.3 t)
+      run = from_meets (λ s. runs_from s all (n + 1)) (SoFar wanted place way all (n + 1)) stop
+          (λ later s. Under way s all × Answered r steps s all (At later) A B × Counts r steps s all count × Departs wanted place s all count)
+          (meets_more wanted place place x mid y stop (over_notes wanted place mid y stop over) way v way' (Tell p l) (Tell l q) Told (joins p l q) g.0 pick n g.1 g.2 follows g.3 t)
           (λ later s p e.
           let w = whole stop over later s p e in
-          (p.0, answers later s w, counts s (w.picked ∙ len ∙ sym counted)));
+          (p.0, answers later s w, counts s (w.picked ∙ len ∙ sym counted), departs_at (n + 1) s all counted p.2));
     }
 
     pub ended_at : (status : ℕ) → Moves (λ s. turn s pick) mid y (Exit status) (Tell l q) → count ≡ n + 1 → Runs (answer.Ended status)
@@ -171,7 +177,7 @@ module _ (was is : Snapshot) (x y : Seen) (a : IsSeen was x) (b : IsSeen is y) (
         record { reached = w.reached; place = sym w.reached.pc ∙ b.pc ∙ sym e; picked = omega (arith, w.picked, some, below) }) (λ s c. c)
 
     -- nothing more was told
-    still_told : Tell l q [] → Meets (SoFar way g.0 n) (λ s. runs_from s g.0 n) x mid Going Told
+    still_told : Tell l q [] → Meets (SoFar wanted place way g.0 n) (λ s. runs_from s g.0 n) x mid Going Told
     still_told quiet = (g.3.0, g.3.1, g.3.2, subst Told (append-nil g.3.1) (joins p l q g.3.1 [] g.3.3 quiet), g.3.4)
 
     -- an instruction was fetched and not carried out
@@ -181,8 +187,9 @@ module _ (was is : Snapshot) (x y : Seen) (a : IsSeen was x) (b : IsSeen is y) (
       image = rows;
       picks = all;
       way_is = way_all;
-      run = from_meets (λ s. runs_from s g.0 n) (SoFar way g.0 n) Going (λ later s. Under way s all × Answered r steps s all (At later) A B × Counts r steps s all count)
-          (subst (λ (z : Seen). Meets (SoFar way g.0 n) (λ s. runs_from s g.0 n) x z Going Told) (sym still) (still_told quiet))
+      run = from_meets (λ s. runs_from s g.0 n) (SoFar wanted place way g.0 n) Going
+          (λ later s. Under way s all × Answered r steps s all (At later) A B × Counts r steps s all count × Departs wanted place s all count)
+          (subst (λ (z : Seen). Meets (SoFar wanted place way g.0 n) (λ s. runs_from s g.0 n) x z Going Told) (sym still) (still_told quiet))
           (λ later s p e.
           let same_state : runs_from s all n ≡ runs_from s g.0 n = runs_append s g.0 (pick ∷ []) n (omega (arith, g.1)) in
           let regs : (runs_from s g.0 n).regs ≡ mid.regs = sym e.regs ∙ b.regs ∙ ap (λ (z : Seen). z.regs) still in
@@ -198,6 +205,7 @@ module _ (was is : Snapshot) (x y : Seen) (a : IsSeen was x) (b : IsSeen is y) (
               cause = subst (λ (t : State). Why t (slice_index all n)) (sym same_state) (subst (λ (k : ℕ). Why (runs_from s g.0 n) k) (sym (get_or_at g.0 pick [] 0 n g.1)) (why (runs_from s g.0 n) regs pc room));
             }),
             counts s (omega (arith, counted, len)),
+            departs_at n s all counted (departs_append wanted place s g.0 (pick ∷ []) n (omega (arith, g.1)) p.2),
           ));
     }
 
@@ -211,7 +219,7 @@ module _ (was is : Snapshot) (x y : Seen) (a : IsSeen was x) (b : IsSeen is y) (
     memory_at still quiet w = broken answer.Memory WantsMemory still quiet (λ e regs pc room. wants e mid pick regs pc room below w) (λ later s h. h) (λ s e. e)
 
   -- there was no word to fetch
-  module _ (n : ℕ) (mid : Seen) (l : P) (v : Option Way) (lt : n < steps) (g : Goes n x mid way v (Tell p l)) (none : length (choices mid.room.held mid.pc) ≡ 0) (still : y ≡ mid) (quiet : Tell l q []) (stays : way' ≡ v) where
+  module _ (n : ℕ) (mid : Seen) (l : P) (v : Option Way) (lt : n < steps) (g : Goes wanted place n x mid way v (Tell p l)) (none : length (choices mid.room.held mid.pc) ≡ 0) (still : y ≡ mid) (quiet : Tell l q []) (stays : way' ≡ v) where
     no_step : (input : List (Option ℕ)) (output : List ℕ) (log : List Event) (pick : ℕ) → fetched_step (shown mid Going input output log) pick ≡ Faults cause.Fetch
     unfolding fetched_step
     no_step input output log pick = unfetched mid.room (pick % choices_at (shown mid Going input output log)) mid.regs mid.pc none
@@ -219,7 +227,7 @@ module _ (was is : Snapshot) (x y : Seen) (a : IsSeen was x) (b : IsSeen is y) (
     one_more : (input : List (Option ℕ)) (output : List ℕ) (log : List Event) (pick : ℕ) → turn (shown mid Going input output log) pick ≡ shown mid (Fault cause.Fetch) input output log
     one_more input output log pick = turn_by (shown mid Going input output log) pick (Faults cause.Fetch) refl (no_step input output log pick)
 
-    to_fault : Meets (SoFar way g.0 (n + 1)) (λ s. runs_from s g.0 (n + 1)) x mid (Fault cause.Fetch) Told
+    to_fault : Meets (SoFar wanted place way g.0 (n + 1)) (λ s. runs_from s g.0 (n + 1)) x mid (Fault cause.Fetch) Told
     to_fault =
         let m = g.3 in (
           m.0,
@@ -232,9 +240,16 @@ module _ (was is : Snapshot) (x y : Seen) (a : IsSeen was x) (b : IsSeen is y) (
             λ later may o log.
                 let s = shown x Going (bytes_to_come (m.4.0 ++ later)) o log in
                 let here = m.4.2 later may o log in
-                let one : adds_by (runs_from s g.0 n).stop ≡ 1 = ap (λ (e : State). adds_by e.stop) here.1 in (
-                  (here.0.0, omega (arith, executed_more s g.0 n, here.0.1, one)),
-                  runs_more s g.0 n ∙ ap (λ (e : State). turn e (slice_index g.0 n)) here.1 ∙ one_more (bytes_to_come later) (o ++ m.0) (log ++ m.1) (slice_index g.0 n),
+                let one : adds_by (runs_from s g.0 n).stop ≡ 1 = ap (λ (e : State). adds_by e.stop) here.1 in
+                let end : runs_from s g.0 (n + 1) ≡ shown mid (Fault cause.Fetch) (bytes_to_come later) (o ++ m.0) (log ++ m.1) =
+                runs_more s g.0 n ∙ ap (λ (e : State). turn e (slice_index g.0 n)) here.1 ∙ one_more (bytes_to_come later) (o ++ m.0) (log ++ m.1) (slice_index g.0 n) in (
+                  (
+                    here.0.0,
+                    omega (arith, executed_more s g.0 n, here.0.1, one),
+                    departs_more wanted place place s g.0 n (shown mid Going (bytes_to_come later) (o ++ m.0) (log ++ m.1)) (shown mid (Fault cause.Fetch) (bytes_to_come later) (o ++ m.0) (log ++ m.1)) here.1 end
+                        (over_notes wanted place mid mid (Fault cause.Fetch) tt) here.0.2,
+                  ),
+                  end,
                 ),
           ),
         )
@@ -256,8 +271,9 @@ module _ (was is : Snapshot) (x y : Seen) (a : IsSeen was x) (b : IsSeen is y) (
       image = rows;
       picks = g.0;
       way_is = stays ∙ g.2 ∙ ap (λ (k : ℕ). option_map (λ w. way_after w k) way) (sym g.1);
-      run = from_meets (λ s. runs_from s g.0 (n + 1)) (SoFar way g.0 (n + 1)) (Fault cause.Fetch) (λ later s. Under way s g.0 × Answered (answer.Fault mid.pc cause.Fetch) steps s g.0 (At later) A B × Counts (answer.Fault mid.pc cause.Fetch) steps s g.0 count)
-          (subst (λ (z : Seen). Meets (SoFar way g.0 (n + 1)) (λ s. runs_from s g.0 (n + 1)) x z (Fault cause.Fetch) Told) (sym still) to_fault)
+      run = from_meets (λ s. runs_from s g.0 (n + 1)) (SoFar wanted place way g.0 (n + 1)) (Fault cause.Fetch)
+          (λ later s. Under way s g.0 × Answered (answer.Fault mid.pc cause.Fetch) steps s g.0 (At later) A B × Counts (answer.Fault mid.pc cause.Fetch) steps s g.0 count × Departs wanted place s g.0 count)
+          (subst (λ (z : Seen). Meets (SoFar wanted place way g.0 (n + 1)) (λ s. runs_from s g.0 (n + 1)) x z (Fault cause.Fetch) Told) (sym still) to_fault)
           (λ later s p e.
           let last = to_last s e.stopped in
           let end = runs_from s g.0 steps in
@@ -271,10 +287,11 @@ module _ (was is : Snapshot) (x y : Seen) (a : IsSeen was x) (b : IsSeen is y) (
               picked = omega (arith, executed_to_last s e.stopped, p.1, g.1, some, none);
             },
             executed_to_last s e.stopped ∙ p.1 ∙ sym counted,
+            departs_at (n + 1) s g.0 counted p.2,
           ));
     }
 
-  from_turn : (n fetched : ℕ) (mid : Seen) (l : P) (v : Option Way) (r : Stopped) → n < steps → fetched ≡ n + 1 → count ≡ executed_of (Some r) fetched → Goes n x mid way v (Tell p l) → FaultAt r y.pc
+  from_turn : (n fetched : ℕ) (mid : Seen) (l : P) (v : Option Way) (r : Stopped) → n < steps → fetched ≡ n + 1 → count ≡ executed_of (Some r) fetched → Goes wanted place n x mid way v (Tell p l) → FaultAt r y.pc
       → Turns (Some r) mid y v way' A B (Tell l q) → Runs r
   from_turn n fetched mid l v r lt one counted g f (inl t) =
       let is_fault : r ≡ answer.Fault mid.pc cause.Fetch = ap (λ (o : Option Stopped). unwrap_or o answer.Steps) t.1 in
@@ -288,15 +305,15 @@ module _ (was is : Snapshot) (x y : Seen) (a : IsSeen was x) (b : IsSeen is y) (
   from_turn n fetched mid l v (answer.Fault pc why) lt one counted g f (inr t) = fault_at n mid l v lt g t.0 t.1 t.2 pc why f t.3 (counted ∙ one)
   from_turn n fetched mid l v answer.Memory lt one counted g f (inr t) = memory_at n mid l v lt g t.0 t.1 t.2 t.3.0 t.3.1 t.3.2 (omega (arith, counted, one))
 
-  walked : (r : Option Stopped) (fetched : ℕ) → count ≡ executed_of r fetched → Walked Tell p q steps r fetched x y way way' A B → IfSome r (λ stopped. FaultAt stopped y.pc) → Runs (unwrap_or r answer.Steps)
+  walked : (r : Option Stopped) (fetched : ℕ) → count ≡ executed_of r fetched → Walked Tell p q wanted place steps r fetched x y way way' A B → IfSome r (λ stopped. FaultAt stopped y.pc) → Runs (unwrap_or r answer.Steps)
   walked None fetched counted w f = all_steps (counted ∙ w.0) w.1
   walked (Some r) fetched counted w f = from_turn w.0 fetched w.1 w.2 w.3 r w.4 w.5 counted w.6 f w.7
 
   pub ran : (actions : List Action) → x.actions ≡ actions → (r : Option Stopped) (fetched : ℕ) (result : Stopped) → result ≡ unwrap_or r answer.Steps → count ≡ executed_of r fetched
-      → Walked Tell p q steps r fetched x y way way' A B → IfSome r (λ stopped. FaultAt stopped y.pc)
-      → Ran steps result count was is actions x.left y.left x.written y.written way way' A B Told
+      → Walked Tell p q wanted place steps r fetched x y way way' A B → IfSome r (λ stopped. FaultAt stopped y.pc)
+      → Ran steps result count wanted place was is actions x.left y.left x.written y.written way way' A B Told
   ran actions handed r fetched result e counted w f =
-      subst (λ (all : List Action). Ran steps result count was is all x.left y.left x.written y.written way way' A B Told) handed (subst (λ (o : Stopped). Runs o) (sym e) (walked r fetched counted w f))
+      subst (λ (all : List Action). Ran steps result count wanted place was is all x.left y.left x.written y.written way way' A B Told) handed (subst (λ (o : Stopped). Runs o) (sym e) (walked r fetched counted w f))
 
 abbrev is_fault : Option Stopped → Type 0
 is_fault (Some (answer.Fault pc why)) = Unit {0}
@@ -306,15 +323,15 @@ not_steps : (x y : Seen) (way way' : Option Way) (A B : Type 0) (Told : List Eve
 not_steps x y way way' A B Told (inl t) = subst (λ (r : Option Stopped). is_fault r) (sym t.1) tt
 not_steps x y way way' A B Told (inr t) = t.3
 
-pub last_is : {P : Type 0} (Tell : P → P → List Event → Type 0) (p q : P) (steps : ℕ) (x y : Seen) (way way' : Option Way) (A B : Type 0) (r : Option Stopped) (fetched : ℕ) → Walked Tell p q steps r fetched x y way way' A B → r ≡ last_of (unwrap_or r answer.Steps)
-last_is Tell p q steps x y way way' A B None fetched w = refl
-last_is Tell p q steps x y way way' A B (Some (answer.Ended status)) fetched w = refl
-last_is Tell p q steps x y way way' A B (Some (answer.Trapped code)) fetched w = refl
-last_is Tell p q steps x y way way' A B (Some answer.Steps) fetched w = absurd (not_steps w.1 y w.3 way' A B (Tell w.2 q) w.7)
-last_is Tell p q steps x y way way' A B (Some answer.InputFault) fetched w = refl
-last_is Tell p q steps x y way way' A B (Some answer.OutputFault) fetched w = refl
-last_is Tell p q steps x y way way' A B (Some (answer.Fault pc why)) fetched w = refl
-last_is Tell p q steps x y way way' A B (Some answer.Memory) fetched w = refl
+pub last_is : {P : Type 0} (Tell : P → P → List Event → Type 0) (p q : P) (wanted : Bool) (place : Option ℕ) (steps : ℕ) (x y : Seen) (way way' : Option Way) (A B : Type 0) (r : Option Stopped) (fetched : ℕ) → Walked Tell p q wanted place steps r fetched x y way way' A B → r ≡ last_of (unwrap_or r answer.Steps)
+last_is Tell p q wanted place steps x y way way' A B None fetched w = refl
+last_is Tell p q wanted place steps x y way way' A B (Some (answer.Ended status)) fetched w = refl
+last_is Tell p q wanted place steps x y way way' A B (Some (answer.Trapped code)) fetched w = refl
+last_is Tell p q wanted place steps x y way way' A B (Some answer.Steps) fetched w = absurd (not_steps w.1 y w.3 way' A B (Tell w.2 q) w.7)
+last_is Tell p q wanted place steps x y way way' A B (Some answer.InputFault) fetched w = refl
+last_is Tell p q wanted place steps x y way way' A B (Some answer.OutputFault) fetched w = refl
+last_is Tell p q wanted place steps x y way way' A B (Some (answer.Fault pc why)) fetched w = refl
+last_is Tell p q wanted place steps x y way way' A B (Some answer.Memory) fetched w = refl
 
 -- the device that the answer of a call of `run` names is the one that the last instruction names
 pub input_count : (r : Option Stopped) (result : Stopped) (before now : ℕ) → result ≡ unwrap_or r answer.Steps → CountAfter (input_failed r) before now → CountAfter (is_input_fault result) before now

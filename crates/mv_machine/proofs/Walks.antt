@@ -1,5 +1,5 @@
 -- Walks of one instruction after the other.
-use Rattle.std.proofs.Common.{ℕ, zero, suc, ◌≡◌, ◌<◌, ◌+◌, inl, inr, List, [], ◌∷◌, ◌++◌, length, Option, Some, None, option_map, slice_get, option_and_then, refl, sym, ap, ap₂, ◌∙◌, subst, arith, append-nil}
+use Rattle.std.proofs.Common.{ℕ, zero, suc, ◌≡◌, ◌<◌, ◌+◌, Bool, false, if◌then◌else◌, inl, inr, List, [], ◌∷◌, ◌++◌, length, Option, Some, None, option_map, slice_get, option_and_then, refl, sym, ap, ap₂, ◌∙◌, subst, arith, append-nil}
 use Rattle.std.proofs.lemmas.List.{length-append}
 use Rattle.std.proofs.lemmas.Option.{none-some}
 use Rattle.mv_bindings.specs.declared.action.Action.{Action}
@@ -18,8 +18,10 @@ use Rattle.mv_machine.specs.declared.machine.Stopped.{Stopped}
 use Rattle.mv_machine.specs.declared.machine.Stopped.TheVariants as answer
 use Rattle.mv_io.proofs.Common.{lost_none}
 use Rattle.mv_machine.specs.Runs.{Stop, Going, Fault, State, Reads, Writes, request_of, environment_call, bytes_to_come, turn, executed}
+use Rattle.mv_machine.specs.Departures.{departed_by, floor}
 use Rattle.mv_machine.specs.Snapshots.{Under}
-use Rattle.mv_machine.specs.Moves.{Seen, seen, shown, Moves, Outcomes, FromCall, Called, Wanting, Fetched, Steps, GoOn, Strides, Settles, Turns, Goes}
+use Rattle.mv_machine.specs.Moves.{Seen, seen, shown, Moves, Outcomes, FromCall, Called, Wanting, Fetched, Steps, noted, GoOn, Strides, Settles, Turns, Goes}
+use Rattle.mv_machine.proofs.Departing.{Notes, call_notes, departs_none}
 use Rattle.mv_machine.proofs.Turns.{turn_by, runs_none}
 use Rattle.mv_machine.proofs.Moved.{nothing_written, moves_quietly, moves_as, fetched, way_more, Joins, meets_more}
 
@@ -114,8 +116,8 @@ unfolding way_after
 way_none None = refl
 way_none (Some w) = refl
 
-pub goes_none : (x : Seen) (way : Option Way) (Told : List Event → Type 0) → Told [] → Goes 0 x x way way Told
-goes_none x way Told quiet = (
+pub goes_none : (wanted : Bool) (x : Seen) (way : Option Way) (Told : List Event → Type 0) → Told [] → Goes wanted None 0 x x way way Told
+goes_none wanted x way Told quiet = (
   [],
   refl,
   way_none way,
@@ -129,20 +131,21 @@ goes_none x way Told quiet = (
       lost_none x.left,
       λ later may o log.
           let s = shown x Going (bytes_to_come later) o log in (
-            (under_none way s, executed_none s []),
+            (under_none way s, executed_none s [], departs_none wanted s []),
             runs_none s [] ∙ ap₂ (λ (out : List ℕ) (events : List Event). shown x Going (bytes_to_come later) out events) (sym (append-nil o)) (sym (append-nil log)),
           ),
     ),
   ),
 )
 
-pub goes_more : (n : ℕ) (x y z : Seen) (way v way' : Option Way) (A B : Type 0) (Before Behind Told : List Event → Type 0) → Joins Before Behind Told → Goes n x y way v Before → Turns None y z v way' A B Behind → Goes (n + 1) x z way way' Told
-goes_more n x y z way v way' A B Before Behind Told joins g (inl t) = absurd (none-some _ t.1)
-goes_more n x y z way v way' A B Before Behind Told joins g (inr t) = (
+pub goes_more : (wanted : Bool) (place place' : Option ℕ) (n : ℕ) (x y z : Seen) (way v way' : Option Way) (A B : Type 0) (Before Behind Told : List Event → Type 0) → Joins Before Behind Told → Goes wanted place n x y way v Before → Turns None y z v way' A B Behind
+    → Notes wanted place place' y z Going → Goes wanted place' (n + 1) x z way way' Told
+goes_more wanted place place' n x y z way v way' A B Before Behind Told joins g (inl t) noted = absurd (none-some _ t.1)
+goes_more wanted place place' n x y z way v way' A B Before Behind Told joins g (inr t) noted = (
   g.0 ++ t.0 ∷ [],
   omega (arith, length-append g.0 (t.0 ∷ []), g.1),
   way_more way v way' _ t.0 n g.2 t.2,
-  meets_more x y z Going way v way' Before Behind Told joins g.0 t.0 n g.1 g.2 t.2 g.3 t.3,
+  meets_more wanted place place' x y z Going noted way v way' Before Behind Told joins g.0 t.0 n g.1 g.2 t.2 g.3 t.3,
 )
 
 -- the causes at the outside, seen from an earlier time
@@ -150,41 +153,83 @@ pub turns_since : (r : Option Stopped) (x y : Seen) (way way' : Option Way) (A B
 turns_since r x y way way' A B A' B' Told f k (inl t) = inl t
 turns_since r x y way way' A B A' B' Told f k (inr t) = inr (t.0, t.1, t.2, outcomes_map r (λ stop m. m) (λ i. (i.0, i.1, i.2, f i.3)) (λ o. (o.0, o.1, o.2, k o.3)) (λ w. w) t.3)
 
-pub goes_at : (x y : Seen) (way way' : Option Way) (Told : List Event → Type 0) (n m : ℕ) → n ≡ m → Goes n x y way way' Told → Goes m x y way way' Told
-goes_at x y way way' Told n m e g = subst (λ k. Goes k x y way way' Told) e g
+pub goes_at : (wanted : Bool) (place : Option ℕ) (x y : Seen) (way way' : Option Way) (Told : List Event → Type 0) (n m : ℕ) → n ≡ m → Goes wanted place n x y way way' Told → Goes wanted place m x y way way' Told
+goes_at wanted place x y way way' Told n m e g = subst (λ k. Goes wanted place k x y way way' Told) e g
+
+pub goes_placed : (wanted : Bool) (place place' : Option ℕ) (n : ℕ) (x y : Seen) (way way' : Option Way) (Told : List Event → Type 0) → place ≡ place' → Goes wanted place n x y way way' Told → Goes wanted place' n x y way way' Told
+goes_placed wanted place place' n x y way way' Told e g = subst (λ (p : Option ℕ). Goes wanted p n x y way way' Told) e g
 
 -- ---- instructions that just go on
 
-pub one_more_goes : (n m : ℕ) (s : Stepped) (hart h hart' : Hart) (room r room' : Room) (way w way' : Option Way) → suc n ≡ m → s ≡ over.Next
-    → GoOn n hart h room r way w → Steps s h hart' r room' w way' → GoOn m hart hart' room room' way way'
-one_more_goes n m s hart h hart' room r room' way w way' e next before last =
-    subst (λ k. GoOn k hart hart' room room' way way') e (h, r, w, before, subst (λ (t : Stepped). Steps t h hart' r room' w way') next last)
+-- nothing is noted where no place is wanted
+pub unnoted : (floor : ℕ) (s : Stepped) (from to : ℕ) (place : Option ℕ) → place ≡ noted false s floor from to place
+unnoted floor over.Next from to place = refl
+unnoted floor over.Call from to place = refl
+unnoted floor (over.Fault why) from to place = refl
+unnoted floor over.Memory from to place = refl
 
-pub goes_all : (n m : ℕ) (hart hart' : Hart) (room room' : Room) (way way' : Option Way) → n ≡ m → GoOn n hart hart' room room' way way' → GoOn m hart hart' room room' way way'
-goes_all n m hart hart' room room' way way' e g = subst (λ k. GoOn k hart hart' room room' way way') e g
+-- nor behind an instruction that doesn't just go on
+pub others_unnoted : (wanted : Bool) (floor : ℕ) (s : Stepped) (from to : ℕ) (place : Option ℕ) → (s ≡ over.Next → ⊥) → place ≡ noted wanted s floor from to place
+others_unnoted wanted floor over.Next from to place other = absurd (other refl)
+others_unnoted wanted floor over.Call from to place other = refl
+others_unnoted wanted floor (over.Fault why) from to place other = refl
+others_unnoted wanted floor over.Memory from to place other = refl
 
--- the last of some is the one behind the others
-pub ends_with_one : (steps : ℕ) (hart hart' : Hart) (room room' : Room) (way way' : Option Way) → 0 < steps → GoOn steps hart hart' room room' way way'
-    → Strides steps (record { stepped = over.Next; left = 0 }) hart hart' room room' way way'
-ends_with_one zero hart hart' room room' way way' some g = absurd (omega (arith, some))
-ends_with_one (suc n) hart hart' room room' way way' some g = (n, g.0, g.1, g.2, omega arith, g.3, g.4)
+module _ (wanted : Bool) (floor : ℕ) where
+  pub one_more_goes : (n m : ℕ) (s : Stepped) (hart h hart' : Hart) (room r room' : Room) (way w way' : Option Way) (place p place' : Option ℕ) → suc n ≡ m → s ≡ over.Next
+      → GoOn wanted floor n hart h room r way w place p → Steps s h hart' r room' w way' → place' ≡ noted wanted over.Next floor h.pc hart'.pc p → GoOn wanted floor m hart hart' room room' way way' place place'
+  one_more_goes n m s hart h hart' room r room' way w way' place p place' e next before last note =
+      subst (λ k. GoOn wanted floor k hart hart' room room' way way' place place') e (h, r, w, p, before, subst (λ (t : Stepped). Steps t h hart' r room' w way') next last, note)
+
+  pub goes_all : (n m : ℕ) (hart hart' : Hart) (room room' : Room) (way way' : Option Way) (place place' : Option ℕ) → n ≡ m
+      → GoOn wanted floor n hart hart' room room' way way' place place' → GoOn wanted floor m hart hart' room room' way way' place place'
+  goes_all n m hart hart' room room' way way' place place' e g = subst (λ k. GoOn wanted floor k hart hart' room room' way way' place place') e g
+
+  -- the last of some is the one behind the others
+  pub ends_with_one : (steps : ℕ) (hart hart' : Hart) (room room' : Room) (way way' : Option Way) (place place' : Option ℕ) → 0 < steps → GoOn wanted floor steps hart hart' room room' way way' place place'
+      → Strides wanted floor steps (record { stepped = over.Next; left = 0 }) hart hart' room room' way way' place place'
+  ends_with_one zero hart hart' room room' way way' place place' some g = absurd (omega (arith, some))
+  ends_with_one (suc n) hart hart' room room' way way' place place' some g = (n, g.0, g.1, g.2, g.3, omega arith, g.4, g.5, g.6)
+
+-- what was noted behind an instruction, where the run goes on behind it
+call_stays : (hart hart' : Hart) (room room' : Room) (way way' : Option Way) → Steps over.Call hart hart' room room' way way' → hart'.pc ≡ hart.pc
+call_stays hart hart' room room' way way' (inl n) = ap (λ (h : Hart). h.pc) n.2
+call_stays hart hart' room room' way way' (inr t) = ap (λ (h : Hart). h.pc) t.4.0
+
+pub notes_settled : (wanted : Bool) (s : Stepped) (e : Engine) (actions : List Action) (left written : Option (List ℕ)) (z : Seen) (hart' : Hart) (room' : Room) (way way' : Option Way) (place place' : Option ℕ) (A B : Type 0) (Told : List Event → Type 0)
+    → Steps s e.hart hart' e.memory room' way way' → Settles s None (stepped (seen e actions left written) hart' room') z A B Told → place' ≡ noted wanted s (floor e.image) e.hart.pc hart'.pc place
+    → Notes wanted place place' (seen e actions left written) z Going
+notes_settled wanted over.Next e actions left written z hart' room' way way' place place' A B Told steps after note =
+    note ∙ ap (λ (to : ℕ). if wanted then departed_by (floor e.image) Going e.hart.pc to place else place) (sym (ap (λ (w : Seen). w.pc) after.1))
+notes_settled wanted over.Call e actions left written z hart' room' way way' place place' A B Told steps after note =
+    note ∙ call_notes wanted place (request_of (reg hart'.regs 17)) (seen e actions left written) (stepped (seen e actions left written) hart' room') z Told (call_stays e.hart hart' e.memory room' way way' steps) after
+notes_settled wanted (over.Fault why) e actions left written z hart' room' way way' place place' A B Told steps after note = absurd (none-some _ after.0)
+notes_settled wanted over.Memory e actions left written z hart' room' way way' place place' A B Told steps after note = absurd (none-some _ after.0)
+
+-- and where it doesn't
+pub nothing_noted : (wanted : Bool) (s : Stepped) (stopped : Stopped) (x z : Seen) (floor from to : ℕ) (place : Option ℕ) (A B : Type 0) (Told : List Event → Type 0) → Settles s (Some stopped) x z A B Told → noted wanted s floor from to place ≡ place
+nothing_noted wanted over.Next stopped x z floor from to place A B Told after = absurd (none-some _ (sym after.0))
+nothing_noted wanted over.Call stopped x z floor from to place A B Told after = refl
+nothing_noted wanted (over.Fault why) stopped x z floor from to place A B Told after = refl
+nothing_noted wanted over.Memory stopped x z floor from to place A B Told after = refl
 
 -- they are instructions of the walk, of which no probe hears
-module _ (k : ℕ) (x : Seen) (e : Engine) (actions : List Action) (left written : Option (List ℕ)) (way v : Option Way) (Told Behind : List Event → Type 0)
-    (joins : Joins Told Behind Told) (quiet : Behind []) (before : Goes k x (seen e actions left written) way v Told) where
+module _ (wanted : Bool) (k : ℕ) (x : Seen) (e : Engine) (actions : List Action) (left written : Option (List ℕ)) (way v : Option Way) (place : Option ℕ) (start : ℕ) (same : start ≡ floor e.image) (Told Behind : List Event → Type 0)
+    (joins : Joins Told Behind Told) (quiet : Behind []) (before : Goes wanted place k x (seen e actions left written) way v Told) where
   abbrev on : Hart → Room → Seen
   on hart room = stepped (seen e actions left written) hart room
 
-  pub goes_on : (n : ℕ) (hart' : Hart) (room' : Room) (way' : Option Way) → GoOn n e.hart hart' e.memory room' v way' → Goes (k + n) x (on hart' room') way way' Told
-  goes_on zero hart' room' way' g =
-      goes_at x (on hart' room') way way' Told k (k + 0) (omega arith)
-      (subst (λ (w : Option Way). Goes k x (on hart' room') way w Told) (sym g.2)
-      (subst (λ (y : Seen). Goes k x y way v Told) (sym (same_stepped (seen e actions left written) e.hart hart' e.memory room' g.0 g.1)) before))
-  goes_on (suc n) hart' room' way' g =
-      let h = g.0 in let r = g.1 in let w = g.2 in
-      goes_at x (on hart' room') way way' Told (k + n + 1) (k + suc n) (omega arith)
-      (goes_more (k + n) x (on h r) (on hart' room') way w way' ⊥ ⊥ Told Behind Told joins (goes_on n h r w g.3)
-      (turns_by (record e { hart = h; memory = r }) actions left written None (on hart' room') hart' room' w way' ⊥ ⊥ Behind over.Next g.4 (refl, refl, quiet)))
+  pub goes_on : (n : ℕ) (hart' : Hart) (room' : Room) (way' : Option Way) (place' : Option ℕ) → GoOn wanted start n e.hart hart' e.memory room' v way' place place' → Goes wanted place' (k + n) x (on hart' room') way way' Told
+  goes_on zero hart' room' way' place' g =
+      goes_at wanted place' x (on hart' room') way way' Told k (k + 0) (omega arith)
+      (subst (λ (p : Option ℕ). Goes wanted p k x (on hart' room') way way' Told) (sym g.3)
+      (subst (λ (w : Option Way). Goes wanted place k x (on hart' room') way w Told) (sym g.2)
+      (subst (λ (y : Seen). Goes wanted place k x y way v Told) (sym (same_stepped (seen e actions left written) e.hart hart' e.memory room' g.0 g.1)) before)))
+  goes_on (suc n) hart' room' way' place' g =
+      let h = g.0 in let r = g.1 in let w = g.2 in let p = g.3 in
+      goes_at wanted place' x (on hart' room') way way' Told (k + n + 1) (k + suc n) (omega arith)
+      (goes_more wanted p place' (k + n) x (on h r) (on hart' room') way w way' ⊥ ⊥ Told Behind Told joins (goes_on n h r w p g.4)
+      (turns_by (record e { hart = h; memory = r }) actions left written None (on hart' room') hart' room' w way' ⊥ ⊥ Behind over.Next g.5 (refl, refl, quiet)) (g.6 ∙ ap (λ (f : ℕ). noted wanted over.Next f h.pc hart'.pc p) same))
 
 -- ---- a step with the word that was fetched
 

@@ -1,5 +1,6 @@
 pub mod Runs
 pub mod Commits
+pub mod Departures
 pub mod Engines
 pub mod Snapshots
 pub mod Logging

@@ -1,5 +1,5 @@
 -- What the code holds of a state, and that what it does to it is what a definition does to the state.
-use Rattle.std.specs.Prelude.{ℕ, zero, suc, ◌+◌, ◌-◌, ◌≡◌, ◌%◌, ◌^◌, ◌<◌, ◌⊎◌, ◌∷◌, Bool, false, List, [], ◌++◌, length, map, slice_get, Option, Some, None, option_map, IsSomeAnd, Ok}
+use Rattle.std.specs.Prelude.{ℕ, zero, suc, ◌+◌, ◌-◌, ◌≡◌, ◌%◌, ◌^◌, ◌<◌, ◌⊎◌, ◌∷◌, Bool, false, List, [], ◌++◌, length, map, slice_get, Option, Some, None, option_map, IsSomeAnd, Ok, if◌then◌else◌}
 use Rattle.mv_num.specs.Words.{add}
 use Rattle.mv_bindings.specs.declared.binding.Binding.{Binding}
 use Rattle.mv_bindings.specs.declared.action.Action.{Action}
@@ -24,7 +24,8 @@ use Rattle.mv_machine.specs.declared.machine.Stopped.TheVariants as answer
 use Rattle.mv_patch.specs.Plans.{plan_between}
 use Rattle.mv_machine.specs.Commits.{is_some_pair}
 use Rattle.mv_machine.specs.Runs.{State, Stop, Going, Exit, Trap, Fault, Request, Reads, Writes, request_of, environment_call, word_read, bytes_to_come, turn, runs_from, executed}
-use Rattle.mv_machine.specs.Snapshots.{Under, is_input_fault, is_output_fault}
+use Rattle.mv_machine.specs.Departures.{departed_by}
+use Rattle.mv_machine.specs.Snapshots.{Under, Departs, is_input_fault, is_output_fault}
 
 -- an engine, the actions that are left, and what the source and the sink tell
 pub record Seen : Type 0 where
@@ -144,17 +145,27 @@ Steps result hart hart' room room' way way' =
     ⊎ ((pick : ℕ) × (pick < count) × Follows way way' count pick
     × Gives (picked_step room pick hart.regs hart.pc) result hart' room' × Stays result hart hart' room room' × Wants result (picked_target room pick hart.regs hart.pc) room)
 
--- so many instructions that just go on
-abbrev pub GoOn : ℕ → Hart → Hart → Room → Room → Option Way → Option Way → Type 0
-GoOn zero hart hart' room room' way way' = (hart' ≡ hart) × (room' ≡ room) × (way' ≡ way)
-GoOn (suc n) hart hart' room room' way way' =
-    (h : Hart) × (r : Room) × (w : Option Way) × GoOn n hart h room r way w × Steps stepped.Next h hart' r room' w way'
+-- what is noted of the place behind an instruction that goes from one address to another, where it is wanted
+abbrev pub noted : (wanted : Bool) → Stepped → (floor from to : ℕ) → (place : Option ℕ) → Option ℕ
+noted wanted stepped.Next floor from to place = if wanted then departed_by floor Going from to place else place
+noted wanted stepped.Call floor from to place = place
+noted wanted (stepped.Fault why) floor from to place = place
+noted wanted stepped.Memory floor from to place = place
 
--- some instructions that just go on, and one behind them; so many of them with those that are left
-abbrev pub Strides : (steps : ℕ) → Stride → Hart → Hart → Room → Room → Option Way → Option Way → Type 0
-Strides steps stride hart hart' room room' way way' =
-    (n : ℕ) × (h : Hart) × (r : Room) × (w : Option Way)
-    × (n + 1 + stride.left ≡ steps) × GoOn n hart h room r way w × Steps stride.stepped h hart' r room' w way'
+module _ (wanted : Bool) (floor : ℕ) where
+  -- so many instructions that just go on, with the place that is noted
+  abbrev pub GoOn : ℕ → Hart → Hart → Room → Room → Option Way → Option Way → (place place' : Option ℕ) → Type 0
+  GoOn zero hart hart' room room' way way' place place' = (hart' ≡ hart) × (room' ≡ room) × (way' ≡ way) × (place' ≡ place)
+  GoOn (suc n) hart hart' room room' way way' place place' =
+      (h : Hart) × (r : Room) × (w : Option Way) × (p : Option ℕ)
+      × GoOn n hart h room r way w place p × Steps stepped.Next h hart' r room' w way' × (place' ≡ noted wanted stepped.Next floor h.pc hart'.pc p)
+
+  -- some instructions that just go on, and one behind them; so many of them with those that are left
+  abbrev pub Strides : (steps : ℕ) → Stride → Hart → Hart → Room → Room → Option Way → Option Way → (place place' : Option ℕ) → Type 0
+  Strides steps stride hart hart' room room' way way' place place' =
+      (n : ℕ) × (h : Hart) × (r : Room) × (w : Option Way) × (p : Option ℕ)
+      × (n + 1 + stride.left ≡ steps) × GoOn n hart h room r way w place p × Steps stride.stepped h hart' r room' w way'
+      × (place' ≡ noted wanted stride.stepped floor h.pc hart'.pc p)
 
 -- what follows an instruction: nothing where it goes on, the environment call, or an answer
 abbrev pub Settles : Stepped → Option Stopped → Seen → Seen → (input_rose output_rose : Type 0) → (Told : List Event → Type 0) → Type 0
@@ -171,23 +182,23 @@ Turns result x y way way' input_rose output_rose Told =
     ⊎ ((pick : ℕ) × (pick < count) × Follows way way' count pick
     × Outcomes result (λ stop. Moves (λ s. turn s pick) x y stop Told) ((y ≡ x) × Told [] × Called x pick Reads × input_rose) ((y ≡ x) × Told [] × Called x pick Writes × output_rose) ((y ≡ x) × Told [] × Wanting x pick))
 
--- so many instructions, none of which ended the run
-abbrev pub Goes : (n : ℕ) → Seen → Seen → Option Way → Option Way → (Told : List Event → Type 0) → Type 0
-Goes n x y way way' Told =
+-- so many instructions, none of which ended the run, with the place that is noted
+abbrev pub Goes : (wanted : Bool) → (place : Option ℕ) → (n : ℕ) → Seen → Seen → Option Way → Option Way → (Told : List Event → Type 0) → Type 0
+Goes wanted place n x y way way' Told =
     (picks : List ℕ) × (length picks ≡ n) × (way' ≡ option_map (λ w. way_after w n) way)
-    × Meets (λ s. Under way s picks × (executed s picks n ≡ n)) (λ s. runs_from s picks n) x y Going Told
+    × Meets (λ s. Under way s picks × (executed s picks n ≡ n) × Departs wanted place s picks n) (λ s. runs_from s picks n) x y Going Told
 
 -- what was told, and behind a list of events those as well
 abbrev pub WithEvents : {P : Type 0} → (Told : P → P → List Event → Type 0) → (P × List Event) → (P × List Event) → List Event → Type 0
 WithEvents Told was now news = Told was.0 now.0 news × (now.1 ≡ was.1 ++ news)
 
--- A walk of at most so many instructions, of which so many were fetched: all of them, or some and then one that stopped it. `Told p q events`: probes that were p
--- are q behind these events.
-abbrev pub Walked : {P : Type 0} → (Told : P → P → List Event → Type 0) → (p q : P) → (steps : ℕ) → Option Stopped → (fetched : ℕ) → Seen → Seen → Option Way → Option Way → (input_rose output_rose : Type 0) → Type 0
-Walked Told p q steps None fetched x y way way' input_rose output_rose = (fetched ≡ steps) × Goes steps x y way way' (Told p q)
-Walked {P} Told p q steps (Some stopped) fetched x y way way' input_rose output_rose =
+-- A walk of at most so many instructions, of which so many were fetched: all of them, or some and then one that stopped it, which departs from nowhere.
+-- `Told p q events`: probes that were p are q behind these events.
+abbrev pub Walked : {P : Type 0} → (Told : P → P → List Event → Type 0) → (p q : P) → (wanted : Bool) → (place : Option ℕ) → (steps : ℕ) → Option Stopped → (fetched : ℕ) → Seen → Seen → Option Way → Option Way → (input_rose output_rose : Type 0) → Type 0
+Walked Told p q wanted place steps None fetched x y way way' input_rose output_rose = (fetched ≡ steps) × Goes wanted place steps x y way way' (Told p q)
+Walked {P} Told p q wanted place steps (Some stopped) fetched x y way way' input_rose output_rose =
     (n : ℕ) × (mid : Seen) × (probes : P) × (v : Option Way)
-    × (n < steps) × (fetched ≡ n + 1) × Goes n x mid way v (Told p probes) × Turns (Some stopped) mid y v way' input_rose output_rose (Told probes q)
+    × (n < steps) × (fetched ≡ n + 1) × Goes wanted place n x mid way v (Told p probes) × Turns (Some stopped) mid y v way' input_rose output_rose (Told probes q)
 
 -- how many of the instructions that were fetched were executed: not the one that was not carried out
 abbrev pub executed_of : Option Stopped → (fetched : ℕ) → ℕ

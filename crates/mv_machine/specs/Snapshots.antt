@@ -1,5 +1,5 @@
 -- What contracts see of a machine between two calls of `run`, and what such a call has done.
-use Rattle.std.specs.Prelude.{ℕ, ◌≡◌, ◌+◌, ◌-◌, ◌<◌, Bool, true, false, List, [], ◌++◌, length, map, slice_index, Option, Some, None, option_map, IfSome, IsSomeAnd, ◌%◌}
+use Rattle.std.specs.Prelude.{ℕ, ◌≡◌, ◌+◌, ◌-◌, ◌<◌, Bool, true, false, List, [], ◌++◌, length, map, slice_index, Option, Some, None, option_map, IfSome, IsSomeAnd, if◌then◌else◌, ◌%◌}
 use Rattle.mv_bindings.specs.declared.binding.Binding.{Binding}
 use Rattle.mv_bindings.specs.declared.binding.Event.{Event}
 use Rattle.mv_bindings.specs.declared.action.Action.{Action}
@@ -14,6 +14,7 @@ use Rattle.mv_io.specs.Outside.{OnInput}
 use Rattle.mv_probe.specs.Ways.{Way, pick_of, way_after}
 use Rattle.mv_machine.specs.declared.machine.Stopped.{Stopped}
 use Rattle.mv_machine.specs.declared.machine.Stopped.TheVariants as answer
+use Rattle.mv_machine.specs.Departures.{departed}
 use Rattle.mv_machine.specs.Runs.{State, Stop, Going, Exit, Trap, Fault, Request, Reads, Writes, request_of, bytes_to_come, choices_at, fetched_step, runs_from, executed}
 
 -- its image, registers, pc, memory, bindings, and the answer of the run where it has ended
@@ -99,16 +100,21 @@ Counts answer.InputFault steps s picks count = count + 1 ≡ length picks
 Counts answer.OutputFault steps s picks count = count + 1 ≡ length picks
 Counts answer.Memory steps s picks count = count + 1 ≡ length picks
 
+-- where the place is wanted the departure of so many instructions, and else none
+abbrev pub Departs : (wanted : Bool) → Option ℕ → State → (picks : List ℕ) → (count : ℕ) → Type 0
+Departs wanted place s picks count = place ≡ (if wanted then departed s picks count else None)
+
 -- What a call of `run` does on a machine that has not ended: there are picks, those of the oracle's way where it tells one, and bytes that were taken of the
--- source. Whatever may come behind these, the run with these picks on both is the defined one, leaves what comes behind, and has executed so many instructions.
-pub record Ran (steps : ℕ) (answer : Stopped) (count : ℕ) (was is : Snapshot) (actions : List Action) (left left' written written' : Option (List ℕ)) (way way' : Option Way) (input_rose output_rose : Type 0) (Told : List Event → Type 0) : Type 0 where
+-- source. Whatever may come behind these, the run with these picks on both is the defined one, leaves what comes behind, and has executed so many instructions,
+-- of which this is the departure.
+pub record Ran (steps : ℕ) (answer : Stopped) (count : ℕ) (wanted : Bool) (place : Option ℕ) (was is : Snapshot) (actions : List Action) (left left' written written' : Option (List ℕ)) (way way' : Option Way) (input_rose output_rose : Type 0) (Told : List Event → Type 0) : Type 0 where
   pub image : is.image ≡ was.image
   pub picks : List ℕ
   pub way_is : way' ≡ option_map (λ w. way_after w (length picks)) way
   pub run : OnInput left left' (λ taken later.
       let s = resumed was (bytes_to_come (taken ++ later)) actions in
       Under way s picks × Answered answer steps s picks (λ e stop. Reached e stop is (bytes_to_come later) written written' Told) input_rose output_rose
-      × Counts answer steps s picks count)
+      × Counts answer steps s picks count × Departs wanted place s picks count)
 
 -- the log is these events, where it was kept
 abbrev pub Logs : Option (List Event) → List Event → Type 0

@@ -10,7 +10,9 @@
 //!   answer both counts are as before, so a device that failed is asked nothing more. A machine that has ended gives its
 //!   answer again and does nothing. Each probe that is left was told the log of the state, in order, up to the event at
 //!   which it left. A report has how many instructions were executed and, where it was asked for and there was memory
-//!   for it, exactly that log. `bindings` and `word` are the state's.
+//!   for it, exactly that log; and where it was asked for, exactly the departure of these instructions, which is from
+//!   where they went last to another place than the next in the words of functions (`specs/Departures.antt`).
+//!   `bindings` and `word` are the state's.
 //! - An order and a poll are part of that definition: with a live frame they change nothing, nor does an order in another
 //!   hart than 0; else the plan of `mv_patch` is in the plan area, the bindings are its own, and the log has an event for
 //!   each that differs. Text is stored by the program alone, but for the words that come with bindings which a poll of
@@ -27,6 +29,7 @@
 #![tactic(auto)]
 
 mod call;
+mod departures;
 mod engine;
 pub mod laws;
 mod logging;

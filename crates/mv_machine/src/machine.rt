@@ -54,6 +54,9 @@ pub struct Report {
     pub executed: u64,
     /// The changed bindings in order, where the log was wanted and there was memory for all of it.
     pub log: Option<List<Event>>,
+    /// Where the place was wanted, the address of the last executed instruction in the words of functions behind which the run went on elsewhere than at the
+    /// next; none where there is no such instruction.
+    pub departed: Option<u32>,
 }
 
 /// An image, hart 0, its memory and the bindings of the attributed functions, and the last answer where a run has ended.
@@ -88,12 +91,14 @@ impl Machine {
     }
 
     /// Runs so many instructions, or up to the one that ends the run. After `Steps` a further call goes on; after any other answer it gives this
-    /// answer again and does nothing, without a log. A poll takes the next of the actions. Each probe is told each changed binding at the environment
-    /// call that changes it, until it leaves. Where the log is wanted, the report has it, unless memory lacked for it; else it has none.
+    /// answer again and does nothing, without a log or a departure. A poll takes the next of the actions. Each probe is told each changed binding at the
+    /// environment call that changes it, until it leaves. Where the log is wanted, the report has it, unless memory lacked for it; else it has none.
+    /// Where places are wanted, it has the departure of the run; else none.
     pub fn run<I: Source, O: Sink>(
         &mut self,
         alloc: Global,
         logs: bool,
+        places: bool,
         steps: u64,
         source: &mut I,
         sink: &mut O,
@@ -104,14 +109,14 @@ impl Machine {
         requires patient { All (λ probe. IsPatient (hearing (told probe) (patience probe))) probes.old.items }
         requires fit { All (λ action. IsTrue (fits self.old.image.switches action)) actions.now }
 
-        ensures runs { Unless self.old.last ((events : List Event) × Logs result.log events × Ran steps result.stopped result.executed self.old self.new actions.now
+        ensures runs { Unless self.old.last ((events : List Event) × Logs result.log events × Ran steps result.stopped result.executed places result.departed self.old self.new actions.now
             (I.left source.old) (I.left source.new) (O.written sink.old) (O.written sink.new) (way oracle.old) (way oracle.new)
             (Rose (I.faults source.old) (I.faults source.new)) (Rose (O.faults sink.old) (O.faults sink.new))
             (λ news. Fates (Becomes (λ probe. object_at probe.ptr probe.vtable) (λ probe. hearing (told probe) (patience probe)) news) probes.old.items probes.new.items × (events ≡ news))) }
         ensures unwanted { logs ≡ false → result.log ≡ None }
         ensures quiet { self.old.image.functions ≡ [] → self.old.image.pointers ≡ [] → probes.new ≡ probes.old }
         ensures last { self.old.last ≡ None → self.new.last ≡ last_of result.stopped }
-        ensures again { (last : Stopped) → self.old.last ≡ Some last → (result.stopped ≡ last) × (result.executed ≡ 0) × (result.log ≡ None) × (self.new ≡ self.old) × (source.new ≡ source.old) × (sink.new ≡ sink.old) × (way oracle.new ≡ way oracle.old) × (probes.new ≡ probes.old) }
+        ensures again { (last : Stopped) → self.old.last ≡ Some last → (result.stopped ≡ last) × (result.executed ≡ 0) × (result.log ≡ None) × (result.departed ≡ None) × (self.new ≡ self.old) × (source.new ≡ source.old) × (sink.new ≡ sink.old) × (way oracle.new ≡ way oracle.old) × (probes.new ≡ probes.old) }
         ensures input { I.faults source.old ≤ I.faults source.new }
         ensures output { O.faults sink.old ≤ O.faults sink.new }
         ensures reading { CountAfter (is_input_fault result.stopped) (I.faults source.old) (I.faults source.new) }
@@ -122,6 +127,7 @@ impl Machine {
                 stopped: last,
                 executed: 0,
                 log: None,
+                departed: None,
             };
         }
         let mut operator = Operator::new(actions);
@@ -130,6 +136,7 @@ impl Machine {
             &mut self.engine,
             &mut operator,
             &mut log,
+            places,
             steps,
             source,
             sink,
@@ -141,6 +148,7 @@ impl Machine {
             stopped: walked.stopped.unwrap_or(Stopped::Steps),
             executed: walked.executed(),
             log: events_of(log),
+            departed: walked.place,
         }
     }
 

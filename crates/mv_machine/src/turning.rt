@@ -1,6 +1,6 @@
 //! One instruction after the other.
 
-ghost use Rattle.std.specs.Prelude.{◌≡◌, ◌≤◌, ◌<◌, [], false, length, All, IfSome, List};
+ghost use Rattle.std.specs.Prelude.{ℕ, ◌≡◌, ◌≤◌, ◌<◌, [], false, true, length, All, IfSome, List, Option};
 ghost use Rattle.mv_bindings.specs.declared.binding.Event.{Event};
 ghost use Rattle.mv_fetch.specs.Held.{choices};
 ghost use Rattle.mv_io.specs.Outside.{Rose, CountAfter};
@@ -12,6 +12,7 @@ ghost use Rattle.mv_machine.specs.Logging.{Adds, HasCome, Notes};
 ghost use Rattle.mv_machine.specs.Moves.{Fetched, Steps, Strides, Settles, Turns, TellsOpened, Walked, WithEvents, executed_of, seen, FaultAt, input_failed, output_failed};
 
 use crate::call::call;
+use crate::departures::{floor_of, note_departure};
 use crate::engine::Engine;
 use crate::logging::{Log, note};
 use crate::machine::Stopped;
@@ -52,6 +53,8 @@ fn fetched(memory: &Memory, address: u32, oracle: &mut Box<dyn FetchOracle>) -> 
 // The callers of `step`.
 struct ByGoOn;
 
+struct ByGoOnNoting;
+
 struct ByTurn;
 
 // The instruction at pc, up to what the environment has to do of it.
@@ -81,7 +84,7 @@ fn go_on(
     steps: u64,
 ) -> Stride
     requires { 0 < steps }
-    ensures { Strides steps result hart.old hart.new memory.old memory.new (way oracle.old) (way oracle.new) }
+    ensures { (floor : ℕ) (place : Option ℕ) → Strides false floor steps result hart.old hart.new memory.old memory.new (way oracle.old) (way oracle.new) place place }
 {
     let mut left = steps;
     while left > 0 {
@@ -95,6 +98,55 @@ fn go_on(
     Stride {
         stepped: Stepped::Next,
         left: 0,
+    }
+}
+
+// The same, and takes from each that just goes on whether the run departed there.
+#[inline(never)]
+fn go_on_noting(
+    hart: &mut Hart,
+    memory: &mut Memory,
+    oracle: &mut Box<dyn FetchOracle>,
+    steps: u64,
+    floor: u32,
+    place: &mut Option<u32>,
+) -> Stride
+    requires { 0 < steps }
+    ensures { Strides true floor steps result hart.old hart.new memory.old memory.new (way oracle.old) (way oracle.new) place.old place.new }
+{
+    let mut left = steps;
+    while left > 0 {
+        left -= 1;
+        let from = hart.pc;
+        let stepped = step::<ByGoOnNoting>(hart, memory, oracle);
+        match stepped {
+            Stepped::Next => note_departure(place, floor, from, hart.pc),
+            _ => return Stride { stepped, left },
+        }
+    }
+    Stride {
+        stepped: Stepped::Next,
+        left: 0,
+    }
+}
+
+// One of these two: the place is kept where it is wanted.
+fn take_stride(
+    hart: &mut Hart,
+    memory: &mut Memory,
+    oracle: &mut Box<dyn FetchOracle>,
+    steps: u64,
+    places: bool,
+    floor: u32,
+    place: &mut Option<u32>,
+) -> Stride
+    requires { 0 < steps }
+    ensures { Strides places floor steps result hart.old hart.new memory.old memory.new (way oracle.old) (way oracle.new) place.old place.new }
+{
+    if places {
+        go_on_noting(hart, memory, oracle, steps, floor, place)
+    } else {
+        go_on(hart, memory, oracle, steps)
     }
 }
 
@@ -175,6 +227,8 @@ pub(crate) struct Halt {
     pub(crate) stopped: Option<Stopped>,
     /// How many instructions were fetched.
     pub(crate) fetched: u64,
+    /// The departure of those that were executed, where it is wanted.
+    pub(crate) place: Option<u32>,
 }
 
 impl Halt {
@@ -190,11 +244,13 @@ impl Halt {
     }
 }
 
-/// So many instructions, and the answer of the run where one of them doesn't go on. A log that is kept has the event of each changed binding.
+/// So many instructions, and the answer of the run where one of them doesn't go on. A log that is kept has the event of each changed binding; the place is
+/// kept where it is wanted.
 pub(crate) fn walk<I: Source, O: Sink>(
     engine: &mut Engine,
     operator: &mut Operator,
     log: &mut Option<Log>,
+    places: bool,
     steps: u64,
     source: &mut I,
     sink: &mut O,
@@ -205,7 +261,7 @@ pub(crate) fn walk<I: Source, O: Sink>(
     requires come { HasCome engine.old.bindings log.old }
     ensures walked { (events : List Event) × Adds events log.old log.new
         × Walked (WithEvents (λ was now events. Fates (Becomes (λ probe. object_at probe.ptr probe.vtable) (λ probe. hearing (told probe) (patience probe)) events) was now)) (probes.old.items, []) (probes.new.items, events)
-        steps result.stopped result.fetched (seen engine.old operator.old (I.left source.old) (O.written sink.old)) (seen engine.new operator.new (I.left source.new) (O.written sink.new)) (way oracle.old) (way oracle.new)
+        places result.place steps result.stopped result.fetched (seen engine.old operator.old (I.left source.old) (O.written sink.old)) (seen engine.new operator.new (I.left source.new) (O.written sink.new)) (way oracle.old) (way oracle.new)
         (Rose (I.faults source.old) (I.faults source.new)) (Rose (O.faults sink.old) (O.faults sink.new)) }
     ensures some { IfSome result.stopped (λ stopped. 1 ≤ result.fetched) }
     ensures place { IfSome result.stopped (λ stopped. FaultAt stopped engine.new.hart.pc) }
@@ -217,12 +273,22 @@ pub(crate) fn walk<I: Source, O: Sink>(
     ensures reading { CountAfter (input_failed result.stopped) (I.faults source.old) (I.faults source.new) }
     ensures writing { CountAfter (output_failed result.stopped) (O.faults sink.old) (O.faults sink.new) }
 {
+    let floor = floor_of(&engine.image);
+    let mut place = None;
     let mut left = steps;
     while left > 0 {
         let Stride {
             stepped,
             left: behind,
-        } = go_on(&mut engine.hart, &mut engine.memory, oracle, left);
+        } = take_stride(
+            &mut engine.hart,
+            &mut engine.memory,
+            oracle,
+            left,
+            places,
+            floor,
+            &mut place,
+        );
         left = behind;
         let stopped = settle(stepped, engine, operator, source, sink, probes);
         note_bindings(log, engine);
@@ -230,11 +296,13 @@ pub(crate) fn walk<I: Source, O: Sink>(
             return Halt {
                 stopped: Some(stopped),
                 fetched: steps - left,
+                place,
             };
         }
     }
     Halt {
         stopped: None,
         fetched: steps,
+        place,
     }
 }

@@ -1,5 +1,5 @@
 -- What is written to the notes: the lines that were asked for, and the last line.
-use Rattle.std.specs.Prelude.{ℕ, ◌≡◌, ◌^◌, ◌-◌, Bool, true, false, if◌then◌else◌, Option, List, [], ◌∷◌, ◌++◌, codes}
+use Rattle.std.specs.Prelude.{ℕ, ◌≡◌, ◌^◌, ◌-◌, Bool, true, false, if◌then◌else◌, Option, Some, None, List, [], ◌∷◌, ◌++◌, codes}
 use Rattle.std.specs.Fmt.{decimal, digits, format_spec, padded_integral}
 use Rattle.mv_isa.specs.declared.instr.Cause.{Cause}
 use Rattle.mv_isa.specs.declared.instr.Cause.TheVariants as cause
@@ -9,7 +9,11 @@ use Rattle.mv_image.specs.Spelling.{Fields}
 use Rattle.mv_list.specs.Bindings.{bindings_text}
 use Rattle.mv_list.specs.Changes.{patched_text}
 use Rattle.mv_list.specs.Events.{events_text}
+use Rattle.mv_list.specs.Places.{place_text}
 use Rattle.mv_machine.specs.Snapshots.{Snapshot}
+use Rattle.mv_machine.specs.declared.machine.Report.{Report}
+use Rattle.mv_machine.specs.declared.machine.Stopped.{Stopped}
+use Rattle.mv_machine.specs.declared.machine.Stopped.TheVariants as stop
 use Rattle.mv_eval.specs.Grown.{Grew, GrewLess}
 use Rattle.mv_io.specs.Outside.{Rose}
 use Rattle.mv_front.specs.Refusals.{refusal_text}
@@ -70,13 +74,24 @@ is_silent (Differs offset) = false
 abbrev pub stats_line : ℕ → List ℕ
 stats_line count = codes "instructions " ++ (decimal count ++ codes "\n")
 
--- The lines that a run is asked for, of its image, of the machine as it stopped, of its log and of how many instructions were executed: each changed binding, what
--- each attributed function and then each pointer switch is bound to, the words of text that are other than the image's, and the number.
-abbrev pub asked_lines : RunOptions → Fields → Snapshot → (log : List Event) → (count : ℕ) → List ℕ
-asked_lines options image machine log count =
+-- from where a run departed last: the function in whose code that is, or the address
+abbrev pub place_line : Fields → Option ℕ → List ℕ
+place_line image None = []
+place_line image (Some address) = codes "at " ++ (place_text image address ++ codes "\n")
+
+-- that line is written of a run that trapped
+abbrev pub trap_line : Fields → Stopped → Option ℕ → List ℕ
+trap_line image (stop.Trapped code) place = place_line image place
+trap_line image other place = []
+
+-- The lines that a run is asked for, of its image, of the machine as it stopped, of its log and of what is reported: each changed binding, what each attributed
+-- function and then each pointer switch is bound to, the words of text that are other than the image's, and the number of instructions, with the place behind
+-- a trap.
+abbrev pub asked_lines : RunOptions → Fields → Snapshot → (log : List Event) → Report → List ℕ
+asked_lines options image machine log report =
     (if options.log then events_text image log else []) ++
     ((if options.bindings then bindings_text image machine.bindings else []) ++
-    ((if options.words then patched_text image machine.room.held else []) ++ (if options.stats then stats_line count else [])))
+    ((if options.words then patched_text image machine.room.held else []) ++ (if options.stats then stats_line report.executed ++ trap_line image report.stopped report.departed else [])))
 
 -- what the notes are owed: the lines that were asked for, and then the last line
 abbrev pub owed : (lines : List ℕ) → Status → List ℕ

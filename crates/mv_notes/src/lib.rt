@@ -2,8 +2,8 @@
 //!
 //! - `Status`: how a command ended, the text of which is the last line of the notes (`specs/Lines.antt`), and the status of the
 //!   process (`Status::number`).
-//! - `lines_of_run`: exactly the lines that a run is asked for, of its image, of the machine as it stopped, of its log and of the number of its instructions.
-//!   An error is want of memory, also where the log wasn't kept for it.
+//! - `lines_of_run`: exactly the lines that a run is asked for, of its image, of the machine as it stopped, of its log, of the number of its instructions and,
+//!   behind a trap, of the place from where it departed last. An error is want of memory, also where the log wasn't kept for it.
 //! - `report`: the notes grew by exactly the lines that were asked for and the last line, and the status is the one that was
 //!   due. With `Memory` and `OutputFault` nothing is written. Where there was no memory to make the lines, the notes are as
 //!   before and the status is `Memory`; where a write failed, they grew by less and the status is `OutputFault`,

@@ -7,15 +7,15 @@ ghost use Rattle.mv_list.specs.Bindings.{bindings_text};
 ghost use Rattle.mv_list.specs.Changes.{patched_text};
 ghost use Rattle.mv_list.specs.Events.{events_text};
 ghost use Rattle.mv_machine.specs.Snapshots.{Logs};
-ghost use Rattle.mv_notes.specs.Lines.{asked_lines, names_output, owed, stats_line, Noted};
+ghost use Rattle.mv_notes.specs.Lines.{asked_lines, names_output, owed, stats_line, trap_line, Noted};
 
 use crate::status::Status;
 use mv_command::RunOptions;
 use mv_eval::writing::write_all;
 use mv_image::Image;
 use mv_io::Sink;
-use mv_list::{bindings, events, patched};
-use mv_machine::{Machine, Report};
+use mv_list::{bindings, events, patched, place};
+use mv_machine::{Machine, Report, Stopped};
 use std::alloc::{AllocError, Global};
 
 /// What a command came to: its status, and the lines that it was asked for.
@@ -90,16 +90,38 @@ fn log_lines(
     }
 }
 
-// The line of the number of instructions, where it is wanted.
-fn stats_lines(alloc: Global, wanted: bool, report: &Report) -> Result<String, AllocError>
-    ensures { IfOk result (λ line. string_bytes line ≡ (if wanted then stats_line report.now.executed else [])) }
+// The line of the place from where a run departed last, where it trapped and there is one.
+fn trap_line(alloc: Global, image: &Image, report: &Report) -> Result<Vec<u8>, AllocError>
+    ensures { IfOk result (λ line. line.items ≡ trap_line image.now report.now.stopped report.now.departed) }
 {
+    let mut line = Vec::new(alloc);
+    if let (Stopped::Trapped(_), Some(address)) = (report.stopped, report.departed) {
+        let place = place(alloc, image, address)?;
+        line.extend_from_slice(b"at ")?;
+        line.extend_from_slice(place.as_slice())?;
+        line.push(b'\n')?;
+    }
+    Ok(line)
+}
+
+// The lines of the number of instructions and of the place, where they are wanted.
+fn stats_lines(
+    alloc: Global,
+    wanted: bool,
+    image: &Image,
+    report: &Report,
+) -> Result<Vec<u8>, AllocError>
+    ensures { IfOk result (λ lines. lines.items ≡ (if wanted then stats_line report.now.executed ++ trap_line image.now report.now.stopped report.now.departed else [])) }
+{
+    let mut lines = Vec::new(alloc);
     if wanted {
         let count = report.executed;
-        format!(in alloc; "instructions {count}\n")
-    } else {
-        Ok(String::new(alloc))
+        let line = format!(in alloc; "instructions {count}\n")?;
+        let place = trap_line(alloc, image, report)?;
+        lines.extend_from_slice(line.as_bytes())?;
+        lines.extend_from_slice(place.as_slice())?;
     }
+    Ok(lines)
 }
 
 /// The lines that a run is asked for, of its image, of the machine as it stopped and of what it did.
@@ -110,15 +132,15 @@ pub fn lines_of_run(
     machine: &Machine,
     report: &Report,
 ) -> Result<Vec<u8>, AllocError>
-    ensures { IfOk result (λ lines. (log : List Event) → Logs report.now.log log → lines.items ≡ asked_lines options.now image.now machine.now log report.now.executed) }
+    ensures { IfOk result (λ lines. (log : List Event) → Logs report.now.log log → lines.items ≡ asked_lines options.now image.now machine.now log report.now) }
 {
     let mut lines = log_lines(alloc, options.log, image, report)?;
     let bindings = binding_lines(alloc, options.bindings, image, machine)?;
     let words = word_lines(alloc, options.words, image, machine)?;
-    let stats = stats_lines(alloc, options.stats, report)?;
+    let stats = stats_lines(alloc, options.stats, image, report)?;
     lines.extend_from_slice(bindings.as_slice())?;
     lines.extend_from_slice(words.as_slice())?;
-    lines.extend_from_slice(stats.as_bytes())?;
+    lines.extend_from_slice(stats.as_slice())?;
     Ok(lines)
 }
 

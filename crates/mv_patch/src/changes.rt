@@ -1,113 +1,26 @@
 //! The words of text that change between two bindings.
 
-ghost use Rattle.std.specs.Prelude.{◌≡◌, ◌++◌, ◌+◌, ◌*◌, ◌≤◌, ◌<◌, ◌^◌, ℕ, length, slice_get, slice_index, None, Some, vec_capacity};
+ghost use Rattle.std.specs.Prelude.{◌≡◌, ◌++◌, ◌+◌, ◌*◌, ◌≤◌, ◌<◌, length, slice_index, vec_capacity};
 ghost use Rattle.mv_image.specs.Faults.{Rules};
-ghost use Rattle.mv_image.specs.Jumps.{jump, bound_words};
-ghost use Rattle.mv_image.specs.Patched.{Bindings, at_entry, at_site, after_site, text_of};
+ghost use Rattle.mv_image.specs.Patched.{text_of};
 ghost use Rattle.mv_patch.specs.Orders.{binding_count, values_of};
 ghost use Rattle.mv_patch.specs.Shown.{AreShown, Shows};
 ghost use Rattle.mv_patch.specs.Pairs.{pairs_between};
-ghost use Rattle.mv_patch.specs.Tables.{patchable, entries, site_words, point_words, word_of, change, change_at, changes_at, is_entry_next, is_point_next, IsPassed, count_passed, places_left};
+ghost use Rattle.mv_patch.specs.Tables.{patchable, entries, site_words, point_words, change, change_at, changes_at, is_entry_next, is_point_next, IsPassed, count_passed, places_left};
 
 use crate::bindings::bound_target;
 use crate::prepared::Pair;
+use crate::standing::{after_site, at_entry, at_point, at_site, point_at, site_at, text_word};
 use mv_bindings::binding::Binding;
-use mv_descriptors::{PointRow, SiteRow, VariantRow};
+use mv_descriptors::VariantRow;
 use mv_image::Image;
-use mv_image::facts::{fits_format, rows_fit, within_limits};
-use mv_num::regions::TEXT_START;
+use mv_image::facts::{fits_format, within_limits};
 
 /// What shows in text while some bindings hold: the bindings, and the variants that they lead functions to.
 #[derive(Clone, Copy)]
 pub(crate) struct Showing<'a> {
     pub(crate) bound: &'a [Binding],
     pub(crate) variants: &'a [Option<VariantRow>],
-}
-
-/// `addi x0, x0, 0`
-const NOP: u32 = 19;
-
-/// The word of the image at an address.
-fn text_word(image: &Image, address: u32) -> u32
-    ensures { result ≡ word_of image.now.text address }
-{
-    let index = address.saturating_sub(TEXT_START) / 4;
-    image.text().get(index as usize).copied().unwrap_or(0)
-}
-
-/// The word of `jal` with a register from one address to another.
-#[tactic(auto, unfolding(mv_image::specs::Jumps::jump))]
-fn jal(register: u32, from: u32, to: u32) -> u32
-    requires { register < 8 }
-    ensures { result ≡ jump register from to }
-{
-    let distance = (u64::from(to) + 0x20_0000).saturating_sub(u64::from(from)) % 0x20_0000;
-    let d = distance as u32;
-    d / 0x10_0000 % 2 * 0x8000_0000
-        + d / 2 % 1024 * 0x20_0000
-        + d / 2048 % 2 * 0x10_0000
-        + d / 4096 % 256 * 4096
-        + register * 128
-        + 111
-}
-
-/// What stands at an entry.
-fn at_entry(address: u32, word: u32, variant: Option<VariantRow>) -> u32
-    ensures { result ≡ at_entry address word variant }
-{
-    match variant {
-        None => word,
-        Some(variant) => jal(0, address, variant.address),
-    }
-}
-
-/// What stands at the first word of a site.
-fn at_site(address: u32, word: u32, variant: Option<VariantRow>) -> u32
-    ensures { result ≡ at_site address word variant }
-{
-    match variant {
-        None => word,
-        Some(variant) => {
-            if variant.inlined == 1 {
-                variant.words[0]
-            } else {
-                jal(1, address, variant.address)
-            }
-        }
-    }
-}
-
-/// What stands at its second word.
-fn after_site(address: u32, word: u32, variant: Option<VariantRow>) -> u32
-    ensures { result ≡ after_site address word variant }
-{
-    match variant {
-        None => word,
-        Some(variant) => if variant.inlined == 1 {
-            variant.words[1]
-        } else {
-            NOP
-        },
-    }
-}
-
-/// What stands at one of the four words of a pointer site, given the entry of the target.
-#[tactic(auto, unfolding(mv_image::specs::Jumps::bound_words))]
-fn at_point(check: u32, at: u32, place: usize, word: u32, target: Option<u32>) -> u32
-    requires place { place < 4 }
-    requires check { check + 8 < 2 ^ 32 }
-    requires at { at + 12 < 2 ^ 32 }
-    ensures none { target ≡ None → result ≡ word }
-    ensures some { (entry : ℕ) → target ≡ Some entry → result ≡ slice_index (bound_words check at entry) place }
-{
-    let Some(entry) = target else {
-        return word;
-    };
-    match place {
-        0 => jal(6, at, check + 8),
-        3 => jal(1, at + 12, entry),
-        _ => NOP,
-    }
 }
 
 /// Puts a pair at the end where a word changes.
@@ -123,18 +36,6 @@ fn push_change(pairs: &mut Vec<Pair>, address: u32, old: u32, new: u32)
     }
 }
 
-/// The row of a site.
-fn site_at(image: &Image, site: usize) -> SiteRow
-    requires { site < length image.now.sites }
-    ensures there { slice_get image.now.sites site ≡ Some result }
-    ensures function { result.function < length image.now.functions }
-    ensures address { result.address + 4 < 2 ^ 32 }
-{
-    within_limits(image);
-    rows_fit(image);
-    image.sites().as_slice()[site]
-}
-
 /// The address of a word of a site, of which each has two.
 fn site_word(image: &Image, word: usize) -> u32
     requires { word < 2 * length image.now.sites }
@@ -146,18 +47,6 @@ fn site_word(image: &Image, word: usize) -> u32
     } else {
         site.address + 4
     }
-}
-
-/// The row of a pointer site.
-fn point_at(image: &Image, point: usize) -> PointRow
-    requires { point < length image.now.points }
-    ensures there { slice_get image.now.points point ≡ Some result }
-    ensures pointer { result.pointer < length image.now.pointers }
-    ensures address { result.address + 12 < 2 ^ 32 }
-{
-    within_limits(image);
-    rows_fit(image);
-    image.points().as_slice()[point]
 }
 
 /// The address of a word of a pointer site, of which each has four.

@@ -10,6 +10,8 @@
 //! - `plan` fills a plan with exactly these, for all six orders. It answers `Live(live)` exactly where `live` is above 0,
 //!   and then the plan stays as it was. It takes no memory, and keeps the plan's room. It goes through the entries, the
 //!   sites and the pointer sites in ascending order, and not through all text.
+//! - `standing::{at_entry, at_site, after_site, at_point}` give what stands at an entry, at the words of a site and at those of a pointer site, by
+//!   the variant or the target that is bound there.
 //! - `laws::{pairs_law, tables_law, bindings_law}`: the pairs between two texts are all their differences and nothing
 //!   else, in ascending order, and the only such list; they are found at any ascending addresses that hold each address
 //!   at which the texts differ; the entries, the two words of each site and the four of each pointer site are such
@@ -25,6 +27,7 @@ pub mod laws;
 mod order;
 mod planning;
 mod prepared;
+pub mod standing;
 
 pub use order::Order;
 pub use planning::{PlanError, plan};

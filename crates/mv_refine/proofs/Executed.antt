@@ -1,5 +1,5 @@
 -- What the run of an image does that behaves as a program means.
-use Rattle.std.proofs.Common.{◌≡◌, ⊎_elim, ℕ, ◌^◌, ◌<◌, ◌≤◌, List, ◌++◌, length, map, Some, refl, sym, ap, ◌∙◌, subst, arith}
+use Rattle.std.proofs.Common.{◌≡◌, ⊎_elim, ℕ, Bool, ◌^◌, ◌<◌, ◌≤◌, List, ◌++◌, length, map, Some, refl, sym, ap, ◌∙◌, subst, arith}
 use Rattle.std.specs.Prelude.{slice_index, All, IsTrue, Result, Ok, Err}
 use Rattle.std.specs.declared.alloc.AllocError.{AllocError}
 use Rattle.std.proofs.lemmas.Bool.{cases_lt}
@@ -219,9 +219,9 @@ module _ (p : Program) (image : Fields) (behaves : BehavesAlways p image) (actio
 
 -- ---- what a run of the image of a program that was built is
 
-pub executes : (built : Built) (actions : List Action) (words : All IsOfWord actions) (fit : All (λ a. IsTrue (image_actions.fits built.image.switches a)) actions) (steps : ℕ) (before after : Environment) (Heard : List Event → Type 0) →
-    (result : Result Execution AllocError) → RunsImage built.image actions steps before after Heard result → Executes built actions steps before after Heard result
-executes built actions words fit steps before after Heard (Ok e) (log, logs, (picks, (taken, lost, each))) = (
+pub executes : (built : Built) (actions : List Action) (words : All IsOfWord actions) (fit : All (λ a. IsTrue (image_actions.fits built.image.switches a)) actions) (places : Bool) (steps : ℕ) (before after : Environment) (Heard : List Event → Type 0) →
+    (result : Result Execution AllocError) → RunsImage built.image actions places steps before after Heard result → Executes built actions places steps before after Heard result
+executes built actions words fit places steps before after Heard (Ok e) (log, logs, (picks, (taken, lost, each))) = (
   log,
   logs,
   (
@@ -241,10 +241,11 @@ executes built actions words fit steps before after Heard (Ok e) (log, logs, (pi
           record {
             runs = runs.0;
             count = runs.1;
+            place = runs.2;
             does = is;
             decides = λ behaves same told. decides p image actions steps before after (HeardAs Heard log) e.machine taken later stopped (is behaves same told);
           },
     ),
   ),
 )
-executes built actions words fit steps before after Heard (Err why) none = none
+executes built actions words fit places steps before after Heard (Err why) none = none

@@ -1,5 +1,5 @@
 -- From the contract of the machine to the one run that was made.
-use Rattle.std.proofs.Common.{◌≡◌, ℕ, List, [], ◌++◌, length, None, refl, ap, ◌∙◌, subst}
+use Rattle.std.proofs.Common.{◌≡◌, ℕ, Bool, Option, List, [], ◌++◌, length, None, refl, ap, ◌∙◌, subst}
 use Rattle.std.specs.Prelude.{option_map}
 use Rattle.mv_bindings.specs.declared.action.Action.{Action}
 use Rattle.mv_bindings.specs.declared.binding.Event.{Event}
@@ -9,7 +9,7 @@ use Rattle.mv_machine.specs.Acts.{PollActs, polls_of}
 use Rattle.mv_machine.specs.declared.machine.Stopped.{Stopped}
 use Rattle.mv_machine.specs.declared.machine.Stopped.TheVariants as answer
 use Rattle.mv_machine.specs.Runs.{State, Stop, Going, Exit, Trap, Fault, Reads, Writes, bytes_to_come, first, runs}
-use Rattle.mv_machine.specs.Snapshots.{Snapshot, kept, resumed, Under, Asks, WantsMemory, Reached, Whole, Faulted, Broken, Answered, Counts, Ran, Unless}
+use Rattle.mv_machine.specs.Snapshots.{Snapshot, kept, resumed, Under, Asks, WantsMemory, Reached, Whole, Faulted, Broken, Answered, Counts, Departs, Ran, Unless}
 use Rattle.mv_probe.specs.Ways.{way_after}
 use Rattle.mv_refine.specs.Environment.{Environment, OneRun, ReadFailed, WriteFailed}
 use Rattle.mv_refine.specs.Run.{IsDone, Stands, RanTo, FaultedAt, StandsBefore, Runs}
@@ -83,15 +83,16 @@ module _ (image : Fields) (polls : PollActs) (before after : Environment) (Told 
 
 -- ---- the answers of the machine
 
-module _ (image : Fields) (actions : List Action) (before after : Environment) (steps : ℕ) (stopped : Stopped) (count : ℕ) (Told : List Event → Type 0) (was is : Snapshot)
+module _ (image : Fields) (actions : List Action) (before after : Environment) (steps : ℕ) (stopped : Stopped) (count : ℕ) (places : Bool) (place : Option ℕ) (Told : List Event → Type 0) (was is : Snapshot)
     (fresh : was ≡ kept (first image [] (polls_of [])) None)
-    (ran : Ran steps stopped count was is actions before.input.left after.input.left before.output.written after.output.written before.way after.way
+    (ran : Ran steps stopped count places place was is actions before.input.left after.input.left before.output.written after.output.written before.way after.way
     (ReadFailed before after) (WriteFailed before after) Told) where
   abbrev polls : PollActs
   polls = polls_of actions
 
   pub made : OneRun before after (λ picks taken later.
-      Runs image (polls_of actions) before after Told is picks taken later steps stopped × Counts stopped steps (first image (bytes_to_come (taken ++ later)) (polls_of actions)) picks count)
+      Runs image (polls_of actions) before after Told is picks taken later steps stopped × Counts stopped steps (first image (bytes_to_come (taken ++ later)) (polls_of actions)) picks count
+      × Departs places place (first image (bytes_to_come (taken ++ later)) (polls_of actions)) picks count)
   made = (
     ran.picks,
     (
@@ -105,6 +106,7 @@ module _ (image : Fields) (actions : List Action) (before after : Environment) (
             runs_by image polls before after Told is ran.picks taken later ran.way_is (subst (λ (s : State). Under before.way s ran.picks) start r.0) steps stopped
                 (subst (λ (s : State). Answered stopped steps s ran.picks (λ e stop. Reached e stop is (bytes_to_come later) before.output.written after.output.written Told) (ReadFailed before after) (WriteFailed before after)) start r.1),
             subst (λ (s : State). Counts stopped steps s ran.picks count) start r.2,
+            subst (λ (s : State). Departs places place s ran.picks count) start r.3,
           ),
     ),
   )

@@ -6,7 +6,7 @@
 //! - *The run* (`specs/Run.antt`): one run of that image by the machine's definition, on the bytes that were taken and whatever may come behind them, is what was done: its stop after the
 //!   given number of instructions is the answer (`Steps` where it goes on), the output grew by what it wrote, it took what
 //!   was taken, each probe was told its log and left exactly where that used up its patience, the report has exactly that log,
-//!   where it was asked for and there was memory for it, and how many instructions were executed, and the machine
+//!   where it was asked for and there was memory for it, how many instructions were executed and, where it was asked for, their departure, and the machine
 //!   handed back is in its state. A device that failed is asked nothing more: its count of faults is one more, and no
 //!   count rises but that of the device which the answer names. The oracle picked for each instruction that was executed, by its way, and its place
 //!   went on by as many picks. Before a read or a write that failed it is a state after fewer instructions, and the
@@ -52,12 +52,13 @@ use mv_probe::{FetchOracle, Probe};
 use std::alloc::{AllocError, Global};
 
 /// Runs an image for at most so many instructions. A poll takes the next of the actions, and each probe is told each changed binding; where the log
-/// is wanted, the report has it, unless memory lacked for it; else it has none. An error is want of memory for the machine, before the first
-/// instruction.
+/// is wanted, the report has it, unless memory lacked for it; else it has none. Where places are wanted, it has the departure of the run; else none.
+/// An error is want of memory for the machine, before the first instruction.
 pub fn run_image<I: Source, O: Sink>(
     alloc: Global,
     image: &Image,
     logs: bool,
+    places: bool,
     steps: u64,
     source: &mut I,
     sink: &mut O,
@@ -67,7 +68,7 @@ pub fn run_image<I: Source, O: Sink>(
 ) -> Result<Execution, AllocError>
     requires patient { All (λ probe. IsPatient (hearing (told probe) (patience probe))) probes.old.items }
     requires fit { All (λ action. IsTrue (fits image.now.switches action)) actions.now }
-    ensures runs { RunsImage image.now actions.now steps
+    ensures runs { RunsImage image.now actions.now places steps
         (environment (reading (I.left source.old) (I.faults source.old)) (writing (O.written sink.old) (O.faults sink.old)) (way oracle.old))
         (environment (reading (I.left source.new) (I.faults source.new)) (writing (O.written sink.new) (O.faults sink.new)) (way oracle.new))
         (λ events. Fates (Becomes (λ probe. object_at probe.ptr probe.vtable) (λ probe. hearing (told probe) (patience probe)) events) probes.old.items probes.new.items)
@@ -78,17 +79,20 @@ pub fn run_image<I: Source, O: Sink>(
     ensures unwanted { logs ≡ false → IfOk result (λ e. e.report.log ≡ None) }
 {
     let mut machine = Machine::start(alloc, image)?;
-    let report = machine.run(alloc, logs, steps, source, sink, oracle, probes, actions);
+    let report = machine.run(
+        alloc, logs, places, steps, source, sink, oracle, probes, actions,
+    );
     Ok(Execution { machine, report })
 }
 
 /// Runs the image of a program for at most so many instructions. A poll takes the next of the actions, and each probe is told each changed binding;
-/// where the log is wanted, the report has it, unless memory lacked for it; else it has none. An error is want of memory for the machine, before the
-/// first instruction.
+/// where the log is wanted, the report has it, unless memory lacked for it; else it has none. Where places are wanted, it has the departure of the
+/// run; else none. An error is want of memory for the machine, before the first instruction.
 pub fn execute<I: Source, O: Sink>(
     alloc: Global,
     built: &Built,
     logs: bool,
+    places: bool,
     steps: u64,
     source: &mut I,
     sink: &mut O,
@@ -98,7 +102,7 @@ pub fn execute<I: Source, O: Sink>(
 ) -> Result<Execution, AllocError>
     requires patient { All (λ probe. IsPatient (hearing (told probe) (patience probe))) probes.old.items }
     requires fit { All (λ action. IsTrue (fits built.now.image.switches action)) actions.now }
-    ensures executes { Executes built.now actions.now steps
+    ensures executes { Executes built.now actions.now places steps
         (environment (reading (I.left source.old) (I.faults source.old)) (writing (O.written sink.old) (O.faults sink.old)) (way oracle.old))
         (environment (reading (I.left source.new) (I.faults source.new)) (writing (O.written sink.new) (O.faults sink.new)) (way oracle.new))
         (λ events. Fates (Becomes (λ probe. object_at probe.ptr probe.vtable) (λ probe. hearing (told probe) (patience probe)) events) probes.old.items probes.new.items)
@@ -113,6 +117,7 @@ pub fn execute<I: Source, O: Sink>(
         alloc,
         &built.image,
         logs,
+        places,
         steps,
         source,
         sink,

@@ -53,8 +53,8 @@ module _ (plan : Plan) (places : ℕ → ℕ) (There : Array → Type 0) (same :
   layer (stm.If t a b) h all =
       let in_a = joined (map stm_named a) in
       let in_b = joined (map stm_named b) in
-      ap (λ cs. if_code plan.place t (in_turn cs) (in_turn (codes b))) (in_order_same a h.0 (each_first There in_a in_b all)) ∙
-      ap (λ cs. if_code plan.place t (in_turn (others a)) (in_turn cs)) (in_order_same b h.1 (each_right There in_a in_b all))
+      ap (λ cs. if_code plan.place plan.end t (in_turn cs) (in_turn (codes b))) (in_order_same a h.0 (each_first There in_a in_b all)) ∙
+      ap (λ cs. if_code plan.place plan.end t (in_turn (others a)) (in_turn cs)) (in_order_same b h.1 (each_right There in_a in_b all))
   layer (stm.Loop b) h all = ap (λ cs. loop_code (in_turn cs)) (in_order_same b h all)
   layer (stm.Block b) h all = ap (λ cs. block_code (in_turn cs)) (in_order_same b h all)
   layer (stm.Break n) h all = refl

@@ -10,7 +10,7 @@ use Rattle.mv_select_code.specs.Trees.Rooms.{place_in}
 use Rattle.mv_select_code.specs.Statements.Encoded.{IsCode}
 use Rattle.mv_select_code.proofs.OfStatements.EncodedCode.{both, wider}
 use Rattle.mv_select_code.specs.declared.control.enclosing.Enclosing.{Enclosing}
-use Rattle.mv_select_code.specs.Control.FlowCode.{Emitted, code_of}
+use Rattle.mv_select_code.specs.Control.FlowCode.{Emitted, fall_to, code_of}
 use Rattle.mv_select_code.specs.Control.Encoded.{most_words}
 use Rattle.mv_select_code.specs.Control.Labels.{Names, CallsName, OwnLabels}
 use Rattle.mv_select_code.proofs.OfControl.FlowEncoded.{flow_encoded}
@@ -68,9 +68,9 @@ selected_labels_own attributed body =
     let stop = return attributed body in
     let code = inner attributed body in
     let bytes = frame_bytes body.temps body.arrays in
-    let lines = code.lines [] 1 in
+    let lines = code.lines [] 1 (fall_to 0) in
     let calls = calls_have_no_labels (place_in body.rooms) (is_marked body.marked) in
-    let rest = end_own code.labels lines stop (labels_own (plan_of attributed body) calls body.code [] 1)
+    let rest = end_own code.labels lines stop (labels_own (plan_of attributed body) calls body.code [] 1 (fall_to 0))
     (epilogue_made (names_made AnyNumber) attributed body.temps bytes) in
     let count : 0 + suc code.labels ≡ suc code.labels = omega arith in
     subst (λ n. OwnLabels 0 n (selected_lines attributed body)) count
@@ -83,11 +83,12 @@ selected_targets_stand whole attributed body h =
     let start = entry attributed body in
     let stop = return attributed body in
     let bytes = frame_bytes body.temps body.arrays in
-    let lines = (inner attributed body).lines [] 1 in
+    let lines = (inner attributed body).lines [] 1 (fall_to 0) in
     let P = StandsOnce whole in
     let stubs : StubsStand whole = record { null = h.traps 3 (omega arith) (omega arith); depth = h.traps 4 (omega arith) (omega arith); commit = h.commit } in
     let calls : CallsName P (calls_in body) = call_targets_stand whole stubs (place_in body.rooms) (is_marked body.marked) in
-    let within = targets_stand whole (plan_of attributed body) calls body.code [] 1 (record {
+    let within = targets_stand whole (plan_of attributed body) calls body.code [] 1 (fall_to 0) (record {
+      behind = h.own 0 (omega arith);
       own = λ l p q. h.own l (omega (arith, q));
       starts = All-nil (λ (e : Enclosing). P e.start);
       ends = All-nil (λ (e : Enclosing). P e.end);
@@ -107,12 +108,12 @@ pub selected_encoded : SelectedIsEncoded
 selected_encoded attributed body suitable fits =
     let start = entry attributed body in
     let stop = return attributed body in
-    let lines = (inner attributed body).lines [] 1 in
-    let n = most_words body.code in
+    let lines = (inner attributed body).lines [] 1 (fall_to 0) in
+    let n = most_words body.code + 0 in
     let frames = frames_encoded attributed body.params body.temps (frame_bytes body.temps body.arrays) suitable.formed.params fits in
     let over = flow_encoded (layout_in body) (arrays_within body fits) (calls_in body) (calls_encoded (place_in body.rooms) (is_marked body.marked)) body.code
-    (has_small_code attributed body suitable fits).1 [] 1 in
-    let within : IsCode n lines = subst (λ (c : Emitted). IsCode n (c.lines [] 1)) (layout_code attributed body suitable.formed) over in
+    (has_small_code attributed body suitable fits).1 [] 1 (fall_to 0) in
+    let within : IsCode n lines = subst (λ (c : Emitted). IsCode n (c.lines [] 1 (fall_to 0))) (layout_code attributed body suitable.formed) over in
     let end : IsCode 0 (Label 0 ∷ []) = (All-cons LineFits (Label 0) [] tt (All-nil LineFits), omega arith) in
     wider (20 + (n + (0 + 13))) (greatest_length body) (selected_lines attributed body) (omega arith)
     (both 20 (n + (0 + 13)) start (lines ++ (Label 0 ∷ stop)) frames.0 (both n (0 + 13) lines (Label 0 ∷ stop) within (both 0 13 (Label 0 ∷ []) stop end frames.1)))

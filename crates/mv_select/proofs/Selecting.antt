@@ -8,7 +8,7 @@ use Rattle.mv_ir.specs.declared.body.Room.{Room}
 use Rattle.mv_select_code.specs.Trees.Rooms.{place_in}
 use Rattle.mv_select_code.specs.declared.control.enclosing.Enclosing.{Enclosing}
 use Rattle.mv_select_code.specs.declared.control.layout.Layout.{Layout}
-use Rattle.mv_select_code.specs.Control.FlowCode.{Emitted, code_of}
+use Rattle.mv_select_code.specs.Control.FlowCode.{Emitted, fall_to, code_of}
 use Rattle.mv_select_code.specs.Control.Labels.{OwnLabels}
 use Rattle.mv_select_code.specs.Control.Layouts.{plan_in}
 use Rattle.mv_select_code.proofs.OfControl.LabelsOwn.{labels_few}
@@ -38,16 +38,16 @@ over_same body layout rooms marked of_layout of_rooms of_marked =
 
 -- what is written one behind the other
 abbrev pub written : Bool → Body → List Line
-written attributed body = ((entry attributed body ++ (over_layout body).lines [] 1) ++ (Label 0 ∷ [])) ++ return attributed body
+written attributed body = ((entry attributed body ++ (over_layout body).lines [] 1 (fall_to 0)) ++ (Label 0 ∷ [])) ++ return attributed body
 
 pub written_lines : (attributed : Bool) (body : Body) → IsSuitable body → written attributed body ≡ selected_lines attributed body
 written_lines attributed body suitable =
     let start = entry attributed body in
     let stop = return attributed body in
-    let over = (over_layout body).lines [] 1 in
-    let lines = (inner attributed body).lines [] 1 in
+    let over = (over_layout body).lines [] 1 (fall_to 0) in
+    let lines = (inner attributed body).lines [] 1 (fall_to 0) in
     let end = Label 0 ∷ [] in
-    let same : over ≡ lines = ap (λ (c : Emitted). c.lines [] 1) (layout_code attributed body suitable.formed) in
+    let same : over ≡ lines = ap (λ (c : Emitted). c.lines [] 1 (fall_to 0)) (layout_code attributed body suitable.formed) in
     append_assoc (start ++ over) end stop ∙ append_assoc start over (end ++ stop) ∙ ap (λ ls. start ++ (ls ++ (Label 0 ∷ stop))) same
 
 pub selected : (attributed : Bool) (body : Body) → IsSuitable body → FitsFrame body → (code : Labelled) → code.items ≡ written attributed body → code.labels ≡ 1 + (over_layout body).labels
@@ -67,15 +67,15 @@ selected attributed body suitable fits code items labels =
 -- the parts, each put behind the others
 pub put_together : (attributed : Bool) (body : Body) (bytes free : ℕ) (around : List Enclosing) (code : Emitted) (none start middle ended last : List Line) →
     bytes ≡ frame_bytes body.temps body.arrays → free ≡ 1 → around ≡ [] → code ≡ over_layout body → none ≡ [] →
-    start ≡ none ++ prologue_lines attributed body.params body.temps bytes → middle ≡ start ++ code.lines around free → ended ≡ middle ++ (Label 0 ∷ []) →
+    start ≡ none ++ prologue_lines attributed body.params body.temps bytes → middle ≡ start ++ code.lines around free (fall_to 0) → ended ≡ middle ++ (Label 0 ∷ []) →
     last ≡ ended ++ epilogue_lines attributed body.temps bytes → last ≡ written attributed body
 put_together attributed body bytes free around code none start middle ended last few first outside is nothing at_start at_middle at_end at_last =
     let over = over_layout body in
     let begin = entry attributed body in
     let starts : start ≡ begin = at_start ∙ ap (λ ls. ls ++ prologue_lines attributed body.params body.temps bytes) nothing ∙ ap (λ n. prologue_lines attributed body.params body.temps n) few in
-    let inside : code.lines around free ≡ over.lines [] 1 =
-    ap (λ (c : Emitted). c.lines around free) is ∙ ap (λ (es : List Enclosing). over.lines es free) outside ∙ ap (λ n. over.lines [] n) first in
-    let middles : middle ≡ begin ++ over.lines [] 1 = at_middle ∙ ap (λ ls. ls ++ code.lines around free) starts ∙ ap (λ ls. begin ++ ls) inside in
-    let ends : ended ≡ (begin ++ over.lines [] 1) ++ (Label 0 ∷ []) = at_end ∙ ap (λ ls. ls ++ (Label 0 ∷ [])) middles in
+    let inside : code.lines around free (fall_to 0) ≡ over.lines [] 1 (fall_to 0) =
+    ap (λ (c : Emitted). c.lines around free (fall_to 0)) is ∙ ap (λ (es : List Enclosing). over.lines es free (fall_to 0)) outside ∙ ap (λ n. over.lines [] n (fall_to 0)) first in
+    let middles : middle ≡ begin ++ over.lines [] 1 (fall_to 0) = at_middle ∙ ap (λ ls. ls ++ code.lines around free (fall_to 0)) starts ∙ ap (λ ls. begin ++ ls) inside in
+    let ends : ended ≡ (begin ++ over.lines [] 1 (fall_to 0)) ++ (Label 0 ∷ []) = at_end ∙ ap (λ ls. ls ++ (Label 0 ∷ [])) middles in
     at_last ∙ ap (λ ls. ls ++ epilogue_lines attributed body.temps bytes) ends ∙
-    ap (λ n. ((begin ++ over.lines [] 1) ++ (Label 0 ∷ [])) ++ epilogue_lines attributed body.temps n) few
+    ap (λ n. ((begin ++ over.lines [] 1 (fall_to 0)) ++ (Label 0 ∷ [])) ++ epilogue_lines attributed body.temps n) few

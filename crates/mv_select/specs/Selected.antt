@@ -64,7 +64,7 @@ pub record IsSelected (attributed : Bool) (body : Body) (code : Labelled) : Type
   pub items : code.items ≡ selected_lines attributed body
   pub frame : FitsFrame body
   pub labels : OwnLabels 0 code.labels code.items
-  pub few : code.labels ≤ 2 * statements body.code + 1
+  pub few : code.labels ≤ 3 * statements body.code + 1
 
 -- The frame of a function isn't small enough, and what is named are the function and the frame's bytes, as far as a `u64` goes. Its temporaries and
 -- the words of its arrays are many.

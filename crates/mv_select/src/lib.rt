@@ -2,7 +2,7 @@
 //!
 //! - `select`: the code of a well-formed body with trees at most 4 deep, its entry, its statements and its return,
 //!   exactly as `specs/Selected.antt` defines it, with the addresses and sizes of the body's own rooms; all its labels
-//!   are below `labels`, at most two for each statement and one. `Frame` comes exactly where the frame has more than
+//!   are below `labels`, at most three for each statement and one. `Frame` comes exactly where the frame has more than
 //!   2,032 bytes, with the function and the bytes (at most the greatest number of 64 bits); then temporaries and elements
 //!   together are more than 480.
 //! - `selection_law`: the instructions have encodings, and there are at most 33 words besides two for each tree node and

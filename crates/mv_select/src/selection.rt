@@ -13,12 +13,16 @@ use crate::functions::{push_epilogue, push_prologue};
 use mv_ir::body::Body;
 use mv_isa::labelled::{Labelled, Line};
 use mv_select_code::control::emitter::Emitter;
+use mv_select_code::control::enclosing::Way;
 use mv_select_code::control::layout::Layout;
 use mv_select_code::control::push_statements;
 use std::alloc::{AllocError, Global};
 
 /// The greatest frame, in bytes.
 const MOST: u128 = 2032;
+
+/// The label of a function's end. Those of its body come behind it.
+const END: u32 = 0;
 
 // The bytes of a function's frame, if there are few enough.
 fn fitting_bytes(body: &Body, function: u32) -> Result<u32, SelectError>
@@ -44,7 +48,7 @@ fn layout_of(alloc: Global, body: &Body) -> Result<Layout, AllocError>
     Ok(Layout {
         rooms: body.rooms.copied(alloc)?,
         arrays: spaces(alloc, body.temps, body.arrays.as_slice())?,
-        end: 0,
+        end: END,
     })
 }
 
@@ -60,7 +64,7 @@ fn written(alloc: Global, body: &Body, attributed: bool, bytes: u32) -> Result<L
         rooms: body.rooms.as_slice(),
         marked: body.marked.as_slice(),
     };
-    let mut emitter = Emitter::new(alloc, 1);
+    let mut emitter = Emitter::new(alloc, END + 1);
     push_prologue(
         &mut emitter.lines,
         attributed,
@@ -68,8 +72,12 @@ fn written(alloc: Global, body: &Body, attributed: bool, bytes: u32) -> Result<L
         body.temps,
         bytes,
     )?;
-    push_statements(&mut emitter, &layout, &calls, &body.code)?;
-    emitter.lines.push(Line::Label(0))?;
+    let way = Way {
+        after: END,
+        falls: true,
+    };
+    push_statements(&mut emitter, &layout, &calls, &body.code, way)?;
+    emitter.lines.push(Line::Label(END))?;
     push_epilogue(&mut emitter.lines, attributed, body.temps, bytes)?;
     let Emitter {
         lines,

@@ -1,4 +1,5 @@
 pub mod ArrayStatements
+pub mod BranchesDo
 pub mod Divisions
 pub mod EncodedCode
 pub mod Equations

@@ -1,3 +1,4 @@
+pub mod Branches
 pub mod Equations
 pub mod Gives
 pub mod Instructions

@@ -4,7 +4,8 @@
 //!   from it on as the tree is deep; `push_into` those that leave the value in any register, by way of these. An operand
 //!   that stands in a register already, that of a temporary or x0, stays there, and a short number at the right of an
 //!   operator stands in the instruction: `push_operand` puts no lines for the first, and `operand_register` says where an
-//!   operand stands. `push_number`, `push_load`, `place_of`, `upper_bits`, `lower_bits`, `temp_register`, `temp_offset`, `push_one` and
+//!   operand stands. `push_branch` puts those that go to a label by a tree's value: a comparison becomes the branch itself,
+//!   and logical not turns it. `push_number`, `push_load`, `place_of`, `upper_bits`, `lower_bits`, `temp_register`, `temp_offset`, `push_one` and
 //!   `push_two` are exact too.
 //! - `tree_code_law` says of these lines, over any memory: they lead straight to registers of which that one holds the
 //!   tree's value, and change no others but those behind it up to the tree's depth, also where the value is put into a
@@ -12,6 +13,7 @@
 //!   encodings. Assumed is that temporaries, the globals that are read and the functions stand where the view says, and
 //!   that no global that is read is bound in the frame.
 
+mod branches;
 mod immediates;
 mod laws;
 mod leaves;
@@ -19,6 +21,7 @@ mod lines;
 mod operators;
 mod trees;
 
+pub use branches::push_branch;
 pub use laws::tree_code_law;
 pub use leaves::{
     lower_bits, place_of, push_load, push_number, temp_offset, temp_register, upper_bits,

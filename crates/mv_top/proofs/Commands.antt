@@ -12,10 +12,12 @@ use Rattle.mv_top.specs.Checking.{ChecksFile}
 use Rattle.mv_top.specs.Converting.{ConvertsFile}
 use Rattle.mv_top.specs.Evaluating.{EvaluatesFile}
 use Rattle.mv_top.specs.Generating.{GenDoes}
-use Rattle.mv_top.specs.Listing.{DisassemblesFile, ListsFile}
+use Rattle.mv_top.specs.Listing.{DisassemblesFile, ListsFile, ShowsFile}
 use Rattle.mv_top.specs.Outcomes.{Comes, done, unread, usage}
 use Rattle.mv_top.specs.Outside.{Outside, KeepsFiles, Writes}
+use Rattle.mv_top.specs.Shown.{shown_by_list, text_shown}
 use Rattle.mv_top.specs.Uses.{Uses}
+use Rattle.mv_top.specs.declared.list.Shown.{Shown}
 use Rattle.mv_top.proofs.Performing.{alone}
 
 -- the command that was found
@@ -23,6 +25,10 @@ pub is_command : (words : List (List ℕ)) (found : Option Command) (command wha
     found ≡ Some command → command ≡ what → IsCommand words (asked what)
 is_command words found command what is same this =
     subst (λ c. IsCommand words (asked c)) this (subst (λ f. MatchOption f (IsNoCommand words) (λ c. IsCommand words (asked c))) same is)
+
+-- what `list` shows is what is written
+pub listed_by : (before after : Outside) (file : List ℕ) (words : Bool) (shown : Shown) (status : Status) → shown ≡ shown_by_list words → ShowsFile (text_shown shown) before after file status → ListsFile before after file words status
+listed_by before after file words shown status same shows = subst (λ s. ShowsFile (text_shown s) before after file status) same shows
 
 module _ (before after : Outside) (Heard : List Event → Type 0) (words : List (List ℕ)) (lines : List ℕ) (status due : Status) (none : lines ≡ []) (same : status ≡ due) (unheard : Heard []) where
   abbrev Came : List ℕ → Status → Type 0
@@ -37,8 +43,8 @@ module _ (before after : Outside) (Heard : List Event → Type 0) (words : List 
   pub built : (file image : List ℕ) → IsCommand words (Builds file image) → BuildsFile before after file image due → Uses before after (Builds file image) due → Came lines status
   built file image command builds uses = alone Came lines status due none same (done (Builds file image) [] due command ((builds, (refl, unheard)), uses))
 
-  pub listed : (file : List ℕ) → IsCommand words (Lists file) → ListsFile before after file due → KeepsFiles before after → Uses before after (Lists file) due → Came lines status
-  listed file command lists keeps uses = alone Came lines status due none same (done (Lists file) [] due command ((lists, keeps, (refl, unheard)), uses))
+  pub listed : (file : List ℕ) (shown : Bool) → IsCommand words (Lists file shown) → ListsFile before after file shown due → KeepsFiles before after → Uses before after (Lists file shown) due → Came lines status
+  listed file shown command lists keeps uses = alone Came lines status due none same (done (Lists file shown) [] due command ((lists, keeps, (refl, unheard)), uses))
 
   pub converted : (conversion : Conversion) (from to : List ℕ) → IsCommand words (Converts conversion from to) → ConvertsFile before after conversion from to due →
       Uses before after (Converts conversion from to) due → Came lines status

@@ -17,9 +17,9 @@ use Rattle.mv_top.specs.Decisions.{Decides, Is, IsCompared, IsLoaded, IsSummedUp
 use Rattle.mv_top.specs.Outcomes as outcomes
 use Rattle.mv_top.specs.Outcomes.{Comes, Does, IsCarriedOut, IsDue}
 use Rattle.mv_top.specs.Outside.{Outside, Tells}
+use Rattle.mv_top.specs.Shown.{shown_by_list, text_shown}
+use Rattle.mv_top.specs.declared.list.Shown.TheVariants.{Assembler}
 use Rattle.mv_top.proofs.RunsDecided.{run_ended, run_refused, run_stands, run_wrong_item}
-use Rattle.mv_list.specs.Listing.{listing_text}
-use Rattle.mv_convert.specs.Conversions.{assembler_text}
 use Rattle.mv_top.proofs.FilesDecided.{build_done, build_refused, check_compared, check_lacks, check_refused, convert_bad, convert_done, convert_fails, show_bad, show_done, written_whole}
 use Rattle.mv_top.proofs.OthersDecided.{eval_ended, eval_refused, exec_bad, exec_stands, exec_wrong_item, gen_ended, gen_summed, source_done}
 use Rattle.mv_top.proofs.ToldFiles.{given, lacking}
@@ -66,7 +66,7 @@ module _ (counted : CountedPassNone) (before after : Outside) (Heard : List Even
   absent (Runs f options) lines status does file e lacks = lacking before after quiet.shelf _ f _ does.0 file e lacks
   absent (Builds f image) lines status does file e lacks = lacking before after quiet.shelf _ f _ does.0 file e lacks
   absent (Executes f options) lines status does file e lacks = lacking before after quiet.shelf _ f _ does.0 file e lacks
-  absent (Lists f) lines status does file e lacks = lacking before after quiet.shelf _ f _ does.0 file e lacks
+  absent (Lists f shown) lines status does file e lacks = lacking before after quiet.shelf _ f _ does.0 file e lacks
   absent (Evaluates f bound) lines status does file e lacks = lacking before after quiet.shelf _ f _ does.0 file e lacks
   absent (Generates number source) lines status does file e lacks = absurd e
   absent (Converts conversion from to) lines status does file e lacks = lacking before after quiet.shelf _ from _ does.0 file e lacks
@@ -82,7 +82,7 @@ module _ (counted : CountedPassNone) (before after : Outside) (Heard : List Even
     refused (Builds f image) lines status does e reads r why =
         or_memory (λ came. build_refused before after quiet.shelf image bytes came.0 r why) (given before after quiet.shelf _ f _ does.0 file bytes e tells)
     refused (Executes f options) lines status does e reads r why = cc
-    refused (Lists f) lines status does e reads r why = cc
+    refused (Lists f shown) lines status does e reads r why = cc
     refused (Evaluates f bound) lines status does e reads r why =
         or_memory (λ came. eval_refused before.environment after.environment quiet.input quiet.output bytes bound came.0 r why) (given before after quiet.shelf _ f _ does.0 file bytes e tells)
     refused (Generates number source) lines status does e reads r why = cc
@@ -99,14 +99,14 @@ module _ (counted : CountedPassNone) (before after : Outside) (Heard : List Even
     bad (Executes f options) lines status does e image_file code offset why =
         or_memory (λ came. exec_bad before.environment after.environment quiet.input quiet.output bytes Heard options came code offset why)
         (given before after quiet.shelf _ f _ does.0 file bytes e tells)
-    bad (Lists f) lines status does e image_file code offset why =
-        or_memory (λ came. show_bad listing_text before.environment after.environment quiet.output bytes came.0 code offset why) (given before after quiet.shelf _ f _ does.0 file bytes e tells)
+    bad (Lists f shown) lines status does e image_file code offset why =
+        or_memory (λ came. show_bad (text_shown (shown_by_list shown)) before.environment after.environment quiet.output bytes came.0 code offset why) (given before after quiet.shelf _ f _ does.0 file bytes e tells)
     bad (Evaluates f bound) lines status does e image_file code offset why = cc
     bad (Generates number source) lines status does e image_file code offset why = absurd e
     bad (Converts conversion from to) lines status does e image_file code offset why =
         or_memory (λ came. convert_bad before after quiet.shelf to bytes conversion image_file came.0 code offset why) (given before after quiet.shelf _ from _ does.0 file bytes e tells)
     bad (Disassembles f) lines status does e image_file code offset why =
-        or_memory (λ came. show_bad assembler_text before.environment after.environment quiet.output bytes came.0 code offset why) (given before after quiet.shelf _ f _ does.0 file bytes e tells)
+        or_memory (λ came. show_bad (text_shown Assembler) before.environment after.environment quiet.output bytes came.0 code offset why) (given before after quiet.shelf _ f _ does.0 file bytes e tells)
     bad (Checks f image) lines status does e image_file code offset why = cc
     bad (Prints text) lines status does e image_file code offset why = absurd e
 
@@ -153,9 +153,9 @@ module _ (counted : CountedPassNone) (before after : Outside) (Heard : List Even
         executed = λ file bytes options image actions l spells are.
             or_stands (λ does. or_stands (λ ran. exec_stands before.environment after.environment quiet.input quiet.output bytes Heard options image spells ran actions are)
             (given before after quiet.shelf _ file _ does.0 l.file bytes l.loaded l.tells)) (did came (Executes file options) l.command);
-        listed = λ file bytes image l spells.
-            or_memory (λ does. or_memory (λ made. show_done listing_text before.environment after.environment quiet.output bytes made.0 image spells)
-            (given before after quiet.shelf _ file _ does.0 l.file bytes l.loaded l.tells)) (did came (Lists file) l.command);
+        listed = λ file bytes shown image l spells.
+            or_memory (λ does. or_memory (λ made. show_done (text_shown (shown_by_list shown)) before.environment after.environment quiet.output bytes made.0 image spells)
+            (given before after quiet.shelf _ file _ does.0 l.file bytes l.loaded l.tells)) (did came (Lists file shown) l.command);
         evaluated = λ file text bound p l good.
             or_none (λ does. or_none (λ made. eval_ended before.environment after.environment quiet.input quiet.output text bound made.0 p good)
             (given before after quiet.shelf _ file _ does.0 l.file text l.loaded l.tells)) (did came (Evaluates file bound) l.command);
@@ -170,7 +170,7 @@ module _ (counted : CountedPassNone) (before after : Outside) (Heard : List Even
             or_memory (λ does. or_memory (λ came. convert_fails before after quiet.shelf to bytes conversion came.0 error why some)
             (given before after quiet.shelf _ from _ does.0 l.file bytes l.loaded l.tells)) (did came (Converts conversion from to) l.command);
         disassembled = λ file bytes image l spells.
-            or_memory (λ does. or_memory (λ made. show_done assembler_text before.environment after.environment quiet.output bytes made.0 image spells)
+            or_memory (λ does. or_memory (λ made. show_done (text_shown Assembler) before.environment after.environment quiet.output bytes made.0 image spells)
             (given before after quiet.shelf _ file _ does.0 l.file bytes l.loaded l.tells)) (did came (Disassembles file) l.command);
         nothing_compared = λ file image text p l good lacks.
             or_limits (λ does. or_limits (λ came. check_lacks before after quiet.shelf image text counted came.0 p good lacks)
@@ -193,7 +193,7 @@ module _ (counted : CountedPassNone) (before after : Outside) (Heard : List Even
       built = λ file image text p l good. inl (inr refl);
       no_action_of_image = λ file bytes options image item l spells wrong. inr refl;
       executed = λ file bytes options image actions l spells are. inr refl;
-      listed = λ file bytes image l spells. inr refl;
+      listed = λ file bytes shown image l spells. inr refl;
       evaluated = λ file text bound p l good. inl refl;
       shown = λ number c. inr refl;
       generated_ended = λ number bound p e c good ends. inr refl;

@@ -12,7 +12,7 @@ use Rattle.mv_machine.specs.Acts.{polls_of}
 use Rattle.mv_operator.specs.Operator.{IsImageActions}
 use Rattle.mv_refine.specs.declared.execution.Execution.{Execution}
 use Rattle.mv_refine.specs.Environment.{Environment, OneRun}
-use Rattle.mv_refine.specs.Execution.{HasCount, HeardAs}
+use Rattle.mv_refine.specs.Execution.{HasCount, HasDeparture, HeardAs}
 use Rattle.mv_refine.specs.Run.{Runs}
 use Rattle.mv_command.specs.declared.command.RunOptions.{RunOptions}
 use Rattle.mv_notes.specs.Lines.{asked_lines}
@@ -45,8 +45,8 @@ module _ (before after : Environment) (Heard : List Event → Type 0) (options :
 
   pub ran : (loaded : Loaded) (actions : List Action) (e : Execution) (log : List Event) → actions ≡ loaded.actions.items → IsLoaded bytes options.items loaded →
       OneRun before after (λ picks taken later. Runs loaded.image (polls_of actions) before after (HeardAs Heard log) e.machine picks taken later options.steps e.report.stopped
-      × HasCount loaded.image actions options.steps picks (taken ++ later) e.report) →
-      Ran (asked_lines options loaded.image e.machine log e.report.executed) (status_of_stop e.report.stopped)
+      × HasCount loaded.image actions options.steps picks (taken ++ later) e.report × HasDeparture loaded.image actions options.stats picks (taken ++ later) e.report) →
+      Ran (asked_lines options loaded.image e.machine log e.report) (status_of_stop e.report.stopped)
   ran loaded actions e log same is runs =
       executing.ran loaded.image actions e log is.image (subst (λ a. IsImageActions loaded.image options.items a) (sym same) is.actions) runs
 

@@ -53,8 +53,8 @@ module _ (before after : Environment) (Heard : List Event → Type 0) (options :
   not_started lines status none same unused = alone Ran lines status Memory none same (running.unread unused)
 
   pub ran : (prepared : Prepared) (actions : List Action) (e : Execution) (log : List Event) → actions ≡ prepared.actions.items → IsPrepared text options.items prepared →
-      OneRun before after (λ picks taken later. IsExecution prepared.built actions options.steps before after (HeardAs Heard log) picks taken later e) →
-      Ran (asked_lines options prepared.built.image e.machine log e.report.executed) (status_of_stop e.report.stopped)
+      OneRun before after (λ picks taken later. IsExecution prepared.built actions options.stats options.steps before after (HeardAs Heard log) picks taken later e) →
+      Ran (asked_lines options prepared.built.image e.machine log e.report) (status_of_stop e.report.stopped)
   ran prepared actions e log same is (picks, (taken, lost, each)) =
       running.ran prepared.built actions e log is.built (subst (λ a. IsActions prepared.built.program options.items a) (sym same) is.actions) (
         picks,
@@ -63,7 +63,7 @@ module _ (before after : Environment) (Heard : List Event → Type 0) (options :
           lost,
           λ later may.
               let execution = each later may in
-              (execution, word_lines text prepared.built actions options.steps before after (HeardAs Heard log) picks taken later e is.built execution),
+              (execution, word_lines text prepared.built actions options.stats options.steps before after (HeardAs Heard log) picks taken later e is.built execution),
         ),
       )
 

@@ -1,5 +1,5 @@
 -- Where a run has ended, as many words of text have changed as the meaning's bindings owe.
-use Rattle.std.proofs.Common.{ℕ, List, ◌++◌, sym, ap, ◌∙◌, subst}
+use Rattle.std.proofs.Common.{ℕ, Bool, List, ◌++◌, sym, ap, ◌∙◌, subst}
 use Rattle.mv_ast.specs.declared.program.Program.{Program}
 use Rattle.mv_bindings.specs.declared.action.Action.{Action}
 use Rattle.mv_bindings.specs.declared.binding.Binding.{Binding}
@@ -51,9 +51,9 @@ module _ (p : Program) (image : Fields) (shows : ShowsBindings p image) (actions
     counts_on Memory ran does = tt
 
 -- of a source that was built, and an execution of it
-pub word_lines : (text : List ℕ) (built : Built) (actions : List Action) (steps : ℕ) (before after : Environment) (Heard : List Event → Type 0) (picks taken later : List ℕ) (e : Execution) →
-    IsBuiltFrom text built → IsExecution built actions steps before after Heard picks taken later e → AreToldBytes before.input.left →
+pub word_lines : (text : List ℕ) (built : Built) (actions : List Action) (places : Bool) (steps : ℕ) (before after : Environment) (Heard : List Event → Type 0) (picks taken later : List ℕ) (e : Execution) →
+    IsBuiltFrom text built → IsExecution built actions places steps before after Heard picks taken later e → AreToldBytes before.input.left →
     CountsOn built.program built.image actions steps e.machine (taken ++ later) e.report.stopped
-word_lines text built actions steps before after Heard picks taken later e good is told =
+word_lines text built actions places steps before after Heard picks taken later e good is told =
     counts_on built.program built.image good.image.shows actions steps before after Heard e.machine picks taken later e.report.stopped is.runs
     (is.does good.image.behaves good.image.fits told)

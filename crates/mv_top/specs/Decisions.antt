@@ -51,7 +51,7 @@ abbrev pub IsLoaded : Asked → (file : List ℕ) → Type 0
 IsLoaded (Runs file options) loaded = loaded ≡ file
 IsLoaded (Builds file image) loaded = loaded ≡ file
 IsLoaded (Executes file options) loaded = loaded ≡ file
-IsLoaded (Lists file) loaded = loaded ≡ file
+IsLoaded (Lists file words) loaded = loaded ≡ file
 IsLoaded (Evaluates file bound) loaded = loaded ≡ file
 IsLoaded (Generates number source) loaded = ⊥
 IsLoaded (Converts conversion from to) loaded = loaded ≡ from
@@ -64,7 +64,7 @@ abbrev pub reads_source : Asked → Bool
 reads_source (Runs file options) = true
 reads_source (Builds file image) = true
 reads_source (Executes file options) = false
-reads_source (Lists file) = false
+reads_source (Lists file words) = false
 reads_source (Evaluates file bound) = true
 reads_source (Generates number source) = false
 reads_source (Converts conversion from to) = false
@@ -83,7 +83,7 @@ abbrev pub reads_image : Asked → Bool
 reads_image (Runs file options) = false
 reads_image (Builds file image) = false
 reads_image (Executes file options) = true
-reads_image (Lists file) = true
+reads_image (Lists file words) = true
 reads_image (Evaluates file bound) = false
 reads_image (Generates number source) = false
 reads_image (Converts conversion from to) = converts_image conversion
@@ -167,7 +167,7 @@ module _ (words : List (List ℕ)) (files : Option Files) (left left' : Option (
         IsImageFirstWrong image options.items item → Is result (Refused (no_action item))
     pub executed : (file bytes : List ℕ) (options : RunOptions) (image : Fields) (actions : List Action) → Loads (Executes file options) bytes → Spells bytes image →
         IsImageActions image options.items actions → Stands result
-    pub listed : (file bytes : List ℕ) (image : Fields) → Loads (Lists file) bytes → Spells bytes image → Is result Done
+    pub listed : (file bytes : List ℕ) (words : Bool) (image : Fields) → Loads (Lists file words) bytes → Spells bytes image → Is result Done
     pub evaluated : (file text : List ℕ) (bound : ℕ) (p : Program) → Loads (Evaluates file bound) text → IsProgram text p →
         (result ≡ Memory) ⊎ OnInput left left' (λ taken later. IsInput taken later × (result ≡ status_of_end (meaning p bound taken).«end»))
     pub shown : (number : ℕ) → IsCommand words (Generates number true) → Is result Done

@@ -1,14 +1,14 @@
--- What comes of an image of which a text is written: its listing, or its code as assembler text.
-use Rattle.std.specs.Prelude.{ℕ, ◌≡◌, List}
-use Rattle.mv_convert.specs.Conversions.{assembler_text}
+-- What comes of an image of which a text is written: its listing, its patch view, or its code as assembler text.
+use Rattle.std.specs.Prelude.{ℕ, ◌≡◌, Bool, List}
 use Rattle.mv_exec.specs.Loading.{IsBadImage}
 use Rattle.mv_image.specs.Faults.{Spells}
 use Rattle.mv_image.specs.Spelling.{Fields}
-use Rattle.mv_list.specs.Listing.{listing_text}
 use Rattle.mv_notes.specs.declared.status.Status.{Status}
 use Rattle.mv_notes.specs.declared.status.Status.TheVariants.{Memory, BadImage, Done}
 use Rattle.mv_refine.specs.Environment.{Environment}
 use Rattle.mv_top.specs.Outside.{Outside, OfFile, Untouched, Writes}
+use Rattle.mv_top.specs.Shown.{shown_by_list, text_shown}
+use Rattle.mv_top.specs.declared.list.Shown.TheVariants.{Assembler}
 
 -- What comes of bytes that are to be read as an image, and this text of it written.
 module _ (text_of : Fields → List ℕ) where
@@ -27,8 +27,8 @@ module _ (text_of : Fields → List ℕ) where
         OfFile before after (Untouched before after) file
         (λ bytes s. ShowDoes before.environment after.environment bytes s × (after.environment.input ≡ before.environment.input) × (after.environment.way ≡ before.environment.way)) status
 
-abbrev pub ListsFile : (before after : Outside) (file : List ℕ) → Status → Type 0
-ListsFile before after file status = ShowsFile listing_text before after file status
+abbrev pub ListsFile : (before after : Outside) (file : List ℕ) → (words : Bool) → Status → Type 0
+ListsFile before after file words status = ShowsFile (text_shown (shown_by_list words)) before after file status
 
 abbrev pub DisassemblesFile : (before after : Outside) (file : List ℕ) → Status → Type 0
-DisassemblesFile before after file status = ShowsFile assembler_text before after file status
+DisassemblesFile before after file status = ShowsFile (text_shown Assembler) before after file status

@@ -53,7 +53,7 @@ module _ (before after : Outside) (Heard : List Event → Type 0) where
   Does (Builds file image) lines status = BuildsFile before after file image status × Alone lines
   Does (Executes file options) lines status =
       OfFile before after (Idle lines) file (λ bytes s. ExecDoes before.environment after.environment Heard options bytes lines s) status × KeepsFiles before after
-  Does (Lists file) lines status = ListsFile before after file status × KeepsFiles before after × Alone lines
+  Does (Lists file words) lines status = ListsFile before after file words status × KeepsFiles before after × Alone lines
   Does (Evaluates file bound) lines status = EvaluatesFile before after file bound status × KeepsFiles before after × Alone lines
   Does (Generates number source) lines status =
       GenDoes before.environment after.environment Heard number source status × (after.environment.input ≡ before.environment.input) × KeepsFiles before after × (lines ≡ [])

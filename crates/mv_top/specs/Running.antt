@@ -78,9 +78,9 @@ module _ (before after : Environment) (Heard : List Event → Type 0) where
     unread : Unused → RunDoes options text [] Memory
     not_run : (r : Refusal) → IsNotRun text options.items r → Unused → RunDoes options text [] (Refused r)
     ran : (built : Built) (actions : List Action) (e : Execution) (log : List Event) → IsBuiltFrom text built → IsActions built.program options.items actions →
-        OneRun before after (λ picks taken later. IsExecution built actions options.steps before after (HeardAs Heard log) picks taken later e
+        OneRun before after (λ picks taken later. IsExecution built actions options.stats options.steps before after (HeardAs Heard log) picks taken later e
         × (AreToldBytes before.input.left → CountsOn built.program built.image actions options.steps e.machine (taken ++ later) e.report.stopped)) →
-        RunDoes options text (asked_lines options built.image e.machine log e.report.executed) (status_of_stop e.report.stopped)
+        RunDoes options text (asked_lines options built.image e.machine log e.report) (status_of_stop e.report.stopped)
 
   -- and no count of faults rose but that of the device that the status names
   abbrev pub RunComes : RunOptions → (text lines : List ℕ) → Status → Type 0

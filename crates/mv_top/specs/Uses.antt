@@ -14,7 +14,7 @@ abbrev pub write_failed : Asked → Status → Bool
 write_failed (Runs file options) status = names_output status
 write_failed (Builds file image) status = names_output status
 write_failed (Executes file options) status = names_output status
-write_failed (Lists file) status = names_output status
+write_failed (Lists file words) status = names_output status
 write_failed (Evaluates file bound) status = names_output status
 write_failed (Generates number source) status = is_cut_short status
 write_failed (Converts conversion from to) status = names_output status
@@ -28,7 +28,7 @@ module _ (before after : Outside) where
   Asks (Runs file options) = AsksFor before.shelf.asked after.shelf.asked file
   Asks (Builds file image) = AsksFor before.shelf.asked after.shelf.asked file
   Asks (Executes file options) = AsksFor before.shelf.asked after.shelf.asked file
-  Asks (Lists file) = AsksFor before.shelf.asked after.shelf.asked file
+  Asks (Lists file words) = AsksFor before.shelf.asked after.shelf.asked file
   Asks (Evaluates file bound) = AsksFor before.shelf.asked after.shelf.asked file
   Asks (Generates number source) = after.shelf.asked ≡ before.shelf.asked
   Asks (Converts conversion from to) = AsksFor before.shelf.asked after.shelf.asked from

@@ -58,6 +58,7 @@ fn exec_loaded<I: Source, O: Sink>(
         alloc,
         image,
         options.log,
+        options.stats,
         options.steps,
         input,
         out,

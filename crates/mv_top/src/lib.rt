@@ -31,8 +31,8 @@
 //!   text of FILE: `Done` where they are the same, and else `Differs` with the first offset at which they aren't. Nothing is saved or written.
 //! - `exec IMAGE` (`specs/Executing.antt`): 15 with the first item of LIST that is no action of the image that the bytes spell; else
 //!   one run of this image is what was done, as above, with no word on any source. `Memory` may come of the run too.
-//! - `list IMAGE` and `disasm IMAGE` (`specs/Listing.antt`), `Done`: `out` grew by exactly the listing of the image that the bytes spell, or by exactly its
-//!   code as assembler text, which `asm` reads as that code.
+//! - `list IMAGE` and `disasm IMAGE` (`specs/Listing.antt`), `Done`: `out` grew by exactly the listing of the image that the bytes spell, with `--words` by
+//!   exactly its patch view, or by exactly its code as assembler text, which `asm` reads as that code.
 //! - `eval FILE --bound K` (`specs/Evaluating.antt`), where the text of FILE is a program: `Ended`, `Trapped` and `Steps` are the end of its
 //!   meaning at K on the first 16,777,216 bytes of `input`, or all of it; exactly these bytes were taken,
 //!   and `out` grew by exactly the output of that meaning. After `InputFault`, `OutputFault` and `Memory` it is as

@@ -1,4 +1,4 @@
-//! `list` and `disasm`: an image is loaded, and what stands in it is written, or its code as assembler text.
+//! `list` and `disasm`: an image is loaded, and what stands in it is written, or the words that commits change, or its code as assembler text.
 
 ghost use Rattle.std.specs.Prelude.{ℕ, ◌≡◌, IfOk, List, Option};
 ghost use Rattle.mv_io.specs.Outside.{CountAfter};
@@ -9,7 +9,7 @@ ghost use Rattle.mv_refine.specs.Environment.{environment, writing, Reading};
 ghost use Rattle.mv_notes.specs.Lines.{names_output, names_shelf};
 ghost use Rattle.mv_top.specs.Listing.{ShowDoes, ShowsFile};
 ghost use Rattle.mv_top.specs.Outside.{outside, shelved};
-ghost use Rattle.mv_top.specs.Shown.{text_shown};
+ghost use Rattle.mv_top.specs.Shown.{shown_by_list, text_shown};
 
 use crate::exec::status_of_load;
 use crate::files::{status_of_shelf, write_text};
@@ -19,6 +19,7 @@ use mv_image::Image;
 use mv_io::{Shelf, Sink};
 use mv_list::listing;
 use mv_notes::Status;
+use mv_patch_view::patch_view;
 use std::alloc::{AllocError, Global};
 
 /// What is written of an image.
@@ -26,8 +27,21 @@ use std::alloc::{AllocError, Global};
 pub(crate) enum Shown {
     /// What stands in it.
     Listing,
+    /// The words that commits change.
+    PatchView,
     /// Its code as assembler text.
     Assembler,
+}
+
+/// What `list` writes, and with `--words`.
+pub(crate) fn shown_by_list(words: bool) -> Shown
+    ensures { result ≡ shown_by_list words }
+{
+    if words {
+        Shown::PatchView
+    } else {
+        Shown::Listing
+    }
 }
 
 fn text_shown(alloc: Global, shown: Shown, image: &Image) -> Result<Vec<u8>, AllocError>
@@ -35,6 +49,7 @@ fn text_shown(alloc: Global, shown: Shown, image: &Image) -> Result<Vec<u8>, All
 {
     match shown {
         Shown::Listing => listing(alloc, image),
+        Shown::PatchView => patch_view(alloc, image),
         Shown::Assembler => disassemble(alloc, image),
     }
 }

@@ -86,7 +86,7 @@ pub(crate) fn finished(
     execution: &Execution,
 ) -> Result<Performed, AllocError>
     ensures status { IfOk result (λ performed. performed.status ≡ status_of_stop execution.now.report.stopped) }
-    ensures lines { IfOk result (λ performed. (log : List Event) → Logs execution.now.report.log log → performed.lines.items ≡ asked_lines options.now image.now execution.now.machine log execution.now.report.executed) }
+    ensures lines { IfOk result (λ performed. (log : List Event) → Logs execution.now.report.log log → performed.lines.items ≡ asked_lines options.now image.now execution.now.machine log execution.now.report) }
 {
     let Execution { machine, report } = execution;
     let lines = lines_of_run(alloc, options, image, machine, report)?;
@@ -119,6 +119,7 @@ fn run_prepared<I: Source, O: Sink>(
         alloc,
         built,
         options.log,
+        options.stats,
         options.steps,
         input,
         out,

@@ -15,7 +15,7 @@ use crate::eval::eval_file;
 use crate::exec::exec_file;
 use crate::files::write_text;
 use crate::generate::generate_program;
-use crate::list::{Shown, list_file};
+use crate::list::{Shown, list_file, shown_by_list};
 use crate::run::run_file;
 use crate::save::{Maker, save_file};
 use mv_command::{Command, command_of};
@@ -53,8 +53,8 @@ fn perform<H: Shelf, I: Source, O: Sink>(
         Ok(Some(Command::Exec { image, options })) => {
             exec_file(alloc, image, &options, shelf, input, out, oracle, probes)
         }
-        Ok(Some(Command::List { image })) => {
-            let status = list_file(alloc, Shown::Listing, image, shelf, out);
+        Ok(Some(Command::List { image, words })) => {
+            let status = list_file(alloc, shown_by_list(words), image, shelf, out);
             Ok(Performed::alone(alloc, status))
         }
         Ok(Some(Command::Eval { file, bound })) => {

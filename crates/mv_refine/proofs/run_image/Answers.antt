@@ -22,4 +22,4 @@ returns-clause-runs g c =
     let fresh = c.in_ok-machine.ensures in
     let report = c.run-report.result in
     let r = unless_fresh c.in_ok-machine.machine _ _ fresh c.run-report.ensures.runs in
-    (r.0, r.1, made c.args.image.now c.args.actions.now _ _ c.args.steps report.stopped report.executed _ c.in_ok-machine.machine c.run-report.new.self fresh r.2)
+    (r.0, r.1, made c.args.image.now c.args.actions.now _ _ c.args.steps report.stopped report.executed c.args.places report.departed _ c.in_ok-machine.machine c.run-report.new.self fresh r.2)

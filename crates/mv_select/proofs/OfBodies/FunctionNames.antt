@@ -5,6 +5,7 @@ use Rattle.mv_isa.specs.declared.labelled.Line.TheVariants.{Label}
 use Rattle.mv_ir.specs.declared.stm.Stm.{Stm}
 use Rattle.mv_select_code.specs.Statements.StatementCode.{trap_label}
 use Rattle.mv_select_code.specs.declared.control.enclosing.Enclosing.{Enclosing}
+use Rattle.mv_select_code.specs.Control.FlowCode.{fall_to}
 use Rattle.mv_select_code.specs.Control.Labels.{functions, pointers}
 use Rattle.mv_select_code.proofs.OfControl.TreeNames.{AnyNumber, all_any}
 use Rattle.mv_select_code.proofs.OfControl.CodeIsMade.{code_made}
@@ -30,7 +31,7 @@ module _ (place size : ℕ → ℕ) (is_attributed : ℕ → Bool) (shape : Shap
         let known = known_made made (stub_names L P C Q S A commit_label commit) place in
         made.after start (body ++ (Label end_label ∷ stop)) (prologue_made made shape.attributed shape.params shape.temps (bytes_of shape))
         (made.after body (Label end_label ∷ stop)
-        (code_made made (plan place size is_attributed shape) (λ g. A (place g)) call known end.1 division index code [] (All-nil (λ (e : Enclosing). P e.start)) (All-nil (λ (e : Enclosing). P e.end)) (end_label + 1)
+        (code_made made (plan place size is_attributed shape) (λ g. A (place g)) call known end.1 division index code [] (All-nil (λ (e : Enclosing). P e.start)) (All-nil (λ (e : Enclosing). P e.end)) (fall_to end_label) end.1 (end_label + 1)
         (λ l from to. own l (omega (arith, to))) named points)
         (made.after (Label end_label ∷ []) stop (made.label end_label end.0) (epilogue_made made shape.attributed shape.temps (bytes_of shape))))
 

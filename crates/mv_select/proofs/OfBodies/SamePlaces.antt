@@ -1,9 +1,9 @@
 -- Code depends on the places and sizes of the globals that it names alone.
-use Rattle.std.proofs.Common.{◌≡◌, ℕ, suc, ◌+◌, Bool, true, cond, List, [], ◌∷◌, ◌++◌, pos, Option, refl, sym, ap, ◌∙◌, subst}
+use Rattle.std.proofs.Common.{◌≡◌, ℕ, suc, ◌+◌, Bool, true, false, cond, List, [], ◌∷◌, ◌++◌, pos, map, Option, Some, None, refl, sym, ap, ◌∙◌, subst}
 use Rattle.mv_ast.specs.declared.program.Known.{Known}
 use Rattle.mv_isa.specs.declared.instr.Instr.TheVariants.{Lui, Lw, Sw, Addi}
 use Rattle.mv_isa.specs.declared.labelled.Line.{Line}
-use Rattle.mv_isa.specs.declared.labelled.Line.TheVariants.{Word, Label, Jump, Branch, Point}
+use Rattle.mv_isa.specs.declared.labelled.Line.TheVariants.{Word, Label, Branch, Point}
 use Rattle.mv_isa.specs.Registers.{a7 as request_register, t3 as scratch_register}
 use Rattle.mv_ir.specs.declared.tree.Tree.{Tree}
 use Rattle.mv_ir.specs.declared.tree.Tree.TheOpen.{Tree-F}
@@ -23,14 +23,15 @@ use Rattle.mv_ir.specs.Measures.{callee_trees, layer_trees, stm_trees, trees, la
 use Rattle.mv_ir.specs.WellFormed.{callee_named, layer_named, stm_named, named, has_room, is_there, IsWellFormed}
 use Rattle.mv_ir.proofs.Induction.{Each, TreeChildren, tree_ind, StmChildren, stm_ind, stms_ind}
 use Rattle.mv_ir.proofs.Rolls.{reads_roll, trees_roll, named_roll}
-use Rattle.mv_select_code.specs.Trees.TreeCode.{one, two, upper_bits, lower_bits, load_lines, unary_lines, operator_lines, keeps_words, narrow_lines, own_register, unless, tree_into, tree_lines, operand_lines, operand_register, immediate_of}
+use Rattle.mv_select_code.specs.Trees.TreeCode.{one, two, upper_bits, lower_bits, own_register, unless, Code, tree_layer, tree_code, tree_into, tree_lines, operand_lines, operand_register, branch_lines}
 use Rattle.mv_select_code.specs.Trees.Rooms.{place_in}
-use Rattle.mv_select_code.proofs.OfTrees.Rolls.{into_tree, into_roll, lines_are}
+use Rattle.mv_select_code.proofs.OfTrees.Rolls.{code_roll as tree_roll}
 use Rattle.mv_select_code.specs.declared.statements.elements.Home.{Home}
 use Rattle.mv_select_code.specs.declared.statements.elements.Home.TheVariants as place_at
 use Rattle.mv_select_code.specs.Statements.StatementCode.{first, second, trap_label, target, keep_lines, division, element_offset, element_lines, test_lines}
-use Rattle.mv_select_code.specs.Control.FlowCode.{Plan, Emitted, both, branch_code, if_code, loop_code, block_code, plain, home, code_layer, statement_code, code_of}
+use Rattle.mv_select_code.specs.Control.FlowCode.{Plan, Emitted, plain, fall_to, jump_to, go_to, leads_to, in_turn, short_cut, if_by, if_code, loop_code, block_code, home, code_layer, statement_code, code_of}
 use Rattle.mv_select_code.specs.Control.FlowCode as flow_code
+use Rattle.mv_select_code.specs.declared.control.enclosing.Leading.{Leading}
 use Rattle.mv_select_code.specs.Control.Layouts.{size_in}
 use Rattle.mv_select_code.proofs.OfControl.StatementsDo.{code_roll}
 use Rattle.mv_select.specs.Calls.CallCode.{request_of, back_lines, pad_lines, pointer_lines, argument_lines, transfer_lines, call_lines, order_lines, ask_lines, result_lines, known_lines}
@@ -53,36 +54,38 @@ module _ (is_known : ℕ → Bool) where
     -- ---- trees
 
     abbrev IsSameTree : Tree → Type 0
-    IsSameTree t = ReadsKnown t → (d r : ℕ) → tree_into place t d r ≡ tree_into place' t d r
+    IsSameTree t = ReadsKnown t → tree_code place t ≡ tree_code place' t
 
-    same_operand : (t : Tree) → IsSameTree t → ReadsKnown t → (r : ℕ) → operand_lines place t r ≡ operand_lines place' t r
-    unfolding operand_lines tree_lines
-    same_operand t c h r = ap (unless (own_register t)) (c h r r)
+    same_layer : (x : Tree-F Tree) → TreeChildren IsSameTree x → Each (IsIn is_known) (layer_reads (map-Tree Tree (List ℕ) tree_reads x)) →
+        tree_layer place (map-Tree Tree Code (tree_code place) x) ≡ tree_layer place' (map-Tree Tree Code (tree_code place') x)
+    same_layer (tree.Number n) c h = refl
+    same_layer (tree.Temp t) c h = refl
+    same_layer (tree.Global g) c h = ap (λ a. tree_layer (λ x. a) (tree.Global g)) (same_place g h.0)
+    same_layer (tree.Function f) c h = refl
+    same_layer (tree.Unary o a) c h = ap (λ z. tree_layer place (tree.Unary o z)) (c h)
+    same_layer (tree.Binary o a b) c h =
+        ap (λ z. tree_layer place (tree.Binary o z (tree_code place b))) (c.0 (each_first (IsIn is_known) (tree_reads a) (tree_reads b) h)) ∙
+        ap (λ z. tree_layer place (tree.Binary o (tree_code place' a) z)) (c.1 (each_right (IsIn is_known) (tree_reads a) (tree_reads b) h))
+    same_layer (tree.Narrow k a) c h = ap (λ z. tree_layer place (tree.Narrow k z)) (c h)
 
-    same_layer : (x : Tree-F Tree) → TreeChildren IsSameTree x → Each (IsIn is_known) (layer_reads (map-Tree Tree (List ℕ) tree_reads x)) → (d r : ℕ) → into_tree place x d r ≡ into_tree place' x d r
-    same_layer (tree.Number n) c h d r = refl
-    same_layer (tree.Temp t) c h d r = refl
-    same_layer (tree.Global g) c h d r = ap (λ a. load_lines a d) (same_place g h.0)
-    same_layer (tree.Function f) c h d r = refl
-    same_layer (tree.Unary o a) c h d r = ap (λ l. l ++ unary_lines o d (operand_register a r)) (same_operand a c h r)
-    same_layer (tree.Binary o a b) c h d r =
-        let right = immediate_of o b in
-        let p = operand_register a r in let q = operand_register b (r + 1) in
-        ap (λ l. l ++ operator_lines right o d p (operand_lines place b (r + 1)) q) (same_operand a c.0 (each_first (IsIn is_known) (tree_reads a) (tree_reads b) h) r) ∙
-        ap (λ l. operand_lines place' a r ++ operator_lines right o d p l q) (same_operand b c.1 (each_right (IsIn is_known) (tree_reads a) (tree_reads b) h) (r + 1))
-    same_layer (tree.Narrow k a) c h d r =
-        let last = narrow_lines k d (operand_register a r) in
-        ap (λ l. cond (keeps_words k) l (operand_lines place a r ++ last)) (c h d r) ∙
-        ap (λ l. cond (keeps_words k) (tree_into place' a d r) (l ++ last)) (same_operand a c h r)
+    same_tree_code : (t : Tree) → IsSameTree t
+    same_tree_code = tree_ind IsSameTree (λ x c h. tree_roll place x ∙ same_layer x c (subst (Each (IsIn is_known)) (reads_roll x) h) ∙ sym (tree_roll place' x))
 
-    same_into : (t : Tree) → IsSameTree t
-    same_into = tree_ind IsSameTree (λ x c h d r. into_roll place x d r ∙ same_layer x c (subst (Each (IsIn is_known)) (reads_roll x) h) d r ∙ sym (into_roll place' x d r))
+    same_into : (t : Tree) → ReadsKnown t → (d r : ℕ) → tree_into place t d r ≡ tree_into place' t d r
+    unfolding tree_into
+    same_into t h d r = ap (λ (z : Code). z.into d r) (same_tree_code t h)
 
     same_tree : (t : Tree) → ReadsKnown t → (r : ℕ) → tree_lines place t r ≡ tree_lines place' t r
-    same_tree t h r = lines_are place t r ∙ same_into t h r r ∙ sym (lines_are place' t r)
+    unfolding tree_lines
+    same_tree t h r = same_into t h r r
 
     same_operands : (t : Tree) → ReadsKnown t → (r : ℕ) → operand_lines place t r ≡ operand_lines place' t r
-    same_operands t = same_operand t (same_into t)
+    unfolding operand_lines
+    same_operands t h r = ap (unless (own_register t)) (same_tree t h r)
+
+    same_branches : (t : Tree) → ReadsKnown t → branch_lines place t ≡ branch_lines place' t
+    unfolding branch_lines
+    same_branches t h = ap (λ (z : Code). z.branch) (same_tree_code t h)
 
     -- ---- calls
 
@@ -128,23 +131,41 @@ module _ (is_known : ℕ → Bool) where
       abbrev IsSame : Stm → Type 0
       IsSame s = Each ReadsKnown (stm_trees s) → Each IsKnownArray (stm_named s) → statement_code P s ≡ statement_code Q s
 
-      same_code : (code : List Stm) → Each IsSame code → Each ReadsKnown (trees code) → Each IsKnownArray (named code) → code_of P code ≡ code_of Q code
-      same_code [] c h k = refl
-      same_code (s ∷ code) c h k =
-          ap (λ e. both e (code_of P code)) (c.0 (each_first ReadsKnown (stm_trees s) (trees code) h) (each_first IsKnownArray (stm_named s) (named code) k)) ∙
-          ap (λ e. both (statement_code Q s) e) (same_code code c.1 (each_right ReadsKnown (stm_trees s) (trees code) h) (each_right IsKnownArray (stm_named s) (named code) k))
+      same_codes : (code : List Stm) → Each IsSame code → Each ReadsKnown (trees code) → Each IsKnownArray (named code) → map (statement_code P) code ≡ map (statement_code Q) code
+      same_codes [] c h k = refl
+      same_codes (s ∷ code) c h k =
+          ap (λ e. e ∷ map (statement_code P) code) (c.0 (each_first ReadsKnown (stm_trees s) (trees code) h) (each_first IsKnownArray (stm_named s) (named code) k)) ∙
+          ap (λ es. statement_code Q s ∷ es) (same_codes code c.1 (each_right ReadsKnown (stm_trees s) (trees code) h) (each_right IsKnownArray (stm_named s) (named code) k))
 
-      -- the code of a branch behind its test, which is in a register
-      abbrev tested : ℕ → List Line → Emitted → Emitted → Emitted
-      tested q test a b = record { labels = (branch_code q a b).labels; lines = λ around label. test ++ (branch_code q a b).lines around label }
+      same_code : (code : List Stm) → Each IsSame code → Each ReadsKnown (trees code) → Each IsKnownArray (named code) → code_of P code ≡ code_of Q code
+      same_code code c h k = ap in_turn (same_codes code c h k)
+
+      -- code that goes to where some code leads, by given lines, or else on with other code
+      abbrev leading : (Bool → ℕ → ℕ → List Line) → Bool → Leading → Emitted → Emitted
+      leading test sense l a = record { labels = a.labels; alone = None; lines = λ around label way. test sense first (leads_to end_label around way l) ++ a.lines around label way }
+
+      -- the code of one list or of the other, by given lines
+      abbrev either : (Bool → ℕ → ℕ → List Line) → Emitted → Emitted → Emitted
+      either test a b = record {
+        labels = 1 + (a.labels + b.labels);
+        alone = None;
+        lines = λ around label way. test false first label ++ (a.lines around (label + 1) (jump_to way.after) ++ (Label label ∷ b.lines around (label + 1 + a.labels) way));
+      }
+
+      same_test : (t : Tree) → ReadsKnown t → (to : Option (Bool × Leading)) (a b : Emitted) → if_by place end_label t to a b ≡ if_by place' end_label t to a b
+      same_test t h None a b = ap (λ test. either test a b) (same_branches t h)
+      same_test t h (Some to) a b = ap (λ test. leading test to.0 to.1 (cond to.0 b a)) (same_branches t h)
 
       same_branch : (t : Tree) (a b : List Stm) → Each IsSame a × Each IsSame b → ReadsKnown t × Each ReadsKnown (trees a ++ trees b) → Each IsKnownArray (named a ++ named b) →
-          if_code place t (code_of P a) (code_of P b) ≡ if_code place' t (code_of Q a) (code_of Q b)
+          if_code place end_label t (code_of P a) (code_of P b) ≡ if_code place' end_label t (code_of Q a) (code_of Q b)
       same_branch t a b c h k =
-          let q = operand_register t first in
-          ap (λ l. tested q l (code_of P a) (code_of P b)) (same_operands t h.0 first) ∙
-          ap (λ e. tested q (operand_lines place' t first) e (code_of P b)) (same_code a c.0 (each_first ReadsKnown (trees a) (trees b) h.1) (each_first IsKnownArray (named a) (named b) k)) ∙
-          ap (λ e. tested q (operand_lines place' t first) (code_of Q a) e) (same_code b c.1 (each_right ReadsKnown (trees a) (trees b) h.1) (each_right IsKnownArray (named a) (named b) k))
+          ap (λ e. if_code place end_label t e (code_of P b)) (same_code a c.0 (each_first ReadsKnown (trees a) (trees b) h.1) (each_first IsKnownArray (named a) (named b) k)) ∙
+          ap (λ e. if_code place end_label t (code_of Q a) e) (same_code b c.1 (each_right ReadsKnown (trees a) (trees b) h.1) (each_right IsKnownArray (named a) (named b) k)) ∙
+          same_test t h.0 (short_cut (code_of Q a).alone (code_of Q b).alone) (code_of Q a) (code_of Q b)
+
+      -- the code that leaves a result by given lines
+      abbrev returned : List Line → Emitted
+      returned result = record { labels = 0; alone = None; lines = λ around label way. result ++ go_to way end_label }
 
       abbrev layer_code : Plan → Stm-F Stm → Emitted
       layer_code plan x = code_layer plan (map-Stm Stm Emitted (statement_code plan) x)
@@ -187,7 +208,7 @@ module _ (is_known : ℕ → Bool) where
       layer (stm.Back n) c h k = refl
       layer (stm.Call r f args) c h k = ap plain (same_call is_attributed r f args h k)
       layer (stm.Known r f args) c h k = ap plain (same_known_call r f args h)
-      layer (stm.Return v) c h k = ap (λ l. plain (l ++ (Jump 0 end_label ∷ []))) (same_tree v h.0 first)
+      layer (stm.Return v) c h k = ap returned (same_tree v h.0 first)
 
       from_layer : (x : Stm-F Stm) → StmChildren IsSame x → IsSame (roll-Stm x)
       from_layer x c h k =
@@ -199,7 +220,7 @@ module _ (is_known : ℕ → Bool) where
           let bytes = bytes_of shape in
           let before = prologue_lines shape.attributed shape.params shape.temps bytes in
           let behind = Label end_label ∷ epilogue_lines shape.attributed shape.temps bytes in
-          ap (λ (e : Emitted). before ++ (e.lines [] (end_label + 1) ++ behind)) (same_code code (stms_ind IsSame (stm_ind IsSame from_layer) code) h k)
+          ap (λ (e : Emitted). before ++ (e.lines [] (end_label + 1) (fall_to end_label) ++ behind)) (same_code code (stms_ind IsSame (stm_ind IsSame from_layer) code) h k)
 
 -- ---- bodies
 

@@ -16,11 +16,12 @@ use Rattle.mv_select_code.specs.Trees.View.{AreRegisters}
 use Rattle.mv_select_code.specs.Statements.StatementCode.{first}
 use Rattle.mv_select_code.proofs.OfStatements.FrameChanges.{register_high}
 use Rattle.mv_select_code.specs.Statements.Frames.{Site, IsFine, IsFit, Shows, Reach}
+use Rattle.mv_select_code.specs.Control.FlowCode.{fall_to}
 use Rattle.mv_select_code.specs.Control.Placed.{Placed}
 use Rattle.mv_select_code.specs.Control.Runs.{Spot, Machine, outside, IsRun}
 use Rattle.mv_select_code.specs.Control.Laws.{CallsDo}
 use Rattle.mv_select_code.specs.Control.Flow.{IsWithin, Here, Follows}
-use Rattle.mv_select_code.proofs.OfControl.Composition.{rest, at_place}
+use Rattle.mv_select_code.proofs.OfControl.Composition.{rest}
 use Rattle.mv_select_code.proofs.OfControl.StatementsDo.{flow_done}
 use Rattle.mv_select_code.proofs.OfControl.Walk.{before_next, placed_split, stands_at, to_stands, to_here}
 use Rattle.mv_select.specs.Calls.CallCode.{calls_of}
@@ -177,11 +178,11 @@ module _ {M : Type 0} (access : Access M) (y : Layout) (laid : IsLaid y) (machin
   cost = (code_meaning setting frame body.code levels begin).cost
 
   follows : (spare : ℕ) → i + (spare + 44 + cost) ≤ budget → far ≤ i + length levels
-      → Follows access S machine place end_label budget far (spare + 13) (length levels) [] q.0 (code_meaning setting frame body.code levels begin).outcome
+      → Follows access S machine place end_label budget far (spare + 13) (length levels) [] (place end_label) (code_meaning setting frame body.code levels begin).outcome
   follows spare paid asked =
       let late = prep.late in let soon = prep.soon in
       flow_done access S setting frame fit machine okS is_fine fine_trees place end_label budget far levels (calls_of y.place is_attributed) calls_do body.code fn.fine
-      (spare + 13) (end_label + 1) [] p.0 q.0 levels (within_self levels) q.1 begin prep.time
+      (spare + 13) (end_label + 1) [] (fall_to end_label) p.0 q.0 levels (within_self levels) q.1 (λ e. q.2.1.label) begin prep.time
       (to_here access S machine okS place end_label budget far 0 (spare + 13 + cost) (length levels) p.0 begin w prep.regs prep.mem prep.time refl begins (omega (arith, paid, soon)) (omega (arith, asked, late))
       (other_frame access y laid machine memory reach ample runs budget far place (words_site y reach) S (ok access y laid machine memory reach ample runs budget far place) okS 0 end_label place w p.0 prep.regs prep.mem prep.time prep.stands))
 
@@ -230,8 +231,8 @@ module _ {M : Type 0} (access : Access M) (y : Layout) (laid : IsLaid y) (machin
   came_back : (spare k : ℕ) (l : State) (j : ℕ) → H 0 (spare + 13) k (place end_label) l j → FollowsCall access y machine budget far spare k i back (Returned None l.world)
   came_back spare k l j h = let r = returns spare k l j h in (r.0, r.1)
 
-  finish : (spare k : ℕ) (r : Outcome) → Follows access S machine place end_label budget far (spare + 13) k [] q.0 r → FollowsCall access y machine budget far spare k i back (body_end r)
-  finish spare k (Next l) f = came_back spare k l f.0 (at_place access S machine place end_label budget far 0 (spare + 13) k q.0 (place end_label) l f.0 (sym q.2.1.label) f.1)
+  finish : (spare k : ℕ) (r : Outcome) → Follows access S machine place end_label budget far (spare + 13) k [] (place end_label) r → FollowsCall access y machine budget far spare k i back (body_end r)
+  finish spare k (Next l) f = came_back spare k l f.0 f.1
   finish spare k (Leaves n l) f = came_back spare k l f.0 f.1
   finish spare k (Restarts n l) f = came_back spare k l f.0 (rest access S machine place end_label budget far 1 (spare + 13) k 0 (spare + 13) k (place end_label) l f.0 (omega arith) (omega arith) f.1)
   finish spare k (Ends (Returned None v)) f = absurd f

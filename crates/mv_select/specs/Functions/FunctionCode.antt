@@ -8,7 +8,7 @@ use Rattle.mv_ir.specs.declared.stm.Stm.{Stm}
 use Rattle.mv_ir.specs.Measures.{total}
 use Rattle.mv_select_code.specs.Trees.TreeCode.{one, two, minus_one, temp_register}
 use Rattle.mv_select_code.specs.Statements.StatementCode.{first}
-use Rattle.mv_select_code.specs.Control.FlowCode.{Plan, code_of}
+use Rattle.mv_select_code.specs.Control.FlowCode.{Plan, fall_to, code_of}
 use Rattle.mv_select.specs.Calls.CallCode.{calls_of}
 
 -- ---- frames, in words above sp: ra and the registers of temporaries, then the temporaries from number 9 on, then the arrays
@@ -99,8 +99,9 @@ module _ (place size : ℕ → ℕ) (is_attributed : ℕ → Bool) (shape : Shap
     calls = calls_of place is_attributed;
   }
 
+  -- behind the body stands the label of the end
   abbrev pub body_lines : List Stm → List Line
-  body_lines code = (code_of plan code).lines [] (end_label + 1)
+  body_lines code = (code_of plan code).lines [] (end_label + 1) (fall_to end_label)
 
   -- the code behind its first instruction
   abbrev pub later_lines : List Stm → List Line

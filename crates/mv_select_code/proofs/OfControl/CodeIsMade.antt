@@ -1,5 +1,5 @@
 -- What holds of single lines and of lines that are put together holds of the code of statements, by induction over the statements.
-use Rattle.std.proofs.Common.{ℕ, zero, suc, ◌+◌, ◌<◌, ◌≤◌, List, [], ◌∷◌, ◌++◌, Option, All, map, sym, subst, arith}
+use Rattle.std.proofs.Common.{ℕ, zero, suc, ◌+◌, ◌<◌, ◌≤◌, List, [], ◌∷◌, ◌++◌, Bool, true, false, Option, Some, None, All, map, sym, subst, arith}
 use Rattle.std.proofs.lemmas.List.Elements.{All-cons, All-head, All-tail}
 use Rattle.mv_ast.specs.declared.program.Known.{Known}
 use Rattle.mv_isa.specs.declared.labelled.Line.{Line}
@@ -13,14 +13,17 @@ use Rattle.mv_ir.specs.declared.stm.Stm.TheViews.{roll-Stm}
 use Rattle.mv_ir.specs.declared.stm.Stm.TheFolds.{map-Stm}
 use Rattle.mv_ir.specs.Measures.{joined}
 use Rattle.mv_ir.proofs.Induction.{Each, StmChildren, stm_ind, stms_ind}
-use Rattle.mv_select_code.specs.Trees.TreeCode.{operand_lines, operand_register}
-use Rattle.mv_select_code.specs.Statements.StatementCode.{first, second, bounds_lines, clear_lines, trap_label}
+use Rattle.mv_select_code.specs.Trees.TreeCode.{branch_lines}
+use Rattle.mv_select_code.specs.Statements.StatementCode.{first, second, bounds_lines, clear_lines, result_lines, trap_label}
 use Rattle.mv_select_code.specs.declared.control.enclosing.Enclosing.{Enclosing}
-use Rattle.mv_select_code.specs.Control.FlowCode.{Plan, Emitted, in_turn, enclosing_at, branch_lines, loop_at, block_at, home, size, code_layer, code_of, statement_code}
+use Rattle.mv_select_code.specs.declared.control.enclosing.Leading.{Leading}
+use Rattle.mv_select_code.specs.declared.control.enclosing.Leading.TheVariants as lead
+use Rattle.mv_select_code.specs.declared.control.enclosing.Way.{Way}
+use Rattle.mv_select_code.specs.Control.FlowCode.{Plan, Emitted, in_turn, enclosing_at, fall_to, jump_to, go_to, go_on, leads_to, if_leads, loop_at, block_at, zero_lines, home, size, code_layer, code_of, statement_code}
 use Rattle.mv_select_code.specs.Control.Labels.{named_layer, stm_functions, tree_functions, callee_functions, functions_of_all, functions, callee_pointers, pointers_layer, stm_pointers, pointers}
 use Rattle.mv_select_code.proofs.OfControl.StatementsDo.{code_roll}
 use Rattle.mv_select_code.proofs.OfControl.TreeNames.{all_front, all_back, named_roll, pointers_roll}
-use Rattle.mv_select_code.proofs.OfControl.StatementsAreMade.{LineByLine, operand_made, set_made, set_global_made, divide_made, check_made, read_made, write_made, bounds_made, clear_made, return_made}
+use Rattle.mv_select_code.proofs.OfControl.StatementsAreMade.{LineByLine, branch_made, result_made, go_to_made, go_on_made, set_made, set_global_made, divide_made, check_made, read_made, write_made, bounds_made, clear_made}
 
 module _ {P : List Line → Type 0} {L J Q : ℕ → Type 0} (made : LineByLine P L J Q) (plan : Plan) (R : ℕ → Type 0)
     (call : (r : Option ℕ) (f : Callee) (args : List Tree) → All Q (callee_functions f ++ functions_of_all args) → All R (callee_pointers f) → P (plan.calls.call r f args))
@@ -47,7 +50,8 @@ module _ {P : List Line → Type 0} {L J Q : ℕ → Type 0} (made : LineByLine 
   end_is (e ∷ around) (suc n) h = end_is around n (All-tail (λ e. J e.end) e around h)
 
   abbrev CodeIsMade : (names points : List ℕ) → Emitted → Type 0
-  CodeIsMade names points code = All Q names → All R points → (around : List Enclosing) → Starts around → Ends around → (label : ℕ) → Own label code.labels → P (code.lines around label)
+  CodeIsMade names points code =
+      All Q names → All R points → (around : List Enclosing) → Starts around → Ends around → (way : Way) → J way.after → (label : ℕ) → Own label code.labels → P (code.lines around label way)
 
   abbrev StmIsMade : Stm → Type 0
   StmIsMade s = CodeIsMade (stm_functions s) (stm_pointers s) (statement_code plan s)
@@ -61,16 +65,26 @@ module _ {P : List Line → Type 0} {L J Q : ℕ → Type 0} (made : LineByLine 
       subst (CodeIsMade (stm_functions (roll-Stm x)) (stm_pointers (roll-Stm x))) (sym (code_roll plan x))
       (λ names points. h (subst (All Q) (named_roll x) names) (subst (All R) (pointers_roll x) points))
 
+  -- a statement before others
+  before_made : (s : Stm) (code : List Stm) → StmIsMade s → CodeIsMade (joined (map stm_functions code)) (joined (map stm_pointers code)) (in_turn (map (statement_code plan) code))
+      → CodeIsMade (joined (map stm_functions (s ∷ code))) (joined (map stm_pointers (s ∷ code))) (in_turn (map (statement_code plan) (s ∷ code)))
+  before_made s [] here others names points around starts ends way behind label own =
+      here (all_front Q (stm_functions s) [] names) (all_front R (stm_pointers s) [] points) around starts ends way behind label own
+  before_made s (t ∷ code) here others names points around starts ends way behind label own =
+      let a = statement_code plan s in
+      let b = in_turn (map (statement_code plan) (t ∷ code)) in
+      let named = joined (map stm_functions (t ∷ code)) in
+      let pointed = joined (map stm_pointers (t ∷ code)) in
+      let between = own label (omega arith) (omega arith) in
+      let ls = b.lines around (label + 1 + a.labels) way in
+      made.after (a.lines around (label + 1) (fall_to label)) (Label label ∷ ls)
+      (here (all_front Q (stm_functions s) named names) (all_front R (stm_pointers s) pointed points) around starts ends (fall_to label) between.1 (label + 1) (λ l p q. own l (omega (arith, p)) (omega (arith, q))))
+      (made.after (Label label ∷ []) ls (made.label label between.0)
+      (others (all_back Q (stm_functions s) named names) (all_back R (stm_pointers s) pointed points) around starts ends way behind (label + 1 + a.labels) (λ l p q. own l (omega (arith, p)) (omega (arith, q)))))
+
   in_order_made : (code : List Stm) → Each StmIsMade code → CodeIsMade (joined (map stm_functions code)) (joined (map stm_pointers code)) (in_turn (map (statement_code plan) code))
-  in_order_made [] h names points around starts ends label own = made.none
-  in_order_made (s ∷ code) h names points around starts ends label own =
-      let here = statement_code plan s in
-      let rest = in_turn (map (statement_code plan) code) in
-      let others = joined (map stm_functions code) in
-      let pointed = joined (map stm_pointers code) in
-      made.after (here.lines around label) (rest.lines around (label + here.labels))
-      (h.0 (all_front Q (stm_functions s) others names) (all_front R (stm_pointers s) pointed points) around starts ends label (λ l p q. own l p (omega (arith, q))))
-      (in_order_made code h.1 (all_back Q (stm_functions s) others names) (all_back R (stm_pointers s) pointed points) around starts ends (label + here.labels) (λ l p q. own l (omega (arith, p)) (omega (arith, q))))
+  in_order_made [] h = λ names points around starts ends way behind label own. go_on_made made plan.place way behind
+  in_order_made (s ∷ code) h = before_made s code h.0 (in_order_made code h.1)
 
   -- two trees
   left : (a b : Tree) → All Q (tree_functions a ++ tree_functions b) → All Q (tree_functions a)
@@ -79,79 +93,96 @@ module _ {P : List Line → Type 0} {L J Q : ℕ → Type 0} (made : LineByLine 
   right : (a b : Tree) → All Q (tree_functions a ++ tree_functions b) → All Q (tree_functions b)
   right a b = all_back Q (tree_functions a) (tree_functions b)
 
+  -- lines without labels, and on
+  on_made : (ls : List Line) (way : Way) → J way.after → P ls → P (ls ++ go_on way)
+  on_made ls way behind h = made.after ls (go_on way) h (go_on_made made plan.place way behind)
+
+  lead_is : (l : Leading) (around : List Enclosing) (way : Way) → Starts around → Ends around → J way.after → J (leads_to plan.end around way l)
+  lead_is lead.On around way starts ends behind = behind
+  lead_is (lead.Out n) around way starts ends behind = end_is around n ends
+  lead_is (lead.Back n) around way starts ends behind = start_is around n starts
+
+  if_made : (t : Tree) (names_a names_b points_a points_b : List ℕ) (x y : Option Leading) (a b : Emitted) → All Q (tree_functions t) → CodeIsMade names_a points_a a → CodeIsMade names_b points_b b
+      → All Q names_a → All Q names_b → All R points_a → All R points_b → (around : List Enclosing) → Starts around → Ends around → (way : Way) → J way.after → (label : ℕ)
+      → Own label (if_leads plan.place plan.end t x y a b).labels → P ((if_leads plan.place plan.end t x y a b).lines around label way)
+  if_made t names_a names_b points_a points_b x y a b ft ma mb na nb pa pb around starts ends way behind label = go x y
+    where
+      to : (sense : Bool) (l : ℕ) → J l → P (branch_lines plan.place t sense first l)
+      to sense l j = branch_made made plan.place t ft sense first l j
+
+      to_first : (l : Leading) → Own label b.labels → P (branch_lines plan.place t true first (leads_to plan.end around way l) ++ b.lines around label way)
+      to_first l own =
+          let g = leads_to plan.end around way l in
+          made.after (branch_lines plan.place t true first g) (b.lines around label way) (to true g (lead_is l around way starts ends behind)) (mb nb pb around starts ends way behind label own)
+
+      to_second : (l : Leading) → Own label a.labels → P (branch_lines plan.place t false first (leads_to plan.end around way l) ++ a.lines around label way)
+      to_second l own =
+          let g = leads_to plan.end around way l in
+          made.after (branch_lines plan.place t false first g) (a.lines around label way) (to false g (lead_is l around way starts ends behind)) (ma na pa around starts ends way behind label own)
+
+      go : (x y : Option Leading) → Own label (if_leads plan.place plan.end t x y a b).labels → P ((if_leads plan.place plan.end t x y a b).lines around label way)
+      go None None own =
+          let past = own label (omega arith) (omega arith) in
+          let ls = a.lines around (label + 1) (jump_to way.after) in
+          let ls' = b.lines around (label + 1 + a.labels) way in
+          made.after (branch_lines plan.place t false first label) (ls ++ (Label label ∷ ls')) (to false label past.1)
+          (made.after ls (Label label ∷ ls') (ma na pa around starts ends (jump_to way.after) behind (label + 1) (λ l p q. own l (omega (arith, p)) (omega (arith, q))))
+          (made.after (Label label ∷ []) ls' (made.label label past.0) (mb nb pb around starts ends way behind (label + 1 + a.labels) (λ l p q. own l (omega (arith, p)) (omega (arith, q))))))
+      go (Some l) None own = to_first l own
+      go (Some l) (Some lead.On) own = to_first l own
+      go None (Some l) own = to_second l own
+      go (Some l) (Some (lead.Out n)) own = to_second (lead.Out n) own
+      go (Some l) (Some (lead.Back n)) own = to_second (lead.Back n) own
+
   layer : (x : Stm-F Stm) → StmChildren StmIsMade x → LayerIsMade x
-  layer (stm.Set t v) h names points around starts ends label own = set_made made plan.place t v names
-  layer (stm.SetGlobal g v) h names points around starts ends label own = set_global_made made plan.place g v names
-  layer (stm.Divide t o a b) h names points around starts ends label own = divide_made made plan.place t o a b division (left a b names) (right a b names)
-  layer (stm.Check a i) h names points around starts ends label own = check_made made plan.place (size plan a) i index names
-  layer (stm.Read t a i) h names points around starts ends label own = read_made made plan.place t (size plan a) (home plan a) i index names
-  layer (stm.Write a i v) h names points around starts ends label own = write_made made plan.place (size plan a) (home plan a) i v index (left i v names) (right i v names)
-  layer (stm.Zero a) h names points around starts ends label own =
+  layer (stm.Set t v) h names points around starts ends way behind label own = on_made _ way behind (set_made made plan.place t v names)
+  layer (stm.SetGlobal g v) h names points around starts ends way behind label own = on_made _ way behind (set_global_made made plan.place g v names)
+  layer (stm.Divide t o a b) h names points around starts ends way behind label own = on_made _ way behind (divide_made made plan.place t o a b division (left a b names) (right a b names))
+  layer (stm.Check a i) h names points around starts ends way behind label own = on_made _ way behind (check_made made plan.place (size plan a) i index names)
+  layer (stm.Read t a i) h names points around starts ends way behind label own = on_made _ way behind (read_made made plan.place t (size plan a) (home plan a) i index names)
+  layer (stm.Write a i v) h names points around starts ends way behind label own = on_made _ way behind (write_made made plan.place (size plan a) (home plan a) i v index (left i v names) (right i v names))
+  layer (stm.Zero a) h names points around starts ends way behind label own =
       let go = Jump 0 (label + 1) ∷ [] in
       let turn = Label label ∷ [] in
       let tested = Label (label + 1) ∷ [] in
       let test = Branch 1 first second label ∷ [] in
       let at_turn = own label (omega arith) (omega arith) in
       let at_test = own (label + 1) (omega arith) (omega arith) in
-      made.after (bounds_lines (plan.array_at a) (plan.array_size a)) (go ++ (turn ++ (clear_lines ++ (tested ++ test)))) (bounds_made made (plan.array_at a) (plan.array_size a))
+      on_made (zero_lines label (plan.array_at a) (plan.array_size a)) way behind
+      (made.after (bounds_lines (plan.array_at a) (plan.array_size a)) (go ++ (turn ++ (clear_lines ++ (tested ++ test)))) (bounds_made made (plan.array_at a) (plan.array_size a))
       (made.after go (turn ++ (clear_lines ++ (tested ++ test))) (made.jump (label + 1) at_test.1)
       (made.after turn (clear_lines ++ (tested ++ test)) (made.label label at_turn.0)
       (made.after clear_lines (tested ++ test) (clear_made made)
-      (made.after tested test (made.label (label + 1) at_test.0) (made.branch 1 first second label at_turn.1)))))
-  layer (stm.Return v) h names points around starts ends label own = return_made made plan.place plan.end v end names
-  layer (stm.Break n) h names points around starts ends label own = made.jump (enclosing_at around n plan.end).end (end_is around n ends)
-  layer (stm.Back n) h names points around starts ends label own = made.jump (enclosing_at around n plan.end).start (start_is around n starts)
-  layer (stm.Call r f args) h names points around starts ends label own = call r f args names points
-  layer (stm.Known r k args) h names points around starts ends label own = known r k args names
-  layer (stm.Block b) h names points around starts ends label own =
+      (made.after tested test (made.label (label + 1) at_test.0) (made.branch 1 first second label at_turn.1))))))
+  layer (stm.Return v) h names points around starts ends way behind label own =
+      made.after (result_lines plan.place v) (go_to way plan.end) (result_made made plan.place v names) (go_to_made made plan.place way plan.end end)
+  layer (stm.Break n) h names points around starts ends way behind label own = go_to_made made plan.place way (enclosing_at around n plan.end).end (end_is around n ends)
+  layer (stm.Back n) h names points around starts ends way behind label own = made.jump (enclosing_at around n plan.end).start (start_is around n starts)
+  layer (stm.Call r f args) h names points around starts ends way behind label own = on_made _ way behind (call r f args names points)
+  layer (stm.Known r k args) h names points around starts ends way behind label own = on_made _ way behind (known r k args names)
+  layer (stm.Block b) h names points around starts ends way behind label own =
+      in_order_made b h names points (block_at way ∷ around) (All-cons (λ e. J e.start) (block_at way) around behind starts) (All-cons (λ e. J e.end) (block_at way) around behind ends) way behind label own
+  layer (stm.Loop b) h names points around starts ends way behind label own =
       let inner = in_turn (map (statement_code plan) b) in
-      let here = own label (omega arith) (omega arith) in
-      made.after (inner.lines (block_at label ∷ around) (label + 1)) (Label label ∷ [])
-      (in_order_made b h names points (block_at label ∷ around) (All-cons (λ e. J e.start) (block_at label) around here.1 starts) (All-cons (λ e. J e.end) (block_at label) around here.1 ends)
-      (label + 1) (λ l p q. own l (omega (arith, p)) (omega (arith, q))))
-      (made.label label here.0)
-  layer (stm.Loop b) h names points around starts ends label own =
-      let inner = in_turn (map (statement_code plan) b) in
-      let body = inner.lines (loop_at label ∷ around) (label + 2) in
-      let back = Jump 0 label ∷ [] in
-      let stop = Label (label + 1) ∷ [] in
-      let at_start = own label (omega arith) (omega arith) in
-      let at_stop = own (label + 1) (omega arith) (omega arith) in
-      made.after (Label label ∷ []) (body ++ (back ++ stop)) (made.label label at_start.0)
-      (made.after body (back ++ stop)
-      (in_order_made b h names points (loop_at label ∷ around) (All-cons (λ e. J e.start) (loop_at label) around at_start.1 starts) (All-cons (λ e. J e.end) (loop_at label) around at_stop.1 ends)
-      (label + 2) (λ l p q. own l (omega (arith, p)) (omega (arith, q))))
-      (made.after back stop (made.jump label at_start.1) (made.label (label + 1) at_stop.0)))
-  layer (stm.If t a b) h names points around starts ends label own =
+      let start = own label (omega arith) (omega arith) in
+      made.after (Label label ∷ []) (inner.lines (loop_at label way ∷ around) (label + 1) (jump_to label)) (made.label label start.0)
+      (in_order_made b h names points (loop_at label way ∷ around) (All-cons (λ e. J e.start) (loop_at label way) around start.1 starts) (All-cons (λ e. J e.end) (loop_at label way) around behind ends)
+      (jump_to label) start.1 (label + 1) (λ l p q. own l (omega (arith, p)) (omega (arith, q))))
+  layer (stm.If t a b) h names points around starts ends way behind label own =
       let in_a = joined (map stm_functions a) in
       let in_b = joined (map stm_functions b) in
       let by_a = joined (map stm_pointers a) in
       let by_b = joined (map stm_pointers b) in
       let one = in_turn (map (statement_code plan) a) in
       let other = in_turn (map (statement_code plan) b) in
-      let ls = one.lines around (label + 2) in
-      let ls' = other.lines around (label + 2 + one.labels) in
-      let q = operand_register t first in
       let lists = all_back Q (tree_functions t) (in_a ++ in_b) names in
-      let skip = Jump 0 (label + 1) ∷ [] in
-      let past = Label label ∷ [] in
-      let stop = Label (label + 1) ∷ [] in
-      let at_past = own label (omega arith) (omega arith) in
-      let at_stop = own (label + 1) (omega arith) (omega arith) in
-      made.after (operand_lines plan.place t first) (branch_lines q label ls ls') (operand_made made plan.place t (all_front Q (tree_functions t) (in_a ++ in_b) names) first)
-      (made.after (Branch 0 q 0 label ∷ []) (ls ++ (skip ++ (past ++ (ls' ++ stop)))) (made.branch 0 q 0 label at_past.1)
-      (made.after ls (skip ++ (past ++ (ls' ++ stop)))
-      (in_order_made a h.0 (all_front Q in_a in_b lists) (all_front R by_a by_b points) around starts ends (label + 2) (λ l p q. own l (omega (arith, p)) (omega (arith, q))))
-      (made.after skip (past ++ (ls' ++ stop)) (made.jump (label + 1) at_stop.1)
-      (made.after past (ls' ++ stop) (made.label label at_past.0)
-      (made.after ls' stop
-      (in_order_made b h.1 (all_back Q in_a in_b lists) (all_back R by_a by_b points) around starts ends (label + 2 + one.labels) (λ l p q. own l (omega (arith, p)) (omega (arith, q))))
-      (made.label (label + 1) at_stop.0))))))
+      if_made t in_a in_b by_a by_b one.alone other.alone one other (all_front Q (tree_functions t) (in_a ++ in_b) names) (in_order_made a h.0) (in_order_made b h.1) (all_front Q in_a in_b lists) (all_back Q in_a in_b lists)
+      (all_front R by_a by_b points) (all_back R by_a by_b points) around starts ends way behind label own
 
   statement_made : (s : Stm) → StmIsMade s
   statement_made = stm_ind StmIsMade (λ x h. from_layer x (layer x h))
 
   -- the code of statements within others
-  pub code_made : (code : List Stm) (around : List Enclosing) → Starts around → Ends around → (label : ℕ) → Own label (code_of plan code).labels → All Q (functions code)
-      → All R (pointers code) → P ((code_of plan code).lines around label)
-  code_made code around starts ends label own names points = in_order_made code (stms_ind StmIsMade statement_made code) names points around starts ends label own
+  pub code_made : (code : List Stm) (around : List Enclosing) → Starts around → Ends around → (way : Way) → J way.after → (label : ℕ) → Own label (code_of plan code).labels → All Q (functions code)
+      → All R (pointers code) → P ((code_of plan code).lines around label way)
+  code_made code around starts ends way behind label own names points = in_order_made code (stms_ind StmIsMade statement_made code) names points around starts ends way behind label own

@@ -1,75 +1,122 @@
 -- Code that is written a part at a time.
-use Rattle.std.proofs.Common.{◌≡◌, ℕ, ◌+◌, ◌^◌, ◌<◌, List, [], ◌∷◌, ◌++◌, sym, ap, ◌∙◌, subst, arith, append_assoc}
+use Rattle.std.proofs.Common.{◌≡◌, ℕ, suc, ◌+◌, ◌^◌, ◌<◌, ◌≤◌, None, List, [], ◌∷◌, ◌++◌, length, drop, drop-cons, get_or, refl, sym, ap, ◌∙◌, subst, arith, append_assoc, add-one}
+use Rattle.std.proofs.lemmas.List.{drop_all}
 use Rattle.mv_isa.specs.declared.labelled.Line.{Line}
-use Rattle.mv_isa.specs.declared.labelled.Line.TheVariants.{Label, Jump, Branch}
-use Rattle.mv_ir.specs.declared.body.Room.{Room}
-use Rattle.mv_ir.specs.declared.tree.Tree.{Tree}
+use Rattle.mv_isa.specs.declared.labelled.Line.TheVariants.{Label}
 use Rattle.mv_ir.specs.declared.stm.Stm.{Stm}
-use Rattle.mv_select_code.specs.Trees.Rooms.{place_in}
-use Rattle.mv_select_code.specs.Trees.TreeCode.{operand_lines, operand_register}
-use Rattle.mv_select_code.specs.Statements.StatementCode.{first}
+use Rattle.mv_ir.specs.declared.stm.Stm as at
+use Rattle.mv_ir.specs.declared.stm.Stm.TheOpen.{Stm-F}
+use Rattle.mv_ir.specs.declared.stm.Stm.TheOpen as stm
+use Rattle.mv_ir.specs.declared.stm.Stm.TheViews.{roll-Stm}
+use Rattle.mv_ir.specs.declared.stm.Stm.TheFolds.{map-Stm}
+use Rattle.mv_ir.specs.declared.stm.Stm.TheVariants.{rolls-Break, rolls-Back}
+use Rattle.mv_ir.proofs.Induction.{stm_ind}
 use Rattle.mv_select_code.specs.declared.control.emitter.Emitter.{Emitter}
-use Rattle.mv_select_code.specs.Control.FlowCode.{Plan, Emitted, both, plain, if_code, statement_code, code_of}
-use Rattle.mv_select_code.specs.Control.Emitters.{with_lines, emitted, branch_opened, branch_turned, branch_closed}
+use Rattle.mv_select_code.specs.declared.control.enclosing.Way.{Way}
+use Rattle.mv_select_code.specs.Control.FlowCode.{Plan, Emitted, go_on, plain, nothing, fall_to, both, zero_lines, zero_code, code_layer, statement_code, code_of}
+use Rattle.mv_select_code.proofs.OfControl.StatementsDo.{code_roll, if_alone}
+use Rattle.mv_select_code.specs.Control.Emitters.{with_lines, emitted, label_taken}
 
 pub lines_two : (xs : List Line) (a b : Line) → (xs ++ (a ∷ [])) ++ (b ∷ []) ≡ xs ++ (a ∷ b ∷ [])
 lines_two xs a b = append_assoc xs (a ∷ []) (b ∷ [])
 
-pub plain_emitted : (e : Emitter) (lines : List Line) → with_lines e lines ≡ emitted e (plain lines)
-plain_emitted e lines = let free : e.free ≡ e.free + 0 = omega arith in λ i. record e { lines = e.lines ++ lines; free = free i }
+-- an emitter with other lines and another free label
+at_both : (e : Emitter) (ls ks : List Line) (n k : ℕ) → ls ≡ ks → n ≡ k
+    → (let x : Emitter = record e { lines = ls; free = n } in x) ≡ (let y : Emitter = record e { lines = ks; free = k } in y)
+at_both e ls ks n k p q = λ i. record e { lines = p i; free = q i }
 
-pub if_emitted : (e : Emitter) (place : ℕ → ℕ) (t : Tree) (a b : Emitted)
-    → branch_closed (emitted (branch_turned (emitted (branch_opened e place t) a) e.free) b) e.free ≡ emitted e (if_code place t a b)
-if_emitted e place t a b =
-    let free : ((e.free + 2) + a.labels) + b.labels ≡ e.free + (2 + (a.labels + b.labels)) = omega arith in
-    let test = operand_lines place t first in
-    let q = operand_register t first in
-    let one = a.lines e.around (e.free + 2) in
-    let other = b.lines e.around (e.free + 2 + a.labels) in
-    let lines : (((((e.lines ++ test) ++ (Branch 0 q 0 e.free ∷ [])) ++ one) ++ (Jump 0 (e.free + 1) ∷ Label e.free ∷ [])) ++ other) ++ (Label (e.free + 1) ∷ [])
-    ≡ e.lines ++ (test ++ (Branch 0 q 0 e.free ∷ (one ++ (Jump 0 (e.free + 1) ∷ Label e.free ∷ (other ++ (Label (e.free + 1) ∷ [])))))) = simp append_assoc in
-    λ i. record e { lines = lines i; free = free i }
+pub plain_emitted : (e : Emitter) (lines : List Line) (way : Way) → with_lines (with_lines e lines) (go_on way) ≡ emitted e (plain lines) way
+plain_emitted e lines way = at_both e ((e.lines ++ lines) ++ go_on way) (e.lines ++ (lines ++ go_on way)) e.free (e.free + 0) (append_assoc e.lines lines (go_on way)) (omega arith)
 
-pub if_written : (e : Emitter) (place : ℕ → ℕ) (t : Tree) (a b : Emitted) (opened one turned both closed : Emitter)
-    → opened ≡ branch_opened e place t → one ≡ emitted opened a → turned ≡ branch_turned one e.free → both ≡ emitted turned b → closed ≡ branch_closed both e.free
-    → closed ≡ emitted e (if_code place t a b)
-if_written e place t a b opened one turned both closed p q r s u =
-    let first = q ∙ ap (λ x. emitted x a) p in
-    let second = s ∙ ap (λ x. emitted x b) (r ∙ ap (λ x. branch_turned x e.free) first) in
-    u ∙ ap (λ x. branch_closed x e.free) second ∙ if_emitted e place t a b
+-- code that takes no labels
+pub silent_emitted : (e : Emitter) (code : Emitted) (way : Way) → code.labels ≡ 0 → with_lines e (code.lines e.around e.free way) ≡ emitted e code way
+silent_emitted e code way none = let ls = e.lines ++ code.lines e.around e.free way in at_both e ls ls e.free (e.free + code.labels) (λ i. ls) (omega (arith, none))
 
--- a branch over rooms that are the same
-pub opened_over : (e after : Emitter) (rooms same : List Room) (t : Tree) → same ≡ rooms → after ≡ branch_opened e (place_in same) t
-    → after ≡ branch_opened e (place_in rooms) t
-opened_over e after rooms same t is h = h ∙ ap (λ r. branch_opened e (place_in r) t) is
+pub zero_written : (e zeroed new : Emitter) (way : Way) (at n : ℕ) → zeroed ≡ (let x : Emitter = record e { lines = e.lines ++ zero_lines e.free at n; free = e.free + 2 } in x)
+    → new ≡ with_lines zeroed (go_on way) → new ≡ emitted e (zero_code at n) way
+zero_written e zeroed new way at n p h =
+    let ls = zero_lines e.free at n in
+    h ∙ ap (λ x. with_lines x (go_on way)) p
+    ∙ at_both e ((e.lines ++ ls) ++ go_on way) (e.lines ++ (ls ++ go_on way)) (e.free + 2) (e.free + 2) (append_assoc e.lines ls (go_on way)) refl
 
--- ---- labels
+-- one before another
+pub both_emitted : (e : Emitter) (a b : Emitted) (way : Way) → emitted (with_lines (emitted (label_taken e) a (fall_to e.free)) (Label e.free ∷ [])) b way ≡ emitted e (both a b) way
+both_emitted e a b way =
+    let one = a.lines e.around (e.free + 1) (fall_to e.free) in
+    let other = b.lines e.around (e.free + 1 + a.labels) way in
+    let lines : ((e.lines ++ one) ++ (Label e.free ∷ [])) ++ other ≡ e.lines ++ (one ++ (Label e.free ∷ other)) = simp append_assoc in
+    at_both e (((e.lines ++ one) ++ (Label e.free ∷ [])) ++ other) (e.lines ++ (one ++ (Label e.free ∷ other))) (e.free + 1 + a.labels + b.labels) (e.free + (1 + (a.labels + b.labels))) lines (omega arith)
 
-pub free_emitted : (e after : Emitter) (code : Emitted) → after ≡ emitted e code → after.free ≡ e.free + code.labels
-free_emitted e after code is = ap (λ x. x.free) is
+-- ---- statements in order
 
-pub free_same : (e f : Emitter) (a b : Emitted) → emitted e a ≡ emitted f b → e.free + a.labels ≡ f.free + b.labels
-free_same e f a b is = ap (λ x. x.free) is
+pub next_item : (xs : List Stm) (i : ℕ) (s : Stm) → i < length xs → s ≡ get_or xs i s → drop i xs ≡ s ∷ drop (i + 1) xs
+next_item xs i s lt is = rw (add-one i) (drop-cons xs i s lt ∙ ap (λ x. x ∷ drop (suc i) xs) (sym is))
 
-pub free_opened : (e after : Emitter) (place : ℕ → ℕ) (t : Tree) → after ≡ branch_opened e place t → after.free ≡ e.free + 2
-free_opened e after place t is = ap (λ x. x.free) is
+module _ (plan : Plan) (xs : List Stm) (s : Stm) where
+  last_is : (rest : List Stm) → length rest ≡ 0 → xs ≡ s ∷ rest → code_of plan xs ≡ statement_code plan s
+  last_is [] none is = ap (code_of plan) is
+  last_is (t ∷ rest) none is = absurd (omega (arith, none))
 
-pub free_turned : (e after : Emitter) (label : ℕ) → after ≡ branch_turned e label → after.free ≡ e.free
-free_turned e after label is = ap (λ x. x.free) is
+  next_is : (rest : List Stm) → 0 < length rest → xs ≡ s ∷ rest → code_of plan xs ≡ both (statement_code plan s) (code_of plan rest)
+  next_is [] some is = absurd (omega (arith, some))
+  next_is (t ∷ rest) some is = ap (code_of plan) is
 
-pub labels_next : (plan : Plan) (xs : List Stm) (s : Stm) (rest : List Stm) → xs ≡ s ∷ rest
-    → (code_of plan xs).labels ≡ (statement_code plan s).labels + (code_of plan rest).labels
-labels_next plan xs s rest is = ap (λ l. (code_of plan l).labels) is
+  pub labels_last : (rest : List Stm) → length rest ≡ 0 → xs ≡ s ∷ rest → (code_of plan xs).labels ≡ (statement_code plan s).labels
+  labels_last rest none is = ap (λ (c : Emitted). c.labels) (last_is rest none is)
+
+  pub labels_next : (rest : List Stm) → 0 < length rest → xs ≡ s ∷ rest → (code_of plan xs).labels ≡ 1 + ((statement_code plan s).labels + (code_of plan rest).labels)
+  labels_next rest some is = ap (λ (c : Emitted). c.labels) (next_is rest some is)
+
+  -- the last one
+  pub last_written : (e new : Emitter) (way : Way) (rest : List Stm) → length rest ≡ 0 → xs ≡ s ∷ rest → new ≡ emitted e (statement_code plan s) way → new ≡ emitted e (code_of plan xs) way
+  last_written e new way rest none is h = h ∙ ap (λ c. emitted e c way) (sym (last_is rest none is))
+
+  -- one before others, with a label between them
+  pub next_written : (e taken one labelled : Emitter) (label : ℕ) (way : Way) (rest : List Stm) → 0 < length rest → xs ≡ s ∷ rest → label ≡ e.free → taken ≡ label_taken e
+      → one ≡ emitted taken (statement_code plan s) (fall_to label) → labelled ≡ with_lines one (Label label ∷ []) → emitted labelled (code_of plan rest) way ≡ emitted e (code_of plan xs) way
+  next_written e taken one labelled label way rest some is at_free p q r =
+      ap (λ x. emitted x (code_of plan rest) way)
+      (r ∙ ap (λ x. with_lines x (Label label ∷ [])) (q ∙ ap (λ x. emitted x (statement_code plan s) (fall_to label)) p)
+      ∙ ap (λ n. with_lines (emitted (label_taken e) (statement_code plan s) (fall_to n)) (Label n ∷ [])) at_free)
+      ∙ both_emitted e (statement_code plan s) (code_of plan rest) way ∙ ap (λ c. emitted e c way) (sym (next_is rest some is))
+
+-- behind them all
+pub end_written : (plan : Plan) (xs : List Stm) (i : ℕ) (e new : Emitter) (way : Way) → length xs ≤ i → new ≡ with_lines e (go_on way) → new ≡ emitted e (code_of plan (drop i xs)) way
+end_written plan xs i e new way le h = h ∙ silent_emitted e nothing way refl ∙ ap (λ l. emitted e (code_of plan l) way) (sym (drop_all i xs le))
+
+pub free_same : (e f : Emitter) (a b : Emitted) (way : Way) → emitted e a way ≡ emitted f b way → e.free + a.labels ≡ f.free + b.labels
+free_same e f a b way is = ap (λ (x : Emitter). x.free) is
 
 -- ---- statements of a kind
 
 module _ (plan : Plan) (e : Emitter) (s x : Stm) (same : s ≡ x) where
-  pub as_kind : (code : Emitted) (new : Emitter) → statement_code plan x ≡ code → new ≡ emitted e code → new ≡ emitted e (statement_code plan s)
-  as_kind code new is h = h ∙ ap (emitted e) (sym is ∙ ap (statement_code plan) (sym same))
+  pub as_kind : (way : Way) (code : Emitted) (new : Emitter) → statement_code plan x ≡ code → new ≡ emitted e code way → new ≡ emitted e (statement_code plan s) way
+  as_kind way code new is h = h ∙ ap (λ c. emitted e c way) (sym is ∙ ap (statement_code plan) (sym same))
 
-  pub as_plain : (lines new : List Line) → statement_code plan x ≡ plain lines → new ≡ e.lines ++ lines
-      → (let w : Emitter = record e { lines = new } in w) ≡ emitted e (statement_code plan s)
-  as_plain lines new is h = as_kind (plain lines) (record e { lines = new }) is (ap (λ l. let w : Emitter = record e { lines = l } in w) h ∙ plain_emitted e lines)
+  pub as_plain : (way : Way) (lines written : List Line) (new : Emitter) → statement_code plan x ≡ plain lines → written ≡ e.lines ++ lines
+      → new ≡ (let w : Emitter = record e { lines = written } in with_lines w (go_on way)) → new ≡ emitted e (statement_code plan s) way
+  as_plain way lines written new is h k =
+      as_kind way (plain lines) new is (k ∙ ap (λ l. let w : Emitter = record e { lines = l } in with_lines w (go_on way)) h ∙ plain_emitted e lines way)
 
   pub labels_of : (code : Emitted) → statement_code plan x ≡ code → e.free + (statement_code plan s).labels < 2 ^ 32 → e.free + code.labels < 2 ^ 32
   labels_of code is h = subst (λ c. e.free + c.labels < 2 ^ 32) (ap (statement_code plan) same ∙ is) h
+
+-- ---- where code leads that does nothing else
+
+module _ (plan : Plan) where
+  abbrev LeadsNowhere : Stm → Type 0
+  LeadsNowhere s = ((n : ℕ) → s ≡ at.Break n → ⊥) → ((n : ℕ) → s ≡ at.Back n → ⊥) → (statement_code plan s).alone ≡ None
+
+  unled_layer : (x : Stm-F Stm) → ((n : ℕ) → roll-Stm x ≡ at.Break n → ⊥) → ((n : ℕ) → roll-Stm x ≡ at.Back n → ⊥) → (code_layer plan (map-Stm Stm Emitted (statement_code plan) x)).alone ≡ None
+  unled_layer (stm.Break n) p q = absurd (p n (rolls-Break n))
+  unled_layer (stm.Back n) p q = absurd (q n (rolls-Back n))
+  unled_layer (stm.If t a b) p q = let one = code_of plan a in let other = code_of plan b in if_alone plan.place plan.end t one.alone other.alone one other
+  unled_layer _ p q = refl
+
+  pub unled : (s : Stm) → LeadsNowhere s
+  unled = stm_ind LeadsNowhere (λ x h p q. ap (λ (c : Emitted). c.alone) (code_roll plan x) ∙ unled_layer x p q)
+
+  pub unled_list : (xs : List Stm) → 2 ≤ length xs → (code_of plan xs).alone ≡ None
+  unled_list [] le = absurd (omega (arith, le))
+  unled_list (s ∷ []) le = absurd (omega (arith, le))
+  unled_list (s ∷ t ∷ xs) le = refl

@@ -9,8 +9,8 @@ use Rattle.mv_ir.specs.declared.stm.Stm as at
 use Rattle.mv_ir.specs.declared.stm.Stm.TheOpen as stm
 use Rattle.mv_ir.specs.declared.stm.Stm.TheVariants.{rolls-Set, rolls-SetGlobal, rolls-Divide, rolls-Check, rolls-Read, rolls-Write, rolls-Zero, rolls-If, rolls-Loop, rolls-Block, rolls-Break, rolls-Back, rolls-Call, rolls-Known, rolls-Return}
 use Rattle.mv_ir.specs.WellFormed.{known_arguments, all_true}
-use Rattle.mv_select_code.specs.Statements.StatementCode.{set_lines, set_global_lines, divide_lines, check_lines, read_lines, write_lines, return_lines}
-use Rattle.mv_select_code.specs.Control.FlowCode.{Plan, plain, home, size, zero_code, if_code, loop_code, block_code, break_code, back_code, statement_code, code_of, Uses, may_read, may_write, fine_target, fine_callee, fine_known, is_fine_statement, are_fine}
+use Rattle.mv_select_code.specs.Statements.StatementCode.{set_lines, set_global_lines, divide_lines, check_lines, read_lines, write_lines}
+use Rattle.mv_select_code.specs.Control.FlowCode.{Plan, plain, home, size, zero_code, if_code, loop_code, block_code, break_code, back_code, return_code, statement_code, code_of, Uses, may_read, may_write, fine_target, fine_callee, fine_known, is_fine_statement, are_fine}
 use Rattle.mv_select_code.proofs.OfControl.StatementsDo.{code_roll, fine_roll}
 
 module _ (plan : Plan) where
@@ -35,7 +35,7 @@ module _ (plan : Plan) where
   pub code_zero : (a : ℕ) → statement_code plan (at.Zero a) ≡ zero_code (plan.array_at a) (plan.array_size a)
   code_zero a = ap (statement_code plan) (sym (rolls-Zero a)) ∙ code_roll plan (stm.Zero a)
 
-  pub code_if : (t : Tree) (a b : List Stm) → statement_code plan (at.If t a b) ≡ if_code plan.place t (code_of plan a) (code_of plan b)
+  pub code_if : (t : Tree) (a b : List Stm) → statement_code plan (at.If t a b) ≡ if_code plan.place plan.end t (code_of plan a) (code_of plan b)
   code_if t a b = ap (statement_code plan) (sym (rolls-If t a b)) ∙ code_roll plan (stm.If t a b)
 
   pub code_loop : (b : List Stm) → statement_code plan (at.Loop b) ≡ loop_code (code_of plan b)
@@ -56,7 +56,7 @@ module _ (plan : Plan) where
   pub code_known : (r : Option ℕ) (k : Known) (args : List Tree) → statement_code plan (at.Known r k args) ≡ plain (plan.calls.known r k args)
   code_known r k args = ap (statement_code plan) (sym (rolls-Known r k args)) ∙ code_roll plan (stm.Known r k args)
 
-  pub code_return : (v : Tree) → statement_code plan (at.Return v) ≡ plain (return_lines plan.place plan.end v)
+  pub code_return : (v : Tree) → statement_code plan (at.Return v) ≡ return_code plan.place plan.end v
   code_return v = ap (statement_code plan) (sym (rolls-Return v)) ∙ code_roll plan (stm.Return v)
 
 module _ (is_fine : Tree → Bool) (may_ask : Known → Bool) (temps : ℕ) (uses : Uses) where

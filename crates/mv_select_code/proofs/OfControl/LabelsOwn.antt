@@ -1,6 +1,6 @@
 -- Which labels stand in the code of statements: each that it takes, once.
-use Rattle.std.proofs.Common.{◌≡◌, ⊎_elim, ℕ, ◌+◌, ◌*◌, ◌<◌, ◌≤◌, cond, List, [], ◌∷◌, ◌++◌, All, count_by, map, refl, sym, ap, subst, arith, eq-eqb}
-use Rattle.std.proofs.lemmas.List.Elements.{All-nil, All-head, All-tail}
+use Rattle.std.proofs.Common.{◌≡◌, ⊎_elim, ℕ, ◌+◌, ◌*◌, ◌<◌, ◌≤◌, Bool, true, false, cond, Option, Some, None, List, [], ◌∷◌, ◌++◌, All, count_by, map, refl, sym, ap, subst, arith, eq-eqb}
+use Rattle.std.proofs.lemmas.List.Elements.{All-head, All-tail}
 use Rattle.std.proofs.lemmas.Bool.{cases_lt, ne_eqb}
 use Rattle.mv_isa.specs.declared.labelled.Line.{Line}
 use Rattle.mv_isa.specs.declared.labelled.Line.TheVariants.{Word, Label, Jump, Branch, Entry, Slot, Point}
@@ -13,14 +13,17 @@ use Rattle.mv_ir.specs.declared.stm.Stm.TheFolds.{map-Stm}
 use Rattle.mv_ir.specs.Measures.{total, layer_size, stm_size}
 use Rattle.mv_ir.proofs.Rolls.{size_roll}
 use Rattle.mv_ir.proofs.Induction.{Each, StmChildren, stm_ind, stms_ind}
-use Rattle.mv_select_code.specs.Trees.TreeCode.{operand_lines, operand_register}
-use Rattle.mv_select_code.specs.Statements.StatementCode.{first, second, bounds_lines, clear_lines}
+use Rattle.mv_select_code.specs.Trees.TreeCode.{branch_lines}
+use Rattle.mv_select_code.specs.Statements.StatementCode.{first, second, bounds_lines, clear_lines, result_lines}
 use Rattle.mv_select_code.specs.declared.control.enclosing.Enclosing.{Enclosing}
-use Rattle.mv_select_code.specs.Control.FlowCode.{Plan, Emitted, in_turn, plain, enclosing_at, zero_lines, branch_lines, loop_lines, block_lines, loop_at, block_at, home, size, code_layer, statement_code}
+use Rattle.mv_select_code.specs.declared.control.enclosing.Leading.{Leading}
+use Rattle.mv_select_code.specs.declared.control.enclosing.Leading.TheVariants as lead
+use Rattle.mv_select_code.specs.declared.control.enclosing.Way.{Way}
+use Rattle.mv_select_code.specs.Control.FlowCode.{Plan, Emitted, fall_to, jump_to, go_to, go_on, leads_to, if_leads, in_turn, plain, enclosing_at, zero_lines, loop_at, block_at, home, size, code_layer, statement_code}
 use Rattle.mv_select_code.specs.Control.Labels.{Names, CallsName, OwnLabels, LabelsAreOwn, LabelsAreFew, tree_functions, callee_pointers}
 use Rattle.mv_select_code.proofs.OfControl.StatementsDo.{code_roll}
 use Rattle.mv_select_code.proofs.OfControl.TreeNames.{AnyNumber, all_any}
-use Rattle.mv_select_code.proofs.OfControl.StatementsAreMade.{LineByLine, names_made, operand_made, set_made, set_global_made, divide_made, check_made, read_made, write_made, bounds_made, clear_made, return_made}
+use Rattle.mv_select_code.proofs.OfControl.StatementsAreMade.{LineByLine, names_made, branch_made, result_made, go_to_made, go_on_made, set_made, set_global_made, divide_made, check_made, read_made, write_made, bounds_made, clear_made}
 use Rattle.mv_isa.proofs.Common.{count_append}
 
 -- ---- single lines
@@ -71,68 +74,49 @@ both_own label a b xs ys h k = record {
   after = λ l p. omega (arith, p, count_append l xs ys, h.after l, k.after l);
 }
 
-block_own : (label n : ℕ) (b : List Line) → OwnLabels (label + 1) n b → OwnLabels label (1 + n) (block_lines label b)
-block_own label n b h = record {
+-- lines that have no labels, before and behind others
+silent_before : (label n : ℕ) (xs ys : List Line) → All (Names AnyNumber) xs → OwnLabels label n ys → OwnLabels label n (xs ++ ys)
+silent_before label n xs ys h k = record {
+  own = λ l p q. omega (arith, count_append l xs ys, none AnyNumber xs h l, k.own l p q);
+  before = λ l p. omega (arith, count_append l xs ys, none AnyNumber xs h l, k.before l p);
+  after = λ l p. omega (arith, count_append l xs ys, none AnyNumber xs h l, k.after l p);
+}
+
+silent_behind : (label n : ℕ) (xs ys : List Line) → OwnLabels label n xs → All (Names AnyNumber) ys → OwnLabels label n (xs ++ ys)
+silent_behind label n xs ys h k = record {
+  own = λ l p q. omega (arith, count_append l xs ys, none AnyNumber ys k l, h.own l p q);
+  before = λ l p. omega (arith, count_append l xs ys, none AnyNumber ys k l, h.before l p);
+  after = λ l p. omega (arith, count_append l xs ys, none AnyNumber ys k l, h.after l p);
+}
+
+-- a label before lines that have those behind it
+labelled_own : (label n : ℕ) (b : List Line) → OwnLabels (label + 1) n b → OwnLabels label (1 + n) (Label label ∷ b)
+labelled_own label n b h = record {
   own = λ l p q.
       ⊎_elim (λ lt. omega (arith, parts l, h.before l lt, mark_at l label (omega (arith, p, lt)))) (λ le. omega (arith, parts l, h.own l le (omega (arith, q)), mark_below l label (omega (arith, le)))) (cases_lt l (label + 1));
   before = λ l p. omega (arith, p, parts l, h.before l, mark_above l label);
   after = λ l p. omega (arith, p, parts l, h.after l, mark_below l label);
 }
   where
-    parts : (l : ℕ) → count_by (is_label l) (block_lines label b) ≡ count_by (is_label l) b + count_by (is_label l) (Label label ∷ [])
-    parts l = count_append l b (Label label ∷ [])
+    parts : (l : ℕ) → count_by (is_label l) (Label label ∷ b) ≡ count_by (is_label l) (Label label ∷ []) + count_by (is_label l) b
+    parts l = count_append l (Label label ∷ []) b
 
-loop_own : (label n : ℕ) (b : List Line) → OwnLabels (label + 2) n b → OwnLabels label (2 + n) (loop_lines label b)
-loop_own label n b h = record {
+-- a label between lines
+between_own : (label n k : ℕ) (a b : List Line) → OwnLabels (label + 1) n a → OwnLabels (label + 1 + n) k b → OwnLabels label (1 + (n + k)) (a ++ (Label label ∷ b))
+between_own label n k a b h g = record {
   own = λ l p q.
       ⊎_elim
-      (λ lt. omega (arith, parts l, marks l label p lt, h.before l lt))
-      (λ le. omega (arith, parts l, h.own l le (omega (arith, q)), mark_below l label (omega (arith, le)), mark_below l (label + 1) (omega (arith, le))))
-      (cases_lt l (label + 2));
-  before = λ l p. omega (arith, p, parts l, h.before l, mark_above l label, mark_above l (label + 1));
-  after = λ l p. omega (arith, p, parts l, h.after l, mark_below l label, mark_below l (label + 1));
-}
-  where
-    parts : (l : ℕ) → count_by (is_label l) (loop_lines label b) ≡ count_by (is_label l) (Label label ∷ []) + (count_by (is_label l) b + count_by (is_label l) (Label (label + 1) ∷ []))
-    parts l =
-        let end = Label (label + 1) ∷ [] in
-        let back = Jump 0 label ∷ [] in
-        let jump : count_by (is_label l) back ≡ 0 = refl in
-        omega (arith, count_append l (Label label ∷ []) (b ++ (back ++ end)), count_append l b (back ++ end), count_append l back end, jump)
-
-branch_own : (q label n k : ℕ) (a b : List Line) → OwnLabels (label + 2) n a → OwnLabels (label + 2 + n) k b → OwnLabels label (2 + (n + k)) (branch_lines q label a b)
-branch_own q label n k a b h g = record {
-  own = λ l p q.
-      ⊎_elim
-      (λ lt. omega (arith, parts l, marks l label p lt, h.before l lt, g.before l (omega (arith, lt))))
+      (λ lt. omega (arith, parts l, mark_at l label (omega (arith, p, lt)), h.before l lt, g.before l (omega (arith, lt))))
       (λ le.
       let low = mark_below l label (omega (arith, le)) in
-      let high = mark_below l (label + 1) (omega (arith, le)) in
-      ⊎_elim (λ lt. omega (arith, parts l, low, high, h.own l le lt, g.before l lt)) (λ le'. omega (arith, parts l, low, high, h.after l le', g.own l le' (omega (arith, q)))) (cases_lt l (label + 2 + n)))
-      (cases_lt l (label + 2));
-  before = λ l p. omega (arith, p, parts l, h.before l, g.before l, mark_above l label, mark_above l (label + 1));
-  after = λ l p. omega (arith, p, parts l, h.after l, g.after l, mark_below l label, mark_below l (label + 1));
+      ⊎_elim (λ lt. omega (arith, parts l, low, h.own l le lt, g.before l lt)) (λ le'. omega (arith, parts l, low, h.after l le', g.own l le' (omega (arith, q)))) (cases_lt l (label + 1 + n)))
+      (cases_lt l (label + 1));
+  before = λ l p. omega (arith, p, parts l, h.before l, g.before l, mark_above l label);
+  after = λ l p. omega (arith, p, parts l, h.after l, g.after l, mark_below l label);
 }
   where
-    parts : (l : ℕ) → count_by (is_label l) (branch_lines q label a b)
-        ≡ count_by (is_label l) a + (count_by (is_label l) (Label label ∷ []) + (count_by (is_label l) b + count_by (is_label l) (Label (label + 1) ∷ [])))
-    parts l =
-        let end = Label (label + 1) ∷ [] in
-        let middle = Label label ∷ [] in
-        let turn = Jump 0 (label + 1) ∷ [] in
-        let test = Branch 0 q 0 label ∷ [] in
-        let jump : count_by (is_label l) turn ≡ 0 = refl in
-        let branch : count_by (is_label l) test ≡ 0 = refl in
-        omega (
-          arith,
-          count_append l test (a ++ (turn ++ (middle ++ (b ++ end)))),
-          count_append l a (turn ++ (middle ++ (b ++ end))),
-          count_append l turn (middle ++ (b ++ end)),
-          count_append l middle (b ++ end),
-          count_append l b end,
-          jump,
-          branch,
-        )
+    parts : (l : ℕ) → count_by (is_label l) (a ++ (Label label ∷ b)) ≡ count_by (is_label l) a + (count_by (is_label l) (Label label ∷ []) + count_by (is_label l) b)
+    parts l = omega (arith, count_append l a (Label label ∷ b), count_append l (Label label ∷ []) b)
 
 -- ---- statements
 
@@ -169,60 +153,76 @@ zero_own label at n = record {
 
 module _ (plan : Plan) (calls : CallsName AnyNumber plan.calls) where
   abbrev Owns : Emitted → Type 0
-  Owns code = (around : List Enclosing) (label : ℕ) → OwnLabels label code.labels (code.lines around label)
+  Owns code = (around : List Enclosing) (label : ℕ) (way : Way) → OwnLabels label code.labels (code.lines around label way)
 
   abbrev StmOwns : Stm → Type 0
   StmOwns s = Owns (statement_code plan s)
 
-  pub in_order_own : (code : List Stm) → Each StmOwns code → Owns (in_turn (map (statement_code plan) code))
-  in_order_own [] h around label = silent_own AnyNumber label [] (All-nil (Names AnyNumber))
-  in_order_own (s ∷ code) h around label =
-      let here = statement_code plan s in
-      let rest = in_turn (map (statement_code plan) code) in
-      both_own label here.labels rest.labels (here.lines around label) (rest.lines around (label + here.labels)) (h.0 around label) (in_order_own code h.1 around (label + here.labels))
+  on_silent : (way : Way) → All (Names AnyNumber) (go_on way)
+  on_silent way = go_on_made named plan.place way tt
 
-  test_own : (t : Tree) (label n : ℕ) (ls : List Line) → OwnLabels label n ls → OwnLabels label n (operand_lines plan.place t first ++ ls)
-  test_own t label n ls h = record {
-    own = λ l p q. omega (arith, parts l, h.own l p q);
-    before = λ l p. omega (arith, parts l, h.before l p);
-    after = λ l p. omega (arith, parts l, h.after l p);
-  }
-    where
-      parts : (l : ℕ) → count_by (is_label l) (operand_lines plan.place t first ++ ls) ≡ count_by (is_label l) ls
-      parts l =
-          let test = operand_lines plan.place t first in
-          omega (arith, count_append l test ls, none AnyNumber test (operand_made named plan.place t (all_any (tree_functions t)) first) l)
+  before_own : (s : Stm) (code : List Stm) → StmOwns s → Owns (in_turn (map (statement_code plan) code)) → Owns (in_turn (map (statement_code plan) (s ∷ code)))
+  before_own s [] here others = here
+  before_own s (t ∷ code) here others = λ around label way.
+      let a = statement_code plan s in
+      let b = in_turn (map (statement_code plan) (t ∷ code)) in
+      between_own label a.labels b.labels (a.lines around (label + 1) (fall_to label)) (b.lines around (label + 1 + a.labels) way) (here around (label + 1) (fall_to label)) (others around (label + 1 + a.labels) way)
+
+  in_order_own : (code : List Stm) → Each StmOwns code → Owns (in_turn (map (statement_code plan) code))
+  in_order_own [] h = λ around label way. silent_own AnyNumber label (go_on way) (on_silent way)
+  in_order_own (s ∷ code) h = before_own s code h.0 (in_order_own code h.1)
 
   plain_own : (ls : List Line) → All (Names AnyNumber) ls → Owns (plain ls)
-  plain_own ls h around label = silent_own AnyNumber label ls h
+  plain_own ls h around label way = silent_behind label 0 ls (go_on way) (silent_own AnyNumber label ls h) (on_silent way)
+
+  if_own : (t : Tree) (x y : Option Leading) (a b : Emitted) → Owns a → Owns b → Owns (if_leads plan.place plan.end t x y a b)
+  if_own t x y a b h k around label way = go x y
+    where
+      test : (sense : Bool) (l : ℕ) → All (Names AnyNumber) (branch_lines plan.place t sense first l)
+      test sense l = branch_made named plan.place t (all_any (tree_functions t)) sense first l tt
+
+      to_first : (l : Leading) → OwnLabels label b.labels (branch_lines plan.place t true first (leads_to plan.end around way l) ++ b.lines around label way)
+      to_first l = silent_before label b.labels (branch_lines plan.place t true first (leads_to plan.end around way l)) (b.lines around label way) (test true (leads_to plan.end around way l)) (k around label way)
+
+      to_second : (l : Leading) → OwnLabels label a.labels (branch_lines plan.place t false first (leads_to plan.end around way l) ++ a.lines around label way)
+      to_second l = silent_before label a.labels (branch_lines plan.place t false first (leads_to plan.end around way l)) (a.lines around label way) (test false (leads_to plan.end around way l)) (h around label way)
+
+      go : (x y : Option Leading) → OwnLabels label (if_leads plan.place plan.end t x y a b).labels ((if_leads plan.place plan.end t x y a b).lines around label way)
+      go None None =
+          let ls = a.lines around (label + 1) (jump_to way.after) in
+          let ls' = b.lines around (label + 1 + a.labels) way in
+          silent_before label (1 + (a.labels + b.labels)) (branch_lines plan.place t false first label) (ls ++ (Label label ∷ ls')) (test false label)
+          (between_own label a.labels b.labels ls ls' (h around (label + 1) (jump_to way.after)) (k around (label + 1 + a.labels) way))
+      go (Some l) None = to_first l
+      go (Some l) (Some lead.On) = to_first l
+      go None (Some l) = to_second l
+      go (Some l) (Some (lead.Out n)) = to_second (lead.Out n)
+      go (Some l) (Some (lead.Back n)) = to_second (lead.Back n)
 
   layer : (x : Stm-F Stm) → StmChildren StmOwns x → Owns (code_layer plan (map-Stm Stm Emitted (statement_code plan) x))
-  layer (stm.Set t v) h around label = plain_own _ (set_made named plan.place t v (all_any _)) around label
-  layer (stm.SetGlobal g v) h around label = plain_own _ (set_global_made named plan.place g v (all_any _)) around label
-  layer (stm.Divide t o a b) h around label = plain_own _ (divide_made named plan.place t o a b tt (all_any _) (all_any _)) around label
-  layer (stm.Check a i) h around label = plain_own _ (check_made named plan.place (size plan a) i tt (all_any _)) around label
-  layer (stm.Read t a i) h around label = plain_own _ (read_made named plan.place t (size plan a) (home plan a) i tt (all_any _)) around label
-  layer (stm.Write a i v) h around label = plain_own _ (write_made named plan.place (size plan a) (home plan a) i v tt (all_any _) (all_any _)) around label
-  layer (stm.Zero a) h around label = zero_own label (plan.array_at a) (plan.array_size a)
-  layer (stm.Return v) h around label = plain_own _ (return_made named plan.place plan.end v tt (all_any _)) around label
-  layer (stm.Break n) h around label = let to = (enclosing_at around n plan.end).end in silent_own AnyNumber label (Jump 0 to ∷ []) (named.jump to tt)
-  layer (stm.Back n) h around label = let to = (enclosing_at around n plan.end).start in silent_own AnyNumber label (Jump 0 to ∷ []) (named.jump to tt)
-  layer (stm.Call r f args) h around label = plain_own _ (calls.call r f args (all_any _) (all_any (callee_pointers f))) around label
-  layer (stm.Known r k args) h around label = plain_own _ (calls.known r k args (all_any _)) around label
-  layer (stm.Block b) h around label =
+  layer (stm.Set t v) h = plain_own _ (set_made named plan.place t v (all_any _))
+  layer (stm.SetGlobal g v) h = plain_own _ (set_global_made named plan.place g v (all_any _))
+  layer (stm.Divide t o a b) h = plain_own _ (divide_made named plan.place t o a b tt (all_any _) (all_any _))
+  layer (stm.Check a i) h = plain_own _ (check_made named plan.place (size plan a) i tt (all_any _))
+  layer (stm.Read t a i) h = plain_own _ (read_made named plan.place t (size plan a) (home plan a) i tt (all_any _))
+  layer (stm.Write a i v) h = plain_own _ (write_made named plan.place (size plan a) (home plan a) i v tt (all_any _) (all_any _))
+  layer (stm.Zero a) h = λ around label way.
+      silent_behind label 2 (zero_lines label (plan.array_at a) (plan.array_size a)) (go_on way) (zero_own label (plan.array_at a) (plan.array_size a)) (on_silent way)
+  layer (stm.Return v) h = λ around label way.
+      silent_behind label 0 (result_lines plan.place v) (go_to way plan.end) (silent_own AnyNumber label (result_lines plan.place v) (result_made named plan.place v (all_any _))) (go_to_made named plan.place way plan.end tt)
+  layer (stm.Break n) h = λ around label way.
+      let to = (enclosing_at around n plan.end).end in silent_own AnyNumber label (go_to way to) (go_to_made named plan.place way to tt)
+  layer (stm.Back n) h = λ around label way. let to = (enclosing_at around n plan.end).start in silent_own AnyNumber label (Jump 0 to ∷ []) (named.jump to tt)
+  layer (stm.Call r f args) h = plain_own _ (calls.call r f args (all_any _) (all_any (callee_pointers f)))
+  layer (stm.Known r k args) h = plain_own _ (calls.known r k args (all_any _))
+  layer (stm.Block b) h = λ around label way. in_order_own b h (block_at way ∷ around) label way
+  layer (stm.Loop b) h = λ around label way.
       let inner = in_turn (map (statement_code plan) b) in
-      block_own label inner.labels (inner.lines (block_at label ∷ around) (label + 1)) (in_order_own b h (block_at label ∷ around) (label + 1))
-  layer (stm.Loop b) h around label =
-      let inner = in_turn (map (statement_code plan) b) in
-      loop_own label inner.labels (inner.lines (loop_at label ∷ around) (label + 2)) (in_order_own b h (loop_at label ∷ around) (label + 2))
-  layer (stm.If t a b) h around label =
+      labelled_own label inner.labels (inner.lines (loop_at label way ∷ around) (label + 1) (jump_to label)) (in_order_own b h (loop_at label way ∷ around) (label + 1) (jump_to label))
+  layer (stm.If t a b) h =
       let one = in_turn (map (statement_code plan) a) in
       let other = in_turn (map (statement_code plan) b) in
-      let ls = one.lines around (label + 2) in
-      let ls' = other.lines around (label + 2 + one.labels) in
-      let q = operand_register t first in
-      test_own t label (2 + (one.labels + other.labels)) (branch_lines q label ls ls')
-      (branch_own q label one.labels other.labels ls ls' (in_order_own a h.0 around (label + 2)) (in_order_own b h.1 around (label + 2 + one.labels)))
+      if_own t one.alone other.alone one other (in_order_own a h.0) (in_order_own b h.1)
 
   statement_owns : (s : Stm) → StmOwns s
   statement_owns = stm_ind StmOwns (λ x h. subst Owns (sym (code_roll plan x)) (layer x h))
@@ -233,15 +233,34 @@ labels_own plan calls code = in_order_own plan calls code (stms_ind (StmOwns pla
 -- ---- how many labels there are
 
 module _ (plan : Plan) where
+  -- and one is left for a label behind it
   abbrev StmFew : Stm → Type 0
-  StmFew s = (statement_code plan s).labels ≤ 2 * stm_size s
+  StmFew s = (statement_code plan s).labels + 1 ≤ 3 * stm_size s
 
-  in_order_few : (code : List Stm) → Each StmFew code → (in_turn (map (statement_code plan) code)).labels ≤ 2 * total (map stm_size code)
+  before_few : (s : Stm) (code : List Stm) → StmFew s → (in_turn (map (statement_code plan) code)).labels ≤ 3 * total (map stm_size code)
+      → (in_turn (map (statement_code plan) (s ∷ code))).labels ≤ 3 * total (map stm_size (s ∷ code))
+  before_few s [] h k = omega (arith, h)
+  before_few s (t ∷ code) h k = omega (arith, h, k)
+
+  in_order_few : (code : List Stm) → Each StmFew code → (in_turn (map (statement_code plan) code)).labels ≤ 3 * total (map stm_size code)
   in_order_few [] h = omega arith
-  in_order_few (s ∷ code) h = omega (arith, h.0, in_order_few code h.1)
+  in_order_few (s ∷ code) h = before_few s code h.0 (in_order_few code h.1)
 
-  few_layer : (x : Stm-F Stm) → StmChildren StmFew x → (code_layer plan (map-Stm Stm Emitted (statement_code plan) x)).labels ≤ 2 * layer_size (map-Stm Stm ℕ stm_size x)
-  few_layer (stm.If t a b) h = omega (arith, in_order_few a h.0, in_order_few b h.1)
+  if_few : (t : Tree) (x y : Option Leading) (a b : Emitted) (n k : ℕ) → a.labels ≤ 3 * n → b.labels ≤ 3 * k → (if_leads plan.place plan.end t x y a b).labels + 1 ≤ 3 * (n + k) + 3
+  if_few t None None a b n k h g = omega (arith, h, g)
+  if_few t (Some l) None a b n k h g = omega (arith, h, g)
+  if_few t (Some l) (Some lead.On) a b n k h g = omega (arith, h, g)
+  if_few t None (Some l) a b n k h g = omega (arith, h, g)
+  if_few t (Some l) (Some (lead.Out m)) a b n k h g = omega (arith, h, g)
+  if_few t (Some l) (Some (lead.Back m)) a b n k h g = omega (arith, h, g)
+
+  few_layer : (x : Stm-F Stm) → StmChildren StmFew x → (code_layer plan (map-Stm Stm Emitted (statement_code plan) x)).labels + 1 ≤ 3 * layer_size (map-Stm Stm ℕ stm_size x)
+  few_layer (stm.If t a b) h =
+      let one = in_turn (map (statement_code plan) a) in
+      let other = in_turn (map (statement_code plan) b) in
+      let n = total (map stm_size a) in
+      let k = total (map stm_size b) in
+      omega (arith, if_few t one.alone other.alone one other n k (in_order_few a h.0) (in_order_few b h.1))
   few_layer (stm.Loop b) h = omega (arith, in_order_few b h)
   few_layer (stm.Block b) h = omega (arith, in_order_few b h)
   few_layer (stm.Set t v) h = omega arith

@@ -1,7 +1,7 @@
 -- The code of statements without control, on a run.
-use Rattle.std.proofs.Common.{◌≡◌, ℕ, ◌+◌, Bool, true, false, cond, List, length, Some, None, refl, ap, ◌∙◌, subst, arith}
+use Rattle.std.proofs.Common.{◌≡◌, ℕ, ◌+◌, Bool, true, false, cond, List, length, refl, ap, ◌∙◌, subst, arith}
 use Rattle.mv_isa.specs.declared.labelled.Line.{Line}
-use Rattle.mv_isa.specs.Execution.{Access, reg}
+use Rattle.mv_isa.specs.Execution.{Access}
 use Rattle.mv_ir.specs.declared.tree.Tree.{Tree}
 use Rattle.mv_ir.specs.declared.stm.Array.{Array}
 use Rattle.mv_ir.specs.declared.stm.Array.TheVariants as array
@@ -10,13 +10,13 @@ use Rattle.mv_ir.specs.World as ir
 use Rattle.mv_ir.specs.World.{World}
 use Rattle.mv_ir.specs.Outcome.{State, Returned, Trapped, More, Stuck, Outcome, Next, Leaves, Restarts, Ends, Bound, Meaning}
 use Rattle.mv_ir.specs.Meaning.{statement, with_elements}
-use Rattle.mv_select_code.specs.Statements.StatementCode.{first, trap_label}
+use Rattle.mv_select_code.specs.Statements.StatementCode.{trap_label}
 use Rattle.mv_select_code.specs.Statements.Frames.{Site}
 use Rattle.mv_select_code.specs.Statements.Leads.{Past, To}
 use Rattle.mv_select_code.specs.Statements.Laws as statements
 use Rattle.mv_select_code.specs.declared.control.enclosing.Enclosing.{Enclosing}
 use Rattle.mv_select_code.specs.Control.Placed.{Placed}
-use Rattle.mv_select_code.specs.Control.Runs.{Spot, Machine, outside, Calm, IsRun}
+use Rattle.mv_select_code.specs.Control.Runs.{Machine, outside, Calm, IsRun}
 use Rattle.mv_select_code.specs.Control.Flow.{Follows}
 use Rattle.mv_select_code.specs.Control.Laws.{LinesDo}
 use Rattle.mv_select_code.proofs.OfControl.Walk.{leads_walk, to_stands, to_here}
@@ -26,7 +26,6 @@ use Rattle.mv_select_code.proofs.OfControl.Course.{course}
 abbrev pub SameOutside : World → Outcome → Type 0
 SameOutside w (Next l) = outside l.world ≡ outside w
 SameOutside w (Ends (Trapped c v)) = outside v ≡ outside w
-SameOutside w (Ends (Returned r v)) = outside v ≡ outside w
 SameOutside w _ = Unit {0}
 
 pub same_either : (w : World) (b : Bool) (x y : Outcome) → SameOutside w x → SameOutside w y → SameOutside w (cond b x y)
@@ -42,7 +41,7 @@ module _ {M : Type 0} (access : Access M) (s : Site) (setting : ir.Setting) (fra
   open course access s machine place end budget far use {Here as H}
 
   leaf_follows : (lines : List Line) (cost spare k pc next : ℕ) (around : List Enclosing) (l : State) (i : ℕ) (r : Outcome) → Placed machine.text place s.entry lines pc next → SameOutside l.world r
-      → statements.Follows access s setting frame end lines cost (machine.run i).regs (machine.run i).memory r → H 0 (spare + cost) k pc l i
+      → statements.Follows access s setting frame lines cost (machine.run i).regs (machine.run i).memory r → H 0 (spare + cost) k pc l i
       → Follows access s machine place end budget far spare k around next r
   leaf_follows lines cost spare k pc next around l i (Next l') p same f h =
       let x = leads_walk access s machine ok place end budget far lines cost l.world pc next (machine.run i).regs (machine.run i).memory Past f.0 f.1 i p f.2
@@ -55,21 +54,14 @@ module _ {M : Type 0} (access : Access M) (s : Site) (setting : ir.Setting) (fra
       let paid = h.paid in let asked = h.asked in let late = x.late in let soon = x.soon in
       let y = to_here access s machine ok place end budget far 0 0 k (place (trap_label c)) f.0 l.world f.2.0 f.2.1 x.time (ap outside f.1 ∙ same) f.2.3 (omega (arith, paid, soon)) (omega (arith, asked, late)) x.stands in
       (x.time, record { at = y.at; calm = subst (λ v. Calm access s machine v (machine.run x.time).memory) f.1 y.calm; sound = y.sound; paid = omega (arith, paid, soon) })
-  leaf_follows lines cost spare k pc next around l i (Ends (Returned (Some v) w)) p same f h =
-      let x = leads_walk access s machine ok place end budget far lines cost l.world pc next (machine.run i).regs (machine.run i).memory (To end) f.2.0 f.2.1 i p f.2.2
-      (to_stands access s machine ok place end budget far 0 (spare + cost) k pc l i h) in
-      let paid = h.paid in let asked = h.asked in let late = x.late in let soon = x.soon in
-      let y = to_here access s machine ok place end budget far 0 spare k (place end) f.0 l.world f.2.0 f.2.1 x.time (ap outside f.1 ∙ same) f.2.3 (omega (arith, paid, soon)) (omega (arith, asked, late)) x.stands in
-      let e = ap (λ (z : Spot M). reg z.regs first) x.stands.is in
-      (x.time, f.0, f.1, y, e ∙ f.2.4)
-  leaf_follows lines cost spare k pc next around l i (Ends (Returned None w)) p same f h = absurd f
+  leaf_follows lines cost spare k pc next around l i (Ends (Returned r w)) p same f h = absurd f
   leaf_follows lines cost spare k pc next around l i (Ends (More w)) p same f h = absurd f
   leaf_follows lines cost spare k pc next around l i (Ends Stuck) p same f h = absurd f
   leaf_follows lines cost spare k pc next around l i (Leaves n l') p same f h = absurd f
   leaf_follows lines cost spare k pc next around l i (Restarts n l') p same f h = absurd f
 
   -- code that does what a statement means, wherever it stands, does so on the run
-  pub leaf_does : (lines : List Line) (x : Stm-F Meaning) → statements.Does access s setting frame end lines x → ((bound : _) (l : State) → SameOutside l.world (statement setting frame x bound l).outcome)
+  pub leaf_does : (lines : List Line) (x : Stm-F Meaning) → statements.Does access s setting frame lines x → ((bound : _) (l : State) → SameOutside l.world (statement setting frame x bound l).outcome)
       → LinesDo access s setting frame machine place end budget far is_fine top lines x
   leaf_does lines x done same spare around pc next bound le p l i h =
       let r = statement setting frame x bound l in

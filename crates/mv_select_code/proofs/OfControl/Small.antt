@@ -80,8 +80,8 @@ module _ (s : Stm) (small : is_small_statement s ≡ true) where
   pub small_knowns : (r : Option ℕ) (k : Known) (args : List Tree) → s ≡ at.Known r k args → small_known r k args ≡ true
   small_knowns r k args same = of_kind (at.Known r k args) (small_known r k args) same (fine_known_call is_small any_known 507 any_global r k args)
 
-  pub small_return : (v : Tree) → s ≡ at.Return v → IsSmall v
-  small_return v same = small_tree v (of_kind (at.Return v) (is_small v) same (fine_return is_small any_known 507 any_global v))
+  pub small_return : (v : Tree) → s ≡ at.Return v → is_small v ≡ true
+  small_return v same = of_kind (at.Return v) (is_small v) same (fine_return is_small any_known 507 any_global v)
 
 -- ---- how many statements there are
 

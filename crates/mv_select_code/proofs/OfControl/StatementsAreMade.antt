@@ -1,18 +1,23 @@
 -- What holds of single lines and of lines that are put together holds of the code of statements without control.
-use Rattle.std.proofs.Common.{ℕ, ◌+◌, ◌*◌, Bool, true, false, cond, ltb, List, [], ◌∷◌, ◌++◌, pos, All}
+use Rattle.std.proofs.Common.{ℕ, ◌+◌, ◌*◌, ◌&&◌, Bool, true, false, not, cond, eqb, ltb, List, [], ◌∷◌, ◌++◌, Option, Some, None, pos, All, sym, subst}
 use Rattle.std.proofs.lemmas.List.Elements.{All-append, All-cons, All-nil}
 use Rattle.mv_isa.specs.declared.instr.Instr.{Instr}
 use Rattle.mv_isa.specs.declared.instr.Instr.TheVariants.{Lui, Lw, Sw, Addi, Slli, Add}
 use Rattle.mv_isa.specs.declared.labelled.Line.{Line}
 use Rattle.mv_isa.specs.declared.labelled.Line.TheVariants.{Word, Label, Entry, Jump, Branch}
 use Rattle.mv_ir.specs.declared.tree.Tree.{Tree}
+use Rattle.mv_ir.specs.declared.tree.Tree.TheOpen.{Tree-F}
 use Rattle.mv_ir.specs.declared.tree.Tree.TheOpen as tree
 use Rattle.mv_ir.specs.declared.tree.Tree.TheViews.{roll-Tree}
-use Rattle.mv_select_code.specs.Trees.TreeCode.{one, two, upper_bits, lower_bits, number_lines, temp_offset, tree_into, tree_lines, operand_lines, operand_register}
+use Rattle.mv_ir.proofs.Induction.{TreeChildren, tree_ind}
+use Rattle.mv_select_code.specs.Trees.TreeCode.{one, two, upper_bits, lower_bits, number_lines, temp_offset, tree_into, tree_lines, operand_lines, operand_register, is_taken, word_branch, comparison, branch_lines}
+use Rattle.mv_select_code.proofs.OfTrees.Rolls.{word_lines, compared_or, branch_tree, branch_roll}
 use Rattle.mv_select_code.proofs.OfTrees.TreesAreMade as trees
 use Rattle.mv_select_code.specs.declared.statements.elements.Home.{Home}
 use Rattle.mv_select_code.specs.declared.statements.elements.Home.TheVariants as home
-use Rattle.mv_select_code.specs.Statements.StatementCode.{first, second, third, trap_label, target, keep_lines, division, element_offset, element_lines, test_lines, bounds_lines, clear_lines, set_lines, set_global_lines, divide_lines, check_lines, read_lines, write_lines, return_lines}
+use Rattle.mv_select_code.specs.Statements.StatementCode.{first, second, third, trap_label, target, keep_lines, division, element_offset, element_lines, test_lines, bounds_lines, clear_lines, set_lines, set_global_lines, divide_lines, check_lines, read_lines, write_lines, result_lines}
+use Rattle.mv_select_code.specs.declared.control.enclosing.Way.{Way}
+use Rattle.mv_select_code.specs.Control.FlowCode.{go_to, go_on}
 use Rattle.mv_select_code.specs.Control.Labels.{tree_functions, Names}
 use Rattle.mv_select_code.proofs.OfControl.TreeNames.{functions_inside, function_named}
 
@@ -115,8 +120,51 @@ module _ {P : List Line → Type 0} {L J Q : ℕ → Type 0} (made : LineByLine 
         (made.after (test_lines size q) (element_lines e q ++ one store) (test_made size q p)
         (made.after (element_lines e q) (one store) (element_made e q) (made.word store))))
 
-    pub return_made : (end : ℕ) (v : Tree) → J end → Fs v → P (return_lines place end v)
-    return_made end v p h = made.after (tree_lines place v first) (Jump 0 end ∷ []) (tree_made v h first) (made.jump end p)
+    pub result_made : (v : Tree) → Fs v → P (result_lines place v)
+    result_made v h = tree_made v h first
+
+    -- ---- branches by a tree
+
+    either_made : (d : Bool) (ls ks : List Line) → P ls → P ks → P (cond d ls ks)
+    either_made true ls ks h k = h
+    either_made false ls ks h k = k
+
+    word_made : (t : Tree) → Fs t → (sense : Bool) (r label : ℕ) → J label → P (word_lines place t sense r label)
+    word_made t h sense r label j =
+        let q = operand_register t r in
+        made.after (operand_lines place t r) (word_branch sense q label) (operand_made t h r) (made.branch (cond sense 1 0) q 0 label j)
+
+    compared_made : (f : Option ℕ) (a b : Tree) → Fs a → Fs b → (r label : ℕ) → J label → (word : List Line) → P word → P (compared_or place f a b r label word)
+    compared_made None a b h k r label j word w = w
+    compared_made (Some f) a b h k r label j word w =
+        let end = Branch f (operand_register a r) (operand_register b (r + 1)) label ∷ [] in
+        made.after (operand_lines place a r) (operand_lines place b (r + 1) ++ end) (operand_made a h r)
+        (made.after (operand_lines place b (r + 1)) end (operand_made b k (r + 1)) (made.branch f (operand_register a r) (operand_register b (r + 1)) label j))
+
+    abbrev BranchIsMade : Tree → Type 0
+    BranchIsMade t = Fs t → (sense : Bool) (r label : ℕ) → J label → P (branch_lines place t sense r label)
+
+    branch_layer : (x : Tree-F Tree) → TreeChildren BranchIsMade x → Fs (roll-Tree x) → (sense : Bool) (r label : ℕ) → J label → (word : List Line) → P word → P (branch_tree place x sense r label word)
+    branch_layer (tree.Number n) h fs sense r label j word w = either_made (is_taken sense n) (Jump 0 label ∷ []) [] (made.jump label j) made.none
+    branch_layer (tree.Unary o a) h fs sense r label j word w =
+        either_made (eqb o 2) (branch_lines place a (not sense) r label) word (h (functions_inside Q (tree.Unary o a) fs) (not sense) r label j) w
+    branch_layer (tree.Binary o a b) h fs sense r label j word w =
+        let inside = functions_inside Q (tree.Binary o a b) fs in
+        compared_made (comparison sense o) a b inside.0 inside.1 r label j word w
+    branch_layer _ h fs sense r label j word w = w
+
+    pub branch_made : (t : Tree) → Fs t → (sense : Bool) (r label : ℕ) → J label → P (branch_lines place t sense r label)
+    branch_made =
+        tree_ind BranchIsMade
+        (λ x h fs sense r label j. subst P (sym (branch_roll place x sense r label)) (branch_layer x h fs sense r label j (word_lines place (roll-Tree x) sense r label) (word_made (roll-Tree x) fs sense r label j)))
+
+    -- ---- where control goes behind code
+
+    pub go_to_made : (way : Way) (l : ℕ) → J l → P (go_to way l)
+    go_to_made way l j = either_made (way.falls && eqb way.after l) [] (Jump 0 l ∷ []) made.none (made.jump l j)
+
+    pub go_on_made : (way : Way) → J way.after → P (go_on way)
+    go_on_made way j = either_made way.falls [] (Jump 0 way.after ∷ []) made.none (made.jump way.after j)
 
 -- ---- the labels that lines name; no label stands there
 

@@ -1,8 +1,9 @@
 -- The code of statements does what they mean, at each bound, by induction over the statements.
-use Rattle.std.proofs.Common.{◌≡◌, ℕ, ◌+◌, ◌<◌, Bool, true, ltb, ◌&&◌, eqb, List, [], ◌∷◌, length, map, slice_index, slice_set, refl, sym, ◌∙◌, subst}
+use Rattle.std.proofs.Common.{◌≡◌, ℕ, ◌+◌, ◌<◌, ◌≤◌, Bool, true, false, cond, ltb, ◌&&◌, eqb, List, [], ◌∷◌, ◌++◌, ◌*◌, length, map, Option, Some, None, slice_index, slice_set, refl, sym, ap, ◌∙◌, subst, arith}
 use Rattle.std.proofs.lemmas.Bool.{ltb-true}
 use Rattle.mv_ast.specs.declared.program.Known.{Known}
 use Rattle.mv_isa.specs.declared.labelled.Line.{Line}
+use Rattle.mv_isa.specs.declared.labelled.Line.TheVariants.{Label}
 use Rattle.mv_isa.specs.Execution.{Access}
 use Rattle.mv_ir.specs.declared.tree.Tree.{Tree}
 use Rattle.mv_ir.specs.declared.stm.Array.{Array}
@@ -13,23 +14,30 @@ use Rattle.mv_ir.specs.declared.stm.Stm.TheOpen as stm
 use Rattle.mv_ir.specs.declared.stm.Stm.TheViews.{roll-Stm}
 use Rattle.mv_ir.specs.declared.stm.Stm.TheFolds.{fold-roll-Stm, map-Stm}
 use Rattle.mv_ir.specs.World as ir
-use Rattle.mv_ir.specs.Outcome.{State, Next, Bound, Meaning, in_order}
-use Rattle.mv_ir.specs.Meaning.{of_tree, elements, with_temp, with_elements, traps, statement, meaning}
-use Rattle.mv_ir.specs.Trees.{divide}
+use Rattle.mv_bindings.specs.Traps as trap
+use Rattle.mv_ir.specs.Outcome.{State, End, Returned, Trapped, More, Stuck, Outcome, Next, Leaves, Restarts, Ends, Run, Calls, Bound, Meaning, spend, now, goes_on, in_order}
+use Rattle.mv_ir.specs.Meaning.{Goal, Nowhere, Null, At, of_tree, elements, with_temp, with_elements, traps, call_end, within, made_call, call_to, goal, statement, meaning}
+use Rattle.mv_ir.specs.Trees.{nodes, divide}
 use Rattle.mv_ir.proofs.Induction.{Each, StmChildren, stm_ind, stms_ind}
 use Rattle.mv_ir.proofs.Keeping.{meaning_roll}
 use Rattle.mv_ir.specs.WellFormed.{all_true}
+use Rattle.mv_select_code.specs.Trees.TreeCode.{is_taken, branch_lines}
+use Rattle.mv_select_code.specs.Statements.StatementCode.{first}
 use Rattle.mv_select_code.specs.Statements.Frames.{Site, IsRead, IsWritten, IsFine, IsFit}
-use Rattle.mv_select_code.proofs.OfStatements.ScalarStatements.{set_done, set_global_done, divide_done, return_done}
+use Rattle.mv_select_code.proofs.OfStatements.ScalarStatements.{set_done, set_global_done, divide_done}
 use Rattle.mv_select_code.proofs.OfStatements.ArrayStatements.{check_done, read_done, write_done}
 use Rattle.mv_select_code.specs.declared.control.enclosing.Enclosing.{Enclosing}
-use Rattle.mv_select_code.specs.Control.FlowCode.{Uses, CallLines, Plan, Emitted, in_turn, loop_at, block_at, code_layer, statement_code, may_read, may_write, fine_layer, is_fine_statement}
+use Rattle.mv_select_code.specs.declared.control.enclosing.Leading.{Leading}
+use Rattle.mv_select_code.specs.declared.control.enclosing.Leading.TheVariants as lead
+use Rattle.mv_select_code.specs.declared.control.enclosing.Way.{Way}
+use Rattle.mv_select_code.specs.Control.FlowCode.{Uses, CallLines, Plan, Emitted, fall_to, jump_to, leads_to, plain, if_leads, in_turn, loop_at, block_at, zero_lines, code_layer, statement_code, may_read, may_write, fine_layer, is_fine_statement}
 use Rattle.mv_select_code.specs.Control.Runs.{Machine, IsRun}
 use Rattle.mv_select_code.specs.Control.Flow.{IsWithin}
-use Rattle.mv_select_code.specs.Control.Laws.{plan_of, uses_of, LinesDo, CallsDo}
-use Rattle.mv_select_code.proofs.OfControl.Composition.{within_within, nothing_does, then_does}
-use Rattle.mv_select_code.proofs.OfControl.Control.{break_does, back_does, block_stands, loop_stands, if_stands}
-use Rattle.mv_select_code.proofs.OfControl.Leaves.{same_either, same_elements, leaf_does}
+use Rattle.mv_select_code.specs.Control.Laws.{plan_of, uses_of, LinesDo, CallsDo, CodeDoes}
+use Rattle.mv_select_code.proofs.OfControl.Composition.{Gets, rest, arrived, within_within, both_get, last_gets}
+use Rattle.mv_select_code.proofs.OfControl.Control.{Falls, IsAhead, led, nothing_gets, break_gets, back_gets, plain_gets, return_gets, block_stands, loop_stands, branch_gets, either_gets, gets_same}
+use Rattle.mv_select_code.specs.Statements.Laws as statements
+use Rattle.mv_select_code.proofs.OfControl.Leaves.{SameOutside, same_either, same_elements, leaf_does}
 use Rattle.mv_select_code.proofs.OfControl.Walk.{placed_split}
 use Rattle.mv_select_code.proofs.OfControl.Zeroing.{zero_stands}
 use Rattle.mv_select_code.proofs.OfControl.Course.{course}
@@ -44,10 +52,81 @@ pub fine_roll : (is_fine : Tree → Bool) (may_ask : Known → Bool) (temps : �
 unfolding is_fine_statement
 fine_roll is_fine may_ask temps uses x = fold-roll-Stm Bool (fine_layer is_fine may_ask temps uses) x
 
+-- ---- what leaves nothing behind
+
+ahead_either : (b : Bool) (x y : Outcome) → IsAhead x → IsAhead y → IsAhead (cond b x y)
+ahead_either true x y h k = h
+ahead_either false x y h k = k
+
+call_ahead : (r : Option ℕ) (s : State) (e : End) → IsAhead (call_end r s e)
+call_ahead None s (Returned v w) = tt
+call_ahead None s (Trapped c w) = tt
+call_ahead None s (More w) = tt
+call_ahead None s Stuck = tt
+call_ahead (Some t) s (Returned None w) = tt
+call_ahead (Some t) s (Returned (Some v) w) = tt
+call_ahead (Some t) s (Trapped c w) = tt
+call_ahead (Some t) s (More w) = tt
+call_ahead (Some t) s Stuck = tt
+
+goal_ahead : (g : Goal) (depth live : ℕ) (r : Option ℕ) (args : List ℕ) (bound : Bound) (s : State) → IsAhead (call_to g depth live r args bound s).outcome
+goal_ahead Nowhere depth live r args bound s = tt
+goal_ahead Null depth live r args bound s = tt
+goal_ahead (At f) depth live r args bound s = by (ltb depth trap.depth_limit)
+  where
+    deeper : (bound : Bound) → IsAhead (within bound (λ (calls : Calls). made_call r s (calls f args depth live s.world)) s).outcome
+    deeper [] = tt
+    deeper (calls ∷ below) = call_ahead r s (calls f args depth live s.world).end
+
+    by : (b : Bool) → IsAhead (cond b (within bound (λ (calls : Calls). made_call r s (calls f args depth live s.world)) s) (now (traps trap.call_too_deep s))).outcome
+    by true = deeper bound
+    by false = tt
+
+-- ---- code that only leads somewhere
+
+pub if_alone : (place : ℕ → ℕ) (end : ℕ) (t : Tree) (x y : Option Leading) (a b : Emitted) → (if_leads place end t x y a b).alone ≡ None
+if_alone place end t None None a b = refl
+if_alone place end t None (Some l) a b = refl
+if_alone place end t (Some l) None a b = refl
+if_alone place end t (Some l) (Some lead.On) a b = refl
+if_alone place end t (Some l) (Some (lead.Out n)) a b = refl
+if_alone place end t (Some l) (Some (lead.Back n)) a b = refl
+
+last_outcome : (o : Outcome) → (goes_on o (λ l. now (Next l))).outcome ≡ o
+last_outcome (Next l) = refl
+last_outcome (Leaves n l) = refl
+last_outcome (Restarts n l) = refl
+last_outcome (Ends e) = refl
+
+module _ (plan : Plan) (setting : ir.Setting) (frame : ir.Frame) where
+  -- a statement that only leads somewhere means just that
+  abbrev LeadsAlone : Emitted → Meaning → Type 0
+  LeadsAlone code m = (l : Leading) → code.alone ≡ Some l → (bound : Bound) (x : State) → (m bound x).outcome ≡ led l x
+
+  alone_layer : (x : Stm-F Stm) → LeadsAlone (code_layer plan (map-Stm Stm Emitted (statement_code plan) x)) (statement setting frame (map-Stm Stm Meaning (meaning setting frame) x))
+  alone_layer (stm.If t a b) l e bound x =
+      let one = in_turn (map (statement_code plan) a) in
+      let other = in_turn (map (statement_code plan) b) in
+      absurd (let none = if_alone plan.place plan.end t one.alone other.alone one other in cc)
+  alone_layer (stm.Break n) l e bound x = let same : lead.Out n ≡ l = cc in ap (λ l. led l x) same
+  alone_layer (stm.Back n) l e bound x = let same : lead.Back n ≡ l = cc in ap (λ l. led l x) same
+  alone_layer _ l e bound x = absurd cc
+
+  statement_alone : (t : Stm) → LeadsAlone (statement_code plan t) (meaning setting frame t)
+  statement_alone =
+      stm_ind (λ t. LeadsAlone (statement_code plan t) (meaning setting frame t))
+      (λ x h. subst (LeadsAlone (statement_code plan (roll-Stm x))) (sym (meaning_roll setting frame x))
+      (subst (λ c. LeadsAlone c (statement setting frame (map-Stm Stm Meaning (meaning setting frame) x))) (sym (code_roll plan x)) (alone_layer x)))
+
+  list_alone : (code : List Stm) → LeadsAlone (in_turn (map (statement_code plan) code)) (in_order (map (meaning setting frame) code))
+  list_alone [] l e bound x = let same : lead.On ≡ l = cc in ap (λ l. led l x) same
+  list_alone (t ∷ []) l e bound x = last_outcome (meaning setting frame t bound x).outcome ∙ statement_alone t l e bound x
+  list_alone (t ∷ u ∷ code) l e bound x = absurd cc
+
 module _ {M : Type 0} (access : Access M) (s : Site) (setting : ir.Setting) (frame : ir.Frame) (fit : IsFit s access setting frame) (machine : Machine M) (ok : IsRun access s machine)
     (is_fine : Tree → Bool) (fine_trees : (t : Tree) → is_fine t ≡ true → IsFine s setting frame t) (place : ℕ → ℕ) (end budget far : ℕ) (top : Bound) (calls : CallLines)
     (calls_do : CallsDo access s setting frame machine place end budget far is_fine top calls) where
-  open course access s machine place end budget far use {Placed as P, Does as D}
+  open course access s machine place end budget far use {Placed as P, Here as H, Does as D}
 
   abbrev Code : Stm → Emitted
   Code = statement_code (plan_of s end calls)
@@ -61,9 +140,14 @@ module _ {M : Type 0} (access : Access M) (s : Site) (setting : ir.Setting) (fra
   abbrev Lines : List Line → Stm-F Meaning → Type 0
   Lines = LinesDo access s setting frame machine place end budget far is_fine top
 
+  abbrev G : (bar spare k : ℕ) → List Enclosing → Way → (pc : ℕ) → (State → Run) → Type 0
+  G = Gets access s machine place end budget far
+
   -- code does what something means, at each bound up to the greatest
   abbrev Performs : Emitted → Meaning → Type 0
-  Performs code m = (spare label : ℕ) (around : List Enclosing) (pc next : ℕ) (bound : Bound) → IsWithin bound top → P (code.lines around label) pc next → D spare (length bound) around pc next (m bound)
+  Performs code m =
+      (bar spare label : ℕ) → bar ≤ label → (around : List Enclosing) (way : Way) (pc stop : ℕ) (bound : Bound) → IsWithin bound top → P (code.lines around label way) pc stop → Falls place way stop
+      → G bar spare (length bound) around way pc (m bound)
 
   abbrev StmDoes : Stm → Type 0
   StmDoes t = Fine t ≡ true → Performs (Code t) (Mean t)
@@ -77,16 +161,35 @@ module _ {M : Type 0} (access : Access M) (s : Site) (setting : ir.Setting) (fra
       subst (Performs (Code (roll-Stm x))) (sym (meaning_roll setting frame x))
       (subst (λ c. Performs c (statement setting frame (map-Stm Stm Meaning Mean x))) (sym (code_roll (plan_of s end calls) x)) (h (sym (fine_roll is_fine s.may_ask s.temps (uses_of s) x) ∙ fine)))
 
+  -- a statement before others
+  before_does : (t : Stm) → Performs (Code t) (Mean t) → (code : List Stm) → Performs (in_turn (map Code code)) (in_order (map Mean code)) → Performs (in_turn (map Code (t ∷ code))) (in_order (map Mean (t ∷ code)))
+  before_does t here [] others bar spare label le around way pc stop bound under p falls =
+      last_gets access s machine place end budget far bar spare (length bound) around way pc (Mean t bound) (here bar spare label le around way pc stop bound under p falls)
+  before_does t here (u ∷ code) others bar spare label le around way pc stop bound under p falls =
+      let a = Code t in
+      let b = in_turn (map Code (u ∷ code)) in
+      let q = placed_split machine.text place s.entry (a.lines around (label + 1) (fall_to label)) (Label label ∷ b.lines around (label + 1 + a.labels) way) pc stop p in
+      both_get access s machine place end budget far bar label spare (length bound) around way pc q.2.0 (Mean t bound) (in_order (map Mean (u ∷ code)) bound) le (q.2.1.label ∙ sym q.2.1.stands)
+      (λ spare. here bar spare (label + 1) (omega (arith, le)) around (fall_to label) pc q.0 bound under q.1 (λ e. q.2.1.label))
+      (others bar spare (label + 1 + a.labels) (omega (arith, le)) around way q.2.0 stop bound under q.2.2 falls)
+
   -- statements in order
-  pub code_does : (code : List Stm) → Each StmDoes code → all_true (map Fine code) ≡ true → Performs (in_turn (map Code code)) (in_order (map Mean code))
-  code_does [] h fine spare label around pc next bound le p =
-      subst (λ z. D spare (length bound) around pc z (in_order [] bound)) (sym p) (nothing_does access s machine place end budget far spare (length bound) around pc)
-  code_does (t ∷ code) h fine spare label around pc next bound le p =
-      let rest = in_turn (map Code code) in
-      let q = placed_split machine.text place s.entry ((Code t).lines around label) (rest.lines around (label + (Code t).labels)) pc next p in
-      then_does access s machine place end budget far spare (length bound) around pc q.0 next (Mean t bound) (in_order (map Mean code) bound)
-      (λ spare. h.0 (and_left (Fine t) (all_true (map Fine code)) fine) spare label around pc q.0 bound le q.1)
-      (code_does code h.1 (and_right (Fine t) (all_true (map Fine code)) fine) spare (label + (Code t).labels) around q.0 next bound le q.2)
+  code_does : (code : List Stm) → Each StmDoes code → all_true (map Fine code) ≡ true → Performs (in_turn (map Code code)) (in_order (map Mean code))
+  code_does [] h fine =
+      (λ bar spare label le around way pc stop bound under p falls.
+      nothing_gets access s setting frame fit machine ok place end budget far bar spare (length bound) pc stop around way p falls)
+  code_does (t ∷ code) h fine =
+      before_does t (h.0 (and_left (Fine t) (all_true (map Fine code)) fine)) code (code_does code h.1 (and_right (Fine t) (all_true (map Fine code)) fine))
+
+  -- lines without control
+  plain_does : (lines : List Line) (x : Stm-F Meaning) → ((bound : Bound) (l : State) → IsAhead (statement setting frame x bound l).outcome) → Lines lines x → Performs (plain lines) (statement setting frame x)
+  plain_does lines x ahead does bar spare label le around way pc stop bound under p falls =
+      plain_gets access s setting frame fit machine ok place end budget far bar spare (length bound) pc stop around way lines (statement setting frame x bound) (ahead bound) p falls
+      (λ spare next q. does spare around pc next bound under q)
+
+  leaf : (lines : List Line) (x : Stm-F Meaning) → statements.Does access s setting frame lines x → ((bound : Bound) (l : State) → SameOutside l.world (statement setting frame x bound l).outcome)
+      → ((bound : Bound) (l : State) → IsAhead (statement setting frame x bound l).outcome) → Performs (plain lines) (statement setting frame x)
+  leaf lines x done same ahead = plain_does lines x ahead (leaf_does access s setting frame machine ok place end budget far is_fine top lines x done same)
 
   abbrev V : Tree → State → ℕ
   V = of_tree setting frame
@@ -102,65 +205,139 @@ module _ {M : Type 0} (access : Access M) (s : Site) (setting : ir.Setting) (fra
   array_written (array.Global g) e = e
   array_written (array.Local a) e = tt
 
+  -- a branch, by where its lists lead that do nothing else
+  if_does : (t : Tree) (a b : List Stm) → IsFine s setting frame t → Performs (in_turn (map Code a)) (in_order (map Mean a)) → Performs (in_turn (map Code b)) (in_order (map Mean b))
+      → (x y : Option Leading) → (in_turn (map Code a)).alone ≡ x → (in_turn (map Code b)).alone ≡ y
+      → Performs (if_leads s.place end t x y (in_turn (map Code a)) (in_turn (map Code b))) (statement setting frame (stm.If t (map Mean a) (map Mean b)))
+  if_does t a b fine da db x y ex ey bar spare label le around way pc stop bound under p falls = go x y ex ey p
+    where
+      one : Emitted
+      one = in_turn (map Code a)
+
+      other : Emitted
+      other = in_turn (map Code b)
+
+      A : State → Run
+      A = in_order (map Mean a) bound
+
+      B : State → Run
+      B = in_order (map Mean b) bound
+
+      Goal-is : (State → Run) → Type 0
+      Goal-is m = G bar spare (length bound) around way pc m
+
+      same : (m : State → Run) → ((x : State) → statement setting frame (stm.If t (map Mean a) (map Mean b)) bound x ≡ m x) → Goal-is m → Goal-is (statement setting frame (stm.If t (map Mean a) (map Mean b)) bound)
+      same m e h = gets_same access s setting frame fit machine ok place end budget far bar spare (length bound) pc around way m (statement setting frame (stm.If t (map Mean a) (map Mean b)) bound) e h
+
+      turn : (d : Bool) (x y : Run) → cond d y x ≡ cond (cond d false true) x y
+      turn true x y = refl
+      turn false x y = refl
+
+      keep : (d : Bool) (x y : Run) → cond d y x ≡ cond (cond d true false) y x
+      keep true x y = refl
+      keep false x y = refl
+
+      to_first : (l : Leading) → one.alone ≡ Some l → P (branch_lines s.place t true first (leads_to end around way l) ++ other.lines around label way) pc stop
+          → Goal-is (statement setting frame (stm.If t (map Mean a) (map Mean b)) bound)
+      to_first l e p =
+          same (λ x. spend (8 + 3 * nodes t) (cond (is_taken true (V t x)) (A x) (B x))) (λ x. ap (spend (8 + 3 * nodes t)) (turn (eqb (V t x) 0) (A x) (B x)))
+          (branch_gets access s setting frame fit machine ok place end budget far bar spare (length bound) pc stop around way t true l (other.lines around label way) A B fine p
+          (λ x. list_alone (plan_of s end calls) setting frame a l e bound x) (λ mid q. db bar spare label le around way mid stop bound under q falls))
+
+      to_second : (l : Leading) → other.alone ≡ Some l → P (branch_lines s.place t false first (leads_to end around way l) ++ one.lines around label way) pc stop
+          → Goal-is (statement setting frame (stm.If t (map Mean a) (map Mean b)) bound)
+      to_second l e p =
+          same (λ x. spend (8 + 3 * nodes t) (cond (is_taken false (V t x)) (B x) (A x))) (λ x. ap (spend (8 + 3 * nodes t)) (keep (eqb (V t x) 0) (A x) (B x)))
+          (branch_gets access s setting frame fit machine ok place end budget far bar spare (length bound) pc stop around way t false l (one.lines around label way) B A fine p
+          (λ x. list_alone (plan_of s end calls) setting frame b l e bound x) (λ mid q. da bar spare label le around way mid stop bound under q falls))
+
+      go : (x y : Option Leading) → one.alone ≡ x → other.alone ≡ y → P ((if_leads s.place end t x y one other).lines around label way) pc stop
+          → Goal-is (statement setting frame (stm.If t (map Mean a) (map Mean b)) bound)
+      go None None ex ey p =
+          same (λ x. spend (8 + 3 * nodes t) (cond (is_taken false (V t x)) (B x) (A x))) (λ x. ap (spend (8 + 3 * nodes t)) (keep (eqb (V t x) 0) (A x) (B x)))
+          (either_gets access s setting frame fit machine ok place end budget far bar label spare (length bound) pc stop around way t (one.lines around (label + 1) (jump_to way.after)) (other.lines around (label + 1 + one.labels) way) A B fine p
+          (λ mid next q. da bar spare (label + 1) (omega (arith, le)) around (jump_to way.after) mid next bound under q (λ e. absurd cc))
+          (λ mid q. db bar spare (label + 1 + one.labels) (omega (arith, le)) around way mid stop bound under q falls))
+      go (Some l) None ex ey p = to_first l ex p
+      go (Some l) (Some lead.On) ex ey p = to_first l ex p
+      go None (Some l) ex ey p = to_second l ey p
+      go (Some l) (Some (lead.Out n)) ex ey p = to_second (lead.Out n) ey p
+      go (Some l) (Some (lead.Back n)) ex ey p = to_second (lead.Back n) ey p
+
   layer : (x : Stm-F Stm) → StmChildren StmDoes x → LayerDoes x
-  layer (stm.Set t v) h fine spare label around pc next bound le p =
-      leaf_does access s setting frame machine ok place end budget far is_fine top _ (stm.Set t v)
-      (set_done access s setting frame fit end t v (below t (is_fine v) fine) (fine_trees v (and_right (ltb t s.temps) (is_fine v) fine))) (λ bound l. refl) spare around pc next bound le p
-  layer (stm.SetGlobal g v) h fine spare label around pc next bound le p =
+  layer (stm.Set t v) h fine =
+      leaf _ (stm.Set t v) (set_done access s setting frame fit t v (below t (is_fine v) fine) (fine_trees v (and_right (ltb t s.temps) (is_fine v) fine))) (λ bound l. refl) (λ bound l. tt)
+  layer (stm.SetGlobal g v) h fine =
       let has_word = ltb 0 (s.size g) in
       let may = has_word && s.reach.is_written g in
       let global = and_left may (is_fine v) fine in
-      leaf_does access s setting frame machine ok place end budget far is_fine top _ (stm.SetGlobal g v)
-      (set_global_done access s setting frame fit end g v (ltb-true 0 (s.size g) (and_left has_word (s.reach.is_written g) global)) (and_right has_word (s.reach.is_written g) global)
-      (fine_trees v (and_right may (is_fine v) fine))) (λ bound l. refl) spare around pc next bound le p
-  layer (stm.Divide t o a b) h fine spare label around pc next bound le p =
+      leaf _ (stm.SetGlobal g v)
+      (set_global_done access s setting frame fit g v (ltb-true 0 (s.size g) (and_left has_word (s.reach.is_written g) global)) (and_right has_word (s.reach.is_written g) global)
+      (fine_trees v (and_right may (is_fine v) fine))) (λ bound l. refl) (λ bound l. tt)
+  layer (stm.Divide t o a b) h fine =
       let both = and_right (ltb t s.temps) (is_fine a && is_fine b) fine in
-      leaf_does access s setting frame machine ok place end budget far is_fine top _ (stm.Divide t o a b)
-      (divide_done access s setting frame fit end t o a b (below t (is_fine a && is_fine b) fine) (fine_trees a (and_left (is_fine a) (is_fine b) both)) (fine_trees b (and_right (is_fine a) (is_fine b) both)))
-      (λ bound l. same_either l.world (eqb (V b l) 0) (traps 1 l) (Next (with_temp l t (divide o (V a l) (V b l)))) refl refl) spare around pc next bound le p
-  layer (stm.Check a i) h fine spare label around pc next bound le p =
-      leaf_does access s setting frame machine ok place end budget far is_fine top _ (stm.Check a i) (check_done access s setting frame fit end a i (fine_trees i fine))
-      (λ bound l. same_either l.world (ltb (V i l) (length (elements a l))) (Next l) (traps 2 l) refl refl) spare around pc next bound le p
-  layer (stm.Read t a i) h fine spare label around pc next bound le p =
+      leaf _ (stm.Divide t o a b)
+      (divide_done access s setting frame fit t o a b (below t (is_fine a && is_fine b) fine) (fine_trees a (and_left (is_fine a) (is_fine b) both)) (fine_trees b (and_right (is_fine a) (is_fine b) both)))
+      (λ bound l. same_either l.world (eqb (V b l) 0) (traps 1 l) (Next (with_temp l t (divide o (V a l) (V b l)))) refl refl)
+      (λ bound l. ahead_either (eqb (V b l) 0) (traps 1 l) (Next (with_temp l t (divide o (V a l) (V b l)))) tt tt)
+  layer (stm.Check a i) h fine =
+      leaf _ (stm.Check a i) (check_done access s setting frame fit a i (fine_trees i fine))
+      (λ bound l. same_either l.world (ltb (V i l) (length (elements a l))) (Next l) (traps 2 l) refl refl) (λ bound l. ahead_either (ltb (V i l) (length (elements a l))) (Next l) (traps 2 l) tt tt)
+  layer (stm.Read t a i) h fine =
       let may = may_read is_fine s.may_ask s.temps (uses_of s) a in
       let rest = and_right (ltb t s.temps) (may && is_fine i) fine in
-      leaf_does access s setting frame machine ok place end budget far is_fine top _ (stm.Read t a i)
-      (read_done access s setting frame fit end t a i (below t (may && is_fine i) fine) (array_read a (and_left may (is_fine i) rest)) (fine_trees i (and_right may (is_fine i) rest)))
-      (λ bound l. same_either l.world (ltb (V i l) (length (elements a l))) (Next (with_temp l t (slice_index (elements a l) (V i l)))) (traps 2 l) refl refl) spare around pc next bound le p
-  layer (stm.Write a i v) h fine spare label around pc next bound le p =
+      leaf _ (stm.Read t a i)
+      (read_done access s setting frame fit t a i (below t (may && is_fine i) fine) (array_read a (and_left may (is_fine i) rest)) (fine_trees i (and_right may (is_fine i) rest)))
+      (λ bound l. same_either l.world (ltb (V i l) (length (elements a l))) (Next (with_temp l t (slice_index (elements a l) (V i l)))) (traps 2 l) refl refl)
+      (λ bound l. ahead_either (ltb (V i l) (length (elements a l))) (Next (with_temp l t (slice_index (elements a l) (V i l)))) (traps 2 l) tt tt)
+  layer (stm.Write a i v) h fine =
       let may = may_write is_fine s.may_ask s.temps (uses_of s) a in
       let rest = and_right may (is_fine i && is_fine v) fine in
-      leaf_does access s setting frame machine ok place end budget far is_fine top _ (stm.Write a i v)
-      (write_done access s setting frame fit end a i v (array_written a (and_left may (is_fine i && is_fine v) fine)) (fine_trees i (and_left (is_fine i) (is_fine v) rest)) (fine_trees v (and_right (is_fine i) (is_fine v) rest)))
-      (λ bound l. same_either l.world (ltb (V i l) (length (elements a l))) (Next (with_elements a l (slice_set (elements a l) (V i l) (V v l)))) (traps 2 l) (same_elements a l _) refl) spare around pc next bound le p
-  layer (stm.Zero a) h fine spare label around pc next bound le p =
-      zero_stands access s setting frame fit machine ok place end budget far label a spare (length bound) pc next around bound p
-  layer (stm.Return v) h fine spare label around pc next bound le p =
-      leaf_does access s setting frame machine ok place end budget far is_fine top _ (stm.Return v) (return_done access s setting frame fit end v (fine_trees v fine)) (λ bound l. refl) spare around pc next bound le p
-  layer (stm.Call r f args) h fine spare label around pc next bound le p = calls_do.call r f args fine spare around pc next bound le p
-  layer (stm.Known r k args) h fine spare label around pc next bound le p = calls_do.known r k args fine spare around pc next bound le p
-  layer (stm.Break n) h fine spare label around pc next bound le p =
-      break_does access s setting frame fit machine ok place end budget far n spare (length bound) pc next around bound p
-  layer (stm.Back n) h fine spare label around pc next bound le p =
-      back_does access s setting frame fit machine ok place end budget far n spare (length bound) pc next around bound p
-  layer (stm.If t a b) h fine spare label around pc next bound le p =
+      leaf _ (stm.Write a i v)
+      (write_done access s setting frame fit a i v (array_written a (and_left may (is_fine i && is_fine v) fine)) (fine_trees i (and_left (is_fine i) (is_fine v) rest)) (fine_trees v (and_right (is_fine i) (is_fine v) rest)))
+      (λ bound l. same_either l.world (ltb (V i l) (length (elements a l))) (Next (with_elements a l (slice_set (elements a l) (V i l) (V v l)))) (traps 2 l) (same_elements a l _) refl)
+      (λ bound l. ahead_either (ltb (V i l) (length (elements a l))) (Next (with_elements a l (slice_set (elements a l) (V i l) (V v l)))) (traps 2 l) tt tt)
+  layer (stm.Zero a) h fine =
+      (λ bar spare label le around way pc stop bound under p falls.
+      plain_gets access s setting frame fit machine ok place end budget far bar spare (length bound) pc stop around way (zero_lines label (s.array_at a) (s.array_size a)) (statement setting frame (stm.Zero a) bound) (λ l. tt) p falls
+      (λ spare next q. zero_stands access s setting frame fit machine ok place end budget far label a spare (length bound) pc next around bound q))
+  layer (stm.Return v) h fine =
+      (λ bar spare label le around way pc stop bound under p falls.
+      return_gets access s setting frame fit machine ok place end budget far bar spare (length bound) pc stop around way bound v (fine_trees v fine) p falls)
+  layer (stm.Call r f args) h fine =
+      plain_does _ (stm.Call r f args) (λ bound l. goal_ahead (goal setting frame f l) frame.depth frame.live r (map (λ t. V t l) args) bound l) (calls_do.call r f args fine)
+  layer (stm.Known r k args) h fine = plain_does _ (stm.Known r k args) (λ bound l. tt) (calls_do.known r k args fine)
+  layer (stm.Break n) h fine =
+      (λ bar spare label le around way pc stop bound under p falls.
+      break_gets access s setting frame fit machine ok place end budget far bar n spare (length bound) pc stop around way bound p falls)
+  layer (stm.Back n) h fine =
+      (λ bar spare label le around way pc stop bound under p falls.
+      back_gets access s setting frame fit machine ok place end budget far bar n spare (length bound) pc stop around way bound p)
+  layer (stm.If t a b) h fine =
       let parts = and_right (is_fine t) (all_true (map Fine a) && all_true (map Fine b)) fine in
-      let x = in_turn (map Code a) in
-      let y = in_turn (map Code b) in
-      if_stands access s setting frame fit machine ok place end budget far label t spare (length bound) pc next around bound (map Mean a) (map Mean b) (x.lines around (label + 2)) (y.lines around (label + 2 + x.labels))
-      (fine_trees t (and_left (is_fine t) (all_true (map Fine a) && all_true (map Fine b)) fine)) p
-      (λ spare pc next q. code_does a h.0 (and_left (all_true (map Fine a)) (all_true (map Fine b)) parts) spare (label + 2) around pc next bound le q)
-      (λ spare pc next q. code_does b h.1 (and_right (all_true (map Fine a)) (all_true (map Fine b)) parts) spare (label + 2 + x.labels) around pc next bound le q)
-  layer (stm.Loop b) h fine spare label around pc next bound le p =
-      loop_stands access s setting frame fit machine ok place end budget far label spare pc next around bound (map Mean b) ((in_turn (map Code b)).lines (loop_at label ∷ around) (label + 2)) p
-      (λ spare under start stop le' q. code_does b h fine spare (label + 2) (loop_at label ∷ around) start stop under (within_within under bound top le' le) q)
-  layer (stm.Block b) h fine spare label around pc next bound le p =
-      block_stands access s setting frame fit machine ok place end budget far label spare (length bound) pc next around bound (map Mean b) ((in_turn (map Code b)).lines (block_at label ∷ around) (label + 1)) p
-      (λ stop q. code_does b h fine spare (label + 1) (block_at label ∷ around) pc stop bound le q)
+      if_does t a b (fine_trees t (and_left (is_fine t) (all_true (map Fine a) && all_true (map Fine b)) fine)) (code_does a h.0 (and_left (all_true (map Fine a)) (all_true (map Fine b)) parts))
+      (code_does b h.1 (and_right (all_true (map Fine a)) (all_true (map Fine b)) parts)) (in_turn (map Code a)).alone (in_turn (map Code b)).alone refl refl
+  layer (stm.Loop b) h fine =
+      (λ bar spare label le around way pc stop bound under p falls.
+      loop_stands access s setting frame fit machine ok place end budget far bar label spare pc stop around way bound (map Mean b) ((in_turn (map Code b)).lines (loop_at label way ∷ around) (label + 1) (jump_to label)) le p
+      (λ spare below start le' q. code_does b h fine (label + 1) spare (label + 1) (omega arith) (loop_at label way ∷ around) (jump_to label) start stop below (within_within below bound top le' under) q (λ e. absurd cc)))
+  layer (stm.Block b) h fine =
+      (λ bar spare label le around way pc stop bound under p falls.
+      block_stands access s setting frame fit machine ok place end budget far bar spare (length bound) pc around way bound (map Mean b) (code_does b h fine bar spare label le (block_at way ∷ around) way pc stop bound under p falls))
 
   -- the code of each statement does what it means
   statement_does : (t : Stm) → StmDoes t
   statement_does = stm_ind StmDoes (λ x h. from_layer x (layer x h))
 
-  pub flow_done : (code : List Stm) → all_true (map Fine code) ≡ true → Performs (in_turn (map Code code)) (in_order (map Mean code))
-  flow_done code = code_does code (stms_ind StmDoes statement_does code)
+  -- what is certain is let go
+  with_jumps : (after spare k pc : ℕ) (falls : Bool) (around : List Enclosing) (m : State → Run) → G 0 spare k around (record { after = after; falls = falls }) pc m
+      → D spare k around pc (place after) (λ l. cond falls (m l) (spend 1 (m l)))
+  with_jumps after spare k pc true around m does l i h =
+      arrived access s machine place end budget far 0 spare k around (fall_to after) (m l).outcome
+      (does l i (rest access s machine place end budget far 0 (spare + (m l).cost) k 0 (spare + (0 + (m l).cost)) k pc l i (omega arith) (omega arith) h))
+  with_jumps after spare k pc false around m does l i h = arrived access s machine place end budget far 0 spare k around (jump_to after) (m l).outcome (does l i h)
+
+  pub flow_done : (code : List Stm) → all_true (map Fine code) ≡ true → CodeDoes access s setting frame machine place end budget far is_fine top calls code
+  flow_done code fine spare label around way pc stop bound under p falls =
+      with_jumps way.after spare (length bound) pc way.falls around (in_order (map Mean code) bound)
+      (code_does code (stms_ind StmDoes statement_does code) fine 0 spare label (omega arith) around way pc stop bound under p falls)

@@ -37,6 +37,6 @@ module _ (whole : List Line) where
   }
 
 pub targets_stand : TargetsStand
-targets_stand whole plan calls code around label h =
-    code_made (stand_made whole) plan (λ g. StandsOnce whole check_label) (λ r f args names points. named whole _ (calls.call r f args names points)) (λ r k args names. named whole _ (calls.known r k args names)) h.end h.division h.index code around h.starts h.ends label
+targets_stand whole plan calls code around label way h =
+    code_made (stand_made whole) plan (λ g. StandsOnce whole check_label) (λ r f args names points. named whole _ (calls.call r f args names points)) (λ r k args names. named whole _ (calls.known r k args names)) h.end h.division h.index code around h.starts h.ends way h.behind label
     (λ l p q. (tt, h.own l p q)) h.functions h.check

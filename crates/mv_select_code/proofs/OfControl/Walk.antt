@@ -1,5 +1,5 @@
 -- A run walks where lines lead.
-use Rattle.std.proofs.Common.{◌≡◌, inl, inr, ⊎_elim, ℕ, ◌+◌, ◌<◌, ◌≤◌, true, false, List, [], ◌∷◌, ◌++◌, length, refl, sym, ap, ◌∙◌, subst, arith}
+use Rattle.std.proofs.Common.{◌≡◌, inl, inr, ⊎_elim, ℕ, ◌+◌, ◌<◌, ◌≤◌, Bool, true, false, cond, List, [], ◌∷◌, ◌++◌, length, refl, sym, ap, ◌∙◌, subst, arith}
 use Rattle.std.proofs.lemmas.Bool.{cases_eq}
 use Rattle.mv_num.specs.Words.{add}
 use Rattle.mv_isa.specs.declared.labelled.Line.{Line}
@@ -112,11 +112,15 @@ module _ {M : Type 0} (access : Access M) (s : Site) (machine : Machine M) (ok :
       (subst (λ b. BranchRuns (limited access s) machine.text.word m b pc mid (place l) regs) passes (line_does w pc mid regs m i (Branch funct3 rs1 rs2 l) p.stands p a)) (inl refl) a
 
   -- a branch that is taken, in one step or in two
-  pub taken : (w : World) (pc mid to : ℕ) (regs : List ℕ) (m : M) (i : ℕ) → BranchRuns (limited access s) machine.text.word m true pc mid to regs → Stands w pc regs m i → Reaches w to regs m i 2
-  taken w pc mid to regs m i (inl e) h = reached w to regs m i (i + 1) 2 (omega arith) (omega arith) (steps_on w pc to regs regs m m i e (inl refl) h)
-  taken w pc mid to regs m i (inr e) h =
-      reached w to regs m i (i + 1 + 1) 2 (omega arith) (omega arith)
+  pub taken_later : (w : World) (pc mid to : ℕ) (regs : List ℕ) (m : M) (i : ℕ) → BranchRuns (limited access s) machine.text.word m true pc mid to regs → Stands w pc regs m i
+      → Reaches w to regs m (i + 1) 1
+  taken_later w pc mid to regs m i (inl e) h = reached w to regs m (i + 1) (i + 1) 1 (omega arith) (omega arith) (steps_on w pc to regs regs m m i e (inl refl) h)
+  taken_later w pc mid to regs m i (inr e) h =
+      reached w to regs m (i + 1) (i + 1 + 1) 1 (omega arith) (omega arith)
       (steps_on w (pc + 4) to regs regs m m (i + 1) e.1 (inl refl) (steps_on w pc (pc + 4) regs regs m m i e.0 (inl refl) h))
+
+  pub taken : (w : World) (pc mid to : ℕ) (regs : List ℕ) (m : M) (i : ℕ) → BranchRuns (limited access s) machine.text.word m true pc mid to regs → Stands w pc regs m i → Reaches w to regs m i 2
+  taken w pc mid to regs m i e h = reaches_more w to regs m (i + 1) i 1 2 (omega arith) (omega arith) (taken_later w pc mid to regs m i e h)
 
   pub leads_walk : (ls : List Line) (n : ℕ) (w : World) (pc next : ℕ) (regs : List ℕ) (m : M) (exit : Exit) (regs' : List ℕ) (m' : M) (i : ℕ)
       → P ls pc next → Leads access s ls n regs m exit regs' m' → Stands w pc regs m i → Reaches w (target exit next) regs' m' i n
@@ -145,6 +149,42 @@ module _ {M : Type 0} (access : Access M) (s : Site) (machine : Machine M) (ok :
       reaches_more w (target exit next) regs' m' (i + 1 + 1) i h.0 n (omega arith) (omega (arith, h.1)) (leads_walk ls h.0 w p.0 next (put regs rd (s.entry f)) m exit regs' m' (i + 1 + 1) p.2 h.2 c)
   leads_walk (Slot f ∷ ls) n w pc next regs m exit regs' m' i p h a = absurd h
   leads_walk (Point b ∷ ls) n w pc next regs m exit regs' m' i p h a = absurd h
+
+  -- lines that lead to a label take an instruction at least
+  pub leads_later : (ls : List Line) (n : ℕ) (w : World) (pc next : ℕ) (regs : List ℕ) (m : M) (l : ℕ) (regs' : List ℕ) (m' : M) (i : ℕ)
+      → P ls pc next → Leads access s ls n regs m (To l) regs' m' → Stands w pc regs m i → Reaches w (place l) regs' m' (i + 1) n
+  leads_later [] n w pc next regs m l regs' m' i p h a = absurd (let other : To l ≡ Past = h.0 in cc)
+  leads_later (Word x ∷ ls) n w pc next regs m l regs' m' i p h a =
+      let here = p.1.here in
+      let on : add pc 4 ≡ p.0 = add_small pc 4 (omega (arith, here.1)) ∙ sym p.1.stands.1 in
+      let e = line_does w pc p.0 regs m i (Word x) p.1.stands p.1 a ∙ h.4.0 pc ∙ ap (λ z. Goes h.2 z h.3) on in
+      let b = steps_on w pc p.0 regs h.2 m h.3 i e h.4.1 a in
+      reaches_more w (place l) regs' m' (i + 1) (i + 1) h.0 n (omega arith) (omega (arith, h.1)) (leads_walk ls h.0 w p.0 next h.2 h.3 (To l) regs' m' (i + 1) p.2 h.5 b)
+  leads_later (Label k ∷ ls) n w pc next regs m l regs' m' i p h a =
+      leads_later ls n w p.0 next regs m l regs' m' i p.2 h (stands_at w pc p.0 regs m i (sym p.1.stands) a)
+  leads_later (Jump rd k ∷ ls) n w pc next regs m l regs' m' i p h a =
+      ended w next (To l) (To k) regs regs' m m' (i + 1) n h.2 h.3 (reached w (place k) regs m (i + 1) (i + 1) n (omega arith) (omega (arith, h.1)) (jump_stands w pc p.0 rd k regs m i h.0 p.1 a))
+  leads_later (Branch funct3 rs1 rs2 k ∷ ls) n w pc next regs m l regs' m' i p (inl h) a =
+      let e = subst (λ b. BranchRuns (limited access s) machine.text.word m b pc p.0 (place k) regs) h.0 (line_does w pc p.0 regs m i (Branch funct3 rs1 rs2 k) p.1.stands p.1 a) in
+      ended w next (To l) (To k) regs regs' m m' (i + 1) n h.2 h.3 (reaches_more w (place k) regs m (i + 1) (i + 1) 1 n (omega arith) (omega (arith, h.1)) (taken_later w pc p.0 (place k) regs m i e a))
+  leads_later (Branch funct3 rs1 rs2 k ∷ ls) n w pc next regs m l regs' m' i p (inr h) a =
+      let b = branch_passes w pc p.0 funct3 rs1 rs2 k regs m i h.0 p.1 a in
+      reaches_more w (place l) regs' m' (i + 1) (i + 1) h.1 n (omega arith) (omega (arith, h.2)) (leads_walk ls h.1 w p.0 next regs m (To l) regs' m' (i + 1) p.2 h.3 b)
+  leads_later (Entry rd f ∷ ls) n w pc next regs m l regs' m' i p h a =
+      let e = line_does w pc p.0 regs m i (Entry rd f) p.1.stands p.1 a in
+      let b = steps_on w pc (pc + 4) regs e.0 m m i e.1 (inl refl) a in
+      let c = steps_on w (pc + 4) p.0 e.0 (put regs rd (s.entry f)) m m (i + 1) e.2 (inl refl) b in
+      reaches_more w (place l) regs' m' (i + 1 + 1) (i + 1) h.0 n (omega arith) (omega (arith, h.1)) (leads_walk ls h.0 w p.0 next (put regs rd (s.entry f)) m (To l) regs' m' (i + 1 + 1) p.2 h.2 c)
+  leads_later (Slot f ∷ ls) n w pc next regs m l regs' m' i p h a = absurd h
+  leads_later (Point b ∷ ls) n w pc next regs m l regs' m' i p h a = absurd h
+
+  -- on to a label, by a jump where it doesn't stand right behind
+  pub jumps_or_falls : (w : World) (pc stop l : ℕ) (falls : Bool) (regs : List ℕ) (m : M) (i : ℕ) → P (cond falls [] (Jump 0 l ∷ [])) pc stop → (falls ≡ true → place l ≡ stop) → Stands w pc regs m i
+      → Stands w (place l) regs m (i + cond falls 0 1)
+  jumps_or_falls w pc stop l true regs m i p behind h =
+      let same : i ≡ i + 0 = omega arith in
+      subst (Stands w (place l) regs m) same (stands_at w pc (place l) regs m i (sym (behind refl ∙ p)) h)
+  jumps_or_falls w pc stop l false regs m i p behind h = jump_stands w pc p.0 0 l regs m i refl p.1 h
 
   -- ---- between what is shown and what stands
 

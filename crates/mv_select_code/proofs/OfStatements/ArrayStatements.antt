@@ -170,8 +170,8 @@ module _ {M : Type 0} (access : Access M) (s : Site) (setting : ir.Setting) (fra
   passed : (a : Array) (q k n : ℕ) (ks : List Line) (l : State) (regs : List ℕ) (m : M) (regs' : List ℕ) (m' : M) (z : IsSized (size_of s a) l regs m) → reg z.after q ≡ k → k < size_of s a → L ks n z.after m Past regs' m' → L (branch q ∷ ks) (n + 1) z.after m Past regs' m'
   passed a q k n ks l regs m regs' m' z index lt h = inr (less_is (reg z.after q) (reg z.after third) (omega (arith, index, z.holds, lt)), n, omega arith, h)
 
-  pub check_done : (end : ℕ) (a : Array) (i : Tree) → IsFine s setting frame i → Does access s setting frame end (check_lines s.place (size_of s a) i) (stm.Check a i)
-  check_done end a i fine bound l regs m f = by_index (ltb (V i l) (length (elements a l))) refl
+  pub check_done : (a : Array) (i : Tree) → IsFine s setting frame i → Does access s setting frame (check_lines s.place (size_of s a) i) (stm.Check a i)
+  check_done a i fine bound l regs m f = by_index (ltb (V i l) (length (elements a l))) refl
     where
       q : ℕ
       q = operand_register i first
@@ -185,7 +185,7 @@ module _ {M : Type 0} (access : Access M) (s : Site) (setting : ir.Setting) (fra
       index : reg z.after q ≡ V i l
       index = z.changes.others q (size_beside i first (omega arith)) ∙ x.holds
 
-      by_index : (d : Bool) → ltb (V i l) (length (elements a l)) ≡ d → Follows access s setting frame end (check_lines s.place (size_of s a) i) (8 + 3 * nodes i) regs m (cond d (Next l) (traps 2 l))
+      by_index : (d : Bool) → ltb (V i l) (length (elements a l)) ≡ d → Follows access s setting frame (check_lines s.place (size_of s a) i) (8 + 3 * nodes i) regs m (cond d (Next l) (traps 2 l))
       by_index true is =
           let below : V i l < size_of s a = omega (arith, ltb-true (V i l) (length (elements a l)) is, f.sizes a) in (
             z.after,
@@ -207,8 +207,8 @@ module _ {M : Type 0} (access : Access M) (s : Site) (setting : ir.Setting) (fra
             ),
           )
 
-  pub read_done : (end t : ℕ) (a : Array) (i : Tree) → t < s.temps → IsRead s a → IsFine s setting frame i → Does access s setting frame end (read_lines s.place t (home_of s a) (size_of s a) i) (stm.Read t a i)
-  read_done end t a i lt may fine bound l regs m f = by_index (ltb (V i l) (length (elements a l))) refl
+  pub read_done : (t : ℕ) (a : Array) (i : Tree) → t < s.temps → IsRead s a → IsFine s setting frame i → Does access s setting frame (read_lines s.place t (home_of s a) (size_of s a) i) (stm.Read t a i)
+  read_done t a i lt may fine bound l regs m f = by_index (ltb (V i l) (length (elements a l))) refl
     where
       q : ℕ
       q = operand_register i first
@@ -229,7 +229,7 @@ module _ {M : Type 0} (access : Access M) (s : Site) (setting : ir.Setting) (fra
       index = z.changes.others q (size_beside i first (omega arith)) ∙ x.holds
 
       by_index : (d : Bool) → ltb (V i l) (length (elements a l)) ≡ d
-          → Follows access s setting frame end (read_lines s.place t (home_of s a) (size_of s a) i) (8 + 3 * nodes i) regs m (cond d (Next (with_temp l t (slice_index (elements a l) (V i l)))) (traps 2 l))
+          → Follows access s setting frame (read_lines s.place t (home_of s a) (size_of s a) i) (8 + 3 * nodes i) regs m (cond d (Next (with_temp l t (slice_index (elements a l) (V i l)))) (traps 2 l))
       by_index true is =
           let below : V i l < size_of s a = omega (arith, ltb-true (V i l) (length (elements a l)) is, f.sizes a) in
           let p = element_placed a q (V i l) l z.after m below index z.shown in
@@ -268,8 +268,8 @@ module _ {M : Type 0} (access : Access M) (s : Site) (setting : ir.Setting) (fra
             ),
           )
 
-  pub write_done : (end : ℕ) (a : Array) (i v : Tree) → IsWritten s a → IsFine s setting frame i → IsFine s setting frame v → Does access s setting frame end (write_lines s.place (home_of s a) (size_of s a) i v) (stm.Write a i v)
-  write_done end a i v may fi fv bound l regs m f = by_index (ltb (V i l) (length (elements a l))) refl
+  pub write_done : (a : Array) (i v : Tree) → IsWritten s a → IsFine s setting frame i → IsFine s setting frame v → Does access s setting frame (write_lines s.place (home_of s a) (size_of s a) i v) (stm.Write a i v)
+  write_done a i v may fi fv bound l regs m f = by_index (ltb (V i l) (length (elements a l))) refl
     where
       q : ℕ
       q = operand_register i first
@@ -302,7 +302,7 @@ module _ {M : Type 0} (access : Access M) (s : Site) (setting : ir.Setting) (fra
           (after_operand access s setting frame fit second v (test_lines (size_of s a) q ++ ks) n (8 + 2 * nodes v) l x.after m exit regs' m' (omega arith) y h)
 
       by_index : (d : Bool) → ltb (V i l) (length (elements a l)) ≡ d
-          → Follows access s setting frame end (write_lines s.place (home_of s a) (size_of s a) i v) (8 + 3 * (nodes i + nodes v)) regs m (cond d (Next (with_elements a l (slice_set (elements a l) (V i l) (V v l)))) (traps 2 l))
+          → Follows access s setting frame (write_lines s.place (home_of s a) (size_of s a) i v) (8 + 3 * (nodes i + nodes v)) regs m (cond d (Next (with_elements a l (slice_set (elements a l) (V i l) (V v l)))) (traps 2 l))
       by_index true is =
           let many = ltb-true (V i l) (length (elements a l)) is in
           let below : V i l < size_of s a = omega (arith, many, f.sizes a) in

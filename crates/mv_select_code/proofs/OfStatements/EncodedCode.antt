@@ -1,5 +1,5 @@
 -- The fields of the code of statements fit, and it has few words.
-use Rattle.std.proofs.Common.{inl, inr, ⊎_elim, ℕ, zero, suc, ◌+◌, ◌*◌, ◌<◌, ◌≤◌, Bool, true, false, cond, ltb, List, [], ◌∷◌, ◌++◌, pos, arith}
+use Rattle.std.proofs.Common.{inl, inr, ⊎_elim, ℕ, zero, suc, ◌+◌, ◌*◌, ◌<◌, ◌≤◌, Bool, true, false, not, cond, eqb, ltb, List, [], ◌∷◌, ◌++◌, Option, Some, None, pos, sym, subst, arith}
 use Rattle.std.proofs.lemmas.Bool.{cases_lt, lt-ltb, le-ltb}
 use Rattle.std.proofs.lemmas.List.Elements.{All-append, All-cons, All-nil}
 use Rattle.std.proofs.lemmas.List.Sums.{sum_by-append}
@@ -10,9 +10,16 @@ use Rattle.mv_isa.specs.declared.labelled.Line.TheVariants.{Word, Jump, Branch}
 use Rattle.mv_isa.specs.Encoding.{Fits, IsSigned}
 use Rattle.mv_isa.specs.Code.{LineFits, IsCondition, greatest_words}
 use Rattle.mv_ir.specs.declared.tree.Tree.{Tree}
+use Rattle.mv_ir.specs.declared.tree.Tree.TheOpen.{Tree-F}
+use Rattle.mv_ir.specs.declared.tree.Tree.TheOpen as tree
+use Rattle.mv_ir.specs.declared.tree.Tree.TheViews.{roll-Tree}
 use Rattle.mv_ir.specs.Trees.{nodes}
-use Rattle.mv_select_code.specs.Trees.TreeCode.{upper_bits, lower_bits, one, two, number_lines, temp_register, temp_offset, tree_into, tree_lines, operand_lines, operand_register}
+use Rattle.mv_ir.proofs.Induction.{TreeChildren, tree_ind}
+use Rattle.mv_ir.proofs.Rolls.{nodes_roll, depth_roll}
+use Rattle.mv_select_code.specs.Trees.TreeCode.{upper_bits, lower_bits, one, two, number_lines, temp_register, temp_offset, tree_into, tree_lines, operand_lines, operand_register, is_taken, word_branch, comparison, branch_lines}
+use Rattle.mv_select_code.proofs.OfTrees.Branches.{comparison_cases}
 use Rattle.mv_select_code.proofs.OfTrees.Operands.{operand_below}
+use Rattle.mv_select_code.proofs.OfTrees.Rolls.{temps_roll, word_lines, compared_or, branch_tree, branch_roll}
 use Rattle.mv_select_code.proofs.OfTrees.TreesAreShort.{number_size, trees_are_short, into_short, operand_short}
 use Rattle.mv_select_code.proofs.OfTrees.TreesFit.{one_fits, small_fits, lower_fits, upper_fits, number_fits, register_below, trees_fit, into_fits, operand_fits}
 use Rattle.mv_select_code.specs.declared.statements.elements.Home.{Home}
@@ -41,6 +48,36 @@ branch funct3 rs1 rs2 l c p q = (All-cons LineFits (Branch funct3 rs1 rs2 l) [] 
 
 pub jump : (l : ℕ) → IsCode 1 (Jump 0 l ∷ [])
 jump l = (All-cons LineFits (Jump 0 l) [] (omega arith) (All-nil LineFits), omega arith)
+
+-- ---- branches
+
+word_condition : (sense : Bool) → IsCondition (cond sense 1 0)
+word_condition true = inl (omega arith)
+word_condition false = inl (omega arith)
+
+-- a branch, if there is one
+abbrev BranchIs : Option ℕ → Type 0
+BranchIs None = Unit {0}
+BranchIs (Some f) = IsCondition f
+
+branch_is : (sense : Bool) (o : ℕ) → BranchIs (comparison sense o)
+branch_is sense = comparison_cases (λ o. BranchIs) (λ o. tt) sense (less sense) (less_unsigned sense) (equal sense) (unequal sense)
+  where
+    less : (sense : Bool) → IsCondition (cond sense 4 5)
+    less true = inr (omega arith, omega arith)
+    less false = inr (omega arith, omega arith)
+
+    less_unsigned : (sense : Bool) → IsCondition (cond sense 6 7)
+    less_unsigned true = inr (omega arith, omega arith)
+    less_unsigned false = inr (omega arith, omega arith)
+
+    equal : (sense : Bool) → IsCondition (cond sense 0 1)
+    equal true = inl (omega arith)
+    equal false = inl (omega arith)
+
+    unequal : (sense : Bool) → IsCondition (cond sense 1 0)
+    unequal true = inl (omega arith)
+    unequal false = inl (omega arith)
 
 -- ---- parts of statements
 
@@ -113,6 +150,56 @@ module _ (place : ℕ → ℕ) where
   last_code : (i : Instr) (t : ℕ) → Fits i → t < 507 → IsCode 2 (Word i ∷ keep_lines t)
   last_code i t h lt = both 1 1 (one i) (keep_lines t) (single i h) (keep_code t lt)
 
+  -- ---- branches by a tree
+
+  abbrev BranchIsCode : Tree → Type 0
+  BranchIsCode v = IsSmall v → (sense : Bool) (label : ℕ) → IsCode (2 * nodes v + 2) (branch_lines place v sense first label)
+
+  word_code : (v : Tree) → IsSmall v → (sense : Bool) (label : ℕ) → IsCode (2 * nodes v + 2) (word_lines place v sense first label)
+  word_code v small sense label =
+      let q = operand_register v first in
+      both (2 * nodes v) 2 (operand_lines place v first) (word_branch sense q label) (operand_code v first (omega arith) small)
+      (branch (cond sense 1 0) q 0 label (word_condition sense) (operand_below v first (omega arith)) (omega arith))
+
+  compared_code : (f : Option ℕ) → BranchIs f → (a b : Tree) → IsSmall a → IsSmall b → (label n : ℕ) (ls : List Line) → 2 * nodes a + (2 * nodes b + 2) ≤ n → IsCode n ls
+      → IsCode n (compared_or place f a b first label ls)
+  compared_code None c a b h l label n ls le word = word
+  compared_code (Some f) c a b h l label n ls le word =
+      let end = Branch f (operand_register a first) (operand_register b second) label ∷ [] in
+      wider (2 * nodes a + (2 * nodes b + 2)) n (operand_lines place a first ++ (operand_lines place b second ++ end)) le
+      (both (2 * nodes a) (2 * nodes b + 2) (operand_lines place a first) (operand_lines place b second ++ end) (operand_code a first (omega arith) h)
+      (both (2 * nodes b) 2 (operand_lines place b second) end (operand_code b second (omega arith) l)
+      (branch f (operand_register a first) (operand_register b second) label c (operand_below a first (omega arith)) (operand_below b second (omega arith)))))
+
+  turned_code : (b : Bool) (n k : ℕ) (ls ks : List Line) → n ≤ k → IsCode n ls → IsCode k ks → IsCode k (cond b ls ks)
+  turned_code true n k ls ks le h l = wider n k ls le h
+  turned_code false n k ls ks le h l = l
+
+  branch_layer_code : (x : Tree-F Tree) → TreeChildren BranchIsCode x → IsSmall (roll-Tree x) → (sense : Bool) (label : ℕ) (word : List Line) → IsCode (2 * nodes (roll-Tree x) + 2) word
+      → IsCode (2 * nodes (roll-Tree x) + 2) (branch_tree place x sense first label word)
+  branch_layer_code (tree.Number n) h small sense label word w =
+      turned_code (is_taken sense n) 1 _ (Jump 0 label ∷ []) [] (omega arith) (jump label) (All-nil LineFits, omega arith)
+  branch_layer_code (tree.Unary o a) h small sense label word w =
+      let deep = small.0 in
+      let most = small.1 in
+      let small_a : IsSmall a = (omega (arith, deep, depth_roll (tree.Unary o a)), omega (arith, most, temps_roll (tree.Unary o a))) in
+      turned_code (eqb o 2) (2 * nodes a + 2) _ (branch_lines place a (not sense) first label) word (omega (arith, nodes_roll (tree.Unary o a))) (h small_a (not sense) label) w
+  branch_layer_code (tree.Binary o a b) h small sense label word w =
+      let deep = small.0 in
+      let most = small.1 in
+      let depths = depth_roll (tree.Binary o a b) in
+      let temps = temps_roll (tree.Binary o a b) in
+      let small_a : IsSmall a = (omega (arith, deep, depths), omega (arith, temps, most)) in
+      let small_b : IsSmall b = (omega (arith, deep, depths), omega (arith, temps, most)) in
+      compared_code (comparison sense o) (branch_is sense o) a b small_a small_b label _ word (omega (arith, nodes_roll (tree.Binary o a b))) w
+  branch_layer_code _ h small sense label word w = w
+
+  pub branch_code : (v : Tree) → BranchIsCode v
+  branch_code =
+      tree_ind BranchIsCode
+      (λ x h small sense label. subst (IsCode (2 * nodes (roll-Tree x) + 2)) (sym (branch_roll place x sense first label))
+      (branch_layer_code x h small sense label (word_lines place (roll-Tree x) sense first label) (word_code (roll-Tree x) small sense label)))
+
   pub are_encoded : AreEncoded place
   are_encoded = record {
     set = λ t v lt h. both (2 * nodes v) 1 (tree_into place v (target t) first) (keep_lines t) (into_code v (target t) (target_fits t) h) (keep_code t lt);
@@ -146,7 +233,8 @@ module _ (place : ℕ → ℕ) where
         (both 3 1 (element_lines h q) (one store) (element_code h q below) (single store (omega arith, operand_below v second (omega arith), offset_fits h b)))));
     bounds = bounds_code;
     clear = clear_code;
-    returns = λ end v h. both (2 * nodes v) 1 (tree_lines place v first) (Jump 0 end ∷ []) (tree_code v first (omega arith) h) (jump end);
+    branch = λ sense label v h. branch_code v h sense label;
+    result = λ v h. tree_code v first (omega arith) h;
   }
     where
       load : ℕ → Home → List Line

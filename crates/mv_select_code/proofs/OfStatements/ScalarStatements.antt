@@ -1,10 +1,11 @@
--- The code of the statements that store a value, divide and return.
+-- The code of the statements that store a value, divide and leave a result.
 use Rattle.std.proofs.Common.{◌≡◌, inl, inr, ⊎_elim, ℕ, ◌+◌, ◌*◌, ◌^◌, ◌<◌, ◌≤◌, Bool, true, false, cond, eqb, List, [], ◌∷◌, ◌++◌, slice_set, pos, sum_by, refl, sym, ap, ◌∙◌, subst, arith}
 use Rattle.std.proofs.lemmas.Bool.{eqb-true, eqb-false, eq-eqb, ne_eqb}
+use Rattle.std.proofs.lemmas.List.{append-nil}
 use Rattle.mv_num.specs.Words.{word_of, add}
 use Rattle.mv_isa.specs.declared.instr.Instr.TheVariants.{Lui, Sw}
 use Rattle.mv_isa.specs.declared.labelled.Line.{Line}
-use Rattle.mv_isa.specs.declared.labelled.Line.TheVariants.{Word, Jump, Branch}
+use Rattle.mv_isa.specs.declared.labelled.Line.TheVariants.{Word, Branch}
 use Rattle.mv_isa.specs.Code.{greatest_words}
 use Rattle.mv_isa.specs.Execution.{Access, reg, put, upper}
 use Rattle.mv_ir.specs.declared.tree.Tree.{Tree}
@@ -22,10 +23,10 @@ use Rattle.mv_select_code.proofs.OfTrees.Registers.{reg_zero, put_same, put_othe
 use Rattle.mv_select_code.proofs.OfTrees.TreesAreShort.{trees_are_short, into_short, operand_short}
 use Rattle.mv_select_code.proofs.OfTrees.TreesRun.{trees_leave}
 use Rattle.mv_select_code.proofs.OfTrees.Words.{parts_add, upper_below}
-use Rattle.mv_select_code.specs.Statements.StatementCode.{first, second, trap_label, target, keep_lines, division, set_lines, set_global_lines, divide_lines, return_lines}
+use Rattle.mv_select_code.specs.Statements.StatementCode.{first, second, trap_label, target, keep_lines, division, set_lines, set_global_lines, divide_lines, result_lines}
 use Rattle.mv_select_code.specs.Statements.Leads.{Exit, Past, To, limited, Leads}
-use Rattle.mv_select_code.specs.Statements.Frames.{Site, Element, IsWritten, address, view_of, IsFine, IsFit}
-use Rattle.mv_select_code.specs.Statements.Laws.{Follows, Does}
+use Rattle.mv_select_code.specs.Statements.Frames.{Site, Element, IsWritten, address, view_of, IsFine, IsFit, Shows}
+use Rattle.mv_select_code.specs.Statements.Laws.{Gives, Follows, Does}
 use Rattle.mv_select_code.proofs.OfStatements.Divisions.{divide_below, division_sets}
 use Rattle.mv_select_code.proofs.OfStatements.FrameChanges.{updates_element, frame_scratch}
 use Rattle.mv_select_code.proofs.OfStatements.TempsKept.{ChangesOne, target_range, temp_kept}
@@ -62,8 +63,8 @@ module _ {M : Type 0} (access : Access M) (s : Site) (setting : ir.Setting) (fra
       let ls = operand_lines s.place t r in
       leads_more access s (ls ++ ks) (sum_by greatest_words ls + n) k regs m exit regs' m' (omega (arith, operand_short s.place t r, le)) (leads_straight access s ls ks n regs x.after m exit regs' m' x.runs h)
 
-  pub set_done : (end t : ℕ) (v : Tree) → t < s.temps → Fine v → Does access s setting frame end (set_lines s.place t v) (stm.Set t v)
-  set_done end t v lt fine bound l regs m f =
+  pub set_done : (t : ℕ) (v : Tree) → t < s.temps → Fine v → Does access s setting frame (set_lines s.place t v) (stm.Set t v)
+  set_done t v lt fine bound l regs m f =
       let d = target t in
       let range = target_range t in
       let low = fine.shallow in
@@ -81,8 +82,8 @@ module _ {M : Type 0} (access : Access M) (s : Site) (setting : ir.Setting) (fra
         w.shown,
       )
 
-  pub set_global_done : (end g : ℕ) (v : Tree) → 0 < s.size g → IsWritten s (array.Global g) → Fine v → Does access s setting frame end (set_global_lines s.place g v) (stm.SetGlobal g v)
-  set_global_done end g v lt may fine bound l regs m f =
+  pub set_global_done : (g : ℕ) (v : Tree) → 0 < s.size g → IsWritten s (array.Global g) → Fine v → Does access s setting frame (set_global_lines s.place g v) (stm.SetGlobal g v)
+  set_global_done g v lt may fine bound l regs m f =
       let a = array.Global g in
       let at = s.place g in
       let q = operand_register v first in
@@ -107,13 +108,15 @@ module _ {M : Type 0} (access : Access M) (s : Site) (setting : ir.Setting) (fra
         w.shown,
       )
 
-  pub return_done : (end : ℕ) (v : Tree) → Fine v → Does access s setting frame end (return_lines s.place end v) (stm.Return v)
-  return_done end v fine bound l regs m f =
+  pub result_done : (v : Tree) → Fine v → (l : State) (regs : List ℕ) (m : M) → Shows s access l regs m → Gives access s setting frame (result_lines s.place v) (2 * nodes v) regs m (V v l) l
+  result_done v fine l regs m f =
       let x = tree_first access s setting frame fit first v l regs m at_first fine f in
-      (l, refl, (x.after, m, after_tree first v (Jump 0 end ∷ []) 1 (8 + 3 * nodes v) l regs m (To end) x.after m (omega arith) x (refl, omega arith, refl, (refl, refl)), x.shown, x.holds))
+      let ls = tree_lines s.place v first in
+      let walk = after_tree first v [] 0 (2 * nodes v) l regs m Past x.after m (omega arith) x (refl, (refl, refl)) in
+      (x.after, m, subst (λ z. L z (2 * nodes v) regs m Past x.after m) (append-nil ls) walk, x.shown, x.holds)
 
-  pub divide_done : (end t o : ℕ) (a b : Tree) → t < s.temps → Fine a → Fine b → Does access s setting frame end (divide_lines s.place t o a b) (stm.Divide t o a b)
-  divide_done end t o a b lt fa fb bound l regs m f = by_divisor (eqb (V b l) 0) refl
+  pub divide_done : (t o : ℕ) (a b : Tree) → t < s.temps → Fine a → Fine b → Does access s setting frame (divide_lines s.place t o a b) (stm.Divide t o a b)
+  divide_done t o a b lt fa fb bound l regs m f = by_divisor (eqb (V b l) 0) refl
     where
       p : ℕ
       p = operand_register a first
@@ -139,7 +142,7 @@ module _ {M : Type 0} (access : Access M) (s : Site) (setting : ir.Setting) (fra
           after_operand first a (operand_lines s.place b second ++ (Branch 0 q 0 (trap_label 1) ∷ tail)) (8 + 2 * nodes b) (8 + 3 * (nodes a + nodes b)) l regs m exit regs' m' (omega arith) x
           (after_operand second b (Branch 0 q 0 (trap_label 1) ∷ tail) k (8 + 2 * nodes b) l x.after m exit regs' m' (omega arith) y h)
 
-      by_divisor : (d : Bool) → eqb (V b l) 0 ≡ d → Follows access s setting frame end (divide_lines s.place t o a b) (8 + 3 * (nodes a + nodes b)) regs m (cond d (traps 1 l) (Next (with_temp l t (divide o (V a l) (V b l)))))
+      by_divisor : (d : Bool) → eqb (V b l) 0 ≡ d → Follows access s setting frame (divide_lines s.place t o a b) (8 + 3 * (nodes a + nodes b)) regs m (cond d (traps 1 l) (Next (with_temp l t (divide o (V a l) (V b l)))))
       by_divisor true is =
           let holds : eqb (reg y.after q) (reg y.after 0) ≡ true = eq-eqb (reg y.after q) (reg y.after 0) (y.holds ∙ eqb-true (V b l) 0 is ∙ sym (reg_zero y.after)) in
           (l, refl, (y.after, m, both 2 (To (trap_label 1)) y.after m (omega arith) (inl (holds, omega arith, refl, (refl, refl))), y.shown))

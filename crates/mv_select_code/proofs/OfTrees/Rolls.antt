@@ -1,17 +1,17 @@
 -- The definitions over trees, one level at a time.
-use Rattle.std.proofs.Common.{◌≡◌, ℕ, ◌+◌, Bool, cond, List, [], ◌∷◌, ◌++◌, Option, None, unwrap_or, refl, sym, ap, ◌∙◌}
+use Rattle.std.proofs.Common.{◌≡◌, ℕ, ◌+◌, Bool, not, cond, eqb, List, [], ◌∷◌, ◌++◌, Option, Some, None, unwrap_or, refl, sym, ap, ◌∙◌}
 use Rattle.mv_isa.specs.declared.labelled.Line.{Line}
-use Rattle.mv_isa.specs.declared.labelled.Line.TheVariants.{Entry}
+use Rattle.mv_isa.specs.declared.labelled.Line.TheVariants.{Branch, Entry}
 use Rattle.mv_ir.specs.declared.tree.Tree.{Tree}
 use Rattle.mv_ir.specs.declared.tree.Tree.TheOpen.{Tree-F}
 use Rattle.mv_ir.specs.declared.tree.Tree.TheOpen as tree
 use Rattle.mv_ir.specs.declared.tree.Tree.TheViews.{roll-Tree}
 use Rattle.mv_ir.specs.declared.tree.Tree.TheFolds.{fold-roll-Tree, map-Tree}
 use Rattle.mv_ir.proofs.Induction.{TreeChildren, tree_ind}
-use Rattle.mv_select_code.specs.Trees.TreeCode.{one, number_lines, load_lines, read_temp, unary_lines, keeps_words, narrow_lines, own_layer, own_register, literal_layer, literal, right_of, operator_lines, unless, Code, ready, stands, into_layer, tree_layer, tree_code, tree_into, tree_lines, operand_lines, operand_register, immediate_of, temps_layer, temps_of}
+use Rattle.mv_select_code.specs.Trees.TreeCode.{one, number_lines, load_lines, read_temp, unary_lines, keeps_words, narrow_lines, own_layer, own_register, literal_layer, literal, right_of, operator_lines, unless, Code, ready, stands, into_layer, tree_layer, tree_code, tree_into, tree_lines, operand_lines, operand_register, immediate_of, temps_layer, temps_of, word_branch, number_branch, comparison, compare_or, branch_layer, branch_lines}
 use Rattle.mv_select_code.specs.Trees.View.{View, names_layer, is_in_view}
 
-code_roll : (place : ℕ → ℕ) (x : Tree-F Tree) → tree_code place (roll-Tree x) ≡ tree_layer place (map-Tree Tree Code (tree_code place) x)
+pub code_roll : (place : ℕ → ℕ) (x : Tree-F Tree) → tree_code place (roll-Tree x) ≡ tree_layer place (map-Tree Tree Code (tree_code place) x)
 unfolding tree_code
 code_roll place x = fold-roll-Tree Code (tree_layer place) x
 
@@ -99,3 +99,56 @@ module _ (place : ℕ → ℕ) where
   pub lines_are : (t : Tree) (r : ℕ) → tree_lines place t r ≡ tree_into place t r r
   unfolding tree_lines
   lines_are t r = refl
+
+  -- ---- branches
+
+  -- the lines that test the word of a tree
+  abbrev pub word_lines : Tree → (sense : Bool) (r label : ℕ) → List Line
+  word_lines t sense r label = operand_lines place t r ++ word_branch sense (operand_register t r) label
+
+  -- by a comparison, if there is one
+  abbrev pub compared_or : Option ℕ → (a b : Tree) (r label : ℕ) → List Line → List Line
+  compared_or None a b r label word = word
+  compared_or (Some funct3) a b r label word =
+      operand_lines place a r ++ (operand_lines place b (r + 1) ++ (Branch funct3 (operand_register a r) (operand_register b (r + 1)) label ∷ []))
+
+  abbrev pub branch_tree : Tree-F Tree → (sense : Bool) (r label : ℕ) → List Line → List Line
+  branch_tree (tree.Number n) sense r label word = number_branch sense n label
+  branch_tree (tree.Unary o a) sense r label word = cond (eqb o 2) (branch_lines place a (not sense) r label) word
+  branch_tree (tree.Binary o a b) sense r label word = compared_or (comparison sense o) a b r label word
+  branch_tree _ sense r label word = word
+
+  compare_is : (f : Option ℕ) (a b : Tree) (r label : ℕ) (word : List Line) → compare_or f (tree_code place a) (tree_code place b) r label word ≡ compared_or f a b r label word
+  unfolding tree_into tree_lines operand_lines operand_register
+  compare_is None a b r label word = refl
+  compare_is (Some f) a b r label word =
+      let s = r + 1 in
+      let cb = tree_code place b in
+      ap (λ w. unless w ((tree_code place a).into r r) ++ (ready cb s ++ (Branch f (unwrap_or w r) (stands cb s) label ∷ []))) (own_is a)
+      ∙ ap (λ w. operand_lines place a r ++ (unless w (cb.into s s) ++ (Branch f (operand_register a r) (unwrap_or w s) label ∷ []))) (own_is b)
+
+  branch_is : (x : Tree-F Tree) (sense : Bool) (r label : ℕ) (word : List Line) → branch_layer (map-Tree Tree Code (tree_code place) x) sense r label word ≡ branch_tree x sense r label word
+  unfolding branch_lines
+  branch_is (tree.Number n) sense r label word = refl
+  branch_is (tree.Temp t) sense r label word = refl
+  branch_is (tree.Global g) sense r label word = refl
+  branch_is (tree.Function f) sense r label word = refl
+  branch_is (tree.Unary o a) sense r label word = refl
+  branch_is (tree.Binary o a b) sense r label word = compare_is (comparison sense o) a b r label word
+  branch_is (tree.Narrow k a) sense r label word = refl
+
+  -- by the word, as its code says
+  abbrev by_word : Code → (sense : Bool) (r label : ℕ) → List Line
+  by_word c sense r label = unless c.own (c.into r r) ++ word_branch sense (unwrap_or c.own r) label
+
+  word_is : (t : Tree) (sense : Bool) (r label : ℕ) → by_word (tree_code place t) sense r label ≡ word_lines t sense r label
+  unfolding tree_into tree_lines operand_lines operand_register
+  word_is t sense r label = ap (λ w. unless w ((tree_code place t).into r r) ++ word_branch sense (unwrap_or w r) label) (own_is t)
+
+  pub branch_roll : (x : Tree-F Tree) (sense : Bool) (r label : ℕ) → branch_lines place (roll-Tree x) sense r label ≡ branch_tree x sense r label (word_lines (roll-Tree x) sense r label)
+  unfolding branch_lines
+  branch_roll x sense r label =
+      let parts = map-Tree Tree Code (tree_code place) x in
+      ap (λ (c : Code). c.branch sense r label) (code_roll place x)
+      ∙ ap (branch_layer parts sense r label) (ap (λ (c : Code). by_word c sense r label) (sym (code_roll place x)) ∙ word_is (roll-Tree x) sense r label)
+      ∙ branch_is x sense r label (word_lines (roll-Tree x) sense r label)

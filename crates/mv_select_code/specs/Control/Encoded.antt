@@ -11,8 +11,9 @@ use Rattle.mv_ir.specs.Trees.{nodes_of_all}
 use Rattle.mv_ir.specs.Measures.{total, callee_trees, tree_nodes}
 use Rattle.mv_select_code.specs.Statements.Encoded.{IsCode}
 use Rattle.mv_select_code.specs.declared.control.enclosing.Enclosing.{Enclosing}
+use Rattle.mv_select_code.specs.declared.control.enclosing.Way.{Way}
 use Rattle.mv_select_code.specs.declared.control.layout.Layout.{Layout}
-use Rattle.mv_select_code.specs.Control.FlowCode.{CallLines, code_of}
+use Rattle.mv_select_code.specs.Control.FlowCode.{CallLines, jumps, code_of}
 use Rattle.mv_select_code.specs.Control.Layouts.{IsInFrame, plan_in, small_call, small_known, are_small}
 
 -- ---- how many words each form of statement takes at most besides those of its trees, each branch taken for two
@@ -54,9 +55,9 @@ pub record CallsAreEncoded (calls : CallLines) : Type 0 where
   pub known : (r : Option ℕ) (k : Known) (args : List Tree) → small_known r k args ≡ true →
       IsCode (2 * nodes_of_all args + 7) (calls.known r k args)
 
--- If that is so, the code of statements has encodings and no more words.
+-- If that is so, the code of statements has encodings and no more words, but for a jump at its end.
 abbrev pub FlowIsEncoded : Type 0
 FlowIsEncoded =
     (layout : Layout) → All IsInFrame layout.arrays → (calls : CallLines) → CallsAreEncoded calls →
-    (code : List Stm) → are_small code ≡ true → (around : List Enclosing) (label : ℕ) →
-    IsCode (most_words code) ((code_of (plan_in layout calls) code).lines around label)
+    (code : List Stm) → are_small code ≡ true → (around : List Enclosing) (label : ℕ) (way : Way) →
+    IsCode (most_words code + jumps way) ((code_of (plan_in layout calls) code).lines around label way)

@@ -1,5 +1,5 @@
--- The code of statements within one another. Its labels are counted on from a first free one.
-use Rattle.std.specs.Prelude.{ℕ, zero, suc, ◌+◌, ◌^◌, ◌&&◌, Bool, true, eqb, ltb, length, List, [], ◌∷◌, ◌++◌, map, Option, Some, None}
+-- The code of statements within one another, by where control goes behind it. Its labels are counted on from a first free one.
+use Rattle.std.specs.Prelude.{ℕ, zero, suc, ◌+◌, ◌^◌, ◌&&◌, Bool, true, false, cond, eqb, ltb, length, List, [], ◌∷◌, ◌++◌, map, Option, Some, None}
 use Rattle.mv_ast.specs.declared.program.Known.{Known}
 use Rattle.mv_ast.specs.declared.program.Known.TheVariants as known
 use Rattle.mv_isa.specs.declared.labelled.Line.{Line}
@@ -15,11 +15,14 @@ use Rattle.mv_ir.specs.declared.stm.Stm.TheOpen.{Stm-F}
 use Rattle.mv_ir.specs.declared.stm.Stm.TheOpen as stm
 use Rattle.mv_ir.specs.declared.stm.Stm.TheFolds.{fold-Stm}
 use Rattle.mv_ir.specs.WellFormed.{all_true, known_arguments}
-use Rattle.mv_select_code.specs.Trees.TreeCode.{operand_lines, operand_register}
+use Rattle.mv_select_code.specs.Trees.TreeCode.{branch_lines}
 use Rattle.mv_select_code.specs.declared.statements.elements.Home.{Home}
 use Rattle.mv_select_code.specs.declared.statements.elements.Home.TheVariants as place_at
-use Rattle.mv_select_code.specs.Statements.StatementCode.{first, second, set_lines, set_global_lines, divide_lines, check_lines, read_lines, write_lines, bounds_lines, clear_lines, return_lines}
+use Rattle.mv_select_code.specs.Statements.StatementCode.{first, second, set_lines, set_global_lines, divide_lines, check_lines, read_lines, write_lines, bounds_lines, clear_lines, result_lines}
 use Rattle.mv_select_code.specs.declared.control.enclosing.Enclosing.{Enclosing}
+use Rattle.mv_select_code.specs.declared.control.enclosing.Leading.{Leading}
+use Rattle.mv_select_code.specs.declared.control.enclosing.Leading.TheVariants as lead
+use Rattle.mv_select_code.specs.declared.control.enclosing.Way.{Way}
 
 -- the n-th of what encloses a statement, counted from 0, the innermost; the whole function past all of them
 abbrev pub enclosing_at : List Enclosing → ℕ → ℕ → Enclosing
@@ -42,65 +45,129 @@ pub record Plan : Type 0 where
   pub end : ℕ
   pub calls : CallLines
 
--- How many labels some code takes; and its lines, by what encloses it, the innermost first, and the first free label.
+-- ---- where control goes behind some code
+
+-- on to a label that stands right behind it
+abbrev pub fall_to : ℕ → Way
+fall_to label = record { after = label; falls = true }
+
+-- on to a label that stands elsewhere
+abbrev pub jump_to : ℕ → Way
+jump_to label = record { after = label; falls = false }
+
+-- to a label out of the last of the code, by a jump where it doesn't stand right behind
+abbrev pub go_to : Way → ℕ → List Line
+go_to way l = cond (way.falls && eqb way.after l) [] (Jump x0 l ∷ [])
+
+-- on, likewise
+abbrev pub go_on : Way → List Line
+go_on way = cond way.falls [] (Jump x0 way.after ∷ [])
+
+-- how many instructions that takes
+abbrev pub jumps : Way → ℕ
+jumps way = cond way.falls 0 1
+
+-- where code leads that does nothing else
+abbrev pub leads_to : ℕ → List Enclosing → Way → Leading → ℕ
+leads_to end around way lead.On = way.after
+leads_to end around way (lead.Out n) = (enclosing_at around n end).end
+leads_to end around way (lead.Back n) = (enclosing_at around n end).start
+
+-- How many labels some code takes; where it leads, if it does nothing else; and its lines, by what encloses it, the innermost first, the first free
+-- label, and where control goes behind it.
 pub record Emitted : Type 0 where
   pub labels : ℕ
-  pub lines : List Enclosing → ℕ → List Line
+  pub alone : Option Leading
+  pub lines : List Enclosing → ℕ → Way → List Line
+
+-- lines without labels, and then on
+abbrev pub plain : List Line → Emitted
+plain lines = record { labels = 0; alone = None; lines = λ around label way. lines ++ go_on way }
 
 -- ---- lists, loops, blocks and branches
 
 abbrev pub nothing : Emitted
-nothing = record { labels = 0; lines = λ around label. [] }
+nothing = record { labels = 0; alone = Some lead.On; lines = λ around label way. go_on way }
 
--- one behind the other, which takes its labels behind those of the first
+-- one behind the other, with a label between them; the second takes its labels behind those of the first
 abbrev pub both : Emitted → Emitted → Emitted
-both a b = record { labels = a.labels + b.labels; lines = λ around label. a.lines around label ++ b.lines around (label + a.labels) }
+both a b = record {
+  labels = 1 + (a.labels + b.labels);
+  alone = None;
+  lines = λ around label way. a.lines around (label + 1) (fall_to label) ++ (Label label ∷ b.lines around (label + 1 + a.labels) way);
+}
+
+-- one before others, whose code is given, if there are any
+abbrev pub before : Emitted → List Emitted → Emitted → Emitted
+before a [] b = a
+before a (x ∷ rest) b = both a b
 
 abbrev pub in_turn : List Emitted → Emitted
 in_turn [] = nothing
-in_turn (a ∷ rest) = both a (in_turn rest)
+in_turn (a ∷ rest) = before a rest (in_turn rest)
 
--- the second list, at a first label, where a register is 0, and else the first one, with a jump to the end, a second label
-abbrev pub branch_lines : (q label : ℕ) → List Line → List Line → List Line
-branch_lines q label a b = Branch 0 q x0 label ∷ (a ++ (Jump x0 (label + 1) ∷ Label label ∷ (b ++ (Label (label + 1) ∷ []))))
-
-abbrev pub if_lines : (ℕ → ℕ) → ℕ → Tree → List Line → List Line → List Line
-if_lines place label t a b = operand_lines place t first ++ branch_lines (operand_register t first) label a b
-
-abbrev pub loop_lines : ℕ → List Line → List Line
-loop_lines label b = Label label ∷ (b ++ (Jump x0 label ∷ Label (label + 1) ∷ []))
-
-abbrev pub block_lines : ℕ → List Line → List Line
-block_lines label b = b ++ (Label label ∷ [])
-
--- a loop has a label at its start and one at its end, and a block one at its end
-abbrev pub loop_at : ℕ → Enclosing
-loop_at label = record { start = label; end = label + 1 }
-
-abbrev pub block_at : ℕ → Enclosing
-block_at label = record { start = label; end = label }
-
-abbrev pub branch_code : ℕ → Emitted → Emitted → Emitted
-branch_code q a b = record {
-  labels = 2 + (a.labels + b.labels);
-  lines = λ around label. branch_lines q label (a.lines around (label + 2)) (b.lines around (label + 2 + a.labels));
+-- a branch to where a list leads, and else the other list
+abbrev pub branch_code : (ℕ → ℕ) → ℕ → Tree → Bool → Leading → Emitted → Emitted
+branch_code place end t sense l a = record {
+  labels = a.labels;
+  alone = None;
+  lines = λ around label way. branch_lines place t sense first (leads_to end around way l) ++ a.lines around label way;
 }
 
-abbrev pub if_code : (ℕ → ℕ) → Tree → Emitted → Emitted → Emitted
-if_code place t a b =
-    let c = branch_code (operand_register t first) a b in record { labels = c.labels; lines = λ around label. operand_lines place t first ++ c.lines around label }
+-- the second list, at a label, where the tree is 0, and else the first one, with a jump at its end
+abbrev pub either_code : (ℕ → ℕ) → Tree → Emitted → Emitted → Emitted
+either_code place t a b = record {
+  labels = 1 + (a.labels + b.labels);
+  alone = None;
+  lines = λ around label way.
+      branch_lines place t false first label ++ (a.lines around (label + 1) (jump_to way.after) ++ (Label label ∷ b.lines around (label + 1 + a.labels) way));
+}
+
+-- Where a branch goes in place of a list that only leads somewhere: where the tree isn't 0, to where the first list does, or where it is, to where the
+-- second does. Where both do, one that goes on is kept.
+abbrev pub short_cut : Option Leading → Option Leading → Option (Bool × Leading)
+short_cut None None = None
+short_cut (Some l) None = Some (true, l)
+short_cut (Some l) (Some lead.On) = Some (true, l)
+short_cut x (Some l) = Some (false, l)
+
+abbrev pub if_by : (ℕ → ℕ) → ℕ → Tree → Option (Bool × Leading) → Emitted → Emitted → Emitted
+if_by place end t None a b = either_code place t a b
+if_by place end t (Some to) a b = branch_code place end t to.0 to.1 (cond to.0 b a)
+
+-- by where its lists lead
+abbrev pub if_leads : (ℕ → ℕ) → ℕ → Tree → Option Leading → Option Leading → Emitted → Emitted → Emitted
+if_leads place end t x y a b = if_by place end t (short_cut x y) a b
+
+abbrev pub if_code : (ℕ → ℕ) → ℕ → Tree → Emitted → Emitted → Emitted
+if_code place end t a b = if_leads place end t a.alone b.alone a b
+
+-- a loop has a label at its start, and both end where control goes behind them
+abbrev pub loop_at : ℕ → Way → Enclosing
+loop_at label way = record { start = label; end = way.after }
+
+abbrev pub block_at : Way → Enclosing
+block_at way = record { start = way.after; end = way.after }
 
 abbrev pub loop_code : Emitted → Emitted
-loop_code b = record { labels = 2 + b.labels; lines = λ around label. loop_lines label (b.lines (loop_at label ∷ around) (label + 2)) }
+loop_code b = record {
+  labels = 1 + b.labels;
+  alone = None;
+  lines = λ around label way. Label label ∷ b.lines (loop_at label way ∷ around) (label + 1) (jump_to label);
+}
 
 abbrev pub block_code : Emitted → Emitted
-block_code b = record { labels = 1 + b.labels; lines = λ around label. block_lines label (b.lines (block_at label ∷ around) (label + 1)) }
+block_code b = record { labels = b.labels; alone = None; lines = λ around label way. b.lines (block_at way ∷ around) label way }
 
 abbrev pub break_code : ℕ → ℕ → Emitted
-break_code end n = record { labels = 0; lines = λ around label. Jump x0 (enclosing_at around n end).end ∷ [] }
+break_code end n = record { labels = 0; alone = Some (lead.Out n); lines = λ around label way. go_to way (enclosing_at around n end).end }
 
+-- going back is always a jump
 abbrev pub back_code : ℕ → ℕ → Emitted
-back_code end n = record { labels = 0; lines = λ around label. Jump x0 (enclosing_at around n end).start ∷ [] }
+back_code end n = record { labels = 0; alone = Some (lead.Back n); lines = λ around label way. Jump x0 (enclosing_at around n end).start ∷ [] }
+
+abbrev pub return_code : (ℕ → ℕ) → ℕ → Tree → Emitted
+return_code place end v = record { labels = 0; alone = None; lines = λ around label way. result_lines place v ++ go_to way end }
 
 -- Each word of an array of the frame becomes 0, the first one first. The test of the loop stands behind a turn, with a label of its own, and is come to
 -- first.
@@ -109,13 +176,9 @@ zero_lines label at n =
     bounds_lines at n ++ (Jump x0 (label + 1) ∷ Label label ∷ (clear_lines ++ (Label (label + 1) ∷ Branch 1 first second label ∷ [])))
 
 abbrev pub zero_code : ℕ → ℕ → Emitted
-zero_code at n = record { labels = 2; lines = λ around label. zero_lines label at n }
+zero_code at n = record { labels = 2; alone = None; lines = λ around label way. zero_lines label at n ++ go_on way }
 
 -- ---- statements
-
--- lines without labels
-abbrev pub plain : List Line → Emitted
-plain lines = record { labels = 0; lines = λ around label. lines }
 
 abbrev pub home_of : (place array_at : ℕ → ℕ) → Array → Home
 home_of place array_at (array.Global g) = place_at.Data (place g)
@@ -140,14 +203,14 @@ module _ (plan : Plan) where
   code_layer (stm.Read t a i) = plain (read_lines plan.place t (home a) (size a) i)
   code_layer (stm.Write a i v) = plain (write_lines plan.place (home a) (size a) i v)
   code_layer (stm.Zero a) = zero_code (plan.array_at a) (plan.array_size a)
-  code_layer (stm.If t a b) = if_code plan.place t (in_turn a) (in_turn b)
+  code_layer (stm.If t a b) = if_code plan.place plan.end t (in_turn a) (in_turn b)
   code_layer (stm.Loop b) = loop_code (in_turn b)
   code_layer (stm.Block b) = block_code (in_turn b)
   code_layer (stm.Break n) = break_code plan.end n
   code_layer (stm.Back n) = back_code plan.end n
   code_layer (stm.Call r f args) = plain (plan.calls.call r f args)
   code_layer (stm.Known r k args) = plain (plan.calls.known r k args)
-  code_layer (stm.Return v) = plain (return_lines plan.place plan.end v)
+  code_layer (stm.Return v) = return_code plan.place plan.end v
 
   -- the code of a statement
   unfoldable pub statement_code : Stm → Emitted

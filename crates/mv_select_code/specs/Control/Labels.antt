@@ -19,6 +19,7 @@ use Rattle.mv_ir.specs.declared.stm.Stm.TheFolds.{fold-Stm}
 use Rattle.mv_ir.specs.Measures.{joined, statements}
 use Rattle.mv_select_code.specs.Statements.StatementCode.{trap_label}
 use Rattle.mv_select_code.specs.declared.control.enclosing.Enclosing.{Enclosing}
+use Rattle.mv_select_code.specs.declared.control.enclosing.Way.{Way}
 use Rattle.mv_select_code.specs.Control.FlowCode.{CallLines, Plan, code_of}
 
 -- ---- the functions that code names, whose labels stand elsewhere
@@ -116,16 +117,17 @@ pub record OwnLabels (first count : ℕ) (lines : List Line) : Type 0 where
 abbrev pub LabelsAreOwn : Type 0
 LabelsAreOwn =
     (plan : Plan) → CallsName (λ l. Unit {0}) plan.calls →
-    (code : List Stm) (around : List Enclosing) (label : ℕ) →
-    OwnLabels label (code_of plan code).labels ((code_of plan code).lines around label)
+    (code : List Stm) (around : List Enclosing) (label : ℕ) (way : Way) →
+    OwnLabels label (code_of plan code).labels ((code_of plan code).lines around label way)
 
--- code takes at most two labels for each statement
+-- code takes at most three labels for each statement
 abbrev pub LabelsAreFew : Type 0
-LabelsAreFew = (plan : Plan) (code : List Stm) → (code_of plan code).labels ≤ 2 * statements code
+LabelsAreFew = (plan : Plan) (code : List Stm) → (code_of plan code).labels ≤ 3 * statements code
 
--- Wherever code may name a label, the label stands once in all lines: what encloses the code, the labels of the code itself, the end of the function,
--- the stubs of the traps 1 and 2, the functions, and the stub of calls through pointer switches where there is one.
-pub record NamedStand (whole : List Line) (plan : Plan) (around : List Enclosing) (label count : ℕ) (named points : List ℕ) : Type 0 where
+-- Wherever code may name a label, the label stands once in all lines: where control goes behind the code, what encloses the code, the labels of the code
+-- itself, the end of the function, the stubs of the traps 1 and 2, the functions, and the stub of calls through pointer switches where there is one.
+pub record NamedStand (whole : List Line) (plan : Plan) (around : List Enclosing) (label count after : ℕ) (named points : List ℕ) : Type 0 where
+  pub behind : StandsOnce whole after
   pub own : (l : ℕ) → label ≤ l → l < label + count → StandsOnce whole l
   pub starts : All (λ e. StandsOnce whole e.start) around
   pub ends : All (λ e. StandsOnce whole e.end) around
@@ -139,6 +141,6 @@ pub record NamedStand (whole : List Line) (plan : Plan) (around : List Enclosing
 abbrev pub TargetsStand : Type 0
 TargetsStand =
     (whole : List Line) (plan : Plan) → CallsName (StandsOnce whole) plan.calls →
-    (code : List Stm) (around : List Enclosing) (label : ℕ) →
-    NamedStand whole plan around label (code_of plan code).labels (functions code) (pointers code) →
-    All (TargetStands whole) ((code_of plan code).lines around label)
+    (code : List Stm) (around : List Enclosing) (label : ℕ) (way : Way) →
+    NamedStand whole plan around label (code_of plan code).labels way.after (functions code) (pointers code) →
+    All (TargetStands whole) ((code_of plan code).lines around label way)

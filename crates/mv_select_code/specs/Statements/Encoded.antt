@@ -1,13 +1,13 @@
 -- The code of statements has encodings, and few words.
-use Rattle.std.specs.Prelude.{ℕ, ◌+◌, ◌*◌, ◌<◌, ◌≤◌, List, All, sum_by}
+use Rattle.std.specs.Prelude.{ℕ, ◌+◌, ◌*◌, ◌<◌, ◌≤◌, Bool, List, All, sum_by}
 use Rattle.mv_num.specs.Limits.{temp_limit, frame_limit}
 use Rattle.mv_isa.specs.declared.labelled.Line.{Line}
 use Rattle.mv_isa.specs.Code.{LineFits, greatest_words}
 use Rattle.mv_ir.specs.declared.tree.Tree.{Tree}
 use Rattle.mv_ir.specs.Trees.{depth, nodes}
-use Rattle.mv_select_code.specs.Trees.TreeCode.{temps_of}
+use Rattle.mv_select_code.specs.Trees.TreeCode.{temps_of, branch_lines}
 use Rattle.mv_select_code.specs.declared.statements.elements.Home.{Home}
-use Rattle.mv_select_code.specs.Statements.StatementCode.{home_below, set_lines, set_global_lines, divide_lines, check_lines, read_lines, write_lines, bounds_lines, clear_lines, return_lines}
+use Rattle.mv_select_code.specs.Statements.StatementCode.{first, home_below, set_lines, set_global_lines, divide_lines, check_lines, read_lines, write_lines, bounds_lines, clear_lines, result_lines}
 
 -- the fields of lines fit, and they have at most n words
 abbrev pub IsCode : ℕ → List Line → Type 0
@@ -26,7 +26,8 @@ pub record AreEncoded (place : ℕ → ℕ) : Type 0 where
   pub write : (size : ℕ) (h : Home) (i v : Tree) → home_below h frame_limit → IsSmall i → IsSmall v → IsCode (2 * nodes i + (2 * nodes v + 8)) (write_lines place h size i v)
   pub bounds : (at n : ℕ) → at + 4 * n ≤ frame_limit → IsCode 2 (bounds_lines at n)
   pub clear : IsCode 2 clear_lines
-  pub returns : (end : ℕ) (v : Tree) → IsSmall v → IsCode (2 * nodes v + 1) (return_lines place end v)
+  pub branch : (sense : Bool) (label : ℕ) (v : Tree) → IsSmall v → IsCode (2 * nodes v + 2) (branch_lines place v sense first label)
+  pub result : (v : Tree) → IsSmall v → IsCode (2 * nodes v) (result_lines place v)
 
 -- wherever the globals stand, the code of statements without control is so
 abbrev pub StatementsAreEncoded : Type 0

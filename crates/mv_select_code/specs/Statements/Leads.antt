@@ -14,6 +14,10 @@ pub data Exit : Type 0 where
   Past : Exit
   To : ℕ → Exit
 
+-- to a label where a branch is taken, and else past the end
+abbrev pub exit_by : Bool → ℕ → Exit
+exit_by taken label = cond taken (To label) Past
+
 -- an access that refuses to load from other addresses than those that a test allows
 abbrev pub reading : {M : Type 0} → (ℕ → Bool) → Access M → Access M
 reading may_load access = record access { load = λ m a n. cond (may_load a) (access.load m a n) None }

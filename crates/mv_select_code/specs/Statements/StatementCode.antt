@@ -5,7 +5,7 @@ use Rattle.mv_bindings.specs.Traps as traps
 use Rattle.mv_isa.specs.declared.instr.Instr.{Instr}
 use Rattle.mv_isa.specs.declared.instr.Instr.TheVariants.{Lui, Lw, Sw, Addi, Slli, Add, Div, Divu, Rem, Remu}
 use Rattle.mv_isa.specs.declared.labelled.Line.{Line}
-use Rattle.mv_isa.specs.declared.labelled.Line.TheVariants.{Word, Jump, Branch}
+use Rattle.mv_isa.specs.declared.labelled.Line.TheVariants.{Word, Branch}
 pub use Rattle.mv_isa.specs.Labels.{trap_label}
 use Rattle.mv_isa.specs.Registers.{x0, sp, a0, a1, a2}
 use Rattle.mv_ir.specs.declared.tree.Tree.{Tree}
@@ -99,6 +99,6 @@ module _ (place : ℕ → ℕ) where
       let store = one (Sw first (operand_register v second) (element_offset h)) in
       operand_lines place i first ++ (operand_lines place v second ++ (test_lines size q ++ (element_lines h q ++ store)))
 
-  -- to the label of the function's end
-  abbrev pub return_lines : ℕ → Tree → List Line
-  return_lines end v = tree_lines place v first ++ (Jump x0 end ∷ [])
+  -- the result of a function
+  abbrev pub result_lines : Tree → List Line
+  result_lines v = tree_lines place v first

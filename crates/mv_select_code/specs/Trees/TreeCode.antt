@@ -1,13 +1,13 @@
 -- The code of trees: lines that leave a tree's value in a register. They go by way of a register r and those above it, as many as the tree is deep; the
 -- left operand is computed first. An operand that stands in a register already stays there.
-use Rattle.std.specs.Prelude.{ℕ, ◌+◌, ◌*◌, ◌/◌, ◌%◌, max, Bool, true, false, cond, eqb, ltb, List, [], ◌∷◌, ◌++◌, Option, Some, None, unwrap_or, ℤ, pos, ◌-ℤ◌, slice_index_or}
+use Rattle.std.specs.Prelude.{ℕ, ◌+◌, ◌*◌, ◌/◌, ◌%◌, max, Bool, true, false, not, cond, eqb, ltb, List, [], ◌∷◌, ◌++◌, Option, Some, None, unwrap_or, ℤ, pos, ◌-ℤ◌, slice_index_or}
 use Rattle.mv_num.specs.Words.{sub}
 use Rattle.mv_num.specs.declared.kind.Kind.{Kind}
 use Rattle.mv_num.specs.declared.kind.Kind.TheVariants as kind
 use Rattle.mv_isa.specs.declared.instr.Instr.{Instr}
 use Rattle.mv_isa.specs.declared.instr.Instr.TheVariants.{Lui, Lw, Addi, Slti, Sltiu, Xori, Ori, Andi, Slli, Srli, Srai, Add, Sub, Sll, Slt, Sltu, Xor, Srl, Sra, Or, And, Mul}
 use Rattle.mv_isa.specs.declared.labelled.Line.{Line}
-use Rattle.mv_isa.specs.declared.labelled.Line.TheVariants.{Word, Entry}
+use Rattle.mv_isa.specs.declared.labelled.Line.TheVariants.{Word, Jump, Branch, Entry}
 use Rattle.mv_isa.specs.Registers.{x0, sp, s1, a7}
 use Rattle.mv_ir.specs.declared.tree.Tree.{Tree}
 use Rattle.mv_ir.specs.declared.tree.Tree.TheOpen.{Tree-F}
@@ -116,6 +116,25 @@ narrow_lines kind.UShort d s = two (Slli d s (pos 16)) (Srli d d (pos 16))
 narrow_lines kind.Int d s = one (Addi d s (pos 0))
 narrow_lines kind.UInt d s = one (Addi d s (pos 0))
 
+-- ---- branches: lines that go to a label exactly where a word isn't 0, or exactly where it is, and else on
+
+-- whether a number makes such a branch go to its label
+abbrev pub is_taken : (sense : Bool) → ℕ → Bool
+is_taken sense n = cond (eqb n 0) (not sense) sense
+
+-- by the word of a register
+abbrev pub word_branch : Bool → (q label : ℕ) → List Line
+word_branch sense q label = Branch (cond sense 1 0) q x0 label ∷ []
+
+-- by a number, which is known
+abbrev pub number_branch : Bool → (n label : ℕ) → List Line
+number_branch sense n label = cond (is_taken sense n) (Jump x0 label ∷ []) []
+
+-- by an operator on two registers: the branch that compares them, by its funct3, where the operator is a comparison
+unfoldable pub comparison : Bool → ℕ → Option ℕ
+comparison true o = slice_index_or (None ∷ None ∷ None ∷ None ∷ None ∷ None ∷ None ∷ None ∷ None ∷ Some 4 ∷ Some 6 ∷ Some 0 ∷ Some 1 ∷ []) o None
+comparison false o = slice_index_or (None ∷ None ∷ None ∷ None ∷ None ∷ None ∷ None ∷ None ∷ None ∷ Some 5 ∷ Some 7 ∷ Some 1 ∷ Some 0 ∷ []) o None
+
 -- ---- trees
 
 abbrev pub own_layer : Tree-F (Option ℕ) → Option ℕ
@@ -159,11 +178,13 @@ abbrev pub operator_lines : Option ℤ → (o d s : ℕ) → List Line → (u : 
 operator_lines None o d s lines u = lines ++ binary_lines o d s u
 operator_lines (Some i) o d s lines u = immediate_lines o d s i
 
--- what is known of a tree's code: its own register, the number that it is written as, and the lines that leave its value in d by way of r and the registers above it
+-- What is known of a tree's code: its own register, the number that it is written as, the lines that leave its value in d by way of r and the registers
+-- above it, and those that go to a label exactly where it isn't 0, or exactly where it is, by way of the same.
 pub record Code : Type 0 where
   pub own : Option ℕ
   pub written : Option ℕ
   pub into : (d r : ℕ) → List Line
+  pub branch : (sense : Bool) (r label : ℕ) → List Line
 
 abbrev pub ready : Code → ℕ → List Line
 ready a r = unless a.own (a.into r r)
@@ -180,12 +201,29 @@ into_layer place (tree.Unary o a) d r = ready a r ++ unary_lines o d (stands a r
 into_layer place (tree.Binary o a b) d r = ready a r ++ operator_lines (right_of o b.written) o d (stands a r) (ready b (r + 1)) (stands b (r + 1))
 into_layer place (tree.Narrow k a) d r = cond (keeps_words k) (a.into d r) (ready a r ++ narrow_lines k d (stands a r))
 
+-- an operator's branch compares its operands, if there is one, and else tests the word of the whole tree
+abbrev pub compare_or : Option ℕ → Code → Code → (r label : ℕ) → List Line → List Line
+compare_or None a b r label word = word
+compare_or (Some funct3) a b r label word = ready a r ++ (ready b (r + 1) ++ (Branch funct3 (stands a r) (stands b (r + 1)) label ∷ []))
+
+-- given the lines that test the word of the tree; logical not turns the sense
+abbrev pub branch_layer : Tree-F Code → (sense : Bool) (r label : ℕ) → List Line → List Line
+branch_layer (tree.Number n) sense r label word = number_branch sense n label
+branch_layer (tree.Temp t) sense r label word = word
+branch_layer (tree.Global g) sense r label word = word
+branch_layer (tree.Function f) sense r label word = word
+branch_layer (tree.Unary o a) sense r label word = cond (eqb o 2) (a.branch (not sense) r label) word
+branch_layer (tree.Binary o a b) sense r label word = compare_or (comparison sense o) a b r label word
+branch_layer (tree.Narrow k a) sense r label word = word
+
 abbrev pub tree_layer : (ℕ → ℕ) → Tree-F Code → Code
-tree_layer place x = record {
-  own = own_layer (map-Tree Code (Option ℕ) (λ a. a.own) x);
-  written = literal_layer (map-Tree Code (Option ℕ) (λ a. a.written) x);
-  into = into_layer place x;
-}
+tree_layer place x =
+    let own = own_layer (map-Tree Code (Option ℕ) (λ a. a.own) x) in record {
+      own = own;
+      written = literal_layer (map-Tree Code (Option ℕ) (λ a. a.written) x);
+      into = into_layer place x;
+      branch = λ sense r label. branch_layer x sense r label (unless own (into_layer place x r r) ++ word_branch sense (unwrap_or own r) label);
+    }
 
 -- given the address of each global
 unfoldable pub tree_code : (ℕ → ℕ) → Tree → Code
@@ -205,6 +243,10 @@ operand_lines place t r = unless (own_register t) (tree_lines place t r)
 
 unfoldable pub operand_register : Tree → ℕ → ℕ
 operand_register t r = unwrap_or (own_register t) r
+
+-- the code that goes to a label exactly where a tree isn't 0, or exactly where it is, and else on
+unfoldable pub branch_lines : (ℕ → ℕ) → Tree → (sense : Bool) (r label : ℕ) → List Line
+branch_lines place t = (tree_code place t).branch
 
 -- what stands for a tree at the right of an operator, if that is possible
 unfoldable pub immediate_of : ℕ → Tree → Option ℤ

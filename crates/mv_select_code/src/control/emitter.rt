@@ -1,23 +1,26 @@
 //! Code that is being written, with the lines of loops, blocks and branches around other code.
 
-ghost use Rattle.std.specs.Prelude.{◌≡◌, ◌+◌, ◌^◌, ◌<◌, [], ◌∷◌, true, OnOk};
-ghost use Rattle.mv_isa.specs.declared.labelled.Line.TheVariants.{Jump};
+ghost use Rattle.std.specs.Prelude.{◌≡◌, ◌+◌, ◌^◌, ◌<◌, ◌++◌, [], ◌∷◌, true, OnOk};
+ghost use Rattle.mv_isa.specs.declared.labelled.Line.TheVariants.{Label, Jump};
+ghost use Rattle.mv_select_code.specs.Trees.TreeCode.{branch_lines};
 ghost use Rattle.mv_select_code.specs.Trees.Rooms.{place_in};
-ghost use Rattle.mv_select_code.specs.Control.FlowCode.{enclosing_at, zero_code};
-ghost use Rattle.mv_select_code.specs.Control.Emitters.{with_lines, emitted, loop_opened, loop_closed, block_opened, block_closed, branch_opened, branch_turned, branch_closed};
+ghost use Rattle.mv_select_code.specs.Statements.StatementCode.{first};
+ghost use Rattle.mv_select_code.specs.Control.FlowCode.{enclosing_at, go_to, go_on, leads_to, return_code, zero_lines};
+ghost use Rattle.mv_select_code.specs.Control.Emitters.{with_lines, emitted, label_taken, loop_opened, block_opened, closed};
 ghost use Rattle.mv_select_code.specs.Control.Layouts.{IsInFrame, is_small};
 
-use crate::control::enclosing::{Around, Enclosing};
+use crate::control::enclosing::{Around, Enclosing, Leading, Way};
 use crate::control::layout::Space;
 use crate::statements::elements::{push_bounds, push_clear};
-use crate::trees::{operand_register, push_operand};
+use crate::statements::values::push_result;
+use crate::trees::push_branch;
 use mv_ir::body::Room;
 use mv_ir::tree::Tree;
 use mv_isa::labelled::Line;
 use mv_num::list::List;
 use std::alloc::{AllocError, Global};
 
-// a0, which has the test of a branch, if that stands in no register yet, and the address of a word.
+// a0, which has the tree of a branch, if that stands in no register yet, and the address of a word.
 const FIRST: u8 = 10;
 
 // a1, which has the address of an array's end.
@@ -47,14 +50,33 @@ impl Emitter {
         }
     }
 
-    /// A jump to the end of the n-th of what encloses the code, counted from 0, the innermost; past all of them to the
-    /// function's end.
-    pub(crate) fn push_break(&mut self, n: u32, end: u32) -> Result<(), AllocError>
-        ensures { OnOk result (self.new ≡ with_lines self.old (Jump 0 (enclosing_at self.old.around n end).end ∷ [])) }
+    /// To a label out of the last of some code, by a jump where it doesn't stand right behind.
+    pub(crate) fn go_to(&mut self, way: Way, label: u32) -> Result<(), AllocError>
+        ensures { OnOk result (self.new ≡ with_lines self.old (go_to way label)) }
+    {
+        if !(way.falls && way.after == label) {
+            self.lines.push(Line::Jump(0, label))?;
+        }
+        Ok(())
+    }
+
+    /// On, likewise.
+    pub(crate) fn go_on(&mut self, way: Way) -> Result<(), AllocError>
+        ensures { OnOk result (self.new ≡ with_lines self.old (go_on way)) }
+    {
+        if !way.falls {
+            self.lines.push(Line::Jump(0, way.after))?;
+        }
+        Ok(())
+    }
+
+    /// To the end of the n-th of what encloses the code, counted from 0, the innermost; past all of them to the function's
+    /// end.
+    pub(crate) fn push_break(&mut self, n: u32, end: u32, way: Way) -> Result<(), AllocError>
+        ensures { OnOk result (self.new ≡ with_lines self.old (go_to way (enclosing_at self.old.around n end).end)) }
     {
         let enclosing = self.enclosing(n, end);
-        self.lines.push(Line::Jump(0, enclosing.end))?;
-        Ok(())
+        self.go_to(way, enclosing.end)
     }
 
     /// A jump to the start of the n-th, counted likewise. Of a block, and of the function, it is one to the end.
@@ -72,84 +94,97 @@ impl Emitter {
         self.around.enclosing(n, end)
     }
 
-    /// The start of a loop, which takes two labels, for its start and its end.
-    pub(crate) fn open_loop(&mut self) -> Result<(), AllocError>
-        requires { self.old.free + 2 < 2 ^ 32 }
-        ensures { OnOk result (self.new ≡ loop_opened self.old) }
+    /// The label that code leads to which does nothing else.
+    pub(crate) fn leads_to(&self, end: u32, way: Way, leading: Leading) -> u32
+        ensures { result ≡ leads_to end self.now.around way leading }
     {
-        let start = self.free;
-        let end = start + 1;
-        self.lines.push(Line::Label(start))?;
-        self.around.enter(Enclosing { start, end })?;
-        self.free = start + 2;
-        Ok(())
+        match leading {
+            Leading::On => way.after,
+            Leading::Out(n) => self.enclosing(n, end).end,
+            Leading::Back(n) => self.enclosing(n, end).start,
+        }
     }
 
-    /// The end of the loop with this first label, from which control goes to its start.
-    pub(crate) fn close_loop(&mut self, label: u32) -> Result<(), AllocError>
-        requires { label + 1 < 2 ^ 32 }
-        ensures { OnOk result (self.new ≡ loop_closed self.old label) }
+    /// Leaves a value as the result of the function, and goes to its end.
+    pub(crate) fn push_return(
+        &mut self,
+        rooms: &[Room],
+        value: &Tree,
+        end: u32,
+        way: Way,
+    ) -> Result<(), AllocError>
+        requires value { is_small value.now ≡ true }
+        ensures { OnOk result (self.new ≡ emitted self.old (return_code (place_in rooms.now) end value.now) way) }
     {
-        self.around.leave();
-        self.push_two(Line::Jump(0, label), Line::Label(label + 1))
+        push_result(&mut self.lines, rooms, value)?;
+        self.go_to(way, end)
     }
 
-    /// The start of a block, which takes a label for its end and needs no line.
-    pub(crate) fn open_block(&mut self) -> Result<(), AllocError>
+    /// Takes the first free label.
+    pub(crate) fn take_label(&mut self) -> u32
         requires { self.old.free + 1 < 2 ^ 32 }
-        ensures { OnOk result (self.new ≡ block_opened self.old) }
+        ensures label { result ≡ self.old.free }
+        ensures taken { self.new ≡ label_taken self.old }
     {
-        let end = self.free;
-        self.around.enter(Enclosing { start: end, end })?;
-        self.free = end + 1;
-        Ok(())
+        let label = self.free;
+        self.free = label + 1;
+        label
     }
 
-    /// The end of the block with this label.
-    pub(crate) fn close_block(&mut self, label: u32) -> Result<(), AllocError>
-        ensures { OnOk result (self.new ≡ block_closed self.old label) }
+    /// The place of a label.
+    pub(crate) fn push_label(&mut self, label: u32) -> Result<(), AllocError>
+        ensures { OnOk result (self.new ≡ with_lines self.old (Label label ∷ [])) }
     {
-        self.around.leave();
         self.lines.push(Line::Label(label))?;
         Ok(())
     }
 
-    /// Goes on with the first list of an `If` where the test isn't 0, and else at the first of two labels that it takes.
-    pub(crate) fn open_branch(&mut self, rooms: &[Room], test: &Tree) -> Result<(), AllocError>
+    /// The start of a loop, at a label.
+    pub(crate) fn open_loop(&mut self, start: u32, way: Way) -> Result<(), AllocError>
+        ensures { OnOk result (self.new ≡ loop_opened self.old start way) }
+    {
+        self.push_label(start)?;
+        let end = way.after;
+        self.around.enter(Enclosing { start, end })
+    }
+
+    /// The start of a block, which needs no line.
+    pub(crate) fn open_block(&mut self, way: Way) -> Result<(), AllocError>
+        ensures { OnOk result (self.new ≡ block_opened self.old way) }
+    {
+        let end = way.after;
+        self.around.enter(Enclosing { start: end, end })
+    }
+
+    /// The end of the innermost loop or block.
+    pub(crate) fn close(&mut self)
+        ensures { self.new ≡ closed self.old }
+    {
+        self.around.leave();
+    }
+
+    /// Goes to a label exactly where a tree's value isn't 0, or exactly where it is, as `sense` says, and else on.
+    pub(crate) fn push_branch(
+        &mut self,
+        rooms: &[Room],
+        test: &Tree,
+        sense: bool,
+        label: u32,
+    ) -> Result<(), AllocError>
         requires test { is_small test.now ≡ true }
-        requires label { self.old.free + 2 < 2 ^ 32 }
-        ensures { OnOk result (self.new ≡ branch_opened self.old (place_in rooms.now) test.now) }
+        ensures { OnOk result (self.new ≡ with_lines self.old (branch_lines (place_in rooms.now) test.now sense first label)) }
     {
-        push_operand(&mut self.lines, rooms, test, FIRST)?;
-        let label = self.free;
-        let register = operand_register(test, FIRST);
-        self.lines.push(Line::Branch(0, register, 0, label))?;
-        self.free = label + 2;
-        Ok(())
-    }
-
-    /// From the first list to the second of the `If` with this first label.
-    pub(crate) fn turn_branch(&mut self, label: u32) -> Result<(), AllocError>
-        requires { label + 1 < 2 ^ 32 }
-        ensures { OnOk result (self.new ≡ branch_turned self.old label) }
-    {
-        self.push_two(Line::Jump(0, label + 1), Line::Label(label))
-    }
-
-    /// The end of the `If` with this first label, behind its second list.
-    pub(crate) fn close_branch(&mut self, label: u32) -> Result<(), AllocError>
-        requires { label + 1 < 2 ^ 32 }
-        ensures { OnOk result (self.new ≡ branch_closed self.old label) }
-    {
-        self.lines.push(Line::Label(label + 1))?;
-        Ok(())
+        push_branch(&mut self.lines, rooms, test, sense, FIRST, label)
     }
 
     /// Makes the words of an array of the frame 0, in a loop that takes two labels. It changes a0 and a1.
     pub(crate) fn push_zero(&mut self, array: Space) -> Result<(), AllocError>
         requires within { IsInFrame array }
         requires label { self.old.free + 2 < 2 ^ 32 }
-        ensures { OnOk result (self.new ≡ emitted self.old (zero_code array.at array.size)) }
+        ensures { OnOk result (self.new ≡ record self.old {
+          lines = self.old.lines ++ zero_lines self.old.free array.at array.size;
+          free = self.old.free + 2;
+        }) }
     {
         let turn = self.free;
         let test = turn + 1;

@@ -1,4 +1,4 @@
-//! What encloses code: where it can be left, and started again.
+//! What encloses code: where it can be left, and started again; and where control goes behind it.
 
 ghost use Rattle.std.specs.Prelude.{◌≡◌, [], ◌∷◌, drop, OnOk};
 ghost use Rattle.mv_select_code.specs.Control.FlowCode.{enclosing_at};
@@ -13,6 +13,25 @@ pub struct Enclosing {
     pub start: u32,
     /// The label that `Break` leads to.
     pub end: u32,
+}
+
+/// Where control goes behind some code: to a label.
+#[derive(Clone, Copy, PartialEq, Eq, Debug, Drop)]
+pub struct Way {
+    pub after: u32,
+    /// Whether the label stands right behind the code, so that nothing is needed to come there.
+    pub falls: bool,
+}
+
+/// Where code leads that does nothing else.
+#[derive(Clone, Copy, PartialEq, Eq, Debug, Drop)]
+pub enum Leading {
+    /// To where control goes behind it.
+    On,
+    /// To the end of the n-th of what encloses it, counted from 0, the innermost.
+    Out(u32),
+    /// To the start of the n-th, counted likewise.
+    Back(u32),
 }
 
 /// The loops and blocks that enclose some code. A contract sees them with the innermost first.

@@ -1,21 +1,57 @@
 //! The code of statements within one another.
 
 ghost use Rattle.std.specs.Prelude.{◌≡◌, ◌+◌, ◌^◌, ◌<◌, true, All, OnOk};
-ghost use Rattle.mv_select_code.specs.Control.FlowCode.{loop_code, block_code, statement_code, code_of};
+ghost use Rattle.mv_select_code.specs.Control.FlowCode.{Plan, short_cut, if_code, either_code, loop_code, block_code, statement_code, code_of};
+ghost use Rattle.mv_select_code.specs.Trees.Rooms.{place_in};
 ghost use Rattle.mv_select_code.specs.Control.Emitters.{emitted};
-ghost use Rattle.mv_select_code.specs.Control.Layouts.{plan_in, IsInFrame, is_small_statement, are_small};
+ghost use Rattle.mv_select_code.specs.Control.Layouts.{plan_in, IsInFrame, is_small, is_small_statement, are_small};
 
 use crate::control::arrays::{push_check_of, push_read_of, push_write_of};
 use crate::control::calls::CallCode;
 use crate::control::emitter::Emitter;
+use crate::control::enclosing::{Leading, Way};
 use crate::control::layout::{Layout, space_of};
-use crate::statements::values::{push_divide, push_return, push_set, push_set_global};
+use crate::statements::values::{push_divide, push_set, push_set_global};
 use mv_ir::stm::Stm;
+use mv_ir::tree::Tree;
 use mv_num::list::List;
 use std::alloc::AllocError;
 
-/// Puts the code of statements behind what is written, with labels from the first free one on. What this code does, and which
-/// labels it has, is said by `flow_code_law`.
+// Where a statement leads that does nothing else.
+fn leading(statement: &Stm) -> Option<Leading>
+    ensures { (plan : Plan) → result ≡ (statement_code plan statement.now).alone }
+{
+    match statement {
+        Stm::Break(n) => Some(Leading::Out(*n)),
+        Stm::Back(n) => Some(Leading::Back(*n)),
+        _ => None,
+    }
+}
+
+// Where a list leads that does nothing else.
+fn list_leading(statements: &List<Stm>) -> Option<Leading>
+    ensures { (plan : Plan) → result ≡ (code_of plan statements.now).alone }
+{
+    match statements.as_slice() {
+        [] => Some(Leading::On),
+        [statement] => leading(statement),
+        _ => None,
+    }
+}
+
+// Where the branch of an `If` goes in place of one of its lists: where the test isn't 0 or is, as the `bool` says.
+fn short_cut(first: Option<Leading>, second: Option<Leading>) -> Option<(bool, Leading)>
+    ensures { result ≡ short_cut first second }
+{
+    match (first, second) {
+        (None, None) => None,
+        (Some(lead), None | Some(Leading::On)) => Some((true, lead)),
+        (_, Some(lead)) => Some((false, lead)),
+    }
+}
+
+/// Puts the code of statements behind what is written, with labels from the first free one on, and with where control goes
+/// behind it. What this code does, and which labels it has, is said by `flow_code_law`.
 ///
 /// The arrays end at most 2,032 bytes above sp. No tree has more than four nodes one below the other, and temporaries are below
 /// 507. The labels are numbers below 2^32; `few` of the law bounds them by the statements.
@@ -25,16 +61,29 @@ pub fn push_statements<C: CallCode>(
     layout: &Layout,
     calls: &C,
     statements: &List<Stm>,
+    way: Way,
 ) -> Result<(), AllocError>
     requires arrays { All IsInFrame layout.now.arrays }
     requires small { are_small statements.now ≡ true }
     requires labels { emitter.old.free + (code_of (plan_in layout.now (C.lines calls.now)) statements.now).labels < 2 ^ 32 }
-    ensures { OnOk result (emitter.new ≡ emitted emitter.old (code_of (plan_in layout.now (C.lines calls.now)) statements.now)) }
+    ensures { OnOk result (emitter.new ≡ emitted emitter.old (code_of (plan_in layout.now (C.lines calls.now)) statements.now) way) }
 {
-    for statement in statements.as_slice() {
-        push_statement(emitter, layout, calls, statement)?;
+    let list = statements.as_slice();
+    for (k, statement) in list.iter().enumerate() {
+        if k + 1 == list.len() {
+            return push_statement(emitter, layout, calls, statement, way);
+        }
+        let after = emitter.take_label();
+        push_statement(
+            emitter,
+            layout,
+            calls,
+            statement,
+            Way { after, falls: true },
+        )?;
+        emitter.push_label(after)?;
     }
-    Ok(())
+    emitter.go_on(way)
 }
 
 #[cycle(statement)]
@@ -43,38 +92,100 @@ fn push_statement<C: CallCode>(
     layout: &Layout,
     calls: &C,
     statement: &Stm,
+    way: Way,
 ) -> Result<(), AllocError>
     requires arrays { All IsInFrame layout.now.arrays }
     requires small { is_small_statement statement.now ≡ true }
     requires labels { emitter.old.free + (statement_code (plan_in layout.now (C.lines calls.now)) statement.now).labels < 2 ^ 32 }
-    ensures { OnOk result (emitter.new ≡ emitted emitter.old (statement_code (plan_in layout.now (C.lines calls.now)) statement.now)) }
+    ensures { OnOk result (emitter.new ≡ emitted emitter.old (statement_code (plan_in layout.now (C.lines calls.now)) statement.now) way) }
 {
-    let label = emitter.free;
     let code = &mut emitter.lines;
     let rooms = layout.rooms.as_slice();
     match statement {
-        Stm::Set(t, v) => push_set(code, rooms, *t, v),
-        Stm::SetGlobal(g, v) => push_set_global(code, rooms, *g, v),
-        Stm::Divide(t, o, a, b) => push_divide(code, rooms, *t, *o, a, b),
-        Stm::Check(a, i) => push_check_of(code, layout, *a, i),
-        Stm::Read(t, a, i) => push_read_of(code, layout, *t, *a, i),
-        Stm::Write(a, i, v) => push_write_of(code, layout, *a, i, v),
-        Stm::Zero(a) => emitter.push_zero(space_of(layout.arrays.as_slice(), *a)),
-        Stm::If(t, a, b) => {
-            emitter.open_branch(rooms, t)?;
-            push_statements(emitter, layout, calls, a)?;
-            emitter.turn_branch(label)?;
-            push_statements(emitter, layout, calls, b)?;
-            emitter.close_branch(label)
-        }
-        Stm::Loop(b) => push_loop(emitter, layout, calls, b),
-        Stm::Block(b) => push_block(emitter, layout, calls, b),
-        Stm::Break(n) => emitter.push_break(*n, layout.end),
-        Stm::Back(n) => emitter.push_back(*n, layout.end),
-        Stm::Call(t, f, args) => calls.push_call(code, *t, f, args),
-        Stm::Known(t, k, args) => calls.push_known(code, *t, *k, args),
-        Stm::Return(v) => push_return(code, rooms, layout.end, v),
+        Stm::Set(t, v) => push_set(code, rooms, *t, v)?,
+        Stm::SetGlobal(g, v) => push_set_global(code, rooms, *g, v)?,
+        Stm::Divide(t, o, a, b) => push_divide(code, rooms, *t, *o, a, b)?,
+        Stm::Check(a, i) => push_check_of(code, layout, *a, i)?,
+        Stm::Read(t, a, i) => push_read_of(code, layout, *t, *a, i)?,
+        Stm::Write(a, i, v) => push_write_of(code, layout, *a, i, v)?,
+        Stm::Zero(a) => emitter.push_zero(space_of(layout.arrays.as_slice(), *a))?,
+        Stm::Call(t, f, args) => calls.push_call(code, *t, f, args)?,
+        Stm::Known(t, k, args) => calls.push_known(code, *t, *k, args)?,
+        Stm::If(t, a, b) => return push_if(emitter, layout, calls, t, a, b, way),
+        Stm::Loop(b) => return push_loop(emitter, layout, calls, b, way),
+        Stm::Block(b) => return push_block(emitter, layout, calls, b, way),
+        Stm::Break(n) => return emitter.push_break(*n, layout.end, way),
+        Stm::Back(n) => return emitter.push_back(*n, layout.end),
+        Stm::Return(v) => return emitter.push_return(rooms, v, layout.end, way),
     }
+    emitter.go_on(way)
+}
+
+// A list that only leads somewhere needs no lines of its own: the branch goes there.
+#[cycle(statement)]
+fn push_if<C: CallCode>(
+    emitter: &mut Emitter,
+    layout: &Layout,
+    calls: &C,
+    test: &Tree,
+    first: &List<Stm>,
+    second: &List<Stm>,
+    way: Way,
+) -> Result<(), AllocError>
+    requires arrays { All IsInFrame layout.now.arrays }
+    requires test { is_small test.now ≡ true }
+    requires first { are_small first.now ≡ true }
+    requires second { are_small second.now ≡ true }
+    requires labels { let plan = plan_in layout.now (C.lines calls.now) in
+        emitter.old.free + (if_code plan.place plan.end test.now (code_of plan first.now) (code_of plan second.now)).labels < 2 ^ 32 }
+    ensures { let plan = plan_in layout.now (C.lines calls.now) in
+        OnOk result (emitter.new ≡ emitted emitter.old (if_code plan.place plan.end test.now (code_of plan first.now) (code_of plan second.now)) way) }
+{
+    let rooms = layout.rooms.as_slice();
+    match short_cut(list_leading(first), list_leading(second)) {
+        None => push_either(emitter, layout, calls, test, first, second, way),
+        Some((sense, lead)) => {
+            let label = emitter.leads_to(layout.end, way, lead);
+            emitter.push_branch(rooms, test, sense, label)?;
+            if sense {
+                push_statements(emitter, layout, calls, second, way)
+            } else {
+                push_statements(emitter, layout, calls, first, way)
+            }
+        }
+    }
+}
+
+// The second list, at a label, where the test is 0, and else the first one, with a jump at its end.
+#[cycle(statement)]
+fn push_either<C: CallCode>(
+    emitter: &mut Emitter,
+    layout: &Layout,
+    calls: &C,
+    test: &Tree,
+    first: &List<Stm>,
+    second: &List<Stm>,
+    way: Way,
+) -> Result<(), AllocError>
+    requires arrays { All IsInFrame layout.now.arrays }
+    requires test { is_small test.now ≡ true }
+    requires first { are_small first.now ≡ true }
+    requires second { are_small second.now ≡ true }
+    requires labels { let plan = plan_in layout.now (C.lines calls.now) in
+        emitter.old.free + (either_code plan.place test.now (code_of plan first.now) (code_of plan second.now)).labels < 2 ^ 32 }
+    ensures { let plan = plan_in layout.now (C.lines calls.now) in
+        OnOk result (emitter.new ≡ emitted emitter.old (either_code plan.place test.now (code_of plan first.now) (code_of plan second.now)) way) }
+{
+    let rooms = layout.rooms.as_slice();
+    let other = emitter.take_label();
+    emitter.push_branch(rooms, test, false, other)?;
+    let out = Way {
+        after: way.after,
+        falls: false,
+    };
+    push_statements(emitter, layout, calls, first, out)?;
+    emitter.push_label(other)?;
+    push_statements(emitter, layout, calls, second, way)
 }
 
 #[cycle(statement)]
@@ -83,16 +194,22 @@ fn push_loop<C: CallCode>(
     layout: &Layout,
     calls: &C,
     body: &List<Stm>,
+    way: Way,
 ) -> Result<(), AllocError>
     requires arrays { All IsInFrame layout.now.arrays }
     requires small { are_small body.now ≡ true }
-    requires labels { emitter.old.free + (2 + (code_of (plan_in layout.now (C.lines calls.now)) body.now).labels) < 2 ^ 32 }
-    ensures { OnOk result (emitter.new ≡ emitted emitter.old (loop_code (code_of (plan_in layout.now (C.lines calls.now)) body.now))) }
+    requires labels { emitter.old.free + (loop_code (code_of (plan_in layout.now (C.lines calls.now)) body.now)).labels < 2 ^ 32 }
+    ensures { OnOk result (emitter.new ≡ emitted emitter.old (loop_code (code_of (plan_in layout.now (C.lines calls.now)) body.now)) way) }
 {
-    let label = emitter.free;
-    emitter.open_loop()?;
-    push_statements(emitter, layout, calls, body)?;
-    emitter.close_loop(label)
+    let start = emitter.take_label();
+    emitter.open_loop(start, way)?;
+    let again = Way {
+        after: start,
+        falls: false,
+    };
+    push_statements(emitter, layout, calls, body, again)?;
+    emitter.close();
+    Ok(())
 }
 
 #[cycle(statement)]
@@ -101,14 +218,15 @@ fn push_block<C: CallCode>(
     layout: &Layout,
     calls: &C,
     body: &List<Stm>,
+    way: Way,
 ) -> Result<(), AllocError>
     requires arrays { All IsInFrame layout.now.arrays }
     requires small { are_small body.now ≡ true }
-    requires labels { emitter.old.free + (1 + (code_of (plan_in layout.now (C.lines calls.now)) body.now).labels) < 2 ^ 32 }
-    ensures { OnOk result (emitter.new ≡ emitted emitter.old (block_code (code_of (plan_in layout.now (C.lines calls.now)) body.now))) }
+    requires labels { emitter.old.free + (block_code (code_of (plan_in layout.now (C.lines calls.now)) body.now)).labels < 2 ^ 32 }
+    ensures { OnOk result (emitter.new ≡ emitted emitter.old (block_code (code_of (plan_in layout.now (C.lines calls.now)) body.now)) way) }
 {
-    let label = emitter.free;
-    emitter.open_block()?;
-    push_statements(emitter, layout, calls, body)?;
-    emitter.close_block(label)
+    emitter.open_block(way)?;
+    push_statements(emitter, layout, calls, body, way)?;
+    emitter.close();
+    Ok(())
 }

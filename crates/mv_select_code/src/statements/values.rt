@@ -4,7 +4,7 @@ ghost use Rattle.std.specs.Prelude.{◌≡◌, ◌<◌, ◌≤◌, ◌++◌, OnO
 ghost use Rattle.mv_ir.specs.Trees.{depth};
 ghost use Rattle.mv_select_code.specs.Trees.TreeCode.{temps_of};
 ghost use Rattle.mv_select_code.specs.Trees.Rooms.{place_in};
-ghost use Rattle.mv_select_code.specs.Statements.StatementCode.{set_lines, set_global_lines, divide_lines, return_lines};
+ghost use Rattle.mv_select_code.specs.Statements.StatementCode.{set_lines, set_global_lines, divide_lines, result_lines};
 
 use crate::statements::instructions::{FIRST, SECOND, division, push_keep, target};
 use crate::trees::{
@@ -86,18 +86,11 @@ pub fn push_divide(
     push_keep(code, temp)
 }
 
-/// Leaves a value as the result, and goes to the label of the function's end.
-pub fn push_return(
-    code: &mut List<Line>,
-    rooms: &[Room],
-    end: u32,
-    value: &Tree,
-) -> Result<(), AllocError>
+/// Leaves a value as the result of the function.
+pub fn push_result(code: &mut List<Line>, rooms: &[Room], value: &Tree) -> Result<(), AllocError>
     requires depth { depth value.now ≤ 4 }
     requires temps { temps_of value.now ≤ 507 }
-    ensures { OnOk result (code.new ≡ code.old ++ return_lines (place_in rooms.now) end value.now) }
+    ensures { OnOk result (code.new ≡ code.old ++ result_lines (place_in rooms.now) value.now) }
 {
-    push_tree(code, rooms, value, FIRST)?;
-    code.push(Line::Jump(0, end))?;
-    Ok(())
+    push_tree(code, rooms, value, FIRST)
 }

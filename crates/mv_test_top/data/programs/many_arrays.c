@@ -1,4 +1,6 @@
 /* Three hundred functions, each of which makes an array of 470 words 0 but for its first. */
+#include <stdio.h>
+
 int f0(int n) { int a[470] = {0}; a[n] = a[n] + 1; return a[0] + a[n] + a[469]; }
 int f1(int n) { int a[470] = {1}; a[n] = a[n] + 1; return a[0] + a[n] + a[469]; }
 int f2(int n) { int a[470] = {2}; a[n] = a[n] + 1; return a[0] + a[n] + a[469]; }

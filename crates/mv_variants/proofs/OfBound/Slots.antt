@@ -1,6 +1,6 @@
 -- One slot stands in the code of a function for each direct call of an attributed function, and it is the callee's; and one of four words for each call
 -- through a pointer switch, and it goes through that.
-use Rattle.std.proofs.Common.{◌≡◌, ℕ, ◌+◌, Bool, true, false, cond, List, [], ◌∷◌, ◌++◌, Option, map, refl, sym, subst, ap, ◌∙◌, arith}
+use Rattle.std.proofs.Common.{◌≡◌, ℕ, ◌+◌, Bool, true, false, cond, List, [], ◌∷◌, ◌++◌, Option, Some, None, map, refl, sym, subst, ap, ◌∙◌, add-zero, arith}
 use Rattle.mv_isa.specs.declared.labelled.Line.{Line}
 use Rattle.mv_isa.specs.declared.labelled.Line.TheVariants.{Label, Jump, Entry, Slot, Point}
 use Rattle.mv_isa.specs.Registers.{t3 as scratch_register}
@@ -13,14 +13,17 @@ use Rattle.mv_ir.specs.declared.stm.Stm.TheOpen as stm
 use Rattle.mv_ir.specs.declared.stm.Stm.TheViews.{roll-Stm}
 use Rattle.mv_ir.specs.declared.stm.Stm.TheFolds.{map-Stm}
 use Rattle.mv_ir.proofs.Induction.{Each, StmChildren, stm_ind, stms_ind}
-use Rattle.mv_select_code.specs.Trees.TreeCode.{tree_lines, operand_lines, operand_register}
-use Rattle.mv_select_code.specs.Statements.StatementCode.{first}
+use Rattle.mv_select_code.specs.Trees.TreeCode.{tree_lines, branch_lines}
+use Rattle.mv_select_code.specs.Statements.StatementCode.{first, result_lines}
 use Rattle.mv_select_code.specs.declared.control.enclosing.Enclosing.{Enclosing}
-use Rattle.mv_select_code.specs.Control.FlowCode.{Plan, Emitted, in_turn, branch_lines, loop_at, block_at, home, size, code_layer, statement_code}
+use Rattle.mv_select_code.specs.declared.control.enclosing.Leading.{Leading}
+use Rattle.mv_select_code.specs.declared.control.enclosing.Leading.TheVariants as lead
+use Rattle.mv_select_code.specs.declared.control.enclosing.Way.{Way}
+use Rattle.mv_select_code.specs.Control.FlowCode.{Plan, Emitted, enclosing_at, fall_to, jump_to, go_to, go_on, leads_to, plain, in_turn, branch_code, if_leads, loop_at, block_at, zero_lines, home, size, code_layer, statement_code}
 use Rattle.mv_select_code.proofs.OfControl.StatementsDo.{code_roll}
 use Rattle.mv_select_code.proofs.OfControl.TreeNames.{AnyNumber, all_any}
-use Rattle.mv_select_code.proofs.OfControl.StatementsAreMade.{LineByLine, tree_made, operand_made, set_made, set_global_made, divide_made, check_made, read_made, write_made, return_made}
-use Rattle.mv_select.specs.Calls.CallCode.{result_lines, guarded_lines, slot_lines, jump_lines, pad_lines, pointer_lines, argument_lines, transfer_lines, call_lines}
+use Rattle.mv_select_code.proofs.OfControl.StatementsAreMade.{LineByLine, tree_made, branch_made, result_made as returned_made, go_to_made, go_on_made, set_made, set_global_made, divide_made, check_made, read_made, write_made}
+use Rattle.mv_select.specs.Calls.CallCode.{result_lines as call_result_lines, guarded_lines, slot_lines, jump_lines, pad_lines, pointer_lines, argument_lines, transfer_lines, call_lines}
 use Rattle.mv_select.proofs.OfCalls.CallsAreMade.{result_made, argument_made, known_made}
 use Rattle.mv_select.specs.Functions.FunctionCode.{Shape, bytes_of, end_label, plan, body_lines, prologue_lines, epilogue_lines, function_lines}
 use Rattle.mv_select.proofs.OfFunctions.FramesAreMade.{prologue_made, epilogue_made}
@@ -87,7 +90,7 @@ module _ (slot point : ℕ → ℕ) where
     entry = λ r f h. refl;
   }
 
-  no_result : (r : Option ℕ) → WeighNone (result_lines r)
+  no_result : (r : Option ℕ) → WeighNone (call_result_lines r)
   no_result = result_made none_made
 
   -- such lines before some, and behind some
@@ -132,51 +135,91 @@ module _ (slot point : ℕ → ℕ) where
       abbrev all : List Stm → ℕ
       all code = total (map w code)
 
-      abbrev CodeWeighs : ℕ → Emitted → Type 0
-      CodeWeighs n code = (around : List Enclosing) (label : ℕ) → Weighs n (code.lines around label)
+      -- code that only leads somewhere else has no calls
+      abbrev NoneAlone : ℕ → Option Leading → Type 0
+      NoneAlone n None = Unit {0}
+      NoneAlone n (Some l) = n ≡ 0
+
+      record CodeWeighs (n : ℕ) (code : Emitted) : Type 0 where
+        lines : (around : List Enclosing) (label : ℕ) (way : Way) → Weighs n (code.lines around label way)
+        alone : NoneAlone n code.alone
 
       abbrev StmWeighs : Stm → Type 0
       StmWeighs s = CodeWeighs (w s) (statement_code P s)
 
+      -- lines, and then on
+      on_weighs : {n : ℕ} (lines : List Line) → Weighs n lines → CodeWeighs n (plain lines)
+      on_weighs lines h = record { lines = λ around label way. ahead lines (go_on way) h (go_on_made none_made place way tt); alone = tt }
+
       in_order : (code : List Stm) → Each StmWeighs code → CodeWeighs (all code) (in_turn (map (statement_code P) code))
-      in_order [] h around label = refl
-      in_order (s ∷ code) h around label =
-          let here = statement_code P s in
-          let rest = in_turn (map (statement_code P) code) in
-          weigh_append (here.lines around label) (rest.lines around (label + here.labels))
-          ∙ ap (λ n. n + weigh slot point (rest.lines around (label + here.labels))) (h.0 around label)
-          ∙ ap (λ n. w s + n) (in_order code h.1 around (label + here.labels))
+      in_order [] h = record { lines = λ around label way. go_on_made none_made place way tt; alone = refl }
+      in_order (s ∷ []) h = subst (λ n. CodeWeighs n (statement_code P s)) (sym (add-zero (w s))) h.0
+      in_order (s ∷ t ∷ code) h = record {
+        lines = λ around label way.
+            let here = statement_code P s in
+            let rest = in_turn (map (statement_code P) (t ∷ code)) in
+            let later = rest.lines around (label + 1 + here.labels) way in
+            weigh_append (here.lines around (label + 1) (fall_to label)) (Label label ∷ later)
+            ∙ ap (λ n. n + weigh slot point later) (h.0.lines around (label + 1) (fall_to label))
+            ∙ ap (λ n. w s + n) ((in_order (t ∷ code) h.1).lines around (label + 1 + here.labels) way);
+        alone = tt;
+      }
+
+      -- the lines of a branch before those of other code
+      branched : {n : ℕ} (t : Tree) (sense : Bool) (l : Leading) (a : Emitted) → CodeWeighs n a → CodeWeighs n (branch_code place end_label t sense l a)
+      branched t sense l a h = record {
+        lines = λ around label way.
+            let to = leads_to end_label around way l in
+            behind (branch_lines place t sense first to) (a.lines around label way) (branch_made none_made place t (all_any _) sense first to tt) (h.lines around label way);
+        alone = tt;
+      }
+
+      if_weighs : {m n : ℕ} (t : Tree) (x y : Option Leading) (a b : Emitted) → CodeWeighs m a → CodeWeighs n b → NoneAlone m x → NoneAlone n y → CodeWeighs (m + n) (if_leads place end_label t x y a b)
+      if_weighs {m} {n} t None None a b h k none none' = record {
+        lines = λ around label way.
+            let ls = a.lines around (label + 1) (jump_to way.after) in
+            let ls' = b.lines around (label + 1 + a.labels) way in
+            let both : Weighs (m + n) (ls ++ (Label label ∷ ls')) =
+            weigh_append ls (Label label ∷ ls') ∙ ap (λ z. z + weigh slot point ls') (h.lines around (label + 1) (jump_to way.after)) ∙ ap (λ z. m + z) (k.lines around (label + 1 + a.labels) way)
+            in
+            behind (branch_lines place t false first label) (ls ++ (Label label ∷ ls')) (branch_made none_made place t (all_any _) false first label tt) both;
+        alone = tt;
+      }
+      if_weighs {m} {n} t (Some l) None a b h k none none' = branched t true l b (subst (λ z. CodeWeighs z b) (omega (arith, none)) k)
+      if_weighs {m} {n} t None (Some l) a b h k none none' = branched t false l a (subst (λ z. CodeWeighs z a) (omega (arith, none')) h)
+      if_weighs {m} {n} t (Some l) (Some lead.On) a b h k none none' = branched t true l b (subst (λ z. CodeWeighs z b) (omega (arith, none)) k)
+      if_weighs {m} {n} t (Some l) (Some (lead.Out o)) a b h k none none' = branched t false (lead.Out o) a (subst (λ z. CodeWeighs z a) (omega (arith, none')) h)
+      if_weighs {m} {n} t (Some l) (Some (lead.Back o)) a b h k none none' = branched t false (lead.Back o) a (subst (λ z. CodeWeighs z a) (omega (arith, none')) h)
 
       layer : (x : Stm-F Stm) → StmChildren StmWeighs x → CodeWeighs (calls_layer callee_weighs (map-Stm Stm ℕ w x)) (code_layer P (map-Stm Stm Emitted (statement_code P) x))
-      layer (stm.Set t v) h around label = set_made none_made place t v (all_any _)
-      layer (stm.SetGlobal g v) h around label = set_global_made none_made place g v (all_any _)
-      layer (stm.Divide t o a b) h around label = divide_made none_made place t o a b tt (all_any _) (all_any _)
-      layer (stm.Check a i) h around label = check_made none_made place (size P a) i tt (all_any _)
-      layer (stm.Read t a i) h around label = read_made none_made place t (size P a) (home P a) i tt (all_any _)
-      layer (stm.Write a i v) h around label = write_made none_made place (size P a) (home P a) i v tt (all_any _) (all_any _)
-      layer (stm.Zero a) h around label = refl
-      layer (stm.If t a b) h around label =
-          let one_code = in_turn (map (statement_code P) a) in
-          let other = in_turn (map (statement_code P) b) in
-          let ls = one_code.lines around (label + 2) in
-          let ls' = other.lines around (label + 2 + one_code.labels) in
-          let rest = ls' ++ (Label (label + 1) ∷ []) in
-          let later : Weighs (all b) rest = ahead ls' (Label (label + 1) ∷ []) (in_order b h.1 around (label + 2 + one_code.labels)) refl in
-          let both : Weighs (all a + all b) (ls ++ (Jump 0 (label + 1) ∷ Label label ∷ rest)) =
-          weigh_append ls (Jump 0 (label + 1) ∷ Label label ∷ rest) ∙ ap (λ n. n + weigh slot point rest) (in_order a h.0 around (label + 2)) ∙ ap (λ n. all a + n) later
-          in
-          behind (operand_lines place t first) (branch_lines (operand_register t first) label ls ls') (operand_made none_made place t (all_any _) first) both
-      layer (stm.Loop b) h around label =
-          let inner = in_turn (map (statement_code P) b) in
-          ahead (inner.lines (loop_at label ∷ around) (label + 2)) (Jump 0 label ∷ Label (label + 1) ∷ []) (in_order b h (loop_at label ∷ around) (label + 2)) refl
-      layer (stm.Block b) h around label =
-          let inner = in_turn (map (statement_code P) b) in
-          ahead (inner.lines (block_at label ∷ around) (label + 1)) (Label label ∷ []) (in_order b h (block_at label ∷ around) (label + 1)) refl
-      layer (stm.Break n) h around label = refl
-      layer (stm.Back n) h around label = refl
-      layer (stm.Call r f args) h around label = call_weighs r f args
-      layer (stm.Known r k args) h around label = known_made none_made refl place r k args (all_any _)
-      layer (stm.Return v) h around label = return_made none_made place end_label v tt (all_any _)
+      layer (stm.Set t v) h = on_weighs _ (set_made none_made place t v (all_any _))
+      layer (stm.SetGlobal g v) h = on_weighs _ (set_global_made none_made place g v (all_any _))
+      layer (stm.Divide t o a b) h = on_weighs _ (divide_made none_made place t o a b tt (all_any _) (all_any _))
+      layer (stm.Check a i) h = on_weighs _ (check_made none_made place (size P a) i tt (all_any _))
+      layer (stm.Read t a i) h = on_weighs _ (read_made none_made place t (size P a) (home P a) i tt (all_any _))
+      layer (stm.Write a i v) h = on_weighs _ (write_made none_made place (size P a) (home P a) i v tt (all_any _) (all_any _))
+      layer (stm.Zero a) h = record {
+        lines = λ around label way. ahead (zero_lines label (P.array_at a) (P.array_size a)) (go_on way) refl (go_on_made none_made place way tt);
+        alone = tt;
+      }
+      layer (stm.If t a b) h =
+          let x = in_order a h.0 in
+          let y = in_order b h.1 in
+          if_weighs t _ _ (in_turn (map (statement_code P) a)) (in_turn (map (statement_code P) b)) x y x.alone y.alone
+      layer (stm.Loop b) h = record { lines = λ around label way. (in_order b h).lines (loop_at label way ∷ around) (label + 1) (jump_to label); alone = tt }
+      layer (stm.Block b) h = record { lines = λ around label way. (in_order b h).lines (block_at way ∷ around) label way; alone = tt }
+      layer (stm.Break n) h = record {
+        lines = λ around label way. go_to_made none_made place way (enclosing_at around n end_label).end tt;
+        alone = refl;
+      }
+      layer (stm.Back n) h = record { lines = λ around label way. refl; alone = refl }
+      layer (stm.Call r f args) h = on_weighs _ (call_weighs r f args)
+      layer (stm.Known r k args) h = on_weighs _ (known_made none_made refl place r k args (all_any _))
+      layer (stm.Return v) h = record {
+        lines = λ around label way.
+            ahead (result_lines place v) (go_to way end_label) (returned_made none_made place v (all_any _)) (go_to_made none_made place way end_label tt);
+        alone = tt;
+      }
 
       from_layer : (x : Stm-F Stm) → StmChildren StmWeighs x → StmWeighs (roll-Stm x)
       from_layer x h =
@@ -187,7 +230,7 @@ module _ (slot point : ℕ → ℕ) where
           let enter = prologue_lines shape.attributed shape.params shape.temps (bytes_of shape) in
           let end = Label end_label ∷ epilogue_lines shape.attributed shape.temps (bytes_of shape) in
           let body = body_lines place sizes is_attributed shape code in
-          let body_weighs = in_order code (stms_ind StmWeighs (stm_ind StmWeighs from_layer) code) [] (end_label + 1) in
+          let body_weighs = (in_order code (stms_ind StmWeighs (stm_ind StmWeighs from_layer) code)).lines [] (end_label + 1) (fall_to end_label) in
           behind enter (body ++ end) (prologue_made none_made shape.attributed shape.params shape.temps (bytes_of shape))
           (ahead body end body_weighs (epilogue_made none_made shape.attributed shape.temps (bytes_of shape)))
 

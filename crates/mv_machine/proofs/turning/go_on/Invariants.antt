@@ -1,4 +1,4 @@
-use Rattle.std.proofs.Common.{◌≤◌, ◌-◌}
+use Rattle.std.proofs.Common.{ℕ, Option, ◌≤◌, ◌-◌, false}
 use Rattle.mv_machine.specs.Moves.{GoOn}
 use Rattle.mv_machine.proofs.turning.go_on.Given as goal
 
@@ -8,7 +8,7 @@ invariant-loop-left g l =
     let is = l.oracle in
     record {
       few : l.left ≤ l.steps;
-      goes : GoOn (l.steps - l.left) l.initial.hart l.hart l.initial.memory l.memory ((goal.FetchOracle-dyn g (was.vtable, was.value)).way was.value) ((goal.FetchOracle-dyn g (is.vtable, is.value)).way is.value);
+      goes : (floor : ℕ) (place : Option ℕ) → GoOn false floor (l.steps - l.left) l.initial.hart l.hart l.initial.memory l.memory ((goal.FetchOracle-dyn g (was.vtable, was.value)).way was.value) ((goal.FetchOracle-dyn g (is.vtable, is.value)).way is.value) place place;
     }
 
 abbrev pub decreases-loop-left : goal.decreases-loop-left

@@ -15,7 +15,7 @@ invariant-loop-left g l =
       events : List Event;
       adds : Adds events l.initial.log l.log;
       come : HasCome l.engine.bindings l.log;
-      goes : Goes (l.steps - l.left) (seen l.initial.engine l.initial.operator (g.I.Source.left l.initial.source) (g.O.Sink.written l.initial.sink)) (seen l.engine l.operator (g.I.Source.left l.source) (g.O.Sink.written l.sink)) ((goal.FetchOracle-dyn g (was.vtable, was.value)).way was.value) ((goal.FetchOracle-dyn g (is.vtable, is.value)).way is.value)
+      goes : Goes l.places l.place (l.steps - l.left) (seen l.initial.engine l.initial.operator (g.I.Source.left l.initial.source) (g.O.Sink.written l.initial.sink)) (seen l.engine l.operator (g.I.Source.left l.source) (g.O.Sink.written l.sink)) ((goal.FetchOracle-dyn g (was.vtable, was.value)).way was.value) ((goal.FetchOracle-dyn g (is.vtable, is.value)).way is.value)
           (WithEvents (λ was now events. Fates (Becomes (λ probe. object_at probe.ptr probe.vtable) (λ probe. hearing ((goal.Probe-dyn g (probe.vtable, probe.value)).told probe.value) ((goal.Probe-dyn g (probe.vtable, probe.value)).patience probe.value)) events) was now) (l.initial.probes.items, []) (l.probes.items, events));
       image : l.engine.image ≡ l.initial.engine.image;
       number : l.engine.number ≡ l.initial.engine.number;

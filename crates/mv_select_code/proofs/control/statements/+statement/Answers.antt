@@ -1,18 +1,20 @@
-use Rattle.std.proofs.Common.{◌≡◌, ◌+◌, ◌^◌, ◌<◌, suc, ◌∷◌, [], ◌++◌, drop, drop-cons, get_or, length, OnOk, sym, subst, ap, ◌∙◌, arith}
+use Rattle.std.proofs.Common.{◌≡◌, ◌+◌, ◌^◌, ◌<◌, ◌≤◌, ◌++◌, drop, length, OnOk, length-drop, refl, sym, subst, ap, ◌∙◌, arith}
 use Rattle.std.proofs.lemmas.Result.{on_ok_weaker}
 use Rattle.mv_ir.specs.declared.stm.Stm as at
-use Rattle.mv_isa.specs.declared.labelled.Line.TheVariants.{Jump}
 use Rattle.mv_select_code.specs.Trees.Rooms.{place_in}
-use Rattle.mv_select_code.specs.Statements.StatementCode.{set_lines, set_global_lines, divide_lines, check_lines, read_lines, write_lines, return_lines}
+use Rattle.mv_ir.specs.Measures.{statements}
+use Rattle.mv_select_code.specs.Statements.StatementCode.{set_lines, set_global_lines, divide_lines, check_lines, read_lines, write_lines}
+use Rattle.mv_select_code.specs.declared.control.emitter.Emitter.{Emitter}
 use Rattle.mv_select_code.specs.declared.control.layout.Space.{Space}
-use Rattle.mv_select_code.specs.Control.FlowCode.{home, size, enclosing_at, zero_code, if_code, loop_code, block_code, break_code, back_code, code_of}
-use Rattle.mv_select_code.specs.Control.Emitters.{emitted}
+use Rattle.mv_select_code.specs.Control.FlowCode.{home, size, go_on, zero_lines, zero_code, if_code, loop_code, block_code, break_code, back_code, return_code, code_of}
+use Rattle.mv_select_code.specs.Control.Emitters.{with_lines, emitted}
 use Rattle.mv_select_code.specs.Control.Layouts.{space_in, plan_in, is_small_statement, are_small}
-use Rattle.mv_select_code.proofs.OfControl.Emitting.{as_kind, as_plain, labels_of, labels_next, free_emitted, free_same, free_opened, free_turned, plain_emitted, opened_over, if_written}
+use Rattle.mv_select_code.proofs.OfControl.Emitting.{as_kind, as_plain, labels_of, silent_emitted, zero_written, next_item, labels_last, labels_next, last_written, next_written, end_written, free_same}
 use Rattle.mv_select_code.proofs.OfControl.Equations.{code_set, code_setglobal, code_divide, code_check, code_read, code_write, code_zero, code_if, code_loop, code_block, code_break, code_back, code_call, code_known, code_return}
 use Rattle.mv_select_code.proofs.OfControl.Small.{small_set, small_set_global, small_divide, small_check, small_read, small_write, small_if, small_loop, small_block, small_calls, small_knowns, small_return, size_loop, size_block, size_if, size_at}
 use Rattle.mv_select_code.proofs.control.statements.+statement.Goals as goal
-use Rattle.mv_num.proofs.Booleans.{and_left}
+use Rattle.mv_select_code.proofs.control.statements.+statement.Goals.{push_statement-in-Set+in_ok-push_set-in-Set, push_statement-in-SetGlobal+in_ok-push_set_global-in-SetGlobal, push_statement-in-Divide+in_ok-push_divide-in-Divide, push_statement-in-Check+in_ok-push_check_of-in-Check, push_statement-in-Read+in_ok-push_read_of-in-Read, push_statement-in-Write+in_ok-push_write_of-in-Write, push_statement-in-Zero+in_ok-push_zero-in-Zero, push_statement-in-Call+in_ok-push_call-in-Call, push_statement-in-Known+in_ok-push_known-in-Known}
+use Rattle.mv_num.proofs.Booleans.{and_left, and_right}
 
 pub push_statement-push_set-requires-clause-temp : goal.push_statement-push_set-requires-clause-temp
 push_statement-push_set-requires-clause-temp g t c =
@@ -74,10 +76,6 @@ pub push_statement-push_write_of-requires-clause-value : goal.push_statement-pus
 push_statement-push_write_of-requires-clause-value g t c =
     (small_write c.args.statement.now c.requires.small c.in-Write.a c.in-Write.i c.in-Write.v c.in-Write.is).1
 
-pub push_statement-open_branch-requires-clause-test : goal.push_statement-open_branch-requires-clause-test
-push_statement-open_branch-requires-clause-test g t c =
-    (small_if c.args.statement.now c.requires.small c.in-If.t c.in-If.a c.in-If.b c.in-If.is).0
-
 pub push_statement-push_call-requires : goal.push_statement-push_call-requires
 push_statement-push_call-requires g t c =
     small_calls c.args.statement.now c.requires.small c.in-Call.t c.in-Call.f c.in-Call.args c.in-Call.is
@@ -86,13 +84,31 @@ pub push_statement-push_known-requires : goal.push_statement-push_known-requires
 push_statement-push_known-requires g t c =
     small_knowns c.args.statement.now c.requires.small c.in-Known.t c.in-Known.k c.in-Known.args c.in-Known.is
 
-pub push_statement-push_return-requires-clause-depth : goal.push_statement-push_return-requires-clause-depth
-push_statement-push_return-requires-clause-depth g t c =
-    (small_return c.args.statement.now c.requires.small c.in-Return.v c.in-Return.is).0
+pub push_statement-push_return-requires : goal.push_statement-push_return-requires
+push_statement-push_return-requires g t c = record { value = small_return c.args.statement.now c.requires.small c.in-Return.v c.in-Return.is }
 
-pub push_statement-push_return-requires-clause-temps : goal.push_statement-push_return-requires-clause-temps
-push_statement-push_return-requires-clause-temps g t c =
-    (small_return c.args.statement.now c.requires.small c.in-Return.v c.in-Return.is).1
+pub push_statement-push_zero-requires-clause-label : goal.push_statement-push_zero-requires-clause-label
+push_statement-push_zero-requires-clause-label g t c =
+    let plan = plan_in c.args.layout.now (g.C.CallCode.lines c.args.calls.now) in
+    let e = c.args.emitter.now in
+    let s = c.args.statement.now in
+    let a = c.in-Zero.a in
+    let code = zero_code (plan.array_at a) (plan.array_size a) in
+    let labels : e.free + code.labels < 2 ^ 32 = labels_of plan e s (at.Zero a) c.in-Zero.is code (code_zero plan a) c.requires.labels in
+    omega (arith, labels)
+
+pub push_statement-push_if-requires : goal.push_statement-push_if-requires
+push_statement-push_if-requires g t c κs within =
+    let plan = plan_in c.args.layout.now (g.C.CallCode.lines c.args.calls.now) in
+    let e = c.args.emitter.now in
+    let s = c.args.statement.now in
+    let v = c.in-If.t in
+    let a = c.in-If.a in
+    let b = c.in-If.b in
+    let labels = labels_of plan e s (at.If v a b) c.in-If.is (if_code plan.place plan.end v (code_of plan a) (code_of plan b)) (code_if plan v a b) c.requires.labels in
+    let size = size_if s v a b c.in-If.is in
+    let small = small_if s c.requires.small v a b c.in-If.is in
+    (omega (arith, size), (within, (c.requires.arrays, (small.0, (small.1, (small.2, labels))))))
 
 pub push_statement-push_loop-requires : goal.push_statement-push_loop-requires
 push_statement-push_loop-requires g t c κs within =
@@ -103,6 +119,13 @@ push_statement-push_loop-requires g t c κs within =
     let size = size_loop s c.in-Loop.b c.in-Loop.is in
     (omega (arith, size), (within, (c.requires.arrays, (small_loop s c.requires.small c.in-Loop.b c.in-Loop.is, labels))))
 
+pub push_statement-returns-in-Loop : goal.push_statement-returns-in-Loop
+push_statement-returns-in-Loop g t c =
+    let plan = plan_in c.args.layout.now (g.C.CallCode.lines c.args.calls.now) in
+    let e = c.args.emitter.now in
+    let s = c.args.statement.now in
+    on_ok_weaker c.push_loop.result (as_kind plan e s (at.Loop c.in-Loop.b) c.in-Loop.is c.args.way (loop_code (code_of plan c.in-Loop.b)) c.push_loop.new.emitter (code_loop plan c.in-Loop.b)) c.push_loop.ensures
+
 pub push_statement-push_block-requires : goal.push_statement-push_block-requires
 push_statement-push_block-requires g t c κs within =
     let plan = plan_in c.args.layout.now (g.C.CallCode.lines c.args.calls.now) in
@@ -112,212 +135,169 @@ push_statement-push_block-requires g t c κs within =
     let size = size_block s c.in-Block.b c.in-Block.is in
     (omega (arith, size), (within, (c.requires.arrays, (small_block s c.requires.small c.in-Block.b c.in-Block.is, labels))))
 
-pub push_statement-returns-in-Set : goal.push_statement-returns-in-Set
-push_statement-returns-in-Set g t c =
+pub push_statement-returns-in-Block : goal.push_statement-returns-in-Block
+push_statement-returns-in-Block g t c =
     let plan = plan_in c.args.layout.now (g.C.CallCode.lines c.args.calls.now) in
     let e = c.args.emitter.now in
     let s = c.args.statement.now in
-    on_ok_weaker c.push_set.result (as_plain plan e s (at.Set c.in-Set.t c.in-Set.v) c.in-Set.is (set_lines plan.place c.in-Set.t c.in-Set.v) c.push_set.new.code (code_set plan c.in-Set.t c.in-Set.v)) (subst (λ r. OnOk c.push_set.result (c.push_set.new.code ≡ e.lines ++ set_lines (place_in r) c.in-Set.t c.in-Set.v)) c.as_slice-rooms.ensures c.push_set.ensures)
+    on_ok_weaker c.push_block.result (as_kind plan e s (at.Block c.in-Block.b) c.in-Block.is c.args.way (block_code (code_of plan c.in-Block.b)) c.push_block.new.emitter (code_block plan c.in-Block.b)) c.push_block.ensures
 
-pub push_statement-returns-in-SetGlobal : goal.push_statement-returns-in-SetGlobal
-push_statement-returns-in-SetGlobal g t c =
+pub push_statement-returns-in-If : goal.push_statement-returns-in-If
+push_statement-returns-in-If g t c =
     let plan = plan_in c.args.layout.now (g.C.CallCode.lines c.args.calls.now) in
     let e = c.args.emitter.now in
     let s = c.args.statement.now in
-    on_ok_weaker c.push_set_global.result (as_plain plan e s (at.SetGlobal c.in-SetGlobal.g c.in-SetGlobal.v) c.in-SetGlobal.is (set_global_lines plan.place c.in-SetGlobal.g c.in-SetGlobal.v) c.push_set_global.new.code (code_setglobal plan c.in-SetGlobal.g c.in-SetGlobal.v)) (subst (λ r. OnOk c.push_set_global.result (c.push_set_global.new.code ≡ e.lines ++ set_global_lines (place_in r) c.in-SetGlobal.g c.in-SetGlobal.v)) c.as_slice-rooms.ensures c.push_set_global.ensures)
+    let v = c.in-If.t in
+    let a = c.in-If.a in
+    let b = c.in-If.b in
+    on_ok_weaker c.push_if.result (as_kind plan e s (at.If v a b) c.in-If.is c.args.way (if_code plan.place plan.end v (code_of plan a) (code_of plan b)) c.push_if.new.emitter (code_if plan v a b)) c.push_if.ensures
 
-pub push_statement-returns-in-Divide : goal.push_statement-returns-in-Divide
-push_statement-returns-in-Divide g t c =
+pub push_statement-returns-in-Break : goal.push_statement-returns-in-Break
+push_statement-returns-in-Break g t c =
     let plan = plan_in c.args.layout.now (g.C.CallCode.lines c.args.calls.now) in
     let e = c.args.emitter.now in
     let s = c.args.statement.now in
-    on_ok_weaker c.push_divide.result (as_plain plan e s (at.Divide c.in-Divide.t c.in-Divide.o c.in-Divide.a c.in-Divide.b) c.in-Divide.is (divide_lines plan.place c.in-Divide.t c.in-Divide.o c.in-Divide.a c.in-Divide.b) c.push_divide.new.code (code_divide plan c.in-Divide.t c.in-Divide.o c.in-Divide.a c.in-Divide.b)) (subst (λ r. OnOk c.push_divide.result (c.push_divide.new.code ≡ e.lines ++ divide_lines (place_in r) c.in-Divide.t c.in-Divide.o c.in-Divide.a c.in-Divide.b)) c.as_slice-rooms.ensures c.push_divide.ensures)
+    let n = c.in-Break.n in
+    let code = break_code plan.end n in
+    on_ok_weaker c.push_break.result (λ h. as_kind plan e s (at.Break n) c.in-Break.is c.args.way code c.push_break.new.self (code_break plan n) (h ∙ silent_emitted e code c.args.way refl)) c.push_break.ensures
 
-pub push_statement-returns-in-Check : goal.push_statement-returns-in-Check
-push_statement-returns-in-Check g t c =
+pub push_statement-returns-in-Back : goal.push_statement-returns-in-Back
+push_statement-returns-in-Back g t c =
     let plan = plan_in c.args.layout.now (g.C.CallCode.lines c.args.calls.now) in
     let e = c.args.emitter.now in
     let s = c.args.statement.now in
-    on_ok_weaker c.push_check_of.result (as_plain plan e s (at.Check c.in-Check.a c.in-Check.i) c.in-Check.is (check_lines plan.place (size plan c.in-Check.a) c.in-Check.i) c.push_check_of.new.code (code_check plan c.in-Check.a c.in-Check.i)) c.push_check_of.ensures
-
-pub push_statement-returns-in-Read : goal.push_statement-returns-in-Read
-push_statement-returns-in-Read g t c =
-    let plan = plan_in c.args.layout.now (g.C.CallCode.lines c.args.calls.now) in
-    let e = c.args.emitter.now in
-    let s = c.args.statement.now in
-    on_ok_weaker c.push_read_of.result (as_plain plan e s (at.Read c.in-Read.t c.in-Read.a c.in-Read.i) c.in-Read.is (read_lines plan.place c.in-Read.t (home plan c.in-Read.a) (size plan c.in-Read.a) c.in-Read.i) c.push_read_of.new.code (code_read plan c.in-Read.t c.in-Read.a c.in-Read.i)) c.push_read_of.ensures
-
-pub push_statement-returns-in-Write : goal.push_statement-returns-in-Write
-push_statement-returns-in-Write g t c =
-    let plan = plan_in c.args.layout.now (g.C.CallCode.lines c.args.calls.now) in
-    let e = c.args.emitter.now in
-    let s = c.args.statement.now in
-    on_ok_weaker c.push_write_of.result (as_plain plan e s (at.Write c.in-Write.a c.in-Write.i c.in-Write.v) c.in-Write.is (write_lines plan.place (home plan c.in-Write.a) (size plan c.in-Write.a) c.in-Write.i c.in-Write.v) c.push_write_of.new.code (code_write plan c.in-Write.a c.in-Write.i c.in-Write.v)) c.push_write_of.ensures
-
-pub push_statement-push_zero-requires : goal.push_statement-push_zero-requires
-push_statement-push_zero-requires g t c =
-    let plan = plan_in c.args.layout.now (g.C.CallCode.lines c.args.calls.now) in
-    let e = c.args.emitter.now in
-    let a = c.in-Zero.a in
-    let code = zero_code (plan.array_at a) (plan.array_size a) in
-    let labels : e.free + code.labels < 2 ^ 32 = labels_of plan e c.args.statement.now (at.Zero a) c.in-Zero.is code (code_zero plan a) c.requires.labels in
-    record { within = c.space_of.ensures.within; label = omega (arith, labels) }
-
-pub push_statement-returns-in-Zero : goal.push_statement-returns-in-Zero
-push_statement-returns-in-Zero g t c =
-    let plan = plan_in c.args.layout.now (g.C.CallCode.lines c.args.calls.now) in
-    let e = c.args.emitter.now in
-    let a = c.in-Zero.a in
-    let code = zero_code (plan.array_at a) (plan.array_size a) in
-    let space = c.space_of.ensures.value ∙ ap (λ l. space_in l a) c.as_slice.ensures in
-    on_ok_weaker c.push_zero.result (λ h. as_kind plan e c.args.statement.now (at.Zero a) c.in-Zero.is code c.push_zero.new.self (code_zero plan a) (h ∙ ap (λ (x : Space). emitted e (zero_code x.at x.size)) space)) c.push_zero.ensures
-
-pub push_statement-returns-in-Call : goal.push_statement-returns-in-Call
-push_statement-returns-in-Call g t c =
-    let plan = plan_in c.args.layout.now (g.C.CallCode.lines c.args.calls.now) in
-    let e = c.args.emitter.now in
-    let s = c.args.statement.now in
-    on_ok_weaker c.push_call.result (as_plain plan e s (at.Call c.in-Call.t c.in-Call.f c.in-Call.args) c.in-Call.is (plan.calls.call c.in-Call.t c.in-Call.f c.in-Call.args) c.push_call.new.code (code_call plan c.in-Call.t c.in-Call.f c.in-Call.args)) c.push_call.ensures
-
-pub push_statement-returns-in-Known : goal.push_statement-returns-in-Known
-push_statement-returns-in-Known g t c =
-    let plan = plan_in c.args.layout.now (g.C.CallCode.lines c.args.calls.now) in
-    let e = c.args.emitter.now in
-    let s = c.args.statement.now in
-    on_ok_weaker c.push_known.result (as_plain plan e s (at.Known c.in-Known.t c.in-Known.k c.in-Known.args) c.in-Known.is (plan.calls.known c.in-Known.t c.in-Known.k c.in-Known.args) c.push_known.new.code (code_known plan c.in-Known.t c.in-Known.k c.in-Known.args)) c.push_known.ensures
+    let n = c.in-Back.n in
+    let code = back_code plan.end n in
+    on_ok_weaker c.push_back.result (λ h. as_kind plan e s (at.Back n) c.in-Back.is c.args.way code c.push_back.new.self (code_back plan n) (h ∙ silent_emitted e code c.args.way refl)) c.push_back.ensures
 
 pub push_statement-returns-in-Return : goal.push_statement-returns-in-Return
 push_statement-returns-in-Return g t c =
     let plan = plan_in c.args.layout.now (g.C.CallCode.lines c.args.calls.now) in
     let e = c.args.emitter.now in
     let s = c.args.statement.now in
-    on_ok_weaker c.push_return.result (as_plain plan e s (at.Return c.in-Return.v) c.in-Return.is (return_lines plan.place plan.end c.in-Return.v) c.push_return.new.code (code_return plan c.in-Return.v)) (subst (λ r. OnOk c.push_return.result (c.push_return.new.code ≡ e.lines ++ return_lines (place_in r) plan.end c.in-Return.v)) c.as_slice-rooms.ensures c.push_return.ensures)
+    let v = c.in-Return.v in
+    on_ok_weaker c.push_return.result (as_kind plan e s (at.Return v) c.in-Return.is c.args.way (return_code plan.place plan.end v) c.push_return.new.self (code_return plan v))
+    (subst (λ r. OnOk c.push_return.result (c.push_return.new.self ≡ emitted e (return_code (place_in r) plan.end v) c.args.way)) c.as_slice-rooms.ensures c.push_return.ensures)
 
-pub push_statement-returns-in-Loop : goal.push_statement-returns-in-Loop
-push_statement-returns-in-Loop g t c =
+pub push_statement-returns : goal.push_statement-returns
+push_statement-returns g t c =
     let plan = plan_in c.args.layout.now (g.C.CallCode.lines c.args.calls.now) in
     let e = c.args.emitter.now in
     let s = c.args.statement.now in
-    on_ok_weaker c.push_loop.result (as_kind plan e s (at.Loop c.in-Loop.b) c.in-Loop.is (loop_code (code_of plan c.in-Loop.b)) c.push_loop.new.emitter (code_loop plan c.in-Loop.b)) c.push_loop.ensures
+    let way = c.args.way in
+    let rooms = c.as_slice-rooms.ensures in
+    on_ok_weaker c.go_on.result
+    (λ h. elim c.match-statement.branch [
+      | push_statement-in-Set+in_ok-push_set-in-Set w ↦ as_plain plan e s (at.Set w.in-Set.t w.in-Set.v) w.in-Set.is way (set_lines plan.place w.in-Set.t w.in-Set.v) w.push_set.new.code c.go_on.new.self (code_set plan w.in-Set.t w.in-Set.v) (subst (λ r. w.push_set.new.code ≡ e.lines ++ set_lines (place_in r) w.in-Set.t w.in-Set.v) rooms w.in_ok-push_set-in-Set.ensures) (h ∙ ap (λ x. with_lines x (go_on way)) w.emitter-is)
+      | push_statement-in-SetGlobal+in_ok-push_set_global-in-SetGlobal w ↦ as_plain plan e s (at.SetGlobal w.in-SetGlobal.g w.in-SetGlobal.v) w.in-SetGlobal.is way (set_global_lines plan.place w.in-SetGlobal.g w.in-SetGlobal.v) w.push_set_global.new.code c.go_on.new.self (code_setglobal plan w.in-SetGlobal.g w.in-SetGlobal.v) (subst (λ r. w.push_set_global.new.code ≡ e.lines ++ set_global_lines (place_in r) w.in-SetGlobal.g w.in-SetGlobal.v) rooms w.in_ok-push_set_global-in-SetGlobal.ensures) (h ∙ ap (λ x. with_lines x (go_on way)) w.emitter-is)
+      | push_statement-in-Divide+in_ok-push_divide-in-Divide w ↦ as_plain plan e s (at.Divide w.in-Divide.t w.in-Divide.o w.in-Divide.a w.in-Divide.b) w.in-Divide.is way (divide_lines plan.place w.in-Divide.t w.in-Divide.o w.in-Divide.a w.in-Divide.b) w.push_divide.new.code c.go_on.new.self (code_divide plan w.in-Divide.t w.in-Divide.o w.in-Divide.a w.in-Divide.b) (subst (λ r. w.push_divide.new.code ≡ e.lines ++ divide_lines (place_in r) w.in-Divide.t w.in-Divide.o w.in-Divide.a w.in-Divide.b) rooms w.in_ok-push_divide-in-Divide.ensures) (h ∙ ap (λ x. with_lines x (go_on way)) w.emitter-is)
+      | push_statement-in-Check+in_ok-push_check_of-in-Check w ↦ as_plain plan e s (at.Check w.in-Check.a w.in-Check.i) w.in-Check.is way (check_lines plan.place (size plan w.in-Check.a) w.in-Check.i) w.push_check_of.new.code c.go_on.new.self (code_check plan w.in-Check.a w.in-Check.i) w.in_ok-push_check_of-in-Check.ensures (h ∙ ap (λ x. with_lines x (go_on way)) w.emitter-is)
+      | push_statement-in-Read+in_ok-push_read_of-in-Read w ↦ as_plain plan e s (at.Read w.in-Read.t w.in-Read.a w.in-Read.i) w.in-Read.is way (read_lines plan.place w.in-Read.t (home plan w.in-Read.a) (size plan w.in-Read.a) w.in-Read.i) w.push_read_of.new.code c.go_on.new.self (code_read plan w.in-Read.t w.in-Read.a w.in-Read.i) w.in_ok-push_read_of-in-Read.ensures (h ∙ ap (λ x. with_lines x (go_on way)) w.emitter-is)
+      | push_statement-in-Write+in_ok-push_write_of-in-Write w ↦ as_plain plan e s (at.Write w.in-Write.a w.in-Write.i w.in-Write.v) w.in-Write.is way (write_lines plan.place (home plan w.in-Write.a) (size plan w.in-Write.a) w.in-Write.i w.in-Write.v) w.push_write_of.new.code c.go_on.new.self (code_write plan w.in-Write.a w.in-Write.i w.in-Write.v) w.in_ok-push_write_of-in-Write.ensures (h ∙ ap (λ x. with_lines x (go_on way)) w.emitter-is)
+      | push_statement-in-Zero+in_ok-push_zero-in-Zero w ↦ let a = w.in-Zero.a in
+          let space = w.space_of.ensures.value ∙ ap (λ l. space_in l a) w.as_slice.ensures in
+          let written = w.in_ok-push_zero-in-Zero.ensures ∙ ap (λ (x : Space). let r : Emitter = record e { lines = e.lines ++ zero_lines e.free x.at x.size; free = e.free + 2 } in r) space in
+          as_kind plan e s (at.Zero a) w.in-Zero.is way (zero_code (plan.array_at a) (plan.array_size a)) c.go_on.new.self (code_zero plan a)
+          (zero_written e w.push_zero.new.self c.go_on.new.self way (plan.array_at a) (plan.array_size a) written (h ∙ ap (λ x. with_lines x (go_on way)) w.emitter-is))
+      | push_statement-in-Call+in_ok-push_call-in-Call w ↦ as_plain plan e s (at.Call w.in-Call.t w.in-Call.f w.in-Call.args) w.in-Call.is way (plan.calls.call w.in-Call.t w.in-Call.f w.in-Call.args) w.push_call.new.code c.go_on.new.self (code_call plan w.in-Call.t w.in-Call.f w.in-Call.args) w.in_ok-push_call-in-Call.ensures (h ∙ ap (λ x. with_lines x (go_on way)) w.emitter-is)
+      | push_statement-in-Known+in_ok-push_known-in-Known w ↦ as_plain plan e s (at.Known w.in-Known.t w.in-Known.k w.in-Known.args) w.in-Known.is way (plan.calls.known w.in-Known.t w.in-Known.k w.in-Known.args) w.push_known.new.code c.go_on.new.self (code_known plan w.in-Known.t w.in-Known.k w.in-Known.args) w.in_ok-push_known-in-Known.ensures (h ∙ ap (λ x. with_lines x (go_on way)) w.emitter-is)
+    ])
+    c.go_on.ensures
 
-pub push_statement-returns-in-Block : goal.push_statement-returns-in-Block
-push_statement-returns-in-Block g t c =
+pub push_statements-loop-k-init : goal.push_statements-loop-k-init
+push_statements-loop-k-init g t c =
     let plan = plan_in c.args.layout.now (g.C.CallCode.lines c.args.calls.now) in
-    let e = c.args.emitter.now in
-    let s = c.args.statement.now in
-    on_ok_weaker c.push_block.result (as_kind plan e s (at.Block c.in-Block.b) c.in-Block.is (block_code (code_of plan c.in-Block.b)) c.push_block.new.emitter (code_block plan c.in-Block.b)) c.push_block.ensures
-
-pub push_statement-open_branch-requires-clause-label : goal.push_statement-open_branch-requires-clause-label
-push_statement-open_branch-requires-clause-label g t c =
-    let plan = plan_in c.args.layout.now (g.C.CallCode.lines c.args.calls.now) in
-    let e = c.args.emitter.now in
-    let s = c.args.statement.now in
-    let t = c.in-If.t in
-    let a = c.in-If.a in
-    let b = c.in-If.b in
-    let code = if_code plan.place t (code_of plan a) (code_of plan b) in
-    let labels : e.free + code.labels < 2 ^ 32 = labels_of plan e s (at.If t a b) c.in-If.is code (code_if plan t a b) c.requires.labels in
-    omega (arith, labels)
-
-pub push_statement-push_statements-requires : goal.push_statement-push_statements-requires
-push_statement-push_statements-requires g t c κs within =
-    let plan = plan_in c.args.layout.now (g.C.CallCode.lines c.args.calls.now) in
-    let e = c.args.emitter.now in
-    let s = c.args.statement.now in
-    let t = c.in-If.t in
-    let a = c.in-If.a in
-    let b = c.in-If.b in
-    let code = if_code plan.place t (code_of plan a) (code_of plan b) in
-    let labels : e.free + code.labels < 2 ^ 32 = labels_of plan e s (at.If t a b) c.in-If.is code (code_if plan t a b) c.requires.labels in
-    let size = size_if s t a b c.in-If.is in
-    let free = free_opened e c.open_branch.new.self (place_in c.as_slice-rooms.result.now) t c.in_ok-open_branch-in-If.ensures in
-    (omega (arith, size), (within, (c.requires.arrays, ((small_if s c.requires.small t a b c.in-If.is).1, omega (arith, labels, free)))))
-
-pub push_statement-turn_branch-requires : goal.push_statement-turn_branch-requires
-push_statement-turn_branch-requires g t c =
-    let plan = plan_in c.args.layout.now (g.C.CallCode.lines c.args.calls.now) in
-    let e = c.args.emitter.now in
-    let s = c.args.statement.now in
-    let t = c.in-If.t in
-    let a = c.in-If.a in
-    let b = c.in-If.b in
-    let code = if_code plan.place t (code_of plan a) (code_of plan b) in
-    let labels : e.free + code.labels < 2 ^ 32 = labels_of plan e s (at.If t a b) c.in-If.is code (code_if plan t a b) c.requires.labels in
-    omega (arith, labels)
-
-pub push_statement-push_statements-requires-in-If : goal.push_statement-push_statements-requires-in-If
-push_statement-push_statements-requires-in-If g t c κs within =
-    let plan = plan_in c.args.layout.now (g.C.CallCode.lines c.args.calls.now) in
-    let e = c.args.emitter.now in
-    let s = c.args.statement.now in
-    let t = c.in-If.t in
-    let a = c.in-If.a in
-    let b = c.in-If.b in
-    let code = if_code plan.place t (code_of plan a) (code_of plan b) in
-    let labels : e.free + code.labels < 2 ^ 32 = labels_of plan e s (at.If t a b) c.in-If.is code (code_if plan t a b) c.requires.labels in
-    let size = size_if s t a b c.in-If.is in
-    let free = free_opened e c.open_branch.new.self (place_in c.as_slice-rooms.result.now) t c.in_ok-open_branch-in-If.ensures in
-    let free' = free_emitted c.open_branch.new.self c.push_statements.new.emitter (code_of plan a) c.in_ok-push_statements-in-If.ensures in
-    let free'' = free_turned c.push_statements.new.emitter c.turn_branch.new.self e.free c.in_ok-turn_branch-in-If.ensures in
-    (omega (arith, size), (within, (c.requires.arrays, ((small_if s c.requires.small t a b c.in-If.is).2, omega (arith, labels, free, free', free'')))))
-
-pub push_statement-close_branch-requires : goal.push_statement-close_branch-requires
-push_statement-close_branch-requires g t c =
-    let plan = plan_in c.args.layout.now (g.C.CallCode.lines c.args.calls.now) in
-    let e = c.args.emitter.now in
-    let s = c.args.statement.now in
-    let t = c.in-If.t in
-    let a = c.in-If.a in
-    let b = c.in-If.b in
-    let code = if_code plan.place t (code_of plan a) (code_of plan b) in
-    let labels : e.free + code.labels < 2 ^ 32 = labels_of plan e s (at.If t a b) c.in-If.is code (code_if plan t a b) c.requires.labels in
-    omega (arith, labels)
-
-pub push_statement-returns-in_ok-push_statements-in-If-2 : goal.push_statement-returns-in_ok-push_statements-in-If-2
-push_statement-returns-in_ok-push_statements-in-If-2 g t c =
-    let plan = plan_in c.args.layout.now (g.C.CallCode.lines c.args.calls.now) in
-    let e = c.args.emitter.now in
-    let s = c.args.statement.now in
-    let t = c.in-If.t in
-    let a = c.in-If.a in
-    let b = c.in-If.b in
-    let code = if_code plan.place t (code_of plan a) (code_of plan b) in
-    let labels : e.free + code.labels < 2 ^ 32 = labels_of plan e s (at.If t a b) c.in-If.is code (code_if plan t a b) c.requires.labels in
-    let opened = opened_over e c.open_branch.new.self c.args.layout.now.rooms c.as_slice-rooms.result.now t c.as_slice-rooms.ensures c.in_ok-open_branch-in-If.ensures in
-    let one = c.in_ok-push_statements-in-If.ensures in
-    let turned = c.in_ok-turn_branch-in-If.ensures in
-    let both = c.in_ok-push_statements-in-If-2.ensures in
-    on_ok_weaker c.close_branch.result
-    (λ h. as_kind plan e s (at.If t a b) c.in-If.is code c.close_branch.new.self (code_if plan t a b)
-    (if_written e plan.place t (code_of plan a) (code_of plan b) c.open_branch.new.self c.push_statements.new.emitter c.turn_branch.new.self c.push_statements-in-If.new.emitter c.close_branch.new.self opened one turned both h))
-    c.close_branch.ensures
+    let same = c.as_slice-list.ensures in
+    record { same = same; written = ap (λ l. emitted c.args.emitter.now (code_of plan l) c.args.way) same; small = ap are_small same ∙ c.requires.small }
 
 pub push_statements-push_statement-requires : goal.push_statements-push_statement-requires
 push_statements-push_statement-requires g t c κs within =
     let plan = plan_in c.args.layout.now (g.C.CallCode.lines c.args.calls.now) in
-    let xs = c.args.statements.now in
-    let i = c.loop-statement.statement-index in
-    let s = c.statement-item.result in
-    let is : s ≡ get_or xs i s = c.statement-item.is ∙ ap (λ l. get_or l i s) c.as_slice-statement-items.ensures in
-    let low : i < length xs = omega (arith, ap (λ l. length l) c.as_slice-statement-items.ensures) in
-    let size = size_at xs i s s low is in
-    let rest = drop (suc i) xs in
-    let here : drop i xs ≡ s ∷ rest = drop-cons xs i s low ∙ ap (λ x. x ∷ rest) (sym is) in
-    let small = and_left (is_small_statement s) (are_small rest) (ap are_small (sym here) ∙ c.loop-statement.invariant.small) in
-    let labels = labels_next plan (drop i xs) s rest here in
-    let free = free_same c.loop-statement.emitter c.args.emitter.now (code_of plan (drop i xs)) (code_of plan xs) c.loop-statement.invariant.written in
-    (omega (arith, size), (within, (c.requires.arrays, (small, omega (arith, labels, free)))))
+    let xs = c.as_slice-list.result.now in
+    let i = c.loop-k.k in
+    let s = c.index-list-k.result in
+    let e = c.loop-k.emitter in
+    let rest = drop (i + 1) xs in
+    let low : i < length xs = omega (arith, c.loop-k-test.true) in
+    let here = next_item xs i s low c.index-list-k.is in
+    let none : length rest ≡ 0 = omega (arith, length-drop (i + 1) xs, c.if-k-list.true) in
+    let small = and_left (is_small_statement s) (are_small rest) (ap are_small (sym here) ∙ c.loop-k.invariant.small) in
+    let size = size_at xs i s s low c.index-list-k.is in
+    let whole = ap statements c.loop-k.invariant.same in
+    let free = free_same e c.args.emitter.now (code_of plan (drop i xs)) (code_of plan c.args.statements.now) c.args.way c.loop-k.invariant.written in
+    let labels = labels_last plan (drop i xs) s rest none here in
+    (omega (arith, size, whole), (within, (c.requires.arrays, (small, omega (arith, labels, free)))))
 
-pub push_statement-returns-in-Break : goal.push_statement-returns-in-Break
-push_statement-returns-in-Break g t c =
+pub push_statements-returns-then-k-list : goal.push_statements-returns-then-k-list
+push_statements-returns-then-k-list g t c =
     let plan = plan_in c.args.layout.now (g.C.CallCode.lines c.args.calls.now) in
-    let e = c.args.emitter.now in
-    let n = c.in-Break.n in
-    on_ok_weaker c.push_break.result (λ h. as_kind plan e c.args.statement.now (at.Break n) c.in-Break.is (break_code plan.end n) c.push_break.new.self (code_break plan n) (h ∙ plain_emitted e (Jump 0 (enclosing_at e.around n plan.end).end ∷ []))) c.push_break.ensures
+    let xs = c.as_slice-list.result.now in
+    let i = c.loop-k.k in
+    let s = c.index-list-k.result in
+    let e = c.loop-k.emitter in
+    let rest = drop (i + 1) xs in
+    let low : i < length xs = omega (arith, c.loop-k-test.true) in
+    let here = next_item xs i s low c.index-list-k.is in
+    let none : length rest ≡ 0 = omega (arith, length-drop (i + 1) xs, c.if-k-list.true) in
+    on_ok_weaker c.push_statement.result (λ h. last_written plan (drop i xs) s e c.push_statement.new.emitter c.args.way rest none here h ∙ c.loop-k.invariant.written) c.push_statement.ensures
 
-pub push_statement-returns-in-Back : goal.push_statement-returns-in-Back
-push_statement-returns-in-Back g t c =
+pub push_statements-take_label-after-requires : goal.push_statements-take_label-after-requires
+push_statements-take_label-after-requires g t c =
     let plan = plan_in c.args.layout.now (g.C.CallCode.lines c.args.calls.now) in
-    let e = c.args.emitter.now in
-    let n = c.in-Back.n in
-    on_ok_weaker c.push_back.result (λ h. as_kind plan e c.args.statement.now (at.Back n) c.in-Back.is (back_code plan.end n) c.push_back.new.self (code_back plan n) (h ∙ plain_emitted e (Jump 0 (enclosing_at e.around n plan.end).start ∷ []))) c.push_back.ensures
+    let xs = c.as_slice-list.result.now in
+    let i = c.loop-k.k in
+    let s = c.index-list-k.result in
+    let e = c.loop-k.emitter in
+    let rest = drop (i + 1) xs in
+    let low : i < length xs = omega (arith, c.loop-k-test.true) in
+    let here = next_item xs i s low c.index-list-k.is in
+    let some : 0 < length rest = omega (arith, length-drop (i + 1) xs, low, c.if-k-list.false) in
+    let free = free_same e c.args.emitter.now (code_of plan (drop i xs)) (code_of plan c.args.statements.now) c.args.way c.loop-k.invariant.written in
+    omega (arith, labels_next plan (drop i xs) s rest some here, free)
+
+pub push_statements-push_statement-requires-in-loop-k : goal.push_statements-push_statement-requires-in-loop-k
+push_statements-push_statement-requires-in-loop-k g t c κs within =
+    let plan = plan_in c.args.layout.now (g.C.CallCode.lines c.args.calls.now) in
+    let xs = c.as_slice-list.result.now in
+    let i = c.loop-k.k in
+    let s = c.index-list-k.result in
+    let e = c.loop-k.emitter in
+    let rest = drop (i + 1) xs in
+    let low : i < length xs = omega (arith, c.loop-k-test.true) in
+    let here = next_item xs i s low c.index-list-k.is in
+    let some : 0 < length rest = omega (arith, length-drop (i + 1) xs, low, c.if-k-list.false) in
+    let small = and_left (is_small_statement s) (are_small rest) (ap are_small (sym here) ∙ c.loop-k.invariant.small) in
+    let size = size_at xs i s s low c.index-list-k.is in
+    let whole = ap statements c.loop-k.invariant.same in
+    let free = free_same e c.args.emitter.now (code_of plan (drop i xs)) (code_of plan c.args.statements.now) c.args.way c.loop-k.invariant.written in
+    let labels = labels_next plan (drop i xs) s rest some here in
+    let taken : c.take_label-after.new.self.free ≡ e.free + 1 = ap (λ (x : Emitter). x.free) c.take_label-after.ensures.taken in
+    (omega (arith, size, whole), (within, (c.requires.arrays, (small, omega (arith, labels, free, taken)))))
+
+pub push_statements-loop-k-preserved : goal.push_statements-loop-k-preserved
+push_statements-loop-k-preserved g t c =
+    let plan = plan_in c.args.layout.now (g.C.CallCode.lines c.args.calls.now) in
+    let xs = c.as_slice-list.result.now in
+    let i = c.loop-k.k in
+    let s = c.index-list-k.result in
+    let e = c.loop-k.emitter in
+    let rest = drop (i + 1) xs in
+    let low : i < length xs = omega (arith, c.loop-k-test.true) in
+    let here = next_item xs i s low c.index-list-k.is in
+    let some : 0 < length rest = omega (arith, length-drop (i + 1) xs, low, c.if-k-list.false) in
+    let taken = c.take_label-after.new.self in
+    let one = c.push_statement-in-loop-k.new.emitter in
+    let next = next_written plan (drop i xs) s e taken one c.push_label.new.self c.take_label-after.result c.args.way rest some here c.take_label-after.ensures.label c.take_label-after.ensures.taken c.in_ok-push_statement.ensures c.in_ok-push_label.ensures in
+    record {
+      same = c.loop-k.invariant.same;
+      written = next ∙ c.loop-k.invariant.written;
+      small = and_right (is_small_statement s) (are_small rest) (ap are_small (sym here) ∙ c.loop-k.invariant.small);
+    }
+
+pub push_statements-returns : goal.push_statements-returns
+push_statements-returns g t c =
+    let plan = plan_in c.args.layout.now (g.C.CallCode.lines c.args.calls.now) in
+    let xs = c.as_slice-list.result.now in
+    let i = c.loop-k.k in
+    let past : length xs ≤ i = omega (arith, c.loop-k-test.false) in
+    on_ok_weaker c.go_on.result (λ h. end_written plan xs i c.loop-k.emitter c.go_on.new.self c.args.way past h ∙ c.loop-k.invariant.written) c.go_on.ensures

@@ -1,5 +1,6 @@
-use Rattle.mv_select_code.proofs.OfStatements.ScalarStatements.{set_done, set_global_done, divide_done, return_done}
+use Rattle.mv_select_code.proofs.OfStatements.ScalarStatements.{set_done, set_global_done, divide_done, result_done}
 use Rattle.mv_select_code.proofs.OfStatements.ArrayStatements.{check_done, read_done, write_done}
+use Rattle.mv_select_code.proofs.OfStatements.BranchesDo.{branch_done}
 use Rattle.mv_select_code.proofs.OfStatements.EncodedCode.{statements_are_encoded}
 use Rattle.mv_select_code.proofs.OfStatements.ZeroStatement.{bounds_done, clear_done}
 use Rattle.mv_select_code.proofs.statements.laws.statement_code_law.Goals as goal
@@ -17,5 +18,6 @@ returns-clause-done g c access s setting frame fit = record {
   write = write_done access s setting frame fit;
   bounds = bounds_done access s setting frame fit;
   clear = λ a n l. clear_done access s setting frame fit a l n;
-  returns = return_done access s setting frame fit;
+  branch = branch_done access s setting frame fit;
+  result = result_done access s setting frame fit;
 }

@@ -1,6 +1,6 @@
 use Rattle.std.proofs.Common.{List, slice_index_or, ap, ◌∙◌, arith}
 use Rattle.mv_descriptors.specs.declared.rows.SiteRow.{SiteRow}
-use Rattle.mv_patch.proofs.changes.site_at.Goals as goal
+use Rattle.mv_patch.proofs.standing.site_at.Goals as goal
 
 pub returns-clause-address : goal.returns-clause-address
 returns-clause-address c =

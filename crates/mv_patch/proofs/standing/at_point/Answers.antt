@@ -1,6 +1,6 @@
 use Rattle.std.proofs.Common.{◌≡◌, ◌+◌, slice_index, sym, ap, ◌∙◌}
 use Rattle.mv_image.specs.Jumps.{jump, bound_words}
-use Rattle.mv_patch.proofs.changes.at_point.Goals as goal
+use Rattle.mv_patch.proofs.standing.at_point.Goals as goal
 
 pub returns-in-0-clause-some : goal.returns-in-0-clause-some
 unfolding bound_words
