@@ -1,5 +1,6 @@
 """Tests what is made of a source for `--preprocess`: what is carried out, and that each line stays where it is. tools/test_launcher.py runs these."""
 import os
+import pathlib
 import shutil
 import sys
 import tempfile
@@ -47,7 +48,7 @@ int last;
 
 class Preprocessing(unittest.TestCase):
     def setUp(self):
-        self.room = tempfile.mkdtemp(prefix="test-preprocessing-")
+        self.room = pathlib.Path(tempfile.mkdtemp(prefix="test-preprocessing-"))
         self.addCleanup(shutil.rmtree, self.room)
         patched = unittest.mock.patch.dict(os.environ)
         patched.start()
@@ -55,15 +56,15 @@ class Preprocessing(unittest.TestCase):
         for name in ("CC", "CPPFLAGS"):
             os.environ.pop(name, None)
 
-    def write(self, name, text):
-        file = os.path.join(self.room, name)
-        with open(file, "w", encoding="utf-8") as it:
-            it.write(text)
-        return file
+    def made(self, text):
+        """Returns the lines of what is made of a text."""
+        source = self.room / "a.c"
+        source.write_text(text, encoding="utf-8")
+        return preprocessing.preprocessed(str(source)).decode().splitlines()
 
     def lines(self, text):
-        """Returns the lines of what is made of a text, each without the blanks around it."""
-        return [line.strip() for line in preprocessing.preprocessed(self.write("a.c", text)).decode().splitlines()]
+        """Returns the same, each line without the blanks around it."""
+        return [line.strip() for line in self.made(text)]
 
     def test_macros(self):
         self.assertEqual(self.lines(MACROS), ["", "", "", "", "", "int sums[4];", "int main(void) {", "return ((sums[0]) + (4))", "+ 9;", "}"])
@@ -78,15 +79,15 @@ class Preprocessing(unittest.TestCase):
         self.assertEqual(self.lines("int here = HERE;\n"), ["int here = 1;"])
 
     def test_own_includes(self):
-        self.write("own.h", "/* what\n   is own */\nenum {\n    OWN = 3\n};\nint own(void);\n")
-        self.write("empty.h", "\n\n\n")
+        (self.room / "own.h").write_text("/* what\n   is own */\nenum {\n    OWN = 3\n};\nint own(void);\n", encoding="utf-8")
+        (self.room / "empty.h").write_text("\n\n\n", encoding="utf-8")
         self.assertEqual(self.lines(INCLUDES), ["int before;", "enum { OWN = 3 }; int own(void);", "int behind = OWN;", "", "int last;"])
 
     def test_places_are_those_of_the_source(self):
         text = "#define N 3\n/* a\n   b */ int a;\n#if 0\nint none;\n#endif\n\n\n\n\n\n\n\n\n\n\n\n\n    int b = N; // c\nint d = e;\n"
-        made = self.lines(text)
-        self.assertEqual([(number, line) for number, line in enumerate(made, 1) if line], [(3, "int a;"), (19, "int b = 3;"), (20, "int d = e;")])
-        given = preprocessing.preprocessed(self.write("a.c", text)).decode().splitlines()
+        lines = self.lines(text)
+        self.assertEqual([(number, line) for number, line in enumerate(lines, 1) if line], [(3, "int a;"), (19, "int b = 3;"), (20, "int d = e;")])
+        given = self.made(text)
         self.assertEqual((given[18], given[19].index("e")), ("    int b = 3;", 8))
 
     def test_what_the_preprocessor_refuses(self):

@@ -1,9 +1,9 @@
 #!/bin/sh
-# How many instructions a guest executes, as `multiverse` compiles it and as gcc does (-O0 and -O1, -march=rv32im); and what compiling costs the host as
-# a source grows: run.sh [code|compile]..
-# The guests are five programs of examples/ with their inputs. Ours are counted by the step limit, gcc's by QEMU, one line an instruction; gcc's input
-# and output are functions of a few instructions each, ours one. The calls among the instructions are counted apart, ours by mix.py, gcc's by the
-# addresses that QEMU traces. Compiling is counted by callgrind, up to the first instruction of the guest.
+# How many instructions a guest executes, as `multiverse` compiles it and as gcc does (-march=rv32im: -O0, -O1, and -O1 with tests of indexes and divisors
+# and the depth of calls counted, as ours has them); and what compiling costs the host as a source grows: run.sh [code|compile]..
+# The guests are five programs of examples/ with their inputs and five of guests/. Ours are counted by the step limit, gcc's by QEMU, one line an
+# instruction; gcc's input and output are functions of a few instructions each, ours one. The calls among the instructions are counted apart, ours by
+# mix.py, gcc's by the addresses that QEMU traces. Compiling is counted by callgrind, up to the first instruction of the guest.
 # Needs the program that .ci/run leaves (or PROGRAM), gcc-riscv64-unknown-elf, qemu-user and valgrind.
 set -e
 here=$(cd "$(dirname "$0")" && pwd)
@@ -32,26 +32,38 @@ our_calls() {
     PROGRAM=$program python3 "$here/mix.py" "$1" "$2" | awk '$1 == "call" { print $2 }'
 }
 
-# gccs SOURCE INPUT LEVEL: the instructions that QEMU traces, and how many of them are calls
+# gccs SOURCE INPUT OPTION..: the instructions that QEMU traces, and how many of them are calls
 gccs() {
-    sed '/#include/d' "$1" > "$scratch/guest.c"
-    riscv64-unknown-elf-gcc "$3" -w -fwrapv -funsigned-char -fno-builtin -march=rv32im -mabi=ilp32 -nostdlib -static -Wl,--no-relax \
+    source=$1
+    input=$2
+    shift 2
+    sed '/#include/d' "$source" > "$scratch/guest.c"
+    riscv64-unknown-elf-gcc "$@" -w -fwrapv -funsigned-char -fno-builtin -march=rv32im -mabi=ilp32 -nostdlib -static -Wl,--no-relax \
         -include "$here/linux.h" -o "$scratch/guest" "$scratch/guest.c" -lgcc 2> "$scratch/gcc.log" || { cat "$scratch/gcc.log" >&2; exit 1; }
     riscv64-unknown-elf-objdump -d "$scratch/guest" | awk '$3 == "jal" || $3 == "jalr" { sub(":", "", $1); print $1 }' > "$scratch/calls"
-    qemu-riscv32 -singlestep -d exec,nochain -D /dev/stderr "$scratch/guest" < "$2" 2>&1 > "$scratch/guest.out" |
+    qemu-riscv32 -singlestep -d exec,nochain -D /dev/stderr "$scratch/guest" < "$input" 2>&1 > "$scratch/guest.out" |
         awk -v calls="$scratch/calls" 'BEGIN { while ((getline at < calls) > 0) is_call[at] = 1 }
             /^Trace/ { count++; split($4, parts, "/"); sub("^0*", "", parts[2]); if (parts[2] in is_call) called++ }
             END { print count, called + 0 }'
 }
 
+# checked SOURCE INPUT: those of -O1 with our checks
+checked() {
+    python3 "$here/checked.py" "$1" > "$scratch/checked.c"
+    gccs "$scratch/checked.c" "$2" -O1 -ffixed-s11 -fsanitize=bounds -fsanitize=integer-divide-by-zero -fsanitize-undefined-trap-on-error
+}
+
 code() {
-    for name in order programs/sha256 programs/queens programs/life programs/interpreter; do
-        source=$examples/$name.c
-        input=$examples/$name.in
+    for guest in "$examples/order" "$examples/programs/sha256" "$examples/programs/queens" "$examples/programs/life" "$examples/programs/interpreter" \
+        "$here/guests/crc" "$here/guests/dispatch" "$here/guests/hash" "$here/guests/matrix" "$here/guests/search"; do
+        input=$guest.in
         [ -f "$input" ] || input=/dev/null
-        echo "$name $(ours "$source" "$input") $(our_calls "$source" "$input") $(gccs "$source" "$input" -O0) $(gccs "$source" "$input" -O1)" |
-            awk '{ printf "%s: guest instructions %d, gcc -O0 %d, gcc -O1 %d; ratios %.2f, %.2f; calls among them %d, %d, %d\n", $1, $2, $4, $6, $2 / $4, $2 / $6, $3, $5, $7 }'
-    done
+        echo "$(basename "$guest") $(ours "$guest.c" "$input") $(our_calls "$guest.c" "$input") $(gccs "$guest.c" "$input" -O0) $(gccs "$guest.c" "$input" -O1) $(checked "$guest.c" "$input")"
+    done | awk '{
+            printf "%s: guest instructions %d, gcc -O0 %d, -O1 %d, -O1 with our checks %d; ratios %.2f, %.2f, %.2f; calls among them %d, %d, %d\n", $1, $2, $4, $6, $8, $2 / $4, $2 / $6, $2 / $8, $3, $5, $7
+            unoptimized += log($2 / $4); optimized += log($2 / $6); checked += log($2 / $8)
+        }
+        END { printf "geometric means of the ratios: %.2f, %.2f, %.2f\n", exp(unoptimized / NR), exp(optimized / NR), exp(checked / NR) }'
 }
 
 # dense PATTERN PARTS: a source of so many parts of 1,100 bytes, a function each or one function of all

@@ -13,15 +13,15 @@ use Rattle.mv_select.specs.Functions.Functions.{shape_of}
 use Rattle.mv_select_code.specs.Control.Layouts.{size_in}
 use Rattle.mv_select_code.specs.Trees.Rooms.{place_in}
 use Rattle.mv_lower_spec.specs.Shape.Law.{IsFunctionOf, LoweredCallAsOften}
-use Rattle.mv_variants.specs.Bound.Slots.{sites, AtMost, SlotsAreFew, OwnSlotsAreFew, RenamedSlotsAreFew, SlotsArePatchable}
+use Rattle.mv_variants.specs.Bound.Slots.{sites, AtMost, SlotsAreFew, OwnSlotsAreFew, GeneralSlotsAreFew, SlotsArePatchable}
 use Rattle.mv_select.specs.Selected.{selected_lines}
-use Rattle.mv_count_code.specs.Sizes.{IsBodyOf, renamed, folded, bound}
+use Rattle.mv_count_code.specs.Sizes.{IsBodyOf, general, folded, bound}
 use Rattle.mv_count_code.specs.Texts.{SlotsAreFewInCode, AreVariantCodes, slots_in, SlotsAreCounted, SitesAreFew}
 use Rattle.mv_num.proofs.Lists.{sum_cons}
 
-module _ (often : LoweredCallAsOften) (renamed_few : RenamedSlotsAreFew) (folded_few : OwnSlotsAreFew) (bound_few : SlotsAreFew) where
+module _ (often : LoweredCallAsOften) (general_few : GeneralSlotsAreFew) (folded_few : OwnSlotsAreFew) (bound_few : SlotsAreFew) where
   body_slots : (p : Program) (f : ℕ) (g : Function) → IsFunctionOf p f g → (b : Body) → IsBodyOf p g b → (attributed : Bool) → sites (selected_lines attributed b) ≤ call_sites p g
-  body_slots p f g h b (renamed r) attributed = renamed_few p g (often p f g h) b r (place_in b.rooms) (size_in b.rooms) (shape_of attributed b)
+  body_slots p f g h b (general m) attributed = general_few p g (often p f g h) b m (place_in b.rooms) (size_in b.rooms) (shape_of attributed b)
   body_slots p f g h b (folded body i r) attributed = folded_few p g (often p f g h) body b i r (place_in b.rooms) (size_in b.rooms) (shape_of attributed b)
   body_slots p f g h b (bound ps m) attributed = bound_few p g (often p f g h) ps b m (place_in b.rooms) (size_in b.rooms) (shape_of attributed b)
 

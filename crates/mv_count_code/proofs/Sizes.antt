@@ -1,5 +1,5 @@
 -- The bodies of a function are no longer than the one that it is lowered to, and that one is bounded by the source.
-use Rattle.std.proofs.Common.{arith, ◌≡◌, ℕ, ◌+◌, ◌*◌, ◌/◌, ◌<◌, ◌≤◌, length, get_or, sym, ap, ◌∙◌, subst}
+use Rattle.std.proofs.Common.{arith, ◌≡◌, ℕ, ◌+◌, ◌*◌, ◌/◌, ◌<◌, ◌≤◌, length, get_or, sym, ap, ◌∙◌, subst, ◌⊎◌, inl, inr}
 use Rattle.std.specs.Prelude.{sum_by}
 use Rattle.std.proofs.lemmas.List.Elements.{All-from_get_or}
 use Rattle.std.proofs.lemmas.List.Sums.{sum_by-le}
@@ -14,15 +14,17 @@ use Rattle.mv_select.specs.Functions.FunctionCode.{arrays_start}
 use Rattle.mv_lower_spec.specs.Functions.{lower_function}
 use Rattle.mv_lower_spec.specs.Shape.Law.{IsFunctionOf, LoweredAreSmall}
 use Rattle.mv_carry.specs.Carried.{IsCarried}
+use Rattle.mv_tidy.specs.Tidied.{IsTidied}
 use Rattle.mv_fold.specs.Folded.{IsFolded}
 use Rattle.mv_regalloc.specs.Intervals.{IsRenamed}
 use Rattle.mv_variants.specs.Bound.Meant.{MadeAreVariants}
 use Rattle.mv_variants.specs.Bound.Led.{BodiesAreMade}
 use Rattle.mv_variants.specs.Bound.Tables.{GroupsFit}
 use Rattle.mv_variants.proofs.OfBound.FewSlots.{one_and_more}
-use Rattle.mv_variants.proofs.OfBound.Measures.{bound_no_more, carried_no_more, folded_no_more, renamed_no_more}
+use Rattle.mv_variants.proofs.OfBound.Generals.{kept, tidied_or_not}
+use Rattle.mv_variants.proofs.OfBound.Measures.{bound_no_more, carried_no_more, tidied_no_more, folded_no_more, renamed_no_more}
 use Rattle.mv_select.specs.Laws.{greatest_length, SelectedIsEncoded}
-use Rattle.mv_count_code.specs.Sizes.{IsBodyOf, renamed, folded, bound, words_of, frame_count, CodeIsShort, LinesAreShort, VariantsAreShort, FramesFit, FramesPass, LoweredFramesPass}
+use Rattle.mv_count_code.specs.Sizes.{IsBodyOf, general, folded, bound, words_of, frame_count, CodeIsShort, LinesAreShort, VariantsAreShort, FramesFit, FramesPass, LoweredFramesPass}
 use Rattle.mv_count_code.proofs.OwnWords.{words_allowed, words_measured}
 
 -- ---- no longer than another body
@@ -44,6 +46,13 @@ carried_words_fewer body b h =
     let trees = h.smaller.tree_nodes in
     omega (arith, own, trees)
 
+tidied_words_fewer : (body b : Body) → IsTidied body b ⊎ (b ≡ body) → most_words b.code ≤ most_words body.code
+tidied_words_fewer body b (inl h) =
+    let own : own_words b.code ≤ own_words body.code = tidied_no_more words_measured body.temps body.code b.code h.code in
+    let trees = h.smaller.tree_nodes in
+    omega (arith, own, trees)
+tidied_words_fewer body b (inr e) = subst (λ (x : Body). most_words x.code ≤ most_words body.code) (sym e) (omega arith)
+
 folded_words_fewer : (body b : Body) → IsFolded body b → most_words b.code ≤ most_words body.code
 folded_words_fewer body b h =
     let own : own_words b.code ≤ own_words body.code = subst (λ c. own_words c ≤ own_words body.code) (sym h.code.2) (folded_no_more words_measured h.code.0 body.temps body.code) in
@@ -52,10 +61,10 @@ folded_words_fewer body b h =
 
 module _ (made : MadeAreVariants) where
   no_longer : (p : Program) (g : Function) (b : Body) → IsBodyOf p g b → IsNoLonger (lower_function p g) b
-  no_longer p g b (renamed r) = record {
-    words = renamed_words_fewer (lower_function p g) b r;
-    temps = omega (arith, r.temps);
-    sizes = ap (λ (x : Body). x.arrays) r.changes;
+  no_longer p g b (general m) = record {
+    words = omega (arith, tidied_words_fewer (lower_function p g) m.tidied (tidied_or_not (lower_function p g) b m), renamed_words_fewer m.tidied b m.is_renamed);
+    temps = m.temps;
+    sizes = (kept (lower_function p g) b m).sizes;
   }
   no_longer p g b (folded body h r) = record {
     words = omega (arith, folded_words_fewer (lower_function p g) body h, renamed_words_fewer body b r);
@@ -69,7 +78,7 @@ module _ (made : MadeAreVariants) where
       in
       let trees = m.is_bound.tree_nodes in
       record {
-        words = omega (arith, own, trees, carried_words_fewer m.bound m.carried m.is_carried, folded_words_fewer m.carried m.folded m.is_folded, renamed_words_fewer m.folded b m.is_renamed);
+        words = omega (arith, own, trees, carried_words_fewer m.bound m.carried m.is_carried, tidied_words_fewer m.carried m.tidied m.is_tidied, folded_words_fewer m.tidied m.folded m.is_folded, renamed_words_fewer m.folded b m.is_renamed);
         temps = variant.temps;
         sizes = variant.sizes;
       }

@@ -18,14 +18,15 @@ use Rattle.mv_merge.specs.declared.rows.Bound.{Bound}
 use Rattle.mv_merge.specs.declared.rows.Variants.{Variants}
 use Rattle.mv_merge.specs.Guards.{IsMerged}
 use Rattle.mv_variants.specs.Bound.Meant.{IsMadeUnder}
+use Rattle.mv_variants.specs.Bound.General.{IsGeneral}
 use Rattle.mv_variants.specs.Bound.Led.{AreMade}
 use Rattle.mv_select.specs.Selected.{IsSuitable, FitsFrame, PassesFrame, selected_lines}
 use Rattle.mv_select.specs.Laws.{greatest_length}
 
--- What a function's code is selected for: what it is lowered to, with its temporaries renamed, with constants folded before or not, and with its switches
+-- What a function's code is selected for: what it is lowered to, tidied or not and with its temporaries renamed; or with constants folded before, with its switches
 -- bound before that or not.
 pub data IsBodyOf (p : Program) (g : Function) (b : Body) : Type 0 where
-  renamed : IsRenamed (lower_function p g) b → IsBodyOf p g b
+  general : IsGeneral (lower_function p g) b → IsBodyOf p g b
   folded : (body : Body) → IsFolded (lower_function p g) body → IsRenamed body b → IsBodyOf p g b
   bound : (ps : List (ℕ × ℕ)) → IsMadeUnder ps (lower_function p g) b → IsBodyOf p g b
 

@@ -14,13 +14,14 @@ use Rattle.mv_select.specs.Functions.Functions.{shape_of}
 use Rattle.mv_lower_spec.specs.Functions.{functions_called, lower_function}
 use Rattle.mv_lower_spec.specs.Shape.Calls.{code_weight, function_weight}
 use Rattle.mv_lower_spec.specs.Shape.Law.{LoweredCallAsOften}
-use Rattle.mv_regalloc.specs.Intervals.{IsRenamed}
+use Rattle.mv_variants.specs.Bound.General.{IsGeneral}
 use Rattle.mv_variants.specs.Bound.Slots.{slot_weight, weight_where, SlotsWeighAsCalls}
 use Rattle.mv_variants.proofs.OfBound.FewSlots.{marked_attributed}
+use Rattle.mv_variants.proofs.OfBound.Generals.{kept, general_same}
 use Rattle.mv_variants.proofs.OfBound.Weights.{weights}
 use Rattle.mv_select.specs.Selected.{selected_lines}
 use Rattle.mv_count_slots.specs.Calls.{once_for, CalleesHaveSlots}
-use Rattle.mv_count_slots.proofs.Calls.{each_among, other, no_other, same_renamed}
+use Rattle.mv_count_slots.proofs.Calls.{each_among, other, no_other}
 use Rattle.mv_count_slots.proofs.Weights.{AddUp, weights_add}
 
 module _ (p : Program) (g : Function) (weight : ℕ → ℕ) where
@@ -45,12 +46,12 @@ module _ (p : Program) (g : Function) (weight : ℕ → ℕ) where
       (each_among (AddUp (weight_where has_entry weight) (weight_where marked weight) (other p g weight)) (functions_called (lower_function p g).code) (λ f c. adds f)) in
       omega (arith, all, no_other p g weight)
 
-  slots_weigh_calls : SlotsWeighAsCalls → (b : Body) → IsRenamed (lower_function p g) b → (attributed : Bool)
+  slots_weigh_calls : SlotsWeighAsCalls → (b : Body) → IsGeneral (lower_function p g) b → (attributed : Bool)
       → slot_weight weight (selected_lines attributed b) ≡ code_weight (weight_where has_entry weight) 0 (lower_function p g).code
   slots_weigh_calls weigh b r attributed =
       weigh (place_in b.rooms) (size_in b.rooms) (is_marked b.marked) (shape_of attributed b) b.code weight
-      ∙ ap (λ fs. code_weight (weight_where (is_marked fs) weight) 0 b.code) (ap (λ (x : Body). x.marked) r.changes)
-      ∙ same_renamed (weights (weight_where marked weight) 0) (lower_function p g) b r ∙ sym same_weight
+      ∙ ap (λ fs. code_weight (weight_where (is_marked fs) weight) 0 b.code) (kept (lower_function p g) b r).marked
+      ∙ general_same (lower_function p g) b r (weights (weight_where marked weight) 0) (λ t v. refl) ∙ sym same_weight
 
 -- the weight of one attributed function
 once_is : (p : Program) (k f : ℕ) → is_attributed (slice_get p.functions k) ≡ true → weight_where (λ j. is_attributed (slice_get p.functions j)) (once_for k) f ≡ once_for k f

@@ -10,9 +10,6 @@ use Rattle.mv_num.specs.Lists.{is_among}
 use Rattle.mv_isa.specs.declared.labelled.Line.{Line}
 use Rattle.mv_isa.specs.declared.labelled.Line.TheVariants.{Slot}
 use Rattle.mv_ir.specs.declared.body.Body.{Body}
-use Rattle.mv_ir.specs.declared.stm.Stm.{Stm}
-use Rattle.mv_ir.specs.declared.stm.Stm.TheOpen.{Stm-F}
-use Rattle.mv_ir.specs.Measures.{total}
 use Rattle.mv_ir.proofs.Induction.{Each}
 use Rattle.mv_select_code.specs.Trees.Rooms.{place_in}
 use Rattle.mv_select_code.specs.Control.Layouts.{size_in}
@@ -21,16 +18,15 @@ use Rattle.mv_select.specs.Functions.Functions.{shape_of}
 use Rattle.mv_lower_spec.specs.Functions.{functions_called, marked_from, lower_function}
 use Rattle.mv_lower_spec.specs.Shape.Calls.{code_weight, attributed_once}
 use Rattle.mv_lower_spec.specs.Shape.Law.{LoweredCallAsOften}
-use Rattle.mv_regalloc.specs.Intervals.{IsRenamed}
 use Rattle.mv_variants.specs.Bound.Slots.{slots, one_each, SlotsAreCalls}
 use Rattle.mv_variants.proofs.OfBound.FewSlots.{Among, marked_attributed}
 use Rattle.mv_variants.proofs.OfBound.Meant.{made}
-use Rattle.mv_variants.proofs.OfBound.Measures.{Measure, renamed_same}
+use Rattle.mv_variants.proofs.OfBound.Generals.{kept, general_no_more, general_same}
 use Rattle.mv_variants.proofs.OfBound.Weights.{weights}
 use Rattle.mv_variants.proofs.OfBound.Variants.{made_calls, worked_no_more}
 use Rattle.mv_select.specs.Selected.{selected_lines}
 use Rattle.mv_linker.specs.Tables.{is_slot, slot_count}
-use Rattle.mv_count_code.specs.Sizes.{renamed, folded, bound}
+use Rattle.mv_count_code.specs.Sizes.{general, folded, bound}
 use Rattle.mv_count_slots.specs.Calls.{marked_calls, attributed_calls, MarkedCallsHaveSlots, AttributedCallsHaveSlots, SourceCallsHaveSlots}
 use Rattle.mv_count_slots.proofs.Weights.{AddUp, weights_add}
 
@@ -115,9 +111,6 @@ module _ (p : Program) (g : Function) where
 
 -- ---- laws
 
-pub same_renamed : {layer : Stm-F ℕ → ℕ} {m : Stm → ℕ} → Measure layer m → (body b : Body) → IsRenamed body b → total (map m b.code) ≡ total (map m body.code)
-same_renamed {m = m} of body b r = ap (λ (x : Body). total (map m x.code)) r.changes ∙ renamed_same of r.numbers body.code
-
 module _ (are_calls : SlotsAreCalls) where
   pub marked_slots : MarkedCallsHaveSlots
   marked_slots attributed b =
@@ -130,10 +123,10 @@ module _ (are_calls : SlotsAreCalls) where
       marked_slots attributed b ∙ ap (λ fs. marked_calls fs b.code) marked ∙ same_calls p g b (fewer (one_other p g))
 
   pub attributed_slots : AttributedCallsHaveSlots
-  attributed_slots p g b (renamed r) = slots_of p g b (ap (λ (x : Body). x.marked) r.changes) (λ direct. let same = same_renamed (weights direct 0) (lower_function p g) b r in omega (arith, same))
+  attributed_slots p g b (general r) = slots_of p g b (kept (lower_function p g) b r).marked (λ direct. general_no_more (lower_function p g) b r (weights direct 0))
   attributed_slots p g b (folded body i r) = slots_of p g b (ap (λ (x : Body). x.marked) r.changes ∙ i.marked) (λ direct. worked_no_more (weights direct 0) (lower_function p g) body b i r)
   attributed_slots p g b (bound ps m) = slots_of p g b (made ps (lower_function p g) b m).marked (λ direct. made_calls direct 0 ps (lower_function p g) b m)
 
   pub source_slots : LoweredCallAsOften → SourceCallsHaveSlots
   source_slots often p f g h b r attributed =
-      attributed_slots p g b (renamed r) attributed ∙ same_renamed (weights (attributed_once p) 0) (lower_function p g) b r ∙ (often p f g h).attributed
+      attributed_slots p g b (general r) attributed ∙ general_same (lower_function p g) b r (weights (attributed_once p) 0) (λ t v. refl) ∙ (often p f g h).attributed

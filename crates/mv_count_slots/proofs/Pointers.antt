@@ -22,23 +22,23 @@ use Rattle.mv_lower_spec.specs.Shape.Calls.{code_through}
 use Rattle.mv_lower_spec.specs.Shape.Law.{CallsAsOften, LoweredAreWellFormed, LoweredCallAsOften}
 use Rattle.mv_variants.specs.Bound.Slots.{points_where, PointsAreCalls}
 use Rattle.mv_variants.proofs.OfBound.Meant.{made}
-use Rattle.mv_variants.proofs.OfBound.Variants.{CountsNoMore, renamed_counts_no_more, worked_no_more, made_no_more}
+use Rattle.mv_variants.proofs.OfBound.Variants.{CountsNoMore, worked_no_more, made_no_more}
+use Rattle.mv_variants.proofs.OfBound.Generals.{kept, general_no_more, general_same}
 use Rattle.mv_variants.proofs.OfBound.Weights.{throughs}
-use Rattle.mv_count_code.specs.Sizes.{IsBodyOf, renamed, folded, bound}
+use Rattle.mv_count_code.specs.Sizes.{IsBodyOf, general, folded, bound}
 use Rattle.mv_count_slots.specs.Calls.{PointersHaveSlots}
-use Rattle.mv_count_slots.proofs.Calls.{same_renamed}
 use Rattle.mv_count_slots.proofs.Places.{places_apart}
 use Rattle.mv_count_slots.proofs.Through.{same_through}
 
 -- ---- what each body of a function keeps
 
 pub rooms_kept : (p : Program) (g : Function) (b : Body) → IsBodyOf p g b → b.rooms ≡ (lower_function p g).rooms
-rooms_kept p g b (renamed r) = ap (λ (x : Body). x.rooms) r.changes
+rooms_kept p g b (general r) = (kept (lower_function p g) b r).rooms
 rooms_kept p g b (folded body i r) = ap (λ (x : Body). x.rooms) r.changes ∙ i.rooms
 rooms_kept p g b (bound ps m) = (made ps (lower_function p g) b m).rooms
 
 pub no_more : (p : Program) (g : Function) (b : Body) → IsBodyOf p g b → CountsNoMore (lower_function p g) b
-no_more p g b (renamed r) layer m of = renamed_counts_no_more of (lower_function p g) b r
+no_more p g b (general r) layer m of = general_no_more (lower_function p g) b r of
 no_more p g b (folded body i r) layer m of = worked_no_more of (lower_function p g) body b i r
 no_more p g b (bound ps made_under) layer m of = made_no_more of ps (lower_function p g) b made_under
 
@@ -115,6 +115,6 @@ pointers_have_slots are_calls often well_formed p f g h attributed x pointed =
     let calls = calls_are p g h.formed (often p f g h) (well_formed p f g h) x pointed in
     let points = points_are p g h.formed (often p f g h) (well_formed p f g h) x pointed are_calls attributed in
     let at = at_place p g h.formed (often p f g h) (well_formed p f g h) x pointed in (
-      λ b r. points b (renamed r) ∙ (same_renamed (throughs at) (lower_function p g) b r ∙ calls),
+      λ b r. points b (general r) ∙ (general_same (lower_function p g) b r (throughs at) (λ t v. refl) ∙ calls),
       λ b of none. omega (arith, points b of, no_more p g b of _ _ (throughs at), calls, none),
     )

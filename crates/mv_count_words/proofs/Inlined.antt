@@ -6,6 +6,7 @@ use Rattle.mv_isa.specs.declared.instr.Instr.TheVariants.{Lui, Addi}
 use Rattle.mv_isa.specs.Code.{nop}
 use Rattle.mv_isa.specs.Encoding.{encode}
 use Rattle.mv_isa.specs.Formats.{i_word, u_word}
+use Rattle.mv_isa.specs.Registers.{a0}
 use Rattle.mv_image.specs.Jumps.{distance, jump}
 use Rattle.mv_ir.specs.declared.body.Body.{Body}
 use Rattle.mv_ir.specs.declared.stm.Stm.{Stm, out-Stm}
@@ -15,7 +16,6 @@ use Rattle.mv_ir.specs.declared.tree.Tree.{Tree, out-Tree}
 use Rattle.mv_ir.specs.declared.tree.Tree.TheOpen.{Tree-F}
 use Rattle.mv_ir.specs.declared.tree.Tree.TheOpen as tree
 use Rattle.mv_select_code.specs.Trees.TreeCode.{upper_bits, lower_bits}
-use Rattle.mv_select_code.specs.Statements.StatementCode.{first}
 use Rattle.mv_select.specs.Inline.InlineOf.{number_pair, parameter_pair, store_pair, return_layer, return_pair, set_layer, set_pair, statement_layer, statement_pair, code_pair, inline_of, encoded, inline_words}
 
 -- ---- opcodes
@@ -57,15 +57,15 @@ number_plain : (n : ℕ) → encode (number_pair n).0 % 128 ≢ 111
 unfolding number_pair
 number_plain n = by (eqb (upper_bits n) 0)
   where
-    by : (b : Bool) → encode (cond {A = Instr × Instr} b (Addi first 0 (lower_bits n), nop) (Lui first (pos (upper_bits n)), Addi first first (lower_bits n))).0 % 128 ≢ 111
-    by true = plain_addi first 0 (lower_bits n)
-    by false = plain_lui first (pos (upper_bits n))
+    by : (b : Bool) → encode (cond {A = Instr × Instr} b (Addi a0 0 (lower_bits n), nop) (Lui a0 (pos (upper_bits n)), Addi a0 a0 (lower_bits n))).0 % 128 ≢ 111
+    by true = plain_addi a0 0 (lower_bits n)
+    by false = plain_lui a0 (pos (upper_bits n))
 
 module _ (place : ℕ → ℕ) (params : ℕ) where
   return_plain : (x : Tree-F Tree) → IsPlain (return_layer place params x)
   return_plain (tree.Number n) = number_plain n
-  return_plain (tree.Temp t) = plain_cond (ltb t params) (parameter_pair t) (plain_addi first (first + t) (pos 0))
-  return_plain (tree.Global g) = plain_lui first (pos (upper_bits (place g)))
+  return_plain (tree.Temp t) = plain_cond (ltb t params) (parameter_pair t) (plain_addi a0 (a0 + t) (pos 0))
+  return_plain (tree.Global g) = plain_lui a0 (pos (upper_bits (place g)))
   return_plain _ = tt
 
   set_plain : (g : ℕ) (x : Tree-F Tree) → IsPlain (set_layer place params g x)

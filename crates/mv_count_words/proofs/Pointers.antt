@@ -30,7 +30,8 @@ use Rattle.mv_lower_spec.specs.Functions.{names_global, lower_function}
 use Rattle.mv_lower_spec.specs.Shape.Calls.{code_through}
 use Rattle.mv_lower_spec.specs.Shape.Law.{IsFunctionOf}
 use Rattle.mv_lower_spec.proofs.OfShape.OfPrograms.{often, well_formed}
-use Rattle.mv_regalloc.specs.Intervals.{IsRenamed}
+use Rattle.mv_variants.specs.Bound.General.{IsGeneral}
+use Rattle.mv_variants.proofs.OfBound.Generals.{general_same}
 use Rattle.mv_variants.specs.Bound.Slots.{points_where}
 use Rattle.mv_variants.specs.declared.variant.Variant.{Variant}
 use Rattle.mv_variants.specs.Bound.Switches.{domains_in}
@@ -39,8 +40,7 @@ use Rattle.mv_variants.specs.Variants.{AreVariants}
 use Rattle.mv_variants.proofs.OfBound.Led.{bodies_made}
 use Rattle.mv_variants.proofs.OfBound.Slots.{points_are_calls}
 use Rattle.mv_variants.proofs.OfBound.Weights.{throughs}
-use Rattle.mv_count_code.specs.Sizes.{IsBodyOf, renamed, bound}
-use Rattle.mv_count_slots.proofs.Calls.{same_renamed}
+use Rattle.mv_count_code.specs.Sizes.{IsBodyOf, general, bound}
 use Rattle.mv_count_slots.proofs.Places.{words_apart}
 use Rattle.mv_count_slots.proofs.Pointers.{rooms_kept, no_more, of_pointers, calls_by}
 use Rattle.mv_linker.specs.declared.parts.Parts.{Parts}
@@ -133,8 +133,8 @@ module _ (p : Program) (formed : IsWellFormed p) (below : AreBelow p) where
           ∙ points_are_calls (place_in b.rooms) (size_in b.rooms) (is_marked b.marked) (shape_of attributed b) b.code (λ a. eqb a at)
           ∙ ap (λ rooms. code_through (λ k. eqb (place_in rooms k) at) b.code) (rooms_kept p g b is)
 
-      own_points : (b : Body) → IsRenamed lowered b → (attributed : Bool) → points_through at (selected_lines attributed b) ≡ calls_through (nat_eq x) g
-      own_points b r attributed = in_body b (renamed r) attributed ∙ same_renamed (throughs here) lowered b r ∙ counted
+      own_points : (b : Body) → IsGeneral lowered b → (attributed : Bool) → points_through at (selected_lines attributed b) ≡ calls_through (nat_eq x) g
+      own_points b r attributed = in_body b (general r) attributed ∙ general_same lowered b r (throughs here) (λ t v. refl) ∙ counted
 
       most_points : (b : Body) → IsBodyOf p g b → (attributed : Bool) → points_through at (selected_lines attributed b) ≤ calls_through (nat_eq x) g
       most_points b is attributed = omega (arith, in_body b is attributed, no_more p g b is _ _ (throughs here), counted)

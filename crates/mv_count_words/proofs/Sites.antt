@@ -50,6 +50,6 @@ module _ (have_slots : CalleesHaveSlots) (p : Program) (formed : IsWellFormed p)
           let count = generics.one_each in
           let body = there_at bodies i (omega (arith, within, count)) in
           let has = code.each i body.0 c body.1 at in
-          let renamed = generics.each i g body.0 there body.1 in
+          let general = generics.each i g body.0 there body.1 in
           slots_weigh f c.items ∙ ap (slot_weight (once_for f)) has.is_code.selected.items
-          ∙ have_slots p i g (record { formed = formed; there = there }) body.0 renamed has.function.attributed f a
+          ∙ have_slots p i g (record { formed = formed; there = there }) body.0 general has.function.attributed f a

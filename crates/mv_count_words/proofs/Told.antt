@@ -1,11 +1,12 @@
 -- A variant of a program's image can be told from its function by the words of text.
-use Rattle.std.proofs.Common.{arith, ◌≡◌, ◌≢◌, ℕ, zero, suc, ◌+◌, ◌-◌, ◌/◌, ◌%◌, ◌<◌, Bool, List, [], ◌∷◌, length, map, get_or, Option, Some, None, refl, sym, ap, ◌∙◌, subst, All}
+use Rattle.std.proofs.Common.{arith, ◌≡◌, ◌≢◌, ℕ, zero, suc, ◌+◌, ◌-◌, ◌/◌, ◌%◌, ◌<◌, true, List, [], ◌∷◌, length, map, get_or, Option, Some, None, refl, sym, ap, ◌∙◌, subst, All}
 use Rattle.std.specs.Prelude.{ℤ, pos, ◌-ℤ◌, option_and_then, slice_get, slice_index}
 use Rattle.std.proofs.lemmas.Bool.{le-ltb}
 use Rattle.std.proofs.lemmas.List.{length-map}
 use Rattle.std.proofs.lemmas.List.Elements.{All-nil, All-append}
 use Rattle.std.proofs.lemmas.Option.{slice_get_within, get_or_from_slice_get, same_Some}
 use Rattle.mv_ast.specs.declared.program.Program.{Program}
+use Rattle.mv_ast.specs.declared.program.Function.{Function}
 use Rattle.mv_descriptors.specs.declared.rows.FunctionRow.{FunctionRow}
 use Rattle.mv_descriptors.specs.declared.rows.VariantRow.{VariantRow}
 use Rattle.mv_isa.specs.declared.instr.Instr.TheVariants.{Addi}
@@ -105,10 +106,10 @@ module _ (ascend : CodesAscend) (patched : PatchedCodeStands) (p : Program) (bod
       items : own.0.items ≡ Word (Addi 2 2 bytes) ∷ rest
       entry : HasEntry parts image linked.sizing n a.function (Addi 2 2 bytes)
 
-    begins_with : (attributed : Bool) (body : Body) → IsCodeOf attributed body own.0 → Begins
-    begins_with attributed body code =
-        let bytes = pos 0 -ℤ pos (bytes_of (shape_of attributed body)) in
-        let rest = later_lines (place_in body.rooms) (size_in body.rooms) (is_marked body.marked) (shape_of attributed body) body.code in
+    begins_with : (body : Body) → IsCodeOf true body own.0 → Begins
+    begins_with body code =
+        let bytes = pos 0 -ℤ pos (bytes_of (shape_of true body)) in
+        let rest = later_lines (place_in body.rooms) (size_in body.rooms) (is_marked body.marked) (shape_of true body) body.code in
         record {
           bytes = bytes;
           rest = rest;
@@ -123,7 +124,9 @@ module _ (ascend : CodesAscend) (patched : PatchedCodeStands) (p : Program) (bod
         let count = are.codes.generics.one_each in
         let body = there_at bodies a.function (omega (arith, within, count)) in
         let has = are.codes.code.each a.function body.0 own.0 body.1 own.1 in
-        begins_with has.function.attributed body.0 has.is_code
+        let is : has.function ≡ h.function = same_Some has.function h.function (sym has.there ∙ h.there) in
+        let attributed : has.function.attributed ≡ true = ap (λ (g : Function). g.attributed) is ∙ h.attributed in
+        begins_with body.0 (subst (λ b. IsCodeOf b body.0 own.0) attributed has.is_code)
 
     entry_word : (b : Begins) → word_of image.text (place a.function) ≡ encode (Addi 2 2 b.bytes)
     entry_word b =

@@ -3,7 +3,7 @@
 ghost use Rattle.std.specs.Prelude.{◌≡◌, ◌<◌, IfOk};
 ghost use Rattle.mv_fold.specs.Shortened.{idles, without_idle, is_temp, taking, as_one, carried, shortened};
 
-use crate::unneeded::copy_tree;
+use crate::copies::copy_tree;
 use mv_ir::stm::Stm;
 use mv_ir::tree::Tree;
 use mv_num::list::List;

@@ -1,5 +1,10 @@
--- The labels of the stubs, which all code of a program may name. They are the greatest numbers that labels have.
+-- The labels of the stubs and of the entries of functions, which all code of a program may name. Those of the stubs are the greatest numbers that labels
+-- have.
 use Rattle.std.specs.Prelude.{ℕ, ◌+◌}
+
+-- the label of the entry of a function
+abbrev pub entry_label : ℕ → ℕ
+entry_label f = 2147483648 + f
 
 -- the label of the stub of a trap, 1 to 4
 abbrev pub trap_label : ℕ → ℕ

@@ -14,6 +14,13 @@ ra = 1
 abbrev pub sp : ℕ
 sp = 2
 
+-- the global pointer and the thread pointer
+abbrev pub gp : ℕ
+gp = 3
+
+abbrev pub tp : ℕ
+tp = 4
+
 -- temporaries
 abbrev pub t0 : ℕ
 t0 = 5
@@ -52,6 +59,9 @@ s10 = 26
 abbrev pub s11 : ℕ
 s11 = 27
 
--- a temporary
+-- temporaries
 abbrev pub t3 : ℕ
 t3 = 28
+
+abbrev pub t4 : ℕ
+t4 = 29

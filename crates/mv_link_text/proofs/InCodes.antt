@@ -98,7 +98,7 @@ IsOther x = is_point x ≡ false
 stubs_other : (main : ℕ) (checks : Bool) → All IsOther (stub_lines main checks)
 stubs_other main =
     stubs_all IsOther main
-    (All-from_recursion IsOther (start_lines main) (refl, (refl, (refl, (refl, (refl, tt))))))
+    (All-from_recursion IsOther (start_lines main) (refl, (refl, (refl, (refl, (refl, (refl, (refl, (refl, (refl, tt))))))))))
     (λ c le. All-from_recursion IsOther (trap_lines c) (refl, (refl, (refl, (refl, tt)))))
     (All-from_recursion IsOther commit_lines (refl, (refl, (refl, (refl, (refl, (refl, (refl, (refl, (refl, (refl, (refl, (refl, (refl, tt))))))))))))))
     (All-from_recursion IsOther check_lines (refl, (refl, (refl, (refl, (refl, (refl, (refl, tt))))))))

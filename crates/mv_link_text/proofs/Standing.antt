@@ -10,12 +10,12 @@ use Rattle.mv_isa.specs.declared.labelled.Line.{Line}
 use Rattle.mv_isa.specs.declared.labelled.Line.TheVariants.{Word, Label, Jump, Branch, Entry, Slot, Point}
 use Rattle.mv_isa.specs.Code.{CodeFits, StandsOnce, line_at, text_start}
 use Rattle.mv_image.specs.Spelling.{Fields}
-use Rattle.mv_select_code.specs.Control.Labels.{OwnLabels}
+use Rattle.mv_select_code.specs.Control.Labels.{OwnLabels, call_label}
 use Rattle.mv_select_code.specs.Control.Placed.{Text, Placed}
 use Rattle.mv_refine_machine.specs.Assembled.{HasWords, IsOnlyLabel}
 use Rattle.mv_refine_machine.specs.MachineRuns.{machine_text}
 use Rattle.mv_linker.specs.declared.parts.Parts.{Parts}
-use Rattle.mv_linker.specs.Linked.{codes, has_pointers, IsFunction, NamesAreThere, relabelled, start_lines, trap_lines, commit_lines, check_lines, commit_instrs, first_label, trap_label, check_label, commit_label, trap_index, commit_index, check_index, stub_count}
+use Rattle.mv_linker.specs.Linked.{codes, has_pointers, IsFunction, NamesAreThere, relabelled, start_lines, trap_lines, commit_lines, check_lines, commit_instrs, first_label, label_limit, entry_label, trap_label, check_label, commit_label, trap_index, commit_index, check_index, stub_count}
 use Rattle.mv_linker.specs.Laws.{StandFrom}
 use Rattle.mv_linker.proofs.Entered.{index_behind}
 use Rattle.mv_link_text.specs.Text.{StubsArePlaced, IsPlacedCode}
@@ -25,7 +25,8 @@ use Rattle.mv_linker.proofs.Lines.{word_size}
 use Rattle.mv_link_text.proofs.Codes.{IsAssembled, attributed_begun, behind_first, stands, behind_label, lines_stand, first_line, first_below, ends_before, first_in}
 use Rattle.mv_link_text.proofs.Kept.{NotFirst, kept_as}
 use Rattle.mv_link_text.proofs.Renamed.{own_place, lines_placed}
-use Rattle.mv_linker.proofs.Counting.{own_stays, own_is}
+use Rattle.mv_linker.proofs.Counting.{own_stays, own_entry, own_is}
+use Rattle.mv_linker.proofs.Fits.{within_all}
 
 -- words stand one behind the other
 words_size : (text : Text) (place entry : ℕ → ℕ) (instrs : List Instr) (at end : ℕ) → Placed text place entry (map Word instrs) at end → end ≡ at + 4 * length instrs
@@ -42,7 +43,7 @@ has_words image words text_is k word found =
     subst (λ i. slice_get image.text i ≡ Some word) here (ap (λ (ws : List ℕ). slice_get ws k) text_is ∙ found)
 
 -- the stubs have so many lines, and those of the check stub
-stubs_many : (checks : Bool) → 34 ≤ stub_count checks
+stubs_many : (checks : Bool) → 38 ≤ stub_count checks
 stubs_many true = omega arith
 stubs_many false = omega arith
 
@@ -90,8 +91,11 @@ module _ (laws : Laws) (parts : Parts) (sizing words : List ℕ) (s : IsAssemble
     before_codes : (f : ℕ) → f < length (codes parts) → at (k + length part) ≤ entry f
     before_codes f below = ends_before parts sizing words s (k + length part) f below (omega (arith, few))
 
+  start_only : All (IsOnlyLabel lines) (start_lines parts.main)
+  start_only = All-from_recursion (IsOnlyLabel lines) (start_lines parts.main) (tt, (tt, (tt, (tt, (tt, (tt, (tt, (tt, (tt, tt)))))))))
+
   start_placed : IsHere (start_lines parts.main) (at 0) (at (0 + length (start_lines parts.main)))
-  start_placed = stub_placed 0 (start_lines parts.main) (laws.stubs_stand parts s.are).0 (omega (arith, stubs_many checks)) (All-from_recursion (IsOnlyLabel lines) (start_lines parts.main) (tt, (tt, (tt, (tt, (tt, tt))))))
+  start_placed = stub_placed 0 (start_lines parts.main) (laws.stubs_stand parts s.are).0 (omega (arith, stubs_many checks)) start_only
 
   abbrev trap_end : ℕ → ℕ
   trap_end c = at (trap_index c + length (trap_lines c))
@@ -155,7 +159,7 @@ module _ (laws : Laws) (parts : Parts) (sizing words : List ℕ) (s : IsAssemble
     commit_ends = commit_end;
     commit = commit_here;
     commit_size = commit_size;
-    start_before = before_codes 0 (start_lines parts.main) (laws.stubs_stand parts s.are).0 (omega (arith, stubs_many checks)) (All-from_recursion (IsOnlyLabel lines) (start_lines parts.main) (tt, (tt, (tt, (tt, (tt, tt))))));
+    start_before = before_codes 0 (start_lines parts.main) (laws.stubs_stand parts s.are).0 (omega (arith, stubs_many checks)) start_only;
     traps_before = λ c f from to. trap_before c from to f;
     commit_before = before_codes commit_index commit_lines (laws.stubs_stand parts s.are).2.stub (omega (arith, stubs_many checks)) commit_only;
     check_ends = check_end;
@@ -180,7 +184,7 @@ module _ (laws : Laws) (parts : Parts) (sizing words : List ℕ) (s : IsAssemble
         subst (IsFunction (length parts.functions) checks) (get_or_from_slice_get (codes parts) f code code found)
         (All-get_or (IsFunction (length parts.functions) checks) (codes parts) f code within s.are.functions)
 
-    few_labels : code.labels < 4294967289
+    few_labels : code.labels < label_limit
     few_labels =
         let size = λ (c : Labelled). c.labels in
         let all = sum_by_more_le size (codes parts) f code within in
@@ -189,6 +193,14 @@ module _ (laws : Laws) (parts : Parts) (sizing words : List ℕ) (s : IsAssemble
 
     few_checked : code.labels ≤ check_label
     few_checked = omega (arith, few_labels)
+
+    -- the entries of functions are where their codes begin
+    entry_placed : (g : ℕ) → g < length parts.functions → own_place text entry entry first code.labels (call_label g) ≡ entry g
+    entry_placed g below =
+        let limit = s.are.labels in
+        let few : g < label_limit = omega (arith, below, within_all parts, limit) in
+        let same : call_label g ≡ entry_label g = omega (arith, few) in
+        ap (own_place text entry entry first code.labels) same ∙ ap entry (own_entry first code.labels g (omega (arith, few_labels)) (omega (arith, few)))
 
     only_label : (functions : ℕ) (line : Line) → NamesAreThere functions checks code line → IsOnlyLabel lines (renamed line)
     only_label functions (Word i) h = tt
@@ -214,9 +226,10 @@ module _ (laws : Laws) (parts : Parts) (sizing words : List ℕ) (s : IsAssemble
         (only_label (length parts.functions) (get_or items j (Label 0)) (All-get_or (NamesAreThere (length parts.functions) checks code) items j (Label 0) below names)) in
         record {
           place = own_place text entry entry first code.labels;
-          traps = λ c. ap entry (own_stays first code.labels (trap_label c) (omega (arith, few_labels)));
-          commit = ap entry (own_stays first code.labels commit_label (omega (arith, few_labels)));
-          check = ap entry (own_stays first code.labels check_label few_checked);
+          traps = λ c. ap entry (own_stays first code.labels (trap_label c) (omega (arith, few_labels)) (omega arith));
+          commit = ap entry (own_stays first code.labels commit_label (omega (arith, few_labels)) (omega arith));
+          check = ap entry (own_stays first code.labels check_label few_checked (omega arith));
+          entries = entry_placed;
           next = at (k + length part);
           placed = lines_placed text entry entry first code.labels few_checked items (at k) (at (k + length part)) (part_placed k part stand (λ j lt. never j (omega (arith, lt, count))) only);
           before = λ g lt below.

@@ -11,6 +11,7 @@ use Rattle.mv_image.specs.Patched.{ShowsAt, entry_at, pointer_number}
 use Rattle.mv_linker.specs.declared.parts.Parts.{Parts}
 use Rattle.mv_linker.specs.Linked.{codes, linked_lines, has_pointers, trap_label, check_label, commit_label, start_lines, trap_lines, commit_lines, check_lines}
 use Rattle.mv_linker.specs.Tables.{attributed_numbers}
+use Rattle.mv_select_code.specs.Control.Labels.{call_label}
 use Rattle.mv_select_code.specs.Control.Placed.{Text, Placed}
 use Rattle.mv_refine_machine.specs.MachineRuns.{machine_text, image_word}
 use Rattle.mv_refine_machine.specs.Shown.{IsPointOf, IsSiteOf}
@@ -49,12 +50,13 @@ module _ (parts : Parts) (image : Fields) (sizing : List ℕ) where
     pub check_before : (f : ℕ) → has_pointers parts ≡ true → f < length (codes parts) → check_ends ≤ label_place parts sizing f
 
   -- Lines of a code stand from an address to another, which isn't behind the entry of a later code. `place` is where the labels are that the lines name: its
-  -- own, and those of the stubs, where the stubs stand.
+  -- own, those of the stubs, where the stubs stand, and those of the entries of functions, where their codes do.
   pub record IsPlacedCode (f : ℕ) (items : List Line) (from : ℕ) : Type 0 where
     pub place : ℕ → ℕ
     pub traps : (c : ℕ) → place (trap_label c) ≡ label_place parts sizing (trap_label c)
     pub commit : place commit_label ≡ label_place parts sizing commit_label
     pub check : place check_label ≡ label_place parts sizing check_label
+    pub entries : (g : ℕ) → g < length parts.functions → place (call_label g) ≡ label_place parts sizing g
     pub next : ℕ
     pub placed : Placed (linked_text parts image) place (label_place parts sizing) items from next
     pub before : (g : ℕ) → f < g → g < length (codes parts) → next ≤ label_place parts sizing g

@@ -1,5 +1,5 @@
 -- How often a label stands in the parts of functions.
-use Rattle.std.proofs.Common.{◌≡◌, ℕ, zero, suc, ◌+◌, ◌<◌, ◌≤◌, Bool, true, false, cond, eqb, nat_lt, List, [], ◌∷◌, Some, length, take, slice_get, map, count_by, All, refl, ap, sym, subst, ◌∙◌, ⊎_elim, arith, eq-eqb}
+use Rattle.std.proofs.Common.{◌≡◌, ℕ, zero, suc, ◌+◌, ◌-◌, ◌<◌, ◌≤◌, Bool, true, false, cond, eqb, nat_lt, List, [], ◌∷◌, Some, length, take, slice_get, map, count_by, All, refl, ap, sym, subst, ◌∙◌, ⊎_elim, arith, eq-eqb}
 use Rattle.std.proofs.lemmas.List.Elements.{All-head, All-tail}
 use Rattle.std.proofs.lemmas.List.Sums.{sum_by-cons}
 use Rattle.std.proofs.lemmas.Bool.{cases_eq, ne_eqb}
@@ -9,7 +9,7 @@ use Rattle.mv_isa.specs.declared.labelled.Labelled.{Labelled}
 use Rattle.mv_isa.specs.declared.labelled.Line.{Line}
 use Rattle.mv_isa.specs.declared.labelled.Line.TheVariants.{Word, Label, Jump, Branch, Entry, Slot, Point}
 use Rattle.mv_isa.specs.Code.{is_label}
-use Rattle.mv_linker.specs.Linked.{own, relabelled, function_part, function_parts, label_count, NamesAreThere, IsFunction}
+use Rattle.mv_linker.specs.Linked.{entry_label, trap_label, shared, own, relabelled, function_part, function_parts, label_count, NamesAreThere, IsFunction}
 use Rattle.mv_isa.proofs.Common.{count_append}
 
 pub count_cons : (m : ℕ) (x : Line) (xs : List Line) → count_by (is_label m) (x ∷ xs) ≡ as_word (is_label m x) + count_by (is_label m) xs
@@ -26,12 +26,31 @@ unmarked m l ne = ap as_word (ne_eqb l m ne)
 pub own_is : (first count l : ℕ) → l < count → own first count l ≡ first + l
 own_is first count l below =
     let test : nat_lt l count ≡ true = grind (arith, nat_tests) in
-    ap (λ b. cond b (first + l) l) test
+    ap (λ b. cond b (first + l) (shared l)) test
 
-pub own_stays : (first count l : ℕ) → count ≤ l → own first count l ≡ l
-own_stays first count l above =
+own_shared : (first count l : ℕ) → count ≤ l → own first count l ≡ shared l
+own_shared first count l above =
     let test : nat_lt l count ≡ false = grind (arith, nat_tests) in
-    ap (λ b. cond b (first + l) l) test
+    ap (λ b. cond b (first + l) (shared l)) test
+
+-- the label of a stub stays
+pub own_stays : (first count l : ℕ) → count ≤ l → trap_label 0 ≤ l → own first count l ≡ l
+own_stays first count l above stub =
+    let entry : nat_lt l (entry_label 0) ≡ false = grind (arith, nat_tests) in
+    let test : nat_lt l (trap_label 0) ≡ false = grind (arith, nat_tests) in
+    own_shared first count l above
+    ∙ ap (λ b. cond b l (cond (nat_lt l (trap_label 0)) (l - entry_label 0) l)) entry
+    ∙ ap (λ b. cond b (l - entry_label 0) l) test
+
+-- the label of an entry becomes the number of its function
+pub own_entry : (first count f : ℕ) → count ≤ entry_label f → entry_label f < trap_label 0 → own first count (entry_label f) ≡ f
+own_entry first count f above below =
+    let entry : nat_lt (entry_label f) (entry_label 0) ≡ false = grind (arith, nat_tests) in
+    let test : nat_lt (entry_label f) (trap_label 0) ≡ true = grind (arith, nat_tests) in
+    own_shared first count (entry_label f) above
+    ∙ ap (λ b. cond b (entry_label f) (cond (nat_lt (entry_label f) (trap_label 0)) (entry_label f - entry_label 0) (entry_label f))) entry
+    ∙ ap (λ b. cond b (entry_label f - entry_label 0) (entry_label f)) test
+    ∙ omega arith
 
 -- an own label stands after the renaming where it stood before
 mark_own : (first l m : ℕ) → as_word (eqb (first + l) (first + m)) ≡ as_word (eqb l m)

@@ -1,5 +1,5 @@
 -- The linked lines keep the assembler's condition.
-use Rattle.std.proofs.Common.{◌≡◌, ℕ, zero, suc, ◌+◌, ◌-◌, ◌<◌, ◌≤◌, ◌++◌, List, [], ◌∷◌, Some, length, take, slice_get, map, count_by, All, Bool, true, false, cond, eqb, pos, negsuc, refl, sym, subst, ⊎_elim, arith, rules}
+use Rattle.std.proofs.Common.{◌≡◌, ℕ, zero, suc, ◌+◌, ◌-◌, ◌<◌, ◌≤◌, ◌++◌, List, [], ◌∷◌, Some, length, take, slice_get, map, count_by, All, Bool, true, false, cond, eqb, pos, negsuc, refl, sym, subst, ap, ◌∙◌, ◌⊎◌, ⊎_elim, arith, rules}
 use Rattle.std.proofs.lemmas.List.{length-append}
 use Rattle.std.proofs.lemmas.List.Elements.{All-nil, All-cons, All-append, All-map, All-head, All-tail, All-from_recursion}
 use Rattle.mv_num.specs.Words.{as_word}
@@ -9,8 +9,8 @@ use Rattle.mv_isa.specs.declared.labelled.Line.{Line}
 use Rattle.mv_isa.specs.declared.labelled.Line.TheVariants.{Word, Label, Jump, Branch, Entry, Slot, Point}
 use Rattle.mv_isa.specs.Code.{is_label, StandsOnce, TargetStands, LineFits, CodeFits}
 use Rattle.mv_linker.specs.declared.parts.Parts.{Parts}
-use Rattle.mv_linker.specs.Linked.{function_variants, variant_codes, codes, trap_label, check_label, commit_label, own, relabelled, start_lines, trap_lines, commit_instrs, commit_lines, unless_lines, check_lines, check_lines_where, stub_lines, has_pointers, function_part, function_parts, linked_lines, label_count, first_label, IsStubLabel, IsOwnLabel, IsTarget, NamesAreThere, IsFunction, AreParts}
-use Rattle.mv_linker.proofs.Counting.{count_cons, unmarked, own_is, own_stays, label_count_more, labels_within, parts_other, parts_entry, parts_own}
+use Rattle.mv_linker.specs.Linked.{function_variants, variant_codes, codes, entry_label, trap_label, label_limit, check_label, commit_label, own, relabelled, start_lines, trap_lines, commit_instrs, commit_lines, unless_lines, check_lines, check_lines_where, stub_lines, has_pointers, function_part, function_parts, linked_lines, label_count, first_label, IsStubLabel, IsEntryLabel, IsOwnLabel, IsTarget, NamesAreThere, IsFunction, AreParts}
+use Rattle.mv_linker.proofs.Counting.{count_cons, unmarked, own_is, own_stays, own_entry, label_count_more, labels_within, parts_other, parts_entry, parts_own}
 use Rattle.mv_isa.proofs.Common.{count_append}
 
 -- ---- labels of the stubs
@@ -90,9 +90,12 @@ stub_above l is = ⊎_elim (λ (trap : (trap_label 1 ≤ l) × (l ≤ trap_label
 
 -- ---- labels that stand once in the linked lines
 
+pub within_all : (parts : Parts) → length parts.functions ≤ length (codes parts)
+within_all parts = omega (arith, length-append parts.functions (variant_codes (function_variants parts.attributed)))
+
 -- each function is among the codes
 pub within_codes : (parts : Parts) (f : ℕ) → f < length parts.functions → f < length (codes parts)
-within_codes parts f below = omega (arith, length-append parts.functions (variant_codes (function_variants parts.attributed)))
+within_codes parts f below = omega (arith, within_all parts)
 
 module _ (parts : Parts) (are : AreParts parts) where
   counted : (m : ℕ) → count_by (is_label m) (linked_lines parts)
@@ -163,19 +166,32 @@ module _ (parts : Parts) (are : AreParts parts) where
 
 -- ---- what lines name stands once
 
-module _ (whole : List Line) (n : ℕ) (checks : Bool) (entries : (f : ℕ) → f < n → StandsOnce whole f) (stubs : (l : ℕ) → IsStubLabel l → StandsOnce whole l)
+module _ (whole : List Line) (n : ℕ) (checks : Bool) (few : n ≤ label_limit) (entries : (f : ℕ) → f < n → StandsOnce whole f)
+    (stubs : (l : ℕ) → IsStubLabel l → StandsOnce whole l)
     (check : checks ≡ true → StandsOnce whole check_label) where
-  module _ (first : ℕ) (code : Labelled) (owns : (l : ℕ) → IsOwnLabel code l → StandsOnce whole (first + l)) (room : code.labels ≤ trap_label 1) where
+  module _ (first : ℕ) (code : Labelled) (owns : (l : ℕ) → IsOwnLabel code l → StandsOnce whole (first + l)) (room : code.labels ≤ label_limit) where
     target_once : (l : ℕ) → IsTarget code l → StandsOnce whole (own first code.labels l)
     target_once l is =
         ⊎_elim (λ (mine : IsOwnLabel code l). subst (StandsOnce whole) (sym (own_is first code.labels l mine.0)) (owns l mine))
-        (λ (stub : IsStubLabel l). subst (StandsOnce whole) (sym (own_stays first code.labels l (omega (arith, stub_above l stub)))) (stubs l stub))
+        (λ (stub : IsStubLabel l). let above = stub_above l stub in
+        subst (StandsOnce whole) (sym (own_stays first code.labels l (omega (arith, above)) (omega (arith, above)))) (stubs l stub))
+        is
+
+    jump_once : (l : ℕ) → IsTarget code l ⊎ IsEntryLabel n l → StandsOnce whole (own first code.labels l)
+    jump_once l is =
+        ⊎_elim (target_once l)
+        (λ (entry : IsEntryLabel n l).
+        let f = l - entry_label 0 in
+        let l_is : entry_label f ≡ l = omega (arith, entry.0) in
+        let same = own_entry first code.labels f (omega arith) (omega (arith, entry.0, entry.1)) in
+        let e : own first code.labels l ≡ f = ap (own first code.labels) (sym l_is) ∙ same in
+        subst (StandsOnce whole) (sym e) (entries f (omega (arith, entry.0, entry.1))))
         is
 
     line_target : (x : Line) → NamesAreThere n checks code x → TargetStands whole (relabelled first code.labels x)
     line_target (Word instr) h = tt
     line_target (Label l) h = tt
-    line_target (Jump rd l) h = target_once l h
+    line_target (Jump rd l) h = jump_once l h
     line_target (Branch funct3 rs1 rs2 l) h = target_once l h
     line_target (Entry rd f) h = entries f h
     line_target (Slot f) h = entries f h
@@ -186,7 +202,7 @@ module _ (whole : List Line) (n : ℕ) (checks : Bool) (entries : (f : ℕ) → 
         All-cons (TargetStands whole) (Label f) (map (relabelled first code.labels) code.items) tt
         (All-map (TargetStands whole) (relabelled first code.labels) code.items (λ k d l. line_target _ (fun.names k d l)))
 
-  parts_targets : (functions : List Labelled) (f first : ℕ) → All (IsFunction n checks) functions → label_count functions ≤ trap_label 1
+  parts_targets : (functions : List Labelled) (f first : ℕ) → All (IsFunction n checks) functions → label_count functions ≤ label_limit
       → ((k : ℕ) (code : Labelled) → slice_get functions k ≡ Some code → (l : ℕ) → IsOwnLabel code l → StandsOnce whole (first + label_count (take k functions) + l))
       → All (TargetStands whole) (function_parts f first functions)
   parts_targets [] f first all room owns = All-nil (TargetStands whole)
@@ -247,7 +263,7 @@ check_fields : All LineFits check_lines
 check_fields = All-from_recursion LineFits check_lines (search rules)
 
 start_targets : (whole : List Line) (main : ℕ) → StandsOnce whole main → All (TargetStands whole) (start_lines main)
-start_targets whole main once = All-from_recursion (TargetStands whole) (start_lines main) (tt, (tt, (once, (tt, (tt, tt)))))
+start_targets whole main once = All-from_recursion (TargetStands whole) (start_lines main) (tt, (tt, (tt, (tt, (tt, (tt, (once, (tt, (tt, tt)))))))))
 
 trap_targets : (whole : List Line) (c : ℕ) → c ≤ 4 → All (TargetStands whole) (trap_lines c)
 trap_targets whole c le = All-from_recursion (TargetStands whole) (trap_lines c) (tt, (tt, (tt, (tt, tt))))
@@ -274,5 +290,5 @@ lines_fit parts are =
     All-append (TargetStands whole) (stub_lines parts.main (has_pointers parts)) rest
     (stubs_all (TargetStands whole) parts.main (start_targets whole parts.main (entries parts.main are.main)) (trap_targets whole) (commit_targets whole)
     (check_targets whole (trap_once parts are 3 (omega arith) (omega arith)) (trap_once parts are 4 (omega arith) (omega arith))) (has_pointers parts))
-    (parts_targets whole n (has_pointers parts) entries (stub_target parts are) (check_once parts are) (codes parts) 0 m are.functions (omega (arith, are.labels)) (own_once parts are)) in
+    (parts_targets whole n (has_pointers parts) (omega (arith, are.labels, within_all parts)) entries (stub_target parts are) (check_once parts are) (codes parts) 0 m are.functions (omega (arith, are.labels)) (own_once parts are)) in
     record { fields = λ k l. fields k (Label 0) l; targets = λ k l. targets k (Label 0) l }

@@ -9,7 +9,7 @@ use Rattle.mv_linker.specs.declared.joined.Joined.{Joined}
 use Rattle.mv_linker.specs.declared.parts.Parts.{Parts}
 use Rattle.mv_linker.specs.declared.parts.PartFunction.{PartFunction}
 use Rattle.mv_linker.specs.declared.parts.PartVariant.{PartVariant}
-use Rattle.mv_linker.specs.Linked.{codes, function_variants, variant_codes, relabelled, stub_count, stub_lines, has_pointers, function_part, function_parts, label_count, line_count, trap_label, IsJoined}
+use Rattle.mv_linker.specs.Linked.{codes, function_variants, variant_codes, relabelled, stub_count, stub_lines, has_pointers, function_part, function_parts, label_count, line_count, trap_label, label_limit, IsJoined}
 use Rattle.mv_linker.specs.Joining.{with_code, with_codes}
 use Rattle.mv_linker.proofs.Counting.{label_count_more}
 
@@ -137,7 +137,7 @@ pub record HasNumbers (parts : Parts) (functions : Joined) : Type 0 where
   pub entries : length functions.entries + length (variant_codes (function_variants parts.attributed)) < trap_label 1
   pub labels : functions.code.labels + label_count (variant_codes (function_variants parts.attributed)) < trap_label 1
 
-pub numbers_left : (parts : Parts) → length (codes parts) + label_count (codes parts) < trap_label 1 → (start functions : Joined) → start ≡ begun parts →
+pub numbers_left : (parts : Parts) → length (codes parts) + label_count (codes parts) < label_limit → (start functions : Joined) → start ≡ begun parts →
     functions ≡ with_codes start parts.functions → HasNumbers parts functions
 numbers_left parts few start functions start_is functions_are =
     let variants = variant_codes (function_variants parts.attributed) in

@@ -33,17 +33,17 @@ module _ (main : ℕ) (checks : Bool) (rest : List Line) where
 
   trap_stands : (c : ℕ) → 1 ≤ c → c ≤ 4 → StandFrom (stub_lines main checks ++ rest) (trap_index c) (trap_lines c)
   trap_stands zero from to = absurd (omega arith)
-  trap_stands (suc zero) from to = stand_in (start_lines main) (trap_lines 1) ((trap_lines 2 ++ (trap_lines 3 ++ (trap_lines 4 ++ last))) ++ rest) 5 refl
-  trap_stands (suc (suc zero)) from to = stand_in (start_lines main ++ trap_lines 1) (trap_lines 2) ((trap_lines 3 ++ (trap_lines 4 ++ last)) ++ rest) 9 refl
-  trap_stands (suc (suc (suc zero))) from to = stand_in (start_lines main ++ (trap_lines 1 ++ trap_lines 2)) (trap_lines 3) ((trap_lines 4 ++ last) ++ rest) 13 refl
-  trap_stands (suc (suc (suc (suc zero)))) from to = stand_in (start_lines main ++ (trap_lines 1 ++ (trap_lines 2 ++ trap_lines 3))) (trap_lines 4) (last ++ rest) 17 refl
+  trap_stands (suc zero) from to = stand_in (start_lines main) (trap_lines 1) ((trap_lines 2 ++ (trap_lines 3 ++ (trap_lines 4 ++ last))) ++ rest) 9 refl
+  trap_stands (suc (suc zero)) from to = stand_in (start_lines main ++ trap_lines 1) (trap_lines 2) ((trap_lines 3 ++ (trap_lines 4 ++ last)) ++ rest) 13 refl
+  trap_stands (suc (suc (suc zero))) from to = stand_in (start_lines main ++ (trap_lines 1 ++ trap_lines 2)) (trap_lines 3) ((trap_lines 4 ++ last) ++ rest) 17 refl
+  trap_stands (suc (suc (suc (suc zero)))) from to = stand_in (start_lines main ++ (trap_lines 1 ++ (trap_lines 2 ++ trap_lines 3))) (trap_lines 4) (last ++ rest) 21 refl
   trap_stands (suc (suc (suc (suc (suc c))))) from to = absurd (omega arith)
 
   commit_stands : StandFrom (stub_lines main checks ++ rest) commit_index commit_lines
-  commit_stands = stand_in (start_lines main ++ (trap_lines 1 ++ (trap_lines 2 ++ (trap_lines 3 ++ trap_lines 4)))) commit_lines (check_lines_where checks ++ rest) 21 refl
+  commit_stands = stand_in (start_lines main ++ (trap_lines 1 ++ (trap_lines 2 ++ (trap_lines 3 ++ trap_lines 4)))) commit_lines (check_lines_where checks ++ rest) 25 refl
 
 check_stands : (main : ℕ) (checks : Bool) (rest : List Line) → checks ≡ true → StandFrom (stub_lines main checks ++ rest) check_index check_lines
-check_stands main true rest e = stand_in (start_lines main ++ (trap_lines 1 ++ (trap_lines 2 ++ (trap_lines 3 ++ (trap_lines 4 ++ commit_lines))))) check_lines rest 34 refl
+check_stands main true rest e = stand_in (start_lines main ++ (trap_lines 1 ++ (trap_lines 2 ++ (trap_lines 3 ++ (trap_lines 4 ++ commit_lines))))) check_lines rest 38 refl
 check_stands main false rest e = absurd (let bad : ⊥ = cc in bad)
 
 -- ---- functions

@@ -111,7 +111,7 @@ module _ (ns : List ℕ) where
   lines_call parts all =
       All-append (CallsAmong ns) (stub_lines parts.main (has_pointers parts)) (function_parts 0 (length (codes parts)) (codes parts))
       (stubs_all (CallsAmong ns) parts.main
-      (All-from_recursion (CallsAmong ns) (start_lines parts.main) (tt, (tt, (tt, (tt, (tt, tt))))))
+      (All-from_recursion (CallsAmong ns) (start_lines parts.main) (tt, (tt, (tt, (tt, (tt, (tt, (tt, (tt, (tt, tt))))))))))
       (λ c le. All-from_recursion (CallsAmong ns) (trap_lines c) (tt, (tt, (tt, (tt, tt)))))
       (All-from_recursion (CallsAmong ns) commit_lines (tt, (tt, (tt, (tt, (tt, (tt, (tt, (tt, (tt, (tt, (tt, (tt, (tt, tt))))))))))))))
       (All-from_recursion (CallsAmong ns) check_lines (tt, (tt, (tt, (tt, (tt, (tt, (tt, tt)))))))) (has_pointers parts))
@@ -131,7 +131,7 @@ module _ (ns : List ℕ) where
   lines_through parts all =
       All-append (GoesThrough ns) (stub_lines parts.main (has_pointers parts)) (function_parts 0 (length (codes parts)) (codes parts))
       (stubs_all (GoesThrough ns) parts.main
-      (All-from_recursion (GoesThrough ns) (start_lines parts.main) (tt, (tt, (tt, (tt, (tt, tt))))))
+      (All-from_recursion (GoesThrough ns) (start_lines parts.main) (tt, (tt, (tt, (tt, (tt, (tt, (tt, (tt, (tt, tt))))))))))
       (λ c le. All-from_recursion (GoesThrough ns) (trap_lines c) (tt, (tt, (tt, (tt, tt)))))
       (All-from_recursion (GoesThrough ns) commit_lines (tt, (tt, (tt, (tt, (tt, (tt, (tt, (tt, (tt, (tt, (tt, (tt, (tt, tt))))))))))))))
       (All-from_recursion (GoesThrough ns) check_lines (tt, (tt, (tt, (tt, (tt, (tt, (tt, tt)))))))) (has_pointers parts))

@@ -256,24 +256,24 @@ module _ (parts : Parts) (are : AreParts parts) (tables : FitTables parts) (sizi
     check_at : entry check_label ≡ at (check_index + 1)
     check_at =
         let stands = check_law parts are checks in
-        let end : at 35 ≡ at 34 = stub_stands 0 (omega arith) in
+        let end : at (check_index + 1) ≡ at check_index = stub_stands 0 (omega arith) in
         under.stands.labels check_index check_label (omega (arith, stub_within)) (stub_line 0 (omega arith)) stands.label ∙ sym end
 
     depth_at : at (check_index + 3) ≡ entry check_label + 8
     depth_at =
-        let branch : at 36 ≡ at 35 + 4 = (stub_stands 1 (omega arith)).1 in
-        let jump : at 37 ≡ at 36 + 4 = (stub_stands 2 (omega arith)).end_is in
+        let branch : at (check_index + 2) ≡ at (check_index + 1) + 4 = (stub_stands 1 (omega arith)).1 in
+        let jump : at (check_index + 3) ≡ at (check_index + 2) + 4 = (stub_stands 2 (omega arith)).end_is in
         omega (arith, branch, jump, check_at)
 
     check_in_text : IsInText image (entry check_label)
     check_in_text =
         subst (IsInText image) (sym check_at)
-        (in_text parts are sizing words fits under image refl 35 (omega (arith, stub_within)) (omega (arith, ap least_words (stub_line 1 (omega arith)))))
+        (in_text parts are sizing words fits under image refl (check_index + 1) (omega (arith, stub_within)) (omega (arith, ap least_words (stub_line 1 (omega arith)))))
 
     depth_in_text : IsInText image (entry check_label + 8)
     depth_in_text =
         subst (IsInText image) depth_at
-        (in_text parts are sizing words fits under image refl 37 (omega (arith, stub_within)) (omega (arith, ap least_words (stub_line 3 (omega arith)))))
+        (in_text parts are sizing words fits under image refl (check_index + 3) (omega (arith, stub_within)) (omega (arith, ap least_words (stub_line 3 (omega arith)))))
 
   -- ---- pointer sites
 

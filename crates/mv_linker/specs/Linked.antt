@@ -1,17 +1,17 @@
 -- What the linker joins: the stubs, and behind them the functions and their variants.
-use Rattle.std.specs.Prelude.{ℕ, ◌+◌, ◌*◌, ◌<◌, ◌≤◌, ◌≡◌, ◌⊎◌, pos, negsuc, Bool, true, nat_lt, if◌then◌else◌, List, [], ◌∷◌, ◌++◌, length, take, map, slice_index, All, sum_by}
+use Rattle.std.specs.Prelude.{ℕ, ◌+◌, ◌-◌, ◌*◌, ◌<◌, ◌≤◌, ◌≡◌, ◌⊎◌, pos, negsuc, Bool, true, nat_lt, if◌then◌else◌, List, [], ◌∷◌, ◌++◌, length, take, map, slice_index, All, sum_by}
 use Rattle.std.specs.List.{flat_map}
-use Rattle.mv_num.specs.Regions.{plan_upper}
+use Rattle.mv_num.specs.Regions.{plan_upper, gp_value, tp_value}
 use Rattle.mv_bindings.specs.Traps.{depth_limit, null_call, call_too_deep}
 use Rattle.mv_isa.specs.declared.instr.Instr.{Instr}
 use Rattle.mv_isa.specs.declared.instr.Instr.TheVariants.{Lui, Jal, Jalr, Beq, Bne, Lw, Sw, Addi, FenceI, Ecall}
 use Rattle.mv_isa.specs.declared.labelled.Labelled.{Labelled}
 use Rattle.mv_isa.specs.declared.labelled.Line.{Line}
 use Rattle.mv_isa.specs.declared.labelled.Line.TheVariants.{Word, Label, Jump, Branch, Entry, Slot, Point}
-pub use Rattle.mv_isa.specs.Labels.{trap_label, check_label, commit_label}
+pub use Rattle.mv_isa.specs.Labels.{entry_label, trap_label, check_label, commit_label}
 use Rattle.mv_isa.specs.Requests as request
-use Rattle.mv_isa.specs.Code.{StandsOnce, LineFits}
-use Rattle.mv_isa.specs.Registers.{x0, ra, sp, t0, t1, t2, a0, a7, s11, t3}
+use Rattle.mv_isa.specs.Code.{StandsOnce, LineFits, upper_part, lower_part}
+use Rattle.mv_isa.specs.Registers.{x0, ra, sp, gp, tp, t0, t1, t2, a0, a7, s11, t3}
 use Rattle.mv_linker.specs.declared.parts.Parts.{Parts}
 use Rattle.mv_linker.specs.declared.parts.PartFunction.{PartFunction}
 use Rattle.mv_linker.specs.declared.parts.PartVariant.{PartVariant}
@@ -35,11 +35,15 @@ codes parts = parts.functions ++ variant_codes (function_variants parts.attribut
 -- ---- labels. In the linked code the label of an entry is the number of its code. Behind those of all codes come the own labels of each in order, and
 -- the labels of the stubs stay as they are.
 
+-- what a label becomes that isn't an own one: the entry of a function becomes its number, and others stay
+abbrev pub shared : ℕ → ℕ
+shared l = if nat_lt l (entry_label 0) then l else (if nat_lt l (trap_label 0) then l - entry_label 0 else l)
+
 -- what a label becomes of a function with so many own labels, which are counted from a first one on
 abbrev pub own : (first count : ℕ) → ℕ → ℕ
-own first count l = if nat_lt l count then first + l else l
+own first count l = if nat_lt l count then first + l else shared l
 
--- a line with its own labels renamed
+-- a line with its labels renamed
 abbrev pub relabelled : (first count : ℕ) → Line → Line
 relabelled first count (Word instr) = Word instr
 relabelled first count (Label l) = Label (own first count l)
@@ -51,9 +55,20 @@ relabelled first count (Point a) = Point a
 
 -- ---- lines
 
--- the stack pointer at the end of the stack, all calls left, a call of a function, and the exit with its result
+-- the stack pointer at the end of the stack, what gp and tp have, and all calls left
+abbrev pub start_instrs : List Instr
+start_instrs =
+    Lui sp (pos plan_upper)
+    ∷ Lui gp (pos (upper_part gp_value))
+    ∷ Addi gp gp (lower_part gp_value)
+    ∷ Lui tp (pos (upper_part tp_value))
+    ∷ Addi tp tp (lower_part tp_value)
+    ∷ Addi s11 x0 (pos depth_limit)
+    ∷ []
+
+-- behind them a call of a function, and the exit with its result
 abbrev pub start_lines : (main : ℕ) → List Line
-start_lines main = Word (Lui sp (pos plan_upper)) ∷ Word (Addi s11 x0 (pos depth_limit)) ∷ Jump ra main ∷ Word (Addi a7 x0 (pos request.exit)) ∷ Word Ecall ∷ []
+start_lines main = map Word start_instrs ++ (Jump ra main ∷ Word (Addi a7 x0 (pos request.exit)) ∷ Word Ecall ∷ [])
 
 -- the stub of a trap: the environment call of its code
 abbrev pub trap_lines : (c : ℕ) → List Line
@@ -136,7 +151,7 @@ stub_count checks = length (stub_lines 0 checks)
 
 -- the index at which the stub of a trap begins, and that of commits, which stands where the stub of one trap more would
 abbrev pub trap_index : (c : ℕ) → ℕ
-trap_index c = 4 * c + 1
+trap_index c = 4 * c + 5
 
 abbrev pub commit_index : ℕ
 commit_index = trap_index 5
@@ -159,15 +174,20 @@ IsStubLabel l = ((trap_label 1 ≤ l) × (l ≤ trap_label 4)) ⊎ (l ≡ commit
 abbrev pub IsOwnLabel : Labelled → ℕ → Type 0
 IsOwnLabel code l = (l < code.labels) × StandsOnce code.items l
 
+-- the label of the entry of one of so many functions
+abbrev pub IsEntryLabel : (functions : ℕ) → ℕ → Type 0
+IsEntryLabel functions l = (entry_label 0 ≤ l) × (l < entry_label functions)
+
 -- a label that a jump or a branch of a function may name
 abbrev pub IsTarget : Labelled → ℕ → Type 0
 IsTarget code l = IsOwnLabel code l ⊎ IsStubLabel l
 
--- a label of a function's code is an own one, and what its lines name is there, among so many functions; a call through a pointer switch wants its stub
+-- A label of a function's code is an own one, and what its lines name is there, among so many functions, whose entries are jumped to; a call through a pointer
+-- switch wants its stub.
 abbrev pub NamesAreThere : (functions : ℕ) (checks : Bool) → Labelled → Line → Type 0
 NamesAreThere functions checks code (Word instr) = Unit {0}
 NamesAreThere functions checks code (Label l) = l < code.labels
-NamesAreThere functions checks code (Jump rd l) = IsTarget code l
+NamesAreThere functions checks code (Jump rd l) = IsTarget code l ⊎ IsEntryLabel functions l
 NamesAreThere functions checks code (Branch funct3 rs1 rs2 l) = IsTarget code l
 NamesAreThere functions checks code (Entry rd f) = f < functions
 NamesAreThere functions checks code (Slot f) = f < functions
@@ -183,12 +203,17 @@ abbrev pub IsDatum : (functions : ℕ) → Datum → Type 0
 IsDatum functions (Number n) = Unit {0}
 IsDatum functions (Function f) = f < functions
 
--- what can be linked: what is named is there, and there are numbers for all labels below those of the stubs
+-- there are as many numbers from the label of the first entry to those of the stubs
+abbrev pub label_limit : ℕ
+label_limit = trap_label 0 - entry_label 0
+
+-- What can be linked: what is named is there, and all labels have numbers below those of entries. So each entry of a function has a label, which is none of the
+-- function's own ones.
 pub record AreParts (parts : Parts) : Type 0 where
   pub main : parts.main < length parts.functions
   pub functions : All (IsFunction (length parts.functions) (has_pointers parts)) (codes parts)
   pub globals : All (IsDatum (length parts.functions)) parts.globals
-  pub labels : length (codes parts) + label_count (codes parts) < trap_label 1
+  pub labels : length (codes parts) + label_count (codes parts) < label_limit
 
 -- the lines of parts, and the index at which each code begins
 pub record IsJoined (parts : Parts) (joined : Joined) : Type 0 where

@@ -6,15 +6,19 @@ use crate::parts::{PartFunction, PartVariant, Parts};
 use mv_bindings::traps::{CALL_TOO_DEEP, DEPTH_LIMIT, NULL_CALL};
 use mv_isa::Instr;
 use mv_isa::labelled::{Labelled, Line};
-use mv_isa::labels::{CHECK, COMMIT, TRAPS};
+use mv_isa::labels::{CHECK, COMMIT, ENTRIES, TRAPS};
 use mv_isa::requests::{EXIT, TRAP};
 use mv_num::list::List;
-use mv_num::regions::PLAN_UPPER;
+use mv_num::regions::{GP_VALUE, PLAN_UPPER, TP_VALUE};
 use std::alloc::{AllocError, Global};
 
 const RA: u8 = 1;
 
 const SP: u8 = 2;
+
+const GP: u8 = 3;
+
+const TP: u8 = 4;
 
 const A0: u8 = 10;
 
@@ -136,21 +140,53 @@ fn push_stubs(items: &mut List<Line>, main: u32, checks: bool) -> Result<(), All
     Ok(())
 }
 
-/// The stub at which a run begins: the stack is empty, and all calls are left. s10, which counts live attributed
-/// functions, is 0 already.
+/// The stub at which a run begins: the stack is empty, gp and tp have what loads and stores go by, and all calls are left. s10,
+/// which counts live attributed functions, is 0 already.
 fn push_start(items: &mut List<Line>, main: u32) -> Result<(), AllocError>
     ensures { OnOk result (items.new ≡ items.old ++ start_lines main) }
 {
-    items.push(Line::Word(Instr::Lui {
-        rd: SP,
-        imm: PLAN_UPPER,
-    }))?;
-    push_number(items, LEFT, DEPTH_LIMIT as i32)?;
+    push_instrs(items, &START_STUB)?;
     items.push(Line::Jump(RA, main))?;
     push_number(items, A7, EXIT as i32)?;
     items.push(Line::Word(Instr::Ecall))?;
     Ok(())
 }
+
+/// What LUI puts into gp and tp, so that what ADDI adds, with its sign, gives their values.
+const GP_UPPER: i32 = ((GP_VALUE + 2048) / 4096) as i32;
+
+const TP_UPPER: i32 = ((TP_VALUE + 2048) / 4096) as i32;
+
+/// What stands before the call of main.
+const START_STUB: [Instr; 6] = [
+    Instr::Lui {
+        rd: SP,
+        imm: PLAN_UPPER,
+    },
+    Instr::Lui {
+        rd: GP,
+        imm: GP_UPPER,
+    },
+    Instr::Addi {
+        rd: GP,
+        rs1: GP,
+        imm: GP_VALUE as i32 - 4096 * GP_UPPER,
+    },
+    Instr::Lui {
+        rd: TP,
+        imm: TP_UPPER,
+    },
+    Instr::Addi {
+        rd: TP,
+        rs1: TP,
+        imm: TP_VALUE as i32 - 4096 * TP_UPPER,
+    },
+    Instr::Addi {
+        rd: LEFT,
+        rs1: 0,
+        imm: DEPTH_LIMIT as i32,
+    },
+];
 
 /// The stub that ends a run by a trap.
 fn push_trap(items: &mut List<Line>, code: u32) -> Result<(), AllocError>
@@ -308,10 +344,16 @@ fn relabelled(first: u32, count: u32, line: Line) -> Line
     }
 }
 
-/// What a label of a function becomes.
+/// What a label of a function becomes: an own one is counted from a first one on, and the entry of a function becomes its number.
 fn own(first: u32, count: u32, label: u32) -> u32
     requires { first + count < 4294967296 }
     ensures { result ≡ own first count label }
 {
-    if label < count { first + label } else { label }
+    if label < count {
+        first + label
+    } else if label < ENTRIES || TRAPS <= label {
+        label
+    } else {
+        label - ENTRIES
+    }
 }

@@ -9,7 +9,7 @@
 //!   `Sites` comes exactly where there are more than 16,384 slots, one of four words counted twice, else `DataLimit`
 //!   exactly where there are more than 262,144 data words, with their number, and else `TextLimit` only where the words
 //!   pass the end of text. Assumed is that main and what the lines and data name are
-//!   there, that fields fit, and that 32 bits number all labels (`AreParts`); and of what goes into tables (`FitTables`),
+//!   there, that fields fit, and that all labels have numbers below those of entries (`AreParts`); and of what goes into tables (`FitTables`),
 //!   that names are identifiers, attributed functions and the switches of each ascend, a switch has 1 to 16 values of its
 //!   type, a function 1 to 64 guard rows, each a range of such values, that the code of an attributed function or variant
 //!   begins with words that are no slot, that slots call attributed functions alone and those of four words through

@@ -23,7 +23,7 @@ use mv_num::regions::{DATA_LIMIT, TEXT_START};
 use std::alloc::{AllocError, Global};
 
 /// Which item of the joined code the stub of calls through pointer switches begins with, where there is one.
-const CHECK_ITEM: usize = 34;
+const CHECK_ITEM: usize = 38;
 
 /// The image of parts. A run of it begins at a stub that calls `main`, with an empty stack and all calls left, and exits
 /// with its result. Its tables say what a commit may patch: the entries of the attributed functions, and as sites all slots.

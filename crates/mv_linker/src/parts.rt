@@ -63,8 +63,9 @@ pub struct PartPointer {
 ///
 /// In the code of a function or variant, entries and slots name functions. Jumps and branches name own labels of the code, each
 /// below its `labels`, the stubs of the traps 1 to 4, and the stub of commits, by the labels of
-/// `mv_isa::labels`: called with the number of the environment call that carries out an order or a poll in a7, it
-/// makes the call, stores the pairs of its plan, executes FENCE.I and returns.
+/// `mv_isa::labels`; and jumps name the entries of functions by theirs. The stub of commits, called with the number of the
+/// environment call that carries out an order or a poll in a7, makes the call, stores the pairs of its plan, executes FENCE.I
+/// and returns.
 #[derive(Drop)]
 pub struct Parts {
     /// The code of all functions.

@@ -18,6 +18,14 @@ data_start = 0x0010_0000
 abbrev pub data_limit : ℕ
 data_limit = 262144
 
+-- what gp has while a program runs: loads and stores reach the first 4,096 bytes of data by it
+abbrev pub gp_value : ℕ
+gp_value = 0x0010_0800
+
+-- what tp has: by it they reach the next 4,096 bytes
+abbrev pub tp_value : ℕ
+tp_value = 0x0010_1800
+
 abbrev pub stack_start : ℕ
 stack_start = 0x0020_0000
 

@@ -16,6 +16,13 @@ pub const DATA_START: u32 = 0x0010_0000;
 /// How many words data may have.
 pub const DATA_LIMIT: usize = 262_144;
 
+/// What gp has while a program runs: it stands 2,048 bytes behind the start of data, so that loads and stores reach the first
+/// 4,096 bytes of data by it.
+pub const GP_VALUE: u32 = DATA_START + 2048;
+
+/// What tp has: by it they reach the next 4,096 bytes.
+pub const TP_VALUE: u32 = GP_VALUE + 4096;
+
 /// The stack.
 pub const STACK_START: u32 = 0x0020_0000;
 

@@ -1,48 +1,49 @@
--- A function whose lowering is renamed and selected has code.
+-- A function has code where its body is selected.
 use Rattle.std.proofs.Common.{◌≡◌, ℕ, ◌<◌, ◌≤◌, min, Bool, slice_get, ap, ◌∙◌, subst, arith}
 use Rattle.mv_ast.specs.declared.program.Program.{Program}
 use Rattle.mv_ast.specs.Counts.{is_attributed}
 use Rattle.mv_isa.specs.declared.labelled.Labelled.{Labelled}
 use Rattle.mv_ir.specs.declared.body.Body.{Body}
-use Rattle.mv_ir.specs.Live.{most_intervals}
 use Rattle.mv_ir.specs.Measures.{deepest}
 use Rattle.mv_ir.specs.WellFormed as ir
 use Rattle.mv_lower_spec.specs.Functions.{lower_function}
 use Rattle.mv_lower_spec.specs.Shape.Law.{LoweredAreShallow, LoweredAreWellFormed}
 use Rattle.mv_source_forms.specs.WellFormed.{IsWellFormed}
 use Rattle.mv_select.specs.Calls.Convention.{frame_limit}
-use Rattle.mv_select.specs.Functions.FunctionCode.{frame_bytes}
 use Rattle.mv_select.specs.Bodies.SelectedBodies.{HasWords}
 use Rattle.mv_select.specs.declared.error.SelectError.{SelectError}
 use Rattle.mv_select.specs.declared.error.SelectError.TheVariants.{Frame, Memory}
 use Rattle.mv_select.specs.Selected as selecting
 use Rattle.mv_select.specs.Selected.{IsSuitable, IsSelected, OnFrame}
-use Rattle.mv_parts.specs.Codes.{IsGeneric, HasCode, PassesFrame, frame_size, greatest_count}
+use Rattle.mv_variants.proofs.OfBound.Generals.{frame_past, frame_within, kept}
+use Rattle.mv_parts.specs.Codes.{IsGeneric, HasCode, PassesFrame, greatest_count}
 
 module _ (shallow : LoweredAreShallow) (formed : LoweredAreWellFormed) (p : Program) (well : IsWellFormed p) (f : ℕ) (body : Body) (generic : IsGeneric p f body)
     (words : HasWords body.code) where
   open generic use {function as g}
 
-  frame_is : frame_bytes body.temps body.arrays ≡ frame_size p g
-  frame_is = ap (λ t. frame_bytes t body.arrays) generic.renamed.temps ∙ ap (λ (b : Body). frame_bytes (most_intervals (lower_function p g)) b.arrays) generic.renamed.changes
+  abbrev lowered : Body
+  lowered = lower_function p g
 
   formed_body : ir.IsWellFormed body
-  formed_body = generic.renamed.well_formed (formed p f g (record { formed = well; there = generic.there }))
+  formed_body = (kept lowered body generic.general).well_formed (formed p f g (record { formed = well; there = generic.there }))
 
   shallow_body : deepest body.code ≤ 4
-  shallow_body = let few = shallow p g in omega (arith, generic.renamed.deepest, few)
+  shallow_body = let few = shallow p g in omega (arith, (kept lowered body generic.general).deepest, few)
 
   pub suitable : IsSuitable body
   suitable = record { formed = formed_body; shallow = shallow_body; orders = words.orders }
 
   pub passes : (named bytes : ℕ) → selecting.PassesFrame f body named bytes → PassesFrame p f named bytes
-  passes named bytes h = record {
-    function = g;
-    there = generic.there;
-    past = subst (λ n. frame_limit < n) frame_is h.past;
-    is_function = h.is_function;
-    count = h.count ∙ ap (λ n. min n greatest_count) frame_is;
-  }
+  passes named bytes h =
+      let same = frame_past lowered body generic.general h.past in
+      record {
+        function = g;
+        there = generic.there;
+        past = subst (λ n. frame_limit < n) same h.past;
+        is_function = h.is_function;
+        count = h.count ∙ ap (λ n. min n greatest_count) same;
+      }
 
   pub refused : (e : SelectError) → OnFrame e (selecting.PassesFrame f body) → OnFrame e (PassesFrame p f)
   refused (Frame named bytes) h = passes named bytes h
@@ -55,5 +56,5 @@ module _ (shallow : LoweredAreShallow) (formed : LoweredAreWellFormed) (p : Prog
         function = g;
         there = generic.there;
         is_code = record { suitable = suitable; selected = subst (λ b. IsSelected b body code) own selected };
-        frame = subst (λ n. n ≤ frame_limit) frame_is selected.frame;
+        frame = frame_within lowered body generic.general selected.frame;
       }

@@ -53,7 +53,7 @@ labels_counted (code ∷ codes) =
     let rest = labels_counted codes in
     omega (arith, rest, sum_by-cons (count_in Labels) code codes, sum_by-cons (λ (c : Labelled). c.labels) code codes)
 
-pub few_labels : (parts : Parts) (n : ℕ) → n ≡ up_to_greatest (count_in_parts Labels parts) → IsTrue (ltb n 4294967290) ↔ HaveFewLabels parts
+pub few_labels : (parts : Parts) (n : ℕ) → n ≡ up_to_greatest (count_in_parts Labels parts) → IsTrue (ltb n 2147483641) ↔ HaveFewLabels parts
 few_labels parts n e =
     let same = labels_counted (codes parts) in
-    (λ is. let below = ltb-true n 4294967290 is in omega (arith, e, same, below), λ few. lt-ltb n 4294967290 (omega (arith, e, same, few)))
+    (λ is. let below = ltb-true n 2147483641 is in omega (arith, e, same, below), λ few. lt-ltb n 2147483641 (omega (arith, e, same, few)))

@@ -17,7 +17,7 @@ use Rattle.mv_variants.specs.declared.variant.Variant.{Variant}
 use Rattle.mv_variants.specs.Sizes.{body_sites, body_words, IsMadeAndSelected}
 use Rattle.mv_variants.specs.Variants.{bodies_of}
 use Rattle.mv_count_code.specs.Fronts as source
-use Rattle.mv_count_code.specs.Sizes.{renamed}
+use Rattle.mv_count_code.specs.Sizes.{general}
 use Rattle.mv_count_code.specs.Texts as texts
 use Rattle.mv_parts.specs.Codes.{AreGenerics, HaveCode}
 use Rattle.mv_parts.specs.Fronts.{all_bodies, IsFront, PassesFront}
@@ -115,7 +115,7 @@ module _ (p : Program) where
           let has = code.each f b c of is in
           subst (λ (h : Function). texts.IsCodeOf p h c) (same_Some has.function g (sym has.there ∙ there)) (record {
             body = b;
-            of = renamed (generics.each f has.function b has.there of);
+            of = general (generics.each f has.function b has.there of);
             suitable = has.is_code.suitable;
             fits = has.is_code.selected.frame;
             attributed = has.function.attributed;

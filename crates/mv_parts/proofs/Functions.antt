@@ -6,12 +6,13 @@ use Rattle.mv_ast.specs.declared.program.Program.{Program}
 use Rattle.mv_ast.specs.declared.program.Function.{Function}
 use Rattle.mv_isa.specs.declared.labelled.Labelled.{Labelled}
 use Rattle.mv_ir.specs.declared.body.Body.{Body}
-use Rattle.mv_ir.specs.Live.{IsWhole, HasTemps}
+use Rattle.mv_ir.specs.Live.{IsWhole}
+use Rattle.mv_ir.specs.WellFormed as ir
 use Rattle.mv_select.specs.Calls.Convention.{frame_limit}
 use Rattle.mv_lower_spec.specs.Functions.{lower_function}
 use Rattle.mv_lower_spec.specs.Shape.Law.{LoweredAreWhole, LoweredAreWellFormed}
 use Rattle.mv_source_forms.specs.WellFormed.{IsWellFormed}
-use Rattle.mv_regalloc.specs.Intervals.{IsRenamed}
+use Rattle.mv_variants.specs.Bound.General.{IsGeneral}
 use Rattle.mv_select.specs.declared.error.SelectError.{SelectError}
 use Rattle.mv_select.specs.declared.error.SelectError.TheVariants.{Frame, Memory}
 use Rattle.mv_select.specs.Selected.{OnFrame}
@@ -39,19 +40,19 @@ module _ (p : Program) where
   pub whole_at : LoweredAreWhole → IsWellFormed p → (i : ℕ) (body : Body) → IsLowered p i body → IsWhole body
   whole_at whole formed i body h = subst IsWhole (sym h.is) (whole p i h.function (record { formed = formed; there = h.there }))
 
-  pub temps_at : LoweredAreWellFormed → IsWellFormed p → (i : ℕ) (body : Body) → IsLowered p i body → HasTemps body
-  temps_at well formed i body h = subst HasTemps (sym h.is) (well p i h.function (record { formed = formed; there = h.there })).temps
+  pub formed_at : LoweredAreWellFormed → IsWellFormed p → (i : ℕ) (body : Body) → IsLowered p i body → ir.IsWellFormed body
+  formed_at well formed i body h = subst ir.IsWellFormed (sym h.is) (well p i h.function (record { formed = formed; there = h.there }))
 
   -- each of some bodies is that of its function
-  abbrev pub EachRenamed : List Body → Type 0
-  EachRenamed bodies = (f : ℕ) (g : Function) (body : Body) → slice_get p.functions f ≡ Some g → slice_get bodies f ≡ Some body → IsRenamed (lower_function p g) body
+  abbrev pub EachGeneral : List Body → Type 0
+  EachGeneral bodies = (f : ℕ) (g : Function) (body : Body) → slice_get p.functions f ≡ Some g → slice_get bodies f ≡ Some body → IsGeneral (lower_function p g) body
 
-  pub renamed_push : (bodies : List Body) → EachRenamed bodies → (i : ℕ) → length bodies ≡ i → (body other : Body) → IsLowered p i body → IsRenamed body other →
-      EachRenamed (bodies ++ other ∷ [])
-  renamed_push bodies each i count body other lowered renamed f g b there is = each_push P bodies other before last f b is g there
+  pub general_push : (bodies : List Body) → EachGeneral bodies → (i : ℕ) → length bodies ≡ i → (body other : Body) → IsLowered p i body → IsGeneral body other →
+      EachGeneral (bodies ++ other ∷ [])
+  general_push bodies each i count body other lowered general f g b there is = each_push P bodies other before last f b is g there
     where
       P : ℕ → Body → Type 0
-      P k y = (h : Function) → slice_get p.functions k ≡ Some h → IsRenamed (lower_function p h) y
+      P k y = (h : Function) → slice_get p.functions k ≡ Some h → IsGeneral (lower_function p h) y
 
       before : (k : ℕ) (y : Body) → slice_get bodies k ≡ Some y → P k y
       before k y at h here = each k h y here at
@@ -59,7 +60,7 @@ module _ (p : Program) where
       last : P (length bodies) other
       last h here =
           let same = same_Some lowered.function h (sym lowered.there ∙ (ap (λ k. slice_get p.functions k) (sym count) ∙ here)) in
-          subst (λ (x : Function). IsRenamed (lower_function p x) other) same (subst (λ x. IsRenamed x other) lowered.is renamed)
+          subst (λ (x : Function). IsGeneral (lower_function p x) other) same (subst (λ x. IsGeneral x other) lowered.is general)
 
   -- ---- code
 
@@ -67,7 +68,7 @@ module _ (p : Program) where
   generic_at bodies are i body below is =
       let g = there_at p.functions i (omega (arith, below, are.one_each)) in
       let here = slice_get-get_or bodies i body below ∙ ap Some (sym is) in
-      record { function = g.0; there = g.1; renamed = are.each i g.0 body g.1 here }
+      record { function = g.0; there = g.1; general = are.each i g.0 body g.1 here }
 
   module _ (bodies : List Body) where
     -- each of some code is that of its body

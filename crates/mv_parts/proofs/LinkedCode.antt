@@ -1,5 +1,5 @@
 -- The code of a body: what its lines name, and how it begins.
-use Rattle.std.proofs.Common.{◌≡◌, ⊎_elim, ℕ, suc, ◌<◌, ◌≤◌, Bool, true, false, nat_lt, List, ◌∷◌, length, get_or, slice_get, All, inl, inr, refl, sym, ap, ◌∙◌, subst, arith}
+use Rattle.std.proofs.Common.{◌≡◌, ◌⊎◌, ⊎_elim, ℕ, suc, ◌<◌, ◌≤◌, Bool, true, false, nat_lt, List, ◌∷◌, length, get_or, slice_get, All, inl, inr, refl, sym, ap, ◌∙◌, subst, arith}
 use Rattle.std.proofs.lemmas.List.Elements.{All-weaker, All-contains, All-contains_itself}
 use Rattle.std.proofs.lemmas.List.{length-map}
 use Rattle.std.proofs.lemmas.Bool.{cases_lt, ltb-true, lt-ltb}
@@ -18,8 +18,8 @@ use Rattle.mv_ir.specs.WellFormed.{has_room}
 use Rattle.mv_lower_spec.specs.Functions.{lower_function, lower_function_code, names_global}
 use Rattle.mv_lower_spec.specs.Shape.Calls.{code_through}
 use Rattle.mv_lower_spec.specs.Shape.Law.{IsFunctionOf, LoweredAreWellFormed}
-use Rattle.mv_lower_names.specs.Laws.{FunctionsAreThere, PointersAreThere, NamesTheSame, RenamingKeepsNames}
-use Rattle.mv_regalloc.specs.Intervals.{IsRenamed}
+use Rattle.mv_lower_names.specs.Laws.{FunctionsAreThere, PointersAreThere}
+use Rattle.mv_num.proofs.Lists.{contains_all}
 use Rattle.mv_select_code.specs.Trees.Rooms.{place_in}
 use Rattle.mv_select_code.specs.Control.Layouts.{size_in}
 use Rattle.mv_select_code.specs.Control.FlowCode.{code_of}
@@ -28,19 +28,21 @@ use Rattle.mv_select.specs.Calls.CallCode.{is_marked}
 use Rattle.mv_select.specs.Functions.FunctionCode.{Shape, plan, function_lines}
 use Rattle.mv_select.specs.Functions.Functions.{shape_of}
 use Rattle.mv_num.specs.Regions.{data_limit}
-use Rattle.mv_select.specs.Bodies.Lines.{NamesThese, IsGoal, LinesAreNamed}
+use Rattle.mv_select.specs.Bodies.Lines.{NamesThese, IsGoal, IsCalled, LinesAreNamed}
 use Rattle.mv_select.proofs.OfBodies.SamePlaces.{known_arrays}
 use Rattle.mv_variants.specs.Bound.Meant.{IsMadeUnder, MadeAreVariants}
+use Rattle.mv_variants.specs.Bound.General.{IsGeneral}
 use Rattle.mv_variants.specs.Bound.Names.{ReadAsWords}
 use Rattle.mv_variants.specs.Bound.Variants.{MadeNameNoMore}
 use Rattle.mv_variants.specs.Bound.Slots.{points_where}
 use Rattle.mv_variants.proofs.OfBound.FewSlots.{marked_attributed}
 use Rattle.mv_variants.proofs.OfBound.Slots.{points_are_calls}
-use Rattle.mv_variants.proofs.OfBound.Variants.{CountsNoMore, renamed_counts_no_more, made_no_more}
+use Rattle.mv_variants.proofs.OfBound.Variants.{CountsNoMore, made_no_more}
+use Rattle.mv_variants.proofs.OfBound.Generals.{kept, general_no_more}
 use Rattle.mv_variants.proofs.OfBound.Weights.{throughs}
-use Rattle.mv_select.specs.Laws.{SelectedIsEncoded, SelectedLabelsAreOwn, SelectedBegins}
+use Rattle.mv_select.specs.Laws.{SelectedIsEncoded, SelectedLabelsAreOwn, IsPlain, SelectedOpens}
 use Rattle.mv_select.specs.Selected.{selected_lines, selected_labels}
-use Rattle.mv_linker.specs.Linked.{IsFunction, IsTarget, NamesAreThere}
+use Rattle.mv_linker.specs.Linked.{IsFunction, IsEntryLabel, IsTarget, NamesAreThere}
 use Rattle.mv_link_data.specs.FirstData.{data_words}
 use Rattle.mv_linker.specs.Tables.{is_point, is_slot, pointer_address, pointer_addresses, BeginsWithWords, CallsAmong, GoesThrough}
 use Rattle.mv_parts.specs.Codes.{IsCodeOf}
@@ -55,12 +57,11 @@ pub record Laws : Type 0 where
   pub there : FunctionsAreThere
   pub pointers : PointersAreThere
   pub well_formed : LoweredAreWellFormed
-  pub keeps : RenamingKeepsNames
   pub name_no_more : MadeNameNoMore
   pub made : MadeAreVariants
   pub encoded : SelectedIsEncoded
   pub labels_own : SelectedLabelsAreOwn
-  pub begins : SelectedBegins
+  pub opens : SelectedOpens
   pub named : LinesAreNamed
 
 -- ---- what bodies name
@@ -112,12 +113,12 @@ module _ (laws : Laws) (p : Program) (few : data_words p ≤ data_limit) (f : �
   marks : (b : Body) → b.marked ≡ (lower_function p g).marked → (k : ℕ) → is_marked b.marked k ≡ true → is_attributed (slice_get p.functions k) ≡ true
   marks b same k e = marked_attributed p g k (subst (λ (ms : List ℕ). is_marked ms k ≡ true) same e)
 
-  pub renamed_names : (b : Body) → IsRenamed (lower_function p g) b → NamesProgram p b
-  renamed_names b renamed =
-      let same : NamesTheSame (lower_function p g) b = subst (NamesTheSame (lower_function p g)) (sym renamed.changes) (laws.keeps renamed.numbers b.temps (lower_function p g)) in record {
-        functions = subst (All (λ k. k < length p.functions)) (sym same.functions) (laws.there p f g of_program);
+  pub general_names : (b : Body) → IsGeneral (lower_function p g) b → NamesProgram p b
+  general_names b general =
+      let same = kept (lower_function p g) b general in record {
+        functions = contains_all (λ k. k < length p.functions) (functions (lower_function p g).code) (functions b.code) same.names.functions (laws.there p f g of_program);
         marked = marks b same.marked;
-        points = points_here b same.rooms (λ layer m of. renamed_counts_no_more of (lower_function p g) b renamed);
+        points = points_here b same.rooms (λ layer m of. general_no_more (lower_function p g) b general of);
       }
 
   pub made_names : (ps : List (ℕ × ℕ)) → ReadAsWords ps → (b : Body) → IsMadeUnder ps (lower_function p g) b → NamesProgram p b
@@ -131,6 +132,27 @@ module _ (laws : Laws) (p : Program) (few : data_words p ≤ data_limit) (f : �
       }
 
 -- ---- the code of a body
+
+plain_line : (line : Line) → IsPlain line → (1 ≤ least_words line) × (is_slot line ≡ false) × (is_point line ≡ false)
+plain_line (Word i) h = (omega arith, refl, refl)
+plain_line (Label l) h = absurd h
+plain_line (Jump rd l) h = (omega arith, refl, refl)
+plain_line (Branch funct3 rs1 rs2 l) h = (omega arith, refl, refl)
+plain_line (Entry rd f) h = (omega arith, refl, refl)
+plain_line (Slot f) h = absurd h
+plain_line (Point a) h = absurd h
+
+first_is : (code : Labelled) (rest : List Line) (line : Line) → code.items ≡ line ∷ rest → IsPlain line → BeginsWithWords code
+first_is code rest line e plain =
+    let is = plain_line line plain in record {
+      some = let size : least_words (line_at code.items 0) ≡ least_words line = ap (λ ls. least_words (line_at ls 0)) e in omega (arith, size, is.0);
+      no_slot = ap (λ ls. is_slot (line_at ls 0)) e ∙ is.1;
+      no_point = ap (λ ls. is_point (line_at ls 0)) e ∙ is.2;
+    }
+
+-- selected code begins with words that are no slot
+pub begins_with_words : SelectedOpens → (attributed : Bool) (b : Body) (code : Labelled) → code.items ≡ selected_lines attributed b → BeginsWithWords code
+begins_with_words law attributed b code is = let opens = law attributed b in first_is code opens.1 opens.0 (is ∙ opens.2) opens.3
 
 -- whether there are pointer switches
 abbrev pub has_some : Program → Bool
@@ -171,11 +193,16 @@ module _ (laws : Laws) (p : Program) (attributed : Bool) (b : Body) (code : Labe
   goal l (inl own) = inl (below l own, once l (below l own))
   goal l (inr trap) = inr (inl trap)
 
+  -- what is called is the stub of commits, or the entry of a function
+  called : (l : ℕ) → IsCalled (is_function p) l → IsTarget code l ⊎ IsEntryLabel (length p.functions) l
+  called l (inl commit) = inl (inr (inr commit))
+  called l (inr entry) = let here = entry.1 in let few = ltb-true entry.0 (length p.functions) entry.2 in inr (omega (arith, here), omega (arith, here, few))
+
   there : (line : Line) → Named line → GoesThrough addresses line → NamesAreThere (length p.functions) (has_some p) code line
   there (Word i) h g = tt
   there (Label l) h g = below l h
-  there (Jump rd l) (inl jump) g = goal l jump.1
-  there (Jump rd l) (inr call) g = inr (inr call.1)
+  there (Jump rd l) (inl jump) g = inl (goal l jump.1)
+  there (Jump rd l) (inr call) g = called l call.1
   there (Branch funct3 rs1 rs2 l) h g = goal l h
   there (Entry rd f) h g = ltb-true f (length p.functions) h
   there (Slot f) h g = ltb-true f (length p.functions) h.0
@@ -192,20 +219,13 @@ module _ (laws : Laws) (p : Program) (attributed : Bool) (b : Body) (code : Labe
   slot (Slot f) h = number_of p f (names.marked f h.1)
   slot (Point a) h = tt
 
-  first_is : (rest : List Line) (line : Line) → code.items ≡ line ∷ rest → least_words line ≡ 1 → is_slot line ≡ false → is_point line ≡ false → BeginsWithWords code
-  first_is rest line e words slotless pointless = record {
-    some = let size : least_words (line_at code.items 0) ≡ 1 = ap (λ ls. least_words (line_at ls 0)) e ∙ words in omega (arith, size);
-    no_slot = ap (λ ls. is_slot (line_at ls 0)) e ∙ slotless;
-    no_point = ap (λ ls. is_point (line_at ls 0)) e ∙ pointless;
-  }
-
   pub fits_code : FitsCode p code
   fits_code = record {
     linkable = record {
       fields = subst (All LineFits) (sym is.selected.items) (laws.encoded attributed b is.suitable is.selected.frame).0;
       names = subst (All (NamesAreThere (length p.functions) (has_some p) code)) (sym is.selected.items) (λ i line below. there (get_or (selected_lines attributed b) i line) (lines_named i line below) (lines_through i line below));
     };
-    begins = let (rest, e) = laws.begins attributed b in first_is rest _ (is.selected.items ∙ e) refl refl refl;
+    begins = begins_with_words laws.opens attributed b code is.selected.items;
     slots = subst (All (CallsAmong (attributed_numbers p))) (sym is.selected.items) (All-weaker Named (CallsAmong (attributed_numbers p)) slot (selected_lines attributed b) lines_named);
     through = subst (All (GoesThrough addresses)) (sym is.selected.items) lines_through;
   }

@@ -15,7 +15,7 @@ use Rattle.mv_ir.specs.declared.body.Body.{Body}
 use Rattle.mv_variants.specs.Bound.Led.{BodiesAreMade}
 use Rattle.mv_variants.specs.Bound.Slots.{points, sites, slots}
 use Rattle.mv_variants.specs.Bound.Tables.{GroupsFit}
-use Rattle.mv_count_code.specs.Sizes.{renamed, bound}
+use Rattle.mv_count_code.specs.Sizes.{general, bound}
 use Rattle.mv_count_code.specs.Texts as source
 use Rattle.mv_linker.specs.declared.parts.PartFunction.{PartFunction}
 use Rattle.mv_linker.specs.declared.parts.PartVariant.{PartVariant}
@@ -88,7 +88,7 @@ variant_sum (a ∷ attributed) =
 own_is : (p : Program) (f : ℕ) (code : Labelled) → (h : IsOwnCode p f code) → source.IsCodeOf p h.function code
 own_is p f code h = record {
   body = h.body;
-  of = renamed h.renamed;
+  of = general h.general;
   suitable = h.is_code.suitable;
   fits = h.is_code.selected.frame;
   attributed = h.function.attributed;

@@ -8,7 +8,7 @@ use Rattle.mv_ast.specs.Switches.{attributed_functions}
 use Rattle.mv_isa.specs.declared.labelled.Labelled.{Labelled}
 use Rattle.mv_ir.specs.declared.body.Body.{Body}
 use Rattle.mv_lower_spec.specs.Functions.{lower_function}
-use Rattle.mv_regalloc.specs.Intervals.{IsRenamed}
+use Rattle.mv_variants.specs.Bound.General.{IsGeneral}
 use Rattle.mv_linker.specs.declared.parts.PartFunction.{PartFunction}
 use Rattle.mv_linker.specs.declared.parts.PartVariant.{PartVariant}
 use Rattle.mv_variants.specs.declared.variant.Variant.{Variant}
@@ -26,7 +26,7 @@ pub record IsOwnCode (p : Program) (f : ℕ) (code : Labelled) : Type 0 where
   pub function : Function
   pub there : slice_get p.functions f ≡ Some function
   pub body : Body
-  pub renamed : IsRenamed (lower_function p function) body
+  pub general : IsGeneral (lower_function p function) body
   pub is_code : IsCodeOf function.attributed body code
 
 -- an attributed function that is linked, by its place among these, and its variants
@@ -63,7 +63,7 @@ module _ (p : Program) (bodies : List Body) (tables : List (List Variant)) (func
       let bodies_count = are.generics.one_each in
       let (b, of) = there_at bodies f (omega (arith, within, count, bodies_count)) in
       let has = are.code.each f b code of is in
-      record { function = has.function; there = has.there; body = b; renamed = are.generics.each f has.function b has.there of; is_code = has.is_code }
+      record { function = has.function; there = has.there; body = b; general = are.generics.each f has.function b has.there of; is_code = has.is_code }
 
   pub part_count : length attributed ≡ length (attributed_numbers p)
   part_count = sym (length-map attributed (λ (a : PartFunction). a.function)) ∙ ap length are.variants.numbers

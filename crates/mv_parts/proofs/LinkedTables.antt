@@ -39,7 +39,7 @@ use Rattle.mv_parts.specs.Laws.{PartsCanBeLinked}
 use Rattle.mv_parts.specs.Numbers.{attributed_numbers}
 use Rattle.mv_parts.specs.Parts.{ArePartVariants, AreCodesOf}
 use Rattle.mv_parts.specs.Switches.{part_switch, part_switches, part_pointer, part_pointers, part_targets}
-use Rattle.mv_parts.proofs.LinkedCode.{Laws, FitsCode, fits_code, has_some, renamed_names, made_names}
+use Rattle.mv_parts.proofs.LinkedCode.{Laws, FitsCode, fits_code, has_some, general_names, made_names}
 use Rattle.mv_parts.proofs.LinkedLists.{all_variants, flat_is_joined}
 use Rattle.mv_parts.proofs.Lists.{all_by_index, one_of_all}
 use Rattle.mv_parts.proofs.LinkedNames.{name_fits}
@@ -65,7 +65,7 @@ first_values p = All-weaker (λ (g : Global). All (IsFirstValue p g.ctype) g.fir
 module _ (laws : Laws) (made : BodiesAreMade) (p : Program) (formed : IsWellFormed p) (few : data_words p ≤ data_limit) where
   own_fits : (f : ℕ) (code : Labelled) → IsOwnCode p f code → FitsCode p code
   own_fits f code h =
-      fits_code laws p h.function.attributed h.body code h.is_code (renamed_names laws p few f h.function (record { formed = formed; there = h.there }) h.body h.renamed)
+      fits_code laws p h.function.attributed h.body code h.is_code (general_names laws p few f h.function (record { formed = formed; there = h.there }) h.body h.general)
 
   variant_fits : (n : ℕ) (a : PartFunction) → (h : IsAttributedPart p n a) → (j : ℕ) (part : PartVariant) → slice_get a.variants j ≡ Some part → FitsCode p part.code
   variant_fits n a h j part is =

@@ -6,27 +6,27 @@ use Rattle.mv_isa.specs.declared.labelled.Labelled.{Labelled}
 use Rattle.mv_ir.specs.declared.body.Body.{Body}
 use Rattle.mv_ir.specs.Live.{most_intervals}
 use Rattle.mv_lower_spec.specs.Functions.{lower_function}
-use Rattle.mv_regalloc.specs.Intervals.{IsRenamed}
 use Rattle.mv_select.specs.Calls.Convention.{frame_limit}
 use Rattle.mv_select.specs.Functions.FunctionCode.{frame_bytes}
 use Rattle.mv_select.specs.Selected.{IsSuitable, IsSelected}
+use Rattle.mv_variants.specs.Bound.General.{IsGeneral}
 
 -- ---- bodies
 
--- The bodies of all functions in their order. Each is what its function is lowered to, with temporaries that are never in use together in one place.
+-- The bodies of all functions in their order. Each is what its function is lowered to, tidied or not, with temporaries that are never in use together in one place.
 pub record AreGenerics (p : Program) (bodies : List Body) : Type 0 where
   pub one_each : length bodies ≡ length p.functions
-  pub each : (f : ℕ) (g : Function) (body : Body) → slice_get p.functions f ≡ Some g → slice_get bodies f ≡ Some body → IsRenamed (lower_function p g) body
+  pub each : (f : ℕ) (g : Function) (body : Body) → slice_get p.functions f ≡ Some g → slice_get bodies f ≡ Some body → IsGeneral (lower_function p g) body
 
--- a body is what the function with a number is lowered to, renamed
+-- a body is made of what the function with a number is lowered to
 pub record IsGeneric (p : Program) (f : ℕ) (body : Body) : Type 0 where
   pub function : Function
   pub there : slice_get p.functions f ≡ Some function
-  pub renamed : IsRenamed (lower_function p function) body
+  pub general : IsGeneral (lower_function p function) body
 
 -- ---- frames
 
--- how many bytes the frame of a function has: it has as many temporaries as are in use at one place at most
+-- how many bytes the frame of a function has where it has as many temporaries as its lowered code has in use at one place at most
 abbrev pub frame_size : Program → Function → ℕ
 frame_size p g = let body = lower_function p g in frame_bytes (most_intervals body) body.arrays
 

@@ -4,7 +4,7 @@ use Rattle.mv_isa.specs.declared.labelled.Labelled.{Labelled}
 use Rattle.mv_linker.specs.declared.parts.Parts.{Parts}
 use Rattle.mv_linker.specs.declared.parts.PartFunction.{PartFunction}
 use Rattle.mv_linker.specs.declared.parts.PartVariant.{PartVariant}
-use Rattle.mv_linker.specs.Linked.{codes, label_count, trap_label}
+use Rattle.mv_linker.specs.Linked.{codes, label_count, label_limit}
 use Rattle.mv_linker.specs.Tables.{site_weight}
 use Rattle.mv_parts.specs.declared.counts.Counted.{Counted}
 use Rattle.mv_parts.specs.declared.counts.Counted.TheVariants.{Sites, Labels}
@@ -27,6 +27,6 @@ count_in_function what a = sum_by (count_in_variant what) a.variants
 abbrev pub count_in_parts : Counted → Parts → ℕ
 count_in_parts what parts = sum_by (count_in what) (codes parts)
 
--- there are numbers for all labels below those of the stubs
+-- there are numbers for all labels below those of entries, and one for each entry
 abbrev pub HaveFewLabels : Parts → Type 0
-HaveFewLabels parts = length (codes parts) + label_count (codes parts) < trap_label 1
+HaveFewLabels parts = length (codes parts) + label_count (codes parts) < label_limit

@@ -9,15 +9,15 @@ ghost use Rattle.mv_parts.specs.Fronts.{IsSizeOf};
 
 use mv_ast::program::Program;
 use mv_isa::labelled::Labelled;
-use mv_isa::labels::TRAPS;
+use mv_isa::labels::{ENTRIES, TRAPS};
 use mv_linker::{PartFunction, PartVariant, Parts, site_weight};
 use mv_variants::size::{Size, with_lines};
 
-/// The labels of all code stay below those of the stubs, of which this is the least.
-const STUBS: u64 = TRAPS as u64 + 1;
+/// There are as many numbers from the label of the first entry to those of the stubs.
+const LABELS: u64 = (TRAPS - ENTRIES) as u64;
 
 /// How many words the stubs have without that of calls through pointer switches, and how many that has.
-const STUB_WORDS: u64 = 29;
+const STUB_WORDS: u64 = 33;
 
 const CHECK_WORDS: u64 = 6;
 
@@ -66,7 +66,7 @@ fn stub_words(program: &Program) -> u64
 pub fn labels_fit(parts: &Parts) -> bool
     ensures { IsTrue result ↔ HaveFewLabels parts.now }
 {
-    in_parts(Counted::Labels, parts) < STUBS
+    in_parts(Counted::Labels, parts) < LABELS
 }
 
 fn in_parts(what: Counted, parts: &Parts) -> u64

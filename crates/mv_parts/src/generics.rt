@@ -12,14 +12,14 @@ use mv_ir::body::Body;
 use mv_isa::labelled::Labelled;
 use mv_lower_spec::shape::lowered_forms_are_right;
 use mv_num::list::List;
-use mv_regalloc::rename::rename;
 use mv_select::bodies::code_has_words;
 use mv_select::error::SelectError;
 use mv_select::select;
+use mv_variants::general::general;
 use std::alloc::{AllocError, Global};
 
-/// The body from which each function's code is made, in their order: what it is lowered to, where temporaries that are never in use together share a
-/// place.
+/// The body from which each function's code is made, in their order: what it is lowered to, tidied or not, where temporaries that are never in use together share
+/// a place.
 pub fn generics_of(
     alloc: Global,
     program: &Program,
@@ -32,7 +32,7 @@ pub fn generics_of(
     lowered_forms_are_right();
     let mut generics = List::new(alloc);
     for body in lowered.as_slice() {
-        generics.push(rename(alloc, body)?)?;
+        generics.push(general(alloc, body)?)?;
     }
     Ok(generics)
 }

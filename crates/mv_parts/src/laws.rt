@@ -2,7 +2,7 @@ ghost use Rattle.mv_parts.specs.Laws.{SwitchesAreThere, DataIsCounted, PartsCanB
 
 use mv_count_code::code_is_short;
 use mv_link_data::data_law;
-use mv_lower_names::{lowered_names_are_there, renaming_keeps_names};
+use mv_lower_names::lowered_names_are_there;
 use mv_lower_spec::shape::lowered_forms_are_right;
 use mv_select::bodies::lines_are_named;
 use mv_select::selection_law;
@@ -30,7 +30,6 @@ pub fn parts_law()
     lowered_forms_are_right();
     lowered_names_are_there();
     made_bodies_are_variants();
-    renaming_keeps_names();
     rows_lead_to_variants();
     selection_law();
     variants_can_be_selected();

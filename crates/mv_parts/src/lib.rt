@@ -1,6 +1,6 @@
 //! What is linked of a program: the code of its functions, and for each attributed one its variants with their code and the rows that lead to them.
 //!
-//! - `generics_of`: of each function of a well-formed program the body that it is lowered to, with its temporaries renamed
+//! - `generics_of`: of each function of a well-formed program the body that it is lowered to, tidied or not, with its temporaries renamed
 //!   (`AreGenerics`).
 //! - `codes_of`: the code that is selected for each of these bodies (`HaveCode`); all their frames then have at most 2,032
 //!   bytes. `Frame` comes where one has more, with the first such function and its bytes (`PassesFirstFrame`).

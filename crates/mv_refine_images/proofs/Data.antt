@@ -1,5 +1,5 @@
 -- Where the functions and the globals of a built program stand.
-use Rattle.std.proofs.Common.{◌≡◌, ℕ, zero, suc, ◌<◌, ◌≤◌, ◌^◌, true, false, List, [], ◌∷◌, Some, map, length, get_or, slice_get, slice_index, All, refl, sym, ap, ◌∙◌, subst, arith}
+use Rattle.std.proofs.Common.{◌≡◌, ℕ, zero, suc, ◌<◌, ◌≤◌, ◌^◌, true, false, List, [], ◌∷◌, Some, None, map, length, get_or, slice_get, slice_index, All, refl, sym, ap, ◌∙◌, subst, arith}
 use Rattle.std.proofs.lemmas.List.{length-append}
 use Rattle.std.proofs.lemmas.List.Elements.{All-from_get_or, All-weaker}
 use Rattle.std.proofs.lemmas.List.FromFn.{length-map-range_with_len, get_or-map-range_with_len}
@@ -11,19 +11,19 @@ use Rattle.mv_ast.specs.Counts.{words_of_size}
 use Rattle.mv_ast.specs.Starts.{first_words_under}
 use Rattle.mv_meaning_numbering.specs.Numberings.{IsNumbering}
 use Rattle.mv_isa.specs.declared.labelled.Labelled.{Labelled}
-use Rattle.mv_isa.specs.declared.labelled.Line.{Line}
-use Rattle.mv_isa.specs.Code.{IsPlace, least_words, line_at}
+use Rattle.mv_isa.specs.Code.{IsPlace}
 use Rattle.mv_image.specs.Spelling.{Fields}
 use Rattle.mv_source_forms.specs.Names.{words_of_global}
 use Rattle.mv_source_forms.specs.WellFormed.{IsWellFormedGlobal}
 use Rattle.mv_select_code.specs.Statements.Frames.{Site}
 use Rattle.mv_refine_machine.specs.Layout.{IsPacked, IsSetOut}
 use Rattle.mv_linker.specs.Linked.{codes, function_variants, variant_codes}
-use Rattle.mv_linker.specs.Tables.{BeginsWithWords, FitsPartFunction, FitsPartVariant, is_slot, is_point, kinds_of}
+use Rattle.mv_linker.specs.Tables.{BeginsWithWords, FitsPartFunction, FitsPartVariant, kinds_of}
 use Rattle.mv_linker.specs.Outcome.{data_limit}
 use Rattle.mv_link_text.specs.Laws.{CodesFollow}
 use Rattle.mv_link_data.specs.FirstData.{data_words, global_sizes}
 use Rattle.mv_link_data.specs.Laws.{AreAddresses}
+use Rattle.mv_parts.proofs.LinkedCode.{begins_with_words}
 use Rattle.mv_parts.proofs.LinkedLists.{all_variants}
 use Rattle.mv_parts.proofs.Lists.{one_of_all}
 use Rattle.mv_refine_images.specs.Bodies.ProgramBodies.{AreLaidOut, IsOwnCode}
@@ -47,7 +47,7 @@ module _ (p : Program) (image : Fields) (basis : Basis p image) where
   pub as_many : length parts.functions ≡ length p.functions
   as_many = built.are.codes.code.one_each
 
-  count : length numbers ≡ length parts.functions
+  pub count : length numbers ≡ length parts.functions
   count = length-map-range_with_len at 0 (length parts.functions)
 
   pub counted : length numbers ≡ length p.functions
@@ -79,14 +79,16 @@ module _ (p : Program) (image : Fields) (basis : Basis p image) where
   -- the frame of a function without temporaries and arrays, at the bottom of the stack
   abbrev any_site : Site
   any_site = record {
-    place = y.place;
+    seats = record { place = y.place; register = λ t. None };
     size = y.size;
     reach = record { is_read = λ g. false; is_written = λ g. false; may_load = λ a. false };
     entry = y.entry;
+    may_call = false;
     may_ask = y.may_ask;
     temps = 0;
     array_at = λ a. 0;
     array_size = λ a. 0;
+    is_left = λ q. false;
     register = λ r. 0x0020_0000;
     is_kept = λ a. false;
     kept = λ a. 0;
@@ -124,19 +126,15 @@ module _ (p : Program) (image : Fields) (basis : Basis p image) where
   pub own : (f : ℕ) (g : Function) → slice_get p.functions f ≡ Some g → (code : Labelled) × (slice_get parts.functions f ≡ Some code) × IsOwnCode p y numbers g code
   own f g here = laws.own_code p built.bodies built.tables parts y numbers laid_out f g here
 
-  -- each code begins with an instruction
+  -- each code begins with words that are no slot
   own_begins : (f : ℕ) (code : Labelled) → slice_get parts.functions f ≡ Some code → BeginsWithWords code
   own_begins f code found =
       let lt = slice_get_within parts.functions f code found in
+      let codes = built.are.codes in
+      let count = codes.generics.one_each in
       let same = as_many in
-      let g = there_at p.functions f (omega (arith, lt, same)) in
-      let o = own f g.0 g.1 in
-      let is : o.0 ≡ code = same_Some o.0 code (sym o.1 ∙ found) in
-      subst BeginsWithWords is (record {
-        some = subst (λ (items : List Line). 1 ≤ least_words (line_at items 0)) (sym o.2.written.items) (omega arith);
-        no_slot = ap (λ (items : List Line). is_slot (line_at items 0)) o.2.written.items;
-        no_point = ap (λ (items : List Line). is_point (line_at items 0)) o.2.written.items;
-      })
+      let (body, of) = there_at built.bodies f (omega (arith, lt, same, count)) in
+      let has = codes.code.each f body code of found in begins_with_words laws.opens has.function.attributed body code has.is_code.selected.items
 
   pub begins : (k : ℕ) (code : Labelled) → slice_get (codes parts) k ≡ Some code → BeginsWithWords code
   begins = in_either BeginsWithWords parts.functions (variant_codes (function_variants parts.attributed)) own_begins

@@ -3,6 +3,7 @@ use Rattle.mv_image.specs.Format.{RulesAreTables}
 use Rattle.mv_ir.specs.Reached.{EndsAreReached}
 use Rattle.mv_lower_spec.specs.Shape.Law.{LoweredReadNoMore}
 use Rattle.mv_select.specs.Bodies.SelectedBodies.{BodiesAreFunctions}
+use Rattle.mv_select.specs.Laws.{SelectedOpens}
 use Rattle.mv_refine_machine.specs.Laws.{PackedIsLaidOut}
 use Rattle.mv_refine_machine.specs.Shown.{FreeFunctionsShow, BoundFunctionsShow, BoundPointsShow}
 use Rattle.mv_refine_machine.specs.Stubs.Laws.{ChecksStand}
@@ -43,6 +44,7 @@ pub record Laws : Type 0 where
   pub own_code : FunctionsHaveOwnCode
   pub variant_code : VariantsHaveCode
   pub bodies_are_functions : BodiesAreFunctions
+  pub opens : SelectedOpens
   pub reads_no_more : LoweredReadNoMore
   -- data
   pub words_first : WordsAreFirst

@@ -10,6 +10,7 @@ use Rattle.mv_num.proofs.Booleans.{and_false}
 use Rattle.mv_num.proofs.Lists.{there_at}
 use Rattle.mv_ast.specs.declared.program.Program.{Program}
 use Rattle.mv_ast.specs.declared.program.Function.{Function}
+use Rattle.mv_bindings.specs.Traps.{null_call, call_too_deep}
 use Rattle.mv_ast.specs.Switches.{attributed_functions}
 use Rattle.mv_bindings.specs.declared.binding.Binding.{Binding}
 use Rattle.mv_descriptors.specs.declared.rows.PointRow.{PointRow}
@@ -29,11 +30,15 @@ use Rattle.mv_lower_spec.specs.Functions.{lower_function}
 use Rattle.mv_select.specs.Bodies.SelectedBodies.{IsInProgram, globals_read}
 use Rattle.mv_select.specs.Calls.CallCode.{is_marked}
 use Rattle.mv_select.specs.Functions.Functions.{shape_of}
-use Rattle.mv_select.specs.Slots.Points.{CallsBound}
+use Rattle.mv_select.specs.Slots.Points.{CallsBound, CheckStands}
 use Rattle.mv_linker.specs.declared.parts.PartFunction.{PartFunction}
 use Rattle.mv_linker.specs.declared.parts.PartPointer.{PartPointer}
 use Rattle.mv_linker.specs.declared.parts.PartVariant.{PartVariant}
-use Rattle.mv_linker.specs.Linked.{codes, linked_lines, function_variants, variant_codes, check_label}
+use Rattle.mv_linker.specs.Linked.{codes, linked_lines, function_variants, variant_codes, check_label, entry_label, trap_label, label_limit, own as own_label}
+use Rattle.mv_linker.proofs.Counting.{own_stays, own_entry}
+use Rattle.mv_linker.proofs.Fits.{within_all}
+use Rattle.mv_select.specs.Calls.Laws.{IsLinked}
+use Rattle.mv_select_code.specs.Control.Labels.{call_label}
 use Rattle.mv_linker.specs.Tables.{pointer_address, pointer_addresses}
 use Rattle.mv_link_text.specs.Text.{StubsArePlaced, HasPoint}
 use Rattle.mv_link_text.proofs.Found.{none_of, found_told}
@@ -56,7 +61,7 @@ use Rattle.mv_refine_images.specs.Bodies.ProgramBodies.{IsWritten}
 use Rattle.mv_refine_images.specs.Closed.{is_closed_to_function, is_closed_to_variants_of, closed_to_variants, closed_to_codes, is_data_where, is_closed_beside}
 use Rattle.mv_refine_images.specs.Programs.Hosts.{ArePointed}
 use Rattle.mv_refine_images.proofs.Closed.{In, one, none_where, function_reads, variant_reads, open_from}
-use Rattle.mv_refine_images.proofs.Data.{as_many, ascend, entries, laid_out, own, set_out}
+use Rattle.mv_refine_images.proofs.Data.{as_many, count as numbers_count, ascend, entries, laid_out, own, set_out}
 use Rattle.mv_refine_images.proofs.LinkedProgram.{Basis, linked_program}
 use Rattle.mv_refine_images.proofs.Listed.{one_each}
 use Rattle.mv_refine_images.proofs.OfPrograms.Pointed.{one_word}
@@ -324,9 +329,37 @@ module _ (p : Program) (image : Fields) (basis : Basis p image) where
           (omega (arith, from)) (omega arith) free)
           ∙ and_false (eqb ((a + 4) % 4) 0)
 
+    -- where the labels are that all codes share
+    abbrev own_place : ℕ → ℕ
+    own_place l = at (own_label 0 0 l)
+
+    shared_there : IsLinked y (length numbers) own_place
+    shared_there = record {
+      traps = λ c. ap at (own_stays 0 0 (trap_label c) (omega arith) (omega arith));
+      commit = refl;
+      entries = λ f lt.
+          let limit = built.are.are.labels in
+          let few : f < label_limit = omega (arith, lt, numbers_count p image basis, within_all parts, limit) in
+          let same : call_label f ≡ entry_label f = omega (arith, few) in
+          ap own_place same ∙ ap at (own_entry 0 0 f (omega arith) (omega (arith, few)));
+    }
+
+    check_shared : HasCheck words at check → HasCheck words own_place check
+    check_shared h =
+        let null : at (trap_label null_call) ≡ own_place (trap_label null_call) = sym (shared_there.traps null_call) in
+        let deep : at (trap_label call_too_deep) ≡ own_place (trap_label call_too_deep) = sym (shared_there.traps call_too_deep) in record {
+          stands =
+              subst (λ z. CheckStands words.word check z (own_place (trap_label call_too_deep))) null
+              (subst (λ z. CheckStands words.word check (at (trap_label null_call)) z) deep h.stands);
+          here = h.here;
+          last = h.last;
+          null = subst IsPlace null h.null;
+          deep = subst IsPlace deep h.deep;
+        }
+
     pub pointed : ArePointed y words (words_under image) shut p numbers check
     pointed = record {
-      stub = λ some. (at, record { traps = λ c. refl; commit = refl }, has_check some);
+      stub = λ some. (own_place, shared_there, check_shared (has_check some));
       free = λ bs q x a there through free. free_stands q x a there through bs free;
       open_there = open_there;
       bound = λ bs q x f a there through lt bound. bound_stands q x a there through bs f lt bound;

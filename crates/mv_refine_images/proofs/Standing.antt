@@ -42,7 +42,7 @@ use Rattle.mv_refine_images.proofs.LinkedProgram.{Basis, linked_program}
 use Rattle.mv_refine_images.specs.Closed.{is_closed_to_function, is_closed_to_variant, closed_to_codes}
 use Rattle.mv_refine_images.specs.Patched.{HasEntry, HasSlot, HasRow, IsInTables}
 use Rattle.mv_refine_images.proofs.Closed.{function_reads, variant_reads, code_open, site_open}
-use Rattle.mv_refine_images.proofs.Data.{as_many, laid_out, set_out, follow, own, ascend}
+use Rattle.mv_refine_images.proofs.Data.{as_many, count as numbers_count, laid_out, set_out, follow, own, ascend}
 use Rattle.mv_refine_images.proofs.Listed.{one_each, rows_count, test_of_function, test_of_variant}
 use Rattle.mv_refine_images.proofs.Patched.{patched_functions_stand}
 use Rattle.std.proofs.lemmas.Option.{same_Some}
@@ -65,8 +65,8 @@ module _ (p : Program) (image : Fields) (basis : Basis p image) where
 
   -- what code names stands where the stubs do
   module _ (k : ℕ) (items : List Line) (from : ℕ) (placed : IsPlacedCode parts image sizing k items from) where
-    linked_there : calls.IsLinked y placed.place
-    linked_there = record { traps = placed.traps; commit = placed.commit }
+    linked_there : calls.IsLinked y (length numbers) placed.place
+    linked_there = record { traps = placed.traps; commit = placed.commit; entries = λ g lt. placed.entries g (omega (arith, lt, numbers_count p image basis)) }
 
   -- ---- a function that isn't attributed
 

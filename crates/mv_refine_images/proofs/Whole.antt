@@ -20,7 +20,7 @@ use Rattle.mv_select.specs.Functions.Functions.{Begins}
 use Rattle.mv_refine_machine.specs.Laws.{IsFirst}
 use Rattle.mv_refine_machine.specs.Under.{words_under}
 use Rattle.mv_refine_machine.specs.Stubs.Laws.{HoldsData}
-use Rattle.mv_refine_machine.specs.Stubs.Stubs.{return_address}
+use Rattle.mv_refine_machine.specs.Stubs.Stubs.{return_address, start_steps}
 use Rattle.mv_refine_machine.specs.Commits.Ends.{EntersQuietly}
 use Rattle.mv_refine_machine.specs.Commits.Watched.{access}
 use Rattle.mv_refine_machine.specs.Runs.Behaves.{Behaves, LoadsWhatIsOpen}
@@ -92,13 +92,13 @@ module _ (p : Program) (image : Fields) (basis : Basis p image) (bytes : List �
   -- ---- main is called
 
   module _ (budget far : ℕ) where
-    enters : EntersQuietly y (machine bytes polls picks) budget far (address_of parts sizing parts.main) first 3
+    enters : EntersQuietly y (machine bytes polls picks) budget far (address_of parts sizing parts.main) first start_steps
     enters =
         let s = stubs p image basis in
         laws.starts attributed shut image built.rules bytes polls picks y budget far first is_first refl refl holds (ap (λ (i : Fields). i.entry) built.linked.image_is) (address_of parts sizing) (address_of parts sizing)
         parts.main s.start_ends s.start
 
-    begins : Begins access y (machine bytes polls picks) 3
+    begins : Begins access y (machine bytes polls picks) start_steps
     begins =
         let sp = enters.stack in record {
           live = enters.live;
@@ -108,14 +108,14 @@ module _ (p : Program) (image : Fields) (basis : Basis p image) (bytes : List �
           within = omega (arith, sp);
         }
 
-    stands : Stands access y (machine bytes polls picks) budget far (y.entry p.main) first 3
-    stands = subst (λ f. Stands access y (machine bytes polls picks) budget far (address_of parts sizing f) first 3) built.are.main enters.stands
+    stands : Stands access y (machine bytes polls picks) budget far (y.entry p.main) first start_steps
+    stands = subst (λ f. Stands access y (machine bytes polls picks) budget far (address_of parts sizing f) first start_steps) built.are.main enters.stands
 
     calls_main : (k : ℕ) → CallsMain attributed shut p image bytes polls picks y first budget far k
     calls_main k =
         let m = laws.main_follows access y (machine bytes polls picks) (words_under image) shut budget far p numbers
         (loaded p image basis bytes polls picks are_bytes of_words budget far)
-        (numbering p image basis) polls.hart bytes polls.acts fit return_address 3 (omega arith, refl) enters.link begins stands k in record {
+        (numbering p image basis) polls.hart bytes polls.acts fit return_address start_steps (omega arith, refl) enters.link begins stands k in record {
           call = m.0;
           means = m.1;
           reached = subst (IsReached first) (sym m.2) (run_reached laws.ends_are_reached p numbers (code_of (lower_program p)) (slice_get (code_of (lower_program p)) p.main) k first);

@@ -83,7 +83,7 @@ module _ (attributed : List ℕ) (image : Fields) (closed : (pc address : ℕ) �
     pub is_fine : Tree → Bool
     pub fits : IsFunction y (setting_of numbers p) true [] reach is_fine body
     pub place : ℕ → ℕ
-    pub linked : IsLinked y place
+    pub linked : IsLinked y (length numbers) place
     pub is_attributed : ℕ → Bool
     pub next : ℕ
     pub open_there : IsOpenIn (machine_text attributed image) closed (y.entry f + 4) next reach

@@ -9,7 +9,7 @@
 
 ghost use Rattle.mv_refine_images.specs.Bodies.Laws.{FunctionsHaveOwnCode, VariantsHaveCode};
 
-use mv_lower_names::{lowered_names_are_there, renaming_keeps_names};
+use mv_lower_names::lowered_names_are_there;
 use mv_lower_spec::shape::lowered_forms_are_right;
 use mv_select::bodies::{code_is_the_same, rooms_stand};
 use mv_select::inline::inline_law;
@@ -29,7 +29,6 @@ pub fn bodies_are_in_program()
     inline_law::<()>();
     lowered_forms_are_right();
     lowered_names_are_there();
-    renaming_keeps_names();
     rooms_stand();
     rows_lead_to_variants();
     variants_can_be_selected();

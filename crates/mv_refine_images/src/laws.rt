@@ -18,6 +18,7 @@ use mv_refine_machine::runs::images_behave;
 use mv_refine_machine::stubs::checks_stand;
 use mv_refine_machine::{functions_show, packed_is_laid_out};
 use mv_select::bodies::bodies_are_functions;
+use mv_select::selection_law;
 
 /// The run of an image that is built of a well-formed program does, in each hart, what the program means, on
 /// each input of bytes, with any acts of its polls that fit there, and by any picks of the fetches: `Behaves` of `mv_refine_machine::runs` says
@@ -36,6 +37,7 @@ pub fn built_programs_behave()
     images_have_tables();
     bodies_are_in_program();
     bodies_are_functions();
+    selection_law();
     lowered_forms_are_right();
     data_law();
     parts_law();

@@ -35,15 +35,15 @@ module _ (globals arrays : List ℕ) (bytes : ℕ) (s : Site) (h : IsPacked glob
   array_listed : (a : ℕ) → 0 < s.array_size a → a < length arrays
   array_listed a some = let size = h.array_sizes a in listed arrays a (omega (arith, some, size))
 
-  data_begins : (g : ℕ) → 0 < s.size g → 0x0010_0000 ≤ s.place g
+  data_begins : (g : ℕ) → 0 < s.size g → 0x0010_0000 ≤ s.seats.place g
   data_begins g some = let place = h.places g (global_listed g some) in omega (arith, place)
 
-  data_ends : (g : ℕ) → 0 < s.size g → s.place g + 4 * s.size g ≤ 0x0020_0000
+  data_ends : (g : ℕ) → 0 < s.size g → s.seats.place g + 4 * s.size g ≤ 0x0020_0000
   data_ends g some =
       let there = global_listed g some in
       let place = h.places g there in let size = h.sizes g in let all = before_all globals g there in let fits = h.data_fits in omega (arith, place, size, all, fits)
 
-  globals_ascend : (f g : ℕ) → f < g → 0 < s.size f → 0 < s.size g → s.place f + 4 * s.size f ≤ s.place g
+  globals_ascend : (f g : ℕ) → f < g → 0 < s.size f → 0 < s.size g → s.seats.place f + 4 * s.size f ≤ s.seats.place g
   globals_ascend f g lt some more =
       let there = global_listed g more in
       let place = h.places f (global_listed f some) in let later = h.places g there in let size = h.sizes f in

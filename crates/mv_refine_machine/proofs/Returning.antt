@@ -8,7 +8,7 @@ use Rattle.mv_ir.specs.World.{World, Answer}
 use Rattle.mv_ir.specs.KnownFunctions.{next_byte}
 use Rattle.mv_machine.specs.Runs.{bytes_to_come}
 use Rattle.mv_select_code.specs.Trees.View.{AreRegisters}
-use Rattle.mv_select_code.proofs.OfTrees.Registers.{put_same, put_other, put_registers}
+use Rattle.mv_select_code.proofs.OfTrees.Registers.{free_above, put_same, put_other, put_registers}
 use Rattle.mv_select_code.proofs.OfStatements.TreesFirst.{add_small}
 use Rattle.mv_select_code.specs.Control.Runs.{Machine, outside}
 use Rattle.mv_select_code.proofs.OfControl.Walk.{before_next}
@@ -49,7 +49,7 @@ module _ {M : Type 0} (access : Access M) (y : Layout) (machine : Machine M) (bu
       calm = done.calm;
       sound = before_next (λ t. machine.is_sound (machine.run t) ≡ true) i h.sound done.sound;
       globals = globals_held;
-      are = subst AreRegisters (sym done.regs) (put_registers (machine.run i).regs 10 answer.value h.are (omega arith) (omega arith) done.small);
+      are = subst AreRegisters (sym done.regs) (put_registers (machine.run i).regs 10 answer.value h.are (free_above 10 (omega arith) (omega arith)) done.small);
     }
 
     set_back : SetsBack access y machine budget far i (i + 1)

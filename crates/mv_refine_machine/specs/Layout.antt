@@ -26,10 +26,10 @@ IsKeptApart bytes s = (a : ℕ) → s.is_kept a ≡ true → ((frame_at s ≤ a)
 -- nowhere.
 pub record IsLaidOut (bytes : ℕ) (s : Site) : Type 0 where
   -- each global lies in the data
-  pub data_begins : (g : ℕ) → 0 < s.size g → data_start ≤ s.place g
-  pub data_ends : (g : ℕ) → 0 < s.size g → s.place g + 4 * s.size g ≤ stack_start
+  pub data_begins : (g : ℕ) → 0 < s.size g → data_start ≤ s.seats.place g
+  pub data_ends : (g : ℕ) → 0 < s.size g → s.seats.place g + 4 * s.size g ≤ stack_start
   -- a later global lies behind
-  pub globals_ascend : (g h : ℕ) → g < h → 0 < s.size g → 0 < s.size h → s.place g + 4 * s.size g ≤ s.place h
+  pub globals_ascend : (g h : ℕ) → g < h → 0 < s.size g → 0 < s.size h → s.seats.place g + 4 * s.size g ≤ s.seats.place h
   -- the frame lies in the stack
   pub stack_begins : stack_start ≤ frame_at s
   pub stack_ends : frame_at s + bytes ≤ plan_area
@@ -47,7 +47,7 @@ pub record IsLaidOut (bytes : ℕ) (s : Site) : Type 0 where
 -- or behind the saved words where all temporaries stand in registers. The frame may be longer.
 pub record IsPacked (globals arrays : List ℕ) (bytes : ℕ) (s : Site) : Type 0 where
   pub sizes : (g : ℕ) → s.size g ≡ slice_index globals g
-  pub places : (g : ℕ) → g < length globals → s.place g ≡ data_start + 4 * sum (take g globals)
+  pub places : (g : ℕ) → g < length globals → s.seats.place g ≡ data_start + 4 * sum (take g globals)
   pub data_fits : 4 * sum globals ≤ 4 * data_limit
   pub array_sizes : (a : ℕ) → s.array_size a ≡ slice_index arrays a
   pub array_places : (a : ℕ) → a < length arrays → s.array_at a ≡ 4 * (max 9 s.temps + 1) + 4 * sum (take a arrays)

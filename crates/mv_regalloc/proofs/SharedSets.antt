@@ -1,8 +1,8 @@
 -- Sets that share their parts: what an edit of words does to the bits, and that the other sets stay as they are.
-use Rattle.std.proofs.Common.{arith, ◌≡◌, ℕ, zero, suc, ◌<◌, ◌/◌, Bool, false, cond, eqb, ◌||◌, List, [], ◌∷◌, ◌++◌, length, drop, map, reverse, refl, sym, ap, ◌∙◌, ◌⊎◌, inl, inr, bit_or, subst}
+use Rattle.std.proofs.Common.{arith, ◌≡◌, ℕ, zero, suc, ◌<◌, ◌≤◌, ◌/◌, Bool, false, cond, eqb, ◌||◌, List, [], ◌∷◌, ◌++◌, length, drop, map, reverse, refl, sym, ap, ◌∙◌, ◌⊎◌, inl, inr, bit_or, subst}
 use Rattle.std.specs.Prelude.{slice_set, slice_index_or, replicate, Option, Some, None, option_to_list}
 use Rattle.std.specs.List.{All, range_with_len}
-use Rattle.std.proofs.lemmas.List.{reverse-append, append-nil, length-set, length-replicate, get_or-replicate}
+use Rattle.std.proofs.lemmas.List.{reverse-append, append-nil, length-set, length-replicate, get_or-replicate, get_or_past}
 use Rattle.std.proofs.lemmas.List.Elements.{All-cons, All-drop}
 use Rattle.std.proofs.lemmas.List.FromFn.{length-map-range_with_len, get_or-map-range_with_len}
 use Rattle.std.proofs.lemmas.Bool.{cases_eq, eq-eqb, ne_eqb}
@@ -39,6 +39,9 @@ module _ (n : ℕ) where
   module _ (parts : List Part) (number : ℕ) where
     pub bit_in : (t : ℕ) → t < n → mark_at (bits_at n parts number) t ≡ in_word (word_of parts number (t / 64)) t
     bit_in t l = tests_bit (λ t. in_word (word_of parts number (t / 64)) t) t l
+
+    pub bit_out : (t : ℕ) → n ≤ t → mark_at (bits_at n parts number) t ≡ false
+    bit_out t l = at_get (bits_at n parts number) t ∙ get_or_past (bits_at n parts number) t false (omega (arith, l, tests_long (λ t. in_word (word_of parts number (t / 64)) t)))
 
     pub none_at : ((place : ℕ) → word_of parts number place ≡ 0) → bits_at n parts number ≡ replicate n false
     none_at h =

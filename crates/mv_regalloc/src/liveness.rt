@@ -2,6 +2,7 @@
 // costs nothing, and to change one costs the way to a word.
 
 ghost use Rattle.std.specs.Prelude.{ℕ, ◌≡◌, ◌<◌, ◌≤◌, ◌∷◌, IfOk, OnErr, OnOk, MatchOption, false, true, [], drop, length, replicate, reverse, slice_index_or, slice_set};
+ghost use Rattle.mv_ir.specs.Live.{mark_at};
 ghost use Rattle.mv_regalloc.specs.Parts.{Keeps};
 ghost use Rattle.mv_regalloc.specs.Rows.{either_bits, put_bit, with_temps};
 ghost use Rattle.mv_regalloc.specs.Shared.{bits_at, entered, forgotten, left, number_of, numbered, row_of, with_live, with_rows, with_saved};
@@ -9,7 +10,7 @@ ghost use Rattle.mv_regalloc.specs.Spanned.{AreRowSpans};
 
 use crate::parts::Parts;
 use crate::table::Spans;
-use crate::words::{cleared, set};
+use crate::words::{cleared, is_set, set};
 use std::alloc::{AllocError, Global};
 use std::marker::Model;
 
@@ -161,6 +162,19 @@ impl Liveness {
             temps,
             numbers,
         })
+    }
+
+    /// Whether a set has a temporary. None has one past the end.
+    pub fn has(&self, row: Row, temp: u32) -> bool
+        ensures { result ≡ mark_at (row_of self.now row) temp }
+    {
+        let none = self.parts.none();
+        let number = self.numbers.of(row, none);
+        if (temp as usize) < self.temps {
+            is_set(self.parts.word(number, temp / 64), temp)
+        } else {
+            false
+        }
     }
 
     /// A temporary past the end has no bit. Where memory lacks, the sets are as they were.

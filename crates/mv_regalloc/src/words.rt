@@ -27,6 +27,13 @@ pub fn cleared(word: u64, temp: u32) -> u64
     word & !(1 << (temp % 64))
 }
 
+/// Whether the bit of a temporary is set in a word.
+pub fn is_set(word: u64, temp: u32) -> bool
+    ensures { result ≡ in_word word temp }
+{
+    word >> (temp % 64) & 1 == 1
+}
+
 /// The place in a word of the lowest bit that is set.
 pub fn lowest(word: u64) -> u32
     requires { 0 < word }

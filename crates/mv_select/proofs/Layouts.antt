@@ -11,8 +11,9 @@ use Rattle.mv_select_code.specs.declared.control.layout.Space.{Space}
 use Rattle.mv_select_code.specs.Control.FlowCode.{CallLines, Plan, code_of}
 use Rattle.mv_select_code.specs.Control.Layouts.{array_at_in, array_size_in, IsInFrame, plan_in}
 use Rattle.mv_select.specs.Calls.CallCode.{calls_of, is_marked}
-use Rattle.mv_select_code.specs.Trees.Rooms.{place_in}
+use Rattle.mv_select_code.specs.Trees.TreeCode.{seats_at}
 use Rattle.mv_select.specs.Functions.FunctionCode.{arrays_start, words_before, array_offset}
+use Rattle.mv_select.specs.Functions.Functions.{keeping_of}
 use Rattle.mv_select.proofs.OfBodies.Lists.{each_true}
 use Rattle.mv_select.specs.Selected.{spaces_behind, layout_in, plan_of, FitsFrame}
 use Rattle.mv_select.proofs.SameCode.{code_same}
@@ -37,17 +38,17 @@ spaces_within word (n ∷ sizes) h =
 pub few_words : (body : Body) → FitsFrame body → arrays_start body.temps + total body.arrays ≤ 508
 few_words body h = omega (arith, h)
 
-pub arrays_within : (body : Body) → FitsFrame body → All IsInFrame (layout_in body).arrays
-arrays_within body h = let few = few_words body h in spaces_within (arrays_start body.temps) body.arrays (omega (arith, few))
+pub arrays_within : (attributed : Bool) (body : Body) → FitsFrame body → All IsInFrame (layout_in attributed body).arrays
+arrays_within attributed body h = let few = few_words body h in spaces_within (arrays_start body.temps) body.arrays (omega (arith, few))
 
-abbrev pub calls_in : Body → CallLines
-calls_in body = calls_of (place_in body.rooms) (is_marked body.marked)
+abbrev pub calls_in : Bool → Body → CallLines
+calls_in attributed body = calls_of (seats_at body.rooms (keeping_of attributed body)) (is_marked body.marked)
 
 -- the code over the layout is that of the body's plan
-pub layout_code : (attributed : Bool) (body : Body) → IsWellFormed body → code_of (plan_in (layout_in body) (calls_in body)) body.code ≡ code_of (plan_of attributed body) body.code
+pub layout_code : (attributed : Bool) (body : Body) → IsWellFormed body → code_of (plan_in (layout_in attributed body) (calls_in attributed body)) body.code ≡ code_of (plan_of attributed body) body.code
 layout_code attributed body formed =
     let spaces = spaces_behind (arrays_start body.temps) body.arrays in
-    let over = plan_in (layout_in body) (calls_in body) in
+    let over = plan_in (layout_in attributed body) (calls_in attributed body) in
     let sized : Plan = record over { array_size = slice_index body.arrays } in
     let sizes = same_functions (array_size_in spaces) (slice_index body.arrays) (sizes_are (arrays_start body.temps) body.arrays) in
     ap (λ array_size. code_of (record over { array_size = array_size }) body.code) sizes ∙

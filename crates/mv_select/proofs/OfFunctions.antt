@@ -13,3 +13,9 @@ pub mod EncodedFrames
 pub mod FramesAreMade
 pub mod WholeFunction
 pub mod Alone
+pub mod Silent
+pub mod SilentFine
+pub mod Seats
+pub mod Entered
+pub mod BodyKeeps
+pub mod Leaf

@@ -13,7 +13,7 @@ use Rattle.mv_ir.proofs.Rolls.{named_roll}
 use Rattle.mv_select_code.specs.declared.statements.elements.Home.TheVariants as place_at
 use Rattle.mv_select_code.specs.Statements.StatementCode.{read_lines, write_lines}
 use Rattle.mv_select_code.specs.Control.FlowCode.{Plan, Emitted, in_turn, plain, zero_code, if_code, loop_code, block_code, home, size, code_layer, statement_code, code_of}
-use Rattle.mv_select_code.proofs.OfControl.StatementsDo.{code_roll}
+use Rattle.mv_select_code.proofs.OfControl.Equations.{code_roll}
 use Rattle.mv_ir.proofs.Common.{each_first, each_right}
 
 -- other places, which agree at the arrays that are there
@@ -47,15 +47,15 @@ module _ (plan : Plan) (places : ℕ → ℕ) (There : Array → Type 0) (same :
   layer (stm.SetGlobal g v) h all = refl
   layer (stm.Divide t o a b) h all = refl
   layer (stm.Check a i) h all = refl
-  layer (stm.Read t a i) h all = ap (λ home. plain (read_lines plan.place t home (size plan a) i)) (home_same a all.0)
-  layer (stm.Write a i v) h all = ap (λ home. plain (write_lines plan.place home (size plan a) i v)) (home_same a all.0)
+  layer (stm.Read t a i) h all = ap (λ home. plain (read_lines plan.seats t home (size plan a) i)) (home_same a all.0)
+  layer (stm.Write a i v) h all = ap (λ home. plain (write_lines plan.seats home (size plan a) i v)) (home_same a all.0)
   layer (stm.Zero a) h all = ap (λ at. zero_code at (plan.array_size a)) (same a all.0)
   layer (stm.If t a b) h all =
       let in_a = joined (map stm_named a) in
       let in_b = joined (map stm_named b) in
-      ap (λ cs. if_code plan.place plan.end t (in_turn cs) (in_turn (codes b))) (in_order_same a h.0 (each_first There in_a in_b all)) ∙
-      ap (λ cs. if_code plan.place plan.end t (in_turn (others a)) (in_turn cs)) (in_order_same b h.1 (each_right There in_a in_b all))
-  layer (stm.Loop b) h all = ap (λ cs. loop_code (in_turn cs)) (in_order_same b h all)
+      ap (λ cs. if_code plan.seats plan.end t (in_turn cs) (in_turn (codes b))) (in_order_same a h.0 (each_first There in_a in_b all)) ∙
+      ap (λ cs. if_code plan.seats plan.end t (in_turn (others a)) (in_turn cs)) (in_order_same b h.1 (each_right There in_a in_b all))
+  layer (stm.Loop b) h all = ap (loop_code plan.seats) (in_order_same b h all)
   layer (stm.Block b) h all = ap (λ cs. block_code (in_turn cs)) (in_order_same b h all)
   layer (stm.Break n) h all = refl
   layer (stm.Back n) h all = refl

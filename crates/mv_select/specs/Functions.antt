@@ -2,3 +2,4 @@ pub mod Encoded
 pub mod FunctionCode
 pub mod Functions
 pub mod Loads
+pub mod Outlines

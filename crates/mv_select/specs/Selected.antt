@@ -15,7 +15,7 @@ use Rattle.mv_select_code.specs.Control.Layouts.{size_in}
 use Rattle.mv_select.specs.Calls.CallCode.{is_marked}
 use Rattle.mv_select.specs.Calls.Convention.{frame_limit}
 use Rattle.mv_select.specs.Functions.FunctionCode.{arrays_start, frame_bytes, end_label, plan, function_lines}
-use Rattle.mv_select.specs.Functions.Functions.{shape_of}
+use Rattle.mv_select.specs.Functions.Functions.{keeping_of, shape_of}
 use Rattle.mv_select.specs.Bodies.SelectedBodies.{IsOrder, knowns}
 use Rattle.mv_select.specs.declared.error.SelectError.{SelectError}
 use Rattle.mv_select.specs.declared.error.SelectError.TheVariants.{Frame, Memory}
@@ -28,8 +28,8 @@ spaces_behind word [] = []
 spaces_behind word (n ∷ sizes) = record { at = 4 * word; size = n } ∷ spaces_behind (word + n) sizes
 
 -- where things stand that a body names
-abbrev pub layout_in : Body → Layout
-layout_in body = record { rooms = body.rooms; arrays = spaces_behind (arrays_start body.temps) body.arrays; end = end_label }
+abbrev pub layout_in : Bool → Body → Layout
+layout_in attributed body = record { rooms = body.rooms; keeping = keeping_of attributed body; arrays = spaces_behind (arrays_start body.temps) body.arrays; end = end_label }
 
 -- ---- code
 

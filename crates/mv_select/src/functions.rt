@@ -1,11 +1,12 @@
 //! The code of whole functions, which keeps the calling convention.
 //!
-//! - `push_prologue` and `push_epilogue` put exactly the lines of `specs/Functions/FunctionCode.antt` behind some code: a frame is
-//!   made, ra and the registers of temporaries are saved, parameters come to their temporaries; and the way back.
+//! - `push_entry` and `push_return` put exactly the lines of `specs/Functions/FunctionCode.antt` behind some code: a frame is
+//!   made, ra and the registers of temporaries are saved, parameters come to their temporaries; and the way back. A function that
+//!   calls nothing, has at most eight temporaries and isn't attributed keeps them where arguments come, and saves nothing.
 //! - `function_code_law`, clause `each`: over any functions that keep the calling convention at each lower bound, the
 //!   code of a function that is called with as many arguments as it has parameters does what its body means for what its
-//!   frame holds at first, in no more than 44 instructions over its cost, and keeps the convention. `later`: so it does
-//!   where its first instruction is carried out elsewhere, as where its entry may be patched. `main`: so does the main
+//!   frame holds at first, in no more than 44 instructions over its cost, and keeps the convention. `later`: so does an
+//!   attributed one where its first instruction is carried out elsewhere, since its entry may be patched. `main`: so does the main
 //!   function, without parameters and not attributed, which begins with no frame above its own, no live attributed frame,
 //!   512 calls left, and room below sp for 513 frames. `encoded`: the instructions of entry and return have encodings,
 //!   and are at most 20 and 13 words.
@@ -18,5 +19,5 @@
 mod frames;
 mod laws;
 
-pub use frames::{push_epilogue, push_prologue};
+pub use frames::{Outline, push_entry, push_return};
 pub use laws::function_code_law;

@@ -9,8 +9,8 @@
 //!   those that `mv_select_code::control` says for each form of statement (`encoded`); each label that the code takes stands in it
 //!   once, and no other does (`labels`); each label that it names stands once, wherever its own labels do, the stubs of
 //!   the traps, that of orders and polls and, where it calls through pointer switches, the check stub, and the functions
-//!   that it names (`targets`); it begins with the instruction
-//!   that moves sp (`begins`).
+//!   that it names and their entries (`targets`); there is a first
+//!   line, which has words and is no slot (`opens`), and that of an attributed body is the instruction that moves sp (`begins`).
 //!
 //! Below this, in modules with their own specifications and headers:
 //!
@@ -30,6 +30,7 @@ pub mod functions;
 pub mod inline;
 mod laws;
 mod selection;
+mod silent;
 pub mod slots;
 
 pub use crate::inline::inline_of;

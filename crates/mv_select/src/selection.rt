@@ -3,23 +3,35 @@
 ghost use Rattle.std.specs.Prelude.{◌≡◌, ◌≤◌, IfOk, MatchResult};
 ghost use Rattle.mv_ir.specs.Measures.{deepest};
 ghost use Rattle.mv_ir.specs.WellFormed.{IsWellFormed};
-ghost use Rattle.mv_select.specs.Functions.FunctionCode.{frame_bytes};
+ghost use Rattle.mv_select.specs.Functions.FunctionCode.{frame_bytes, led};
+ghost use Rattle.mv_select.specs.Functions.Functions.{keeping_of};
 ghost use Rattle.mv_select.specs.Selected.{layout_in, IsSuitable, IsSelected, PassesFrame, OnFrame};
 
 use crate::calls::Calls;
 use crate::error::SelectError;
 use crate::frame::{frame_bytes, spaces};
-use crate::functions::{push_epilogue, push_prologue};
+use crate::functions::{Outline, push_entry, push_return};
+use crate::silent::calls_nothing;
 use mv_ir::body::Body;
+use mv_isa::Instr;
 use mv_isa::labelled::{Labelled, Line};
+use mv_num::list::List;
 use mv_select_code::control::emitter::Emitter;
 use mv_select_code::control::enclosing::Way;
 use mv_select_code::control::layout::Layout;
 use mv_select_code::control::push_statements;
+use mv_select_code::trees::places::{Keeping, Places};
 use std::alloc::{AllocError, Global};
 
 /// The greatest frame, in bytes.
 const MOST: u128 = 2032;
+
+/// The instruction that does nothing.
+const NOP: Instr = Instr::Addi {
+    rd: 0,
+    rs1: 0,
+    imm: 0,
+};
 
 /// The label of a function's end. Those of its body come behind it.
 const END: u32 = 0;
@@ -40,16 +52,45 @@ fn fitting_bytes(body: &Body, function: u32) -> Result<u32, SelectError>
     }
 }
 
+// In which registers a body keeps its temporaries.
+fn keeping_of(body: &Body, attributed: bool) -> Keeping
+    ensures { result ≡ keeping_of attributed body.now }
+{
+    if !attributed && body.temps < 9 && calls_nothing(&body.code) {
+        Keeping::Arguments
+    } else {
+        Keeping::Saved
+    }
+}
+
 // Where things stand in a body whose frame is small enough. Its end has the first label.
-fn layout_of(alloc: Global, body: &Body) -> Result<Layout, AllocError>
+fn layout_of(alloc: Global, body: &Body, attributed: bool) -> Result<Layout, AllocError>
     requires { frame_bytes body.now.temps body.now.arrays ≤ 2032 }
-    ensures { IfOk result (λ layout. layout ≡ layout_in body.now) }
+    ensures { IfOk result (λ layout. layout ≡ layout_in attributed body.now) }
 {
     Ok(Layout {
         rooms: body.rooms.copied(alloc)?,
+        keeping: keeping_of(body, attributed),
         arrays: spaces(alloc, body.temps, body.arrays.as_slice())?,
         end: END,
     })
+}
+
+// Lines that begin with a word.
+fn led(alloc: Global, lines: List<Line>) -> Result<List<Line>, AllocError>
+    ensures { IfOk result (λ all. all ≡ led lines) }
+{
+    match lines.as_slice() {
+        [Line::Label(_), ..] => {
+            let mut all = List::new(alloc);
+            all.push(Line::Word(NOP))?;
+            for line in lines.as_slice() {
+                all.push(*line)?;
+            }
+            Ok(all)
+        }
+        _ => Ok(lines),
+    }
 }
 
 // The code of a body whose frame has so many bytes.
@@ -59,33 +100,38 @@ fn written(alloc: Global, body: &Body, attributed: bool, bytes: u32) -> Result<L
     requires few { bytes ≤ 2032 }
     ensures { IfOk result (λ code. IsSelected attributed body.now code) }
 {
-    let layout = layout_of(alloc, body)?;
+    let layout = layout_of(alloc, body, attributed)?;
+    let outline = Outline {
+        attributed,
+        keeping: layout.keeping,
+        params: body.params,
+        temps: body.temps,
+        arrays: body.arrays.as_slice(),
+        bytes,
+    };
     let calls = Calls {
-        rooms: body.rooms.as_slice(),
+        places: Places {
+            rooms: body.rooms.as_slice(),
+            keeping: layout.keeping,
+        },
         marked: body.marked.as_slice(),
     };
     let mut emitter = Emitter::new(alloc, END + 1);
-    push_prologue(
-        &mut emitter.lines,
-        attributed,
-        body.params,
-        body.temps,
-        bytes,
-    )?;
+    push_entry(&mut emitter.lines, outline)?;
     let way = Way {
         after: END,
         falls: true,
     };
     push_statements(&mut emitter, &layout, &calls, &body.code, way)?;
     emitter.lines.push(Line::Label(END))?;
-    push_epilogue(&mut emitter.lines, attributed, body.temps, bytes)?;
+    push_return(&mut emitter.lines, outline)?;
     let Emitter {
         lines,
         around: _,
         free,
     } = emitter;
     Ok(Labelled {
-        items: lines,
+        items: led(alloc, lines)?,
         labels: free,
     })
 }

@@ -1,11 +1,14 @@
 pub mod ArrayStatements
 pub mod BranchesDo
 pub mod Divisions
+pub mod ElementPlaces
 pub mod EncodedCode
 pub mod Equations
 pub mod FrameChanges
 pub mod ScalarStatements
+pub mod Stores
 pub mod TempsKept
 pub mod TreesFirst
 pub mod Walks
+pub mod Written
 pub mod ZeroStatement

@@ -2,6 +2,8 @@ pub mod Branches
 pub mod Equations
 pub mod Gives
 pub mod Instructions
+pub mod KeepingSeats
+pub mod Near
 pub mod NumbersStand
 pub mod Operands
 pub mod OperatorsGive

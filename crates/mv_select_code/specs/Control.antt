@@ -7,3 +7,4 @@ pub mod Laws
 pub mod Layouts
 pub mod Placed
 pub mod Runs
+pub mod Staying

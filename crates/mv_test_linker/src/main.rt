@@ -12,6 +12,7 @@ use mv_descriptors::GuardRow;
 use mv_image::{Image, write};
 use mv_isa::Instr;
 use mv_isa::labelled::{Labelled, Line};
+use mv_isa::labels::ENTRIES;
 use mv_linker::{Datum, PartFunction, PartSwitch, PartVariant, Parts, link};
 use mv_num::kind::Kind;
 use mv_num::list::List;
@@ -33,9 +34,10 @@ const CALLED: [Line; 4] = [
     RETURN,
 ];
 
-/// Calls the other, and goes on for ever.
-const CALLER: [Line; 4] = [
+/// Calls the other by a slot and by the label of its entry, and goes on for ever.
+const CALLER: [Line; 5] = [
     Line::Slot(0),
+    Line::Jump(1, ENTRIES),
     Line::Label(0),
     Line::Entry(10, 0),
     Line::Jump(0, 0),
@@ -196,8 +198,8 @@ fn show_length(rt: &HostRuntime, nops: usize, words: usize) -> io::Result<()> {
 fn main(rt: HostRuntime) -> io::Result<()> {
     let parts = two_functions(rt.alloc())?;
     show(&rt, &parts)?;
-    show_length(&rt, 131_043, 0)?;
-    show_length(&rt, 131_044, 0)?;
+    show_length(&rt, 131_039, 0)?;
+    show_length(&rt, 131_040, 0)?;
     show_length(&rt, 1, 262_144)?;
     show_length(&rt, 1, 262_145)
 }

@@ -2,6 +2,8 @@ pub mod Functions
 pub mod Domains
 pub mod Rows
 pub mod Sizes
+pub mod Worked
+pub mod Tidied
 pub mod Fronts
 pub mod Grouped
 pub mod Whole

@@ -5,11 +5,13 @@ pub mod Words
 pub mod BoundNames
 pub mod FoldedNames
 pub mod CarriedNames
+pub mod TidiedNames
 pub mod RenamedNames
 pub mod NamesKept
 pub mod Measures
 pub mod Weights
 pub mod Variants
+pub mod Generals
 pub mod OwnReads
 pub mod Led
 pub mod Groups

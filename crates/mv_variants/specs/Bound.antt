@@ -1,6 +1,7 @@
 pub mod Rows
 pub mod Tables
 pub mod Meant
+pub mod General
 pub mod Names
 pub mod Variants
 pub mod Reads

@@ -1,14 +1,16 @@
-//! The variants of an attributed function: its body under each assignment of its switches, with numbers carried, folded and renamed, and equal bodies as one.
+//! The variants of an attributed function: its body under each assignment of its switches, with numbers carried, tidied, folded and renamed, and equal bodies as one.
 //!
 //! What they are is said by `AreVariants` (`specs/Variants.antt`) in the words of `mv_variants::bound`, whose laws say what follows: that each means what the
 //! function means under its values and reads none of its switches, and which rows lead to it.
 //!
 //! - `variants_of`: of a function and what it is lowered to, the body under each assignment of its switches, bound,
-//!   with numbers carried, folded and with its temporaries renamed, and equal bodies as one, each with the guard rows that lead to it
+//!   with numbers carried, tidied, folded and with its temporaries renamed, and equal bodies as one, each with the guard rows that lead to it
 //!   (`AreVariantsOf`). By `mv_variants::bound` each means what the function means under its values, and reads none of its
 //!   switches. They are made one by one, and a body that equals one before it is dropped at once. `Limit` comes with the first
 //!   whose code, each branch taken for one word, there is no room for behind that of all before (`PassesWithin`), with how much
 //!   code there is then.
+//! - `general`: of a body whose switches aren't bound, the one of which the function's own code is made (`IsGeneral`): tidied where that may be, and with its
+//!   temporaries renamed.
 //! - `Size`: how much code there is, and whether an image has room for it (`with_lines`, `fits`).
 //!
 //! Below this, in a module with its own specifications and header:
@@ -27,6 +29,7 @@ ghost use Rattle.mv_variants.specs.Variants.{IsLoweredFrom, AreVariantsOf, bodie
 pub mod bound;
 mod domain;
 mod error;
+pub mod general;
 mod grouping;
 mod making;
 pub mod size;

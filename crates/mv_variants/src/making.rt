@@ -3,10 +3,10 @@
 ghost use Rattle.std.specs.Prelude.{ℕ, ◌≡◌, ◌<◌, ◌≤◌, length, slice_get, slice_index_or, IfErr, IfOk};
 ghost use Rattle.std.specs.List.{zip};
 ghost use Rattle.mv_ir.specs.declared.body.Assignment.{Assignment};
-ghost use Rattle.mv_ir.specs.Live.{IsWhole};
+ghost use Rattle.mv_ir.specs.Live.{IsWhole, most_intervals};
 ghost use Rattle.mv_ir.specs.Measures.{deepest};
 ghost use Rattle.mv_ir.specs.WellFormed.{IsWellFormed};
-ghost use Rattle.mv_variants.specs.Bound.Meant.{IsMadeUnder};
+ghost use Rattle.mv_variants.specs.Bound.Meant.{IsMadeUnder, IsWorked};
 ghost use Rattle.mv_variants.specs.Fronts.{AreMeasured, PassesUnder};
 ghost use Rattle.mv_variants.specs.Rows.{AreMergedUnder, IsRowUnder};
 ghost use Rattle.mv_variants.specs.Sizes.{Fits, HasSmallFrame, IfNew, IsSelectable, IsWithBody, IsWithNew, OnLimit};
@@ -25,6 +25,7 @@ use mv_regalloc::rename::rename;
 use mv_select::bodies::code_has_words;
 use mv_select::error::SelectError;
 use mv_select::select;
+use mv_tidy::tidy;
 use std::alloc::{AllocError, Global};
 
 /// The bodies that are kept of a function, with their rows.
@@ -56,13 +57,14 @@ pub(crate) fn merged_under(
 {
     added_rows_are_merged();
     made_bodies_are_variants();
+    let most = rename(alloc, body)?.temps;
     let mut with = size;
     let mut variants = Variants {
         bodies: List::new(alloc),
         guards: List::new(alloc),
     };
     for assignment in assignments {
-        let row = row_under(alloc, body, assignment)?;
+        let row = row_under(alloc, body, most, assignment)?;
         let before = variants.bodies.len();
         add(&mut variants, row)?;
         let grown = with_new(alloc, with, variants.bodies.as_slice(), before)?;
@@ -102,13 +104,19 @@ fn with_body(alloc: Global, size: Size, body: &Body) -> Result<Size, AllocError>
 }
 
 // The body under an assignment, beside it.
-fn row_under(alloc: Global, body: &Body, assignment: &Assignment) -> Result<Bound, AllocError>
+fn row_under(
+    alloc: Global,
+    body: &Body,
+    most: u32,
+    assignment: &Assignment,
+) -> Result<Bound, AllocError>
     requires formed { IsWellFormed body.now }
     requires whole { IsWhole body.now }
+    requires most { most ≤ most_intervals body.now }
     requires values { length body.now.switches ≡ length assignment.now.values }
     ensures { IfOk result (λ row. IsRowUnder body.now assignment.now row) }
 {
-    let made = made_under(alloc, body, assignment)?;
+    let made = made_under(alloc, body, most, assignment)?;
     let values = assignment.values.copied(alloc)?;
     Ok(Bound {
         assignment: Assignment { values },
@@ -116,15 +124,37 @@ fn row_under(alloc: Global, body: &Body, assignment: &Assignment) -> Result<Boun
     })
 }
 
-// The body under an assignment: bound, then with numbers carried through its temporaries, then folded, then renamed.
-fn made_under(alloc: Global, body: &Body, assignment: &Assignment) -> Result<Body, AllocError>
+// The body under an assignment: bound, then with numbers carried through its temporaries, then tidied, then folded, then renamed. It isn't tidied where it would
+// have more temporaries by that than a number of which the given body needs as many.
+fn made_under(
+    alloc: Global,
+    body: &Body,
+    most: u32,
+    assignment: &Assignment,
+) -> Result<Body, AllocError>
     requires formed { IsWellFormed body.now }
     requires whole { IsWhole body.now }
+    requires most { most ≤ most_intervals body.now }
     requires values { length body.now.switches ≡ length assignment.now.values }
     ensures { IfOk result (λ made. IsMadeUnder (zip body.now.switches assignment.now.values) body.now made) }
 {
     let bound = bind(alloc, body, assignment)?;
     let carried = carry(alloc, &bound)?;
-    let folded = fold(alloc, &carried)?;
+    let tidied = tidy(alloc, &carried)?;
+    let made = worked(alloc, &tidied)?;
+    if made.temps <= most {
+        Ok(made)
+    } else {
+        worked(alloc, &carried)
+    }
+}
+
+// A body folded and then renamed.
+fn worked(alloc: Global, body: &Body) -> Result<Body, AllocError>
+    requires formed { IsWellFormed body.now }
+    requires whole { IsWhole body.now }
+    ensures { IfOk result (IsWorked body.now) }
+{
+    let folded = fold(alloc, body)?;
     rename(alloc, &folded)
 }

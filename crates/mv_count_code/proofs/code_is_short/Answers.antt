@@ -34,10 +34,10 @@ returns-clause-sites c = slots_called
 pub returns-clause-slots : goal.returns-clause-slots
 returns-clause-slots c =
     let counted = c.slots_are_counted.ensures in
-    slots_counted (code_slots c.lowered_forms_are_right.ensures.calls counted.renamed counted.own counted.few) counted.patchable slots_called
+    slots_counted (code_slots c.lowered_forms_are_right.ensures.calls counted.general counted.own counted.few) counted.patchable slots_called
 
 pub returns-clause-fronts : goal.returns-clause-fronts
 returns-clause-fronts c =
     let counted = c.slots_are_counted.ensures in
     fronts_counted (lines_short c.made_bodies_are_variants.ensures.all c.lowered_forms_are_right.ensures.small c.selection_law.ensures.encoded)
-    (code_slots c.lowered_forms_are_right.ensures.calls counted.renamed counted.own counted.few) slots_called
+    (code_slots c.lowered_forms_are_right.ensures.calls counted.general counted.own counted.few) slots_called

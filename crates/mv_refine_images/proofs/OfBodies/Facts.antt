@@ -1,6 +1,6 @@
 -- The laws of the crates below that the laws on a program's bodies stand on.
 use Rattle.mv_lower_spec.specs.Shape.Law.{LoweredReadNoMore}
-use Rattle.mv_lower_names.specs.Laws.{FunctionsAreThere, OrdersAreThere, RenamingKeepsNames}
+use Rattle.mv_lower_names.specs.Laws.{FunctionsAreThere, OrdersAreThere}
 use Rattle.mv_select.specs.Bodies.SelectedBodies.{CodeIsTheSame, RoomsStand}
 use Rattle.mv_select.specs.Inline.Laws.{InlineIsTheSame}
 use Rattle.mv_variants.specs.Bound.Led.{BodiesAreMade}
@@ -11,7 +11,6 @@ use Rattle.mv_variants.specs.Bound.Variants.{MadeNameNoMore}
 pub record Laws : Type 0 where
   pub functions_there : FunctionsAreThere
   pub orders_there : OrdersAreThere
-  pub same_names : RenamingKeepsNames
   pub same_code : CodeIsTheSame
   pub rooms_stand : RoomsStand
 

@@ -1,5 +1,5 @@
 -- The own code of a program's functions.
-use Rattle.std.proofs.Common.{◌++◌, ◌≡◌, ℕ, ◌<◌, Bool, true, List, [], Some, None, length, slice_get, All, refl, sym, ap, ap₂, ◌∙◌, subst, arith}
+use Rattle.std.proofs.Common.{◌≡◌, ℕ, ◌<◌, Bool, true, List, [], Some, None, length, slice_get, All, refl, sym, ap, ◌∙◌, subst, arith}
 use Rattle.std.proofs.lemmas.List.Elements.{All-from_get_or, All-weaker}
 use Rattle.std.proofs.lemmas.Option.{slice_get_within, same_Some}
 use Rattle.mv_ast.specs.declared.program.Program.{Program}
@@ -13,12 +13,12 @@ use Rattle.mv_ir.specs.Trees.{found}
 use Rattle.mv_lower_spec.specs.Functions.{names_global, lower_function, lower_function_code}
 use Rattle.mv_source_forms.specs.Uses.{known_is_there}
 use Rattle.mv_lower_spec.specs.Shape.Law.{IsFunctionOf}
-use Rattle.mv_lower_names.specs.Laws.{NamesTheSame}
-use Rattle.mv_regalloc.specs.Intervals.{IsRenamed}
+use Rattle.mv_variants.specs.Bound.General.{IsGeneral}
+use Rattle.mv_variants.proofs.OfBound.Generals.{IsKept, kept}
 use Rattle.mv_select_code.specs.Control.Labels.{functions}
 use Rattle.mv_select.specs.Calls.CallCode.{is_marked}
 use Rattle.mv_select.specs.Calls.Convention.{Layout}
-use Rattle.mv_select.specs.Bodies.SelectedBodies.{AreRooms, AreWords, HasWords, IsInProgram, IsOrder, IsWithin, globals_read, knowns}
+use Rattle.mv_select.specs.Bodies.SelectedBodies.{AreRooms, HasWords, IsInProgram, IsWithin, globals_read, knowns}
 use Rattle.mv_select.proofs.OfBodies.Lists.{IsIn}
 use Rattle.mv_linker.specs.declared.parts.Parts.{Parts}
 use Rattle.mv_variants.specs.declared.variant.Variant.{Variant}
@@ -26,8 +26,9 @@ use Rattle.mv_parts.specs.Codes.{HasCode, IsCodeOf}
 use Rattle.mv_parts.proofs.Lists.{one_of_all}
 use Rattle.mv_refine_images.specs.Bodies.ProgramBodies.{AreLaidOut, IsOwnCode, IsWritten}
 use Rattle.mv_refine_images.proofs.OfBodies.Facts.{Laws}
+use Rattle.mv_refine_images.proofs.OfBodies.ReadGlobals.{reads_no_more}
 use Rattle.mv_refine_images.proofs.OfBodies.Rooms.{rooms_are}
-use Rattle.mv_num.proofs.Lists.{there_at}
+use Rattle.mv_num.proofs.Lists.{contains_all, there_at}
 
 -- the code that is selected for a body is within the limits of selection
 pub is_within : (attributed : Bool) (body : Body) (code : Labelled) → IsCodeOf attributed body code → IsWithin attributed body
@@ -69,23 +70,23 @@ module _ (laws : Laws) (p : Program) (bodies : List Body) (tables : List (List V
   abbrev body : Body
   body = own.0
 
-  renamed : IsRenamed (lower_function p g) body
-  renamed = out.parts_are.codes.generics.each f g body there own.1
+  general : IsGeneral (lower_function p g) body
+  general = out.parts_are.codes.generics.each f g body there own.1
 
-  names : NamesTheSame (lower_function p g) body
-  names = subst (NamesTheSame (lower_function p g)) (sym renamed.changes) (laws.same_names renamed.numbers body.temps (lower_function p g))
+  same : IsKept (lower_function p g) body
+  same = kept (lower_function p g) body general
 
   own_words : HasWords body.code
   own_words = one_of_all (λ (b : Body). HasWords b.code) bodies out.words f body own.1
 
   pub words : HasWords (lower_function p g).code
-  words = record { constants = subst AreWords names.constants own_words.constants; orders = subst (All IsOrder) names.knowns own_words.orders }
+  words = general.words
 
   own_rooms : AreRooms y body.rooms
-  own_rooms = subst (AreRooms y) (sym names.rooms) rooms
+  own_rooms = subst (AreRooms y) (sym same.rooms) rooms
 
   own_reads : (x : ℕ) → is_among x (globals_read body.code) ≡ true → is_among x (globals_read (lower_function p g).code) ≡ true
-  own_reads x e = let same : globals_read body.code ≡ globals_read (lower_function p g).code = ap₂ ◌++◌ renamed.scalars renamed.arrays in subst (λ (xs : List ℕ). is_among x xs ≡ true) same e
+  own_reads = reads_no_more (lower_function p g) body same.scalars same.arrays
 
   unbound : (xs : List ℕ) → All (λ x. found [] x ≡ None) xs
   unbound xs = All-from_get_or (λ x. found [] x ≡ None) xs 0 (λ i lt. refl)
@@ -95,8 +96,8 @@ module _ (laws : Laws) (p : Program) (bodies : List Body) (tables : List (List V
     within = within;
     rooms = own_rooms;
     constants = own_words.constants;
-    knowns = subst (All (IsIn y.may_ask)) (sym names.knowns) may_ask;
-    functions = subst (All IsThere) (sym names.functions) functions_there;
+    knowns = contains_all (IsIn y.may_ask) (knowns (lower_function p g).code) (knowns body.code) same.names.knowns may_ask;
+    functions = contains_all IsThere (functions (lower_function p g).code) (functions body.code) same.names.functions functions_there;
     free = unbound (scalars_read body.code);
     arrays = unbound (arrays_read body.code);
   }
@@ -104,8 +105,8 @@ module _ (laws : Laws) (p : Program) (bodies : List Body) (tables : List (List V
   own_code : (code : Labelled) → IsCodeOf g.attributed body code → IsOwnCode p y numbers g code
   own_code code is = record {
     body = body;
-    keeps = renamed.keeps;
-    params = ap (λ (b : Body). b.params) renamed.changes;
+    keeps = same.keeps;
+    params = same.params;
     in_program = in_program (is_within g.attributed body code is);
     reads = own_reads;
     written = is_written laws y g.attributed body code is own_rooms;

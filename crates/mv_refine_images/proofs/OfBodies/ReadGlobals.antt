@@ -1,4 +1,4 @@
--- What a variant reads: no more than the function's lowered code, and none of its switches.
+-- What a body reads: no more than the function's lowered code, and a variant none of its switches.
 use Rattle.std.proofs.Common.{◌≡◌, ℕ, Bool, true, false, cond, eqb, nat_eq, ◌||◌, List, [], ◌∷◌, filter, Some, None, All, Contains, refl, sym, ap, ◌∙◌, subst}
 use Rattle.std.specs.List.{zip}
 use Rattle.std.proofs.lemmas.Bool.{eq-eqb, eqb-true}
@@ -9,6 +9,7 @@ use Rattle.mv_ir.specs.Measures.{scalars_read, arrays_read}
 use Rattle.mv_ir.specs.Trees.{found}
 use Rattle.mv_clone.specs.Bind.{is_free}
 use Rattle.mv_select.specs.Bodies.SelectedBodies.{globals_read}
+use Rattle.mv_variants.proofs.OfBound.Meant.{tidy}
 use Rattle.mv_variants.specs.Bound.Meant.{IsMadeUnder}
 
 -- ---- elements of lists
@@ -46,17 +47,9 @@ not_found (s ∷ globals) (v ∷ values) k e = by (not_found globals values k) (
 
 -- ---- what the passes leave
 
-module _ (ps : List (ℕ × ℕ)) (body result : Body) (m : IsMadeUnder ps body result) where
-  scalar_was : (k : ℕ) → Contains (scalars_read result.code) k → Contains (scalars_read body.code) k
-  scalar_was k c =
-      let was = m.is_carried.smaller.scalars k (m.is_folded.smaller.scalars k (subst (λ l. Contains l k) m.is_renamed.scalars c)) in
-      let unbound : All (Contains (scalars_read body.code)) (filter (is_free ps) (scalars_read body.code)) =
-      All-filter (is_free ps) (Contains (scalars_read body.code)) (scalars_read body.code) (All-contains_itself (scalars_read body.code)) in
-      All-contains (Contains (scalars_read body.code)) (filter (is_free ps) (scalars_read body.code)) k unbound (subst (λ l. Contains l k) m.is_bound.scalars was)
-
-  array_was : (k : ℕ) → Contains (arrays_read result.code) k → Contains (arrays_read body.code) k
-  array_was k c = subst (λ l. Contains l k) m.is_bound.arrays (m.is_carried.smaller.arrays k (m.is_folded.smaller.arrays k (subst (λ l. Contains l k) m.is_renamed.arrays c)))
-
+-- a body that reads no scalar and no array but those of another reads no other globals
+module _ (body result : Body) (scalars : (k : ℕ) → Contains (scalars_read result.code) k → Contains (scalars_read body.code) k)
+    (arrays : (k : ℕ) → Contains (arrays_read result.code) k → Contains (arrays_read body.code) k) where
   abbrev Among : ℕ → Type 0
   Among k = is_among k (globals_read body.code) ≡ true
 
@@ -65,13 +58,27 @@ module _ (ps : List (ℕ × ℕ)) (body result : Body) (m : IsMadeUnder ps body 
 
   scalars_among : All Among (scalars_read result.code)
   scalars_among =
-      All-weaker (Contains (scalars_read result.code)) Among (λ k c. was_among k (Contains-append_left (scalars_read body.code) (arrays_read body.code) k (scalar_was k c)))
+      All-weaker (Contains (scalars_read result.code)) Among (λ k c. was_among k (Contains-append_left (scalars_read body.code) (arrays_read body.code) k (scalars k c)))
       (scalars_read result.code) (All-contains_itself (scalars_read result.code))
 
   arrays_among : All Among (arrays_read result.code)
   arrays_among =
-      All-weaker (Contains (arrays_read result.code)) Among (λ k c. was_among k (Contains-append_right (scalars_read body.code) (arrays_read body.code) k (array_was k c)))
+      All-weaker (Contains (arrays_read result.code)) Among (λ k c. was_among k (Contains-append_right (scalars_read body.code) (arrays_read body.code) k (arrays k c)))
       (arrays_read result.code) (All-contains_itself (arrays_read result.code))
 
   pub reads_no_more : (x : ℕ) → is_among x (globals_read result.code) ≡ true → is_among x (globals_read body.code) ≡ true
   reads_no_more x e = among_all Among (globals_read result.code) x (All-append Among (scalars_read result.code) (arrays_read result.code) scalars_among arrays_among) e
+
+module _ (ps : List (ℕ × ℕ)) (body result : Body) (m : IsMadeUnder ps body result) where
+  scalar_was : (k : ℕ) → Contains (scalars_read result.code) k → Contains (scalars_read body.code) k
+  scalar_was k c =
+      let was = m.is_carried.smaller.scalars k ((tidy ps body result m).smaller.scalars k (m.is_folded.smaller.scalars k (subst (λ l. Contains l k) m.is_renamed.scalars c))) in
+      let unbound : All (Contains (scalars_read body.code)) (filter (is_free ps) (scalars_read body.code)) =
+      All-filter (is_free ps) (Contains (scalars_read body.code)) (scalars_read body.code) (All-contains_itself (scalars_read body.code)) in
+      All-contains (Contains (scalars_read body.code)) (filter (is_free ps) (scalars_read body.code)) k unbound (subst (λ l. Contains l k) m.is_bound.scalars was)
+
+  array_was : (k : ℕ) → Contains (arrays_read result.code) k → Contains (arrays_read body.code) k
+  array_was k c = subst (λ l. Contains l k) m.is_bound.arrays (m.is_carried.smaller.arrays k ((tidy ps body result m).smaller.arrays k (m.is_folded.smaller.arrays k (subst (λ l. Contains l k) m.is_renamed.arrays c))))
+
+  pub made_reads_no_more : (x : ℕ) → is_among x (globals_read result.code) ≡ true → is_among x (globals_read body.code) ≡ true
+  made_reads_no_more = reads_no_more body result scalar_was array_was

@@ -38,7 +38,7 @@ use Rattle.mv_refine_images.specs.Bodies.ProgramBodies.{AreLaidOut, IsLinkedVari
 use Rattle.mv_refine_images.proofs.OfBodies.Facts.{VariantLaws}
 use Rattle.mv_refine_images.proofs.OfBodies.Own.{functions_there, is_within, is_written, may_ask, of_program, rooms, words}
 use Rattle.mv_refine_images.proofs.OfBodies.Places.{code_of_variant}
-use Rattle.mv_refine_images.proofs.OfBodies.ReadGlobals.{among_all, not_found, reads_no_more}
+use Rattle.mv_refine_images.proofs.OfBodies.ReadGlobals.{among_all, made_reads_no_more, not_found}
 use Rattle.mv_num.proofs.Lists.{there_at, contains_all}
 
 -- a body that is made of a function's lowered one, under a value for each of its switches
@@ -124,7 +124,7 @@ module _ (laws : VariantLaws) (p : Program) (bodies : List Body) (tables : List 
       keeps = variant.keeps;
       params = variant.params;
       in_program = in_program;
-      reads = reads_no_more (zip (lower_function p g).switches made.values) (lower_function p g) v.body made.made;
+      reads = made_reads_no_more (zip (lower_function p g).switches made.values) (lower_function p g) v.body made.made;
       no_switch = reads_none;
       written = is_written laws.lowered y true v.body part.0.code is_part.code own_rooms;
       inline = is_part.inline ∙ ap encoded (laws.same_inline y v.body is_part.code.suitable.formed own_rooms);

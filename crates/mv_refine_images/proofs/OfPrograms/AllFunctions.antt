@@ -3,6 +3,7 @@ use Rattle.std.proofs.Common.{◌≡◌, ◌⊎◌, inl, inr, ℕ, zero, suc, �
 use Rattle.std.specs.Prelude.{slice_get, nat_eq, if◌then◌else◌}
 use Rattle.std.specs.List.{zip}
 use Rattle.std.proofs.lemmas.Bool.{eqb-true}
+use Rattle.std.proofs.lemmas.Option.{slice_get_past}
 use Rattle.mv_ast.specs.declared.program.Program.{Program}
 use Rattle.mv_ast.specs.declared.program.Function.{Function}
 use Rattle.mv_bindings.specs.declared.binding.Binding.{Binding}
@@ -200,13 +201,14 @@ module _ {M : Type 0} (access : Access M) (y : Layout) (machine : Machine M) (wo
           by None e = subst (FC spare i (at + 8)) (sym (no_function e w)) tt
           by (Some g) e = by_count g e (nat_eq g.params (length args)) refl
 
-    level_keeps : Convention access y machine budget far (source_call p numbers k) (length (source_levels p numbers k))
+    level_keeps : Convention access y machine budget far (length numbers) (source_call p numbers k) (length (source_levels p numbers k))
     level_keeps = record {
       functions = λ f depth frames args back i few target ra. at_entry f depth frames args back i target ra;
       slots = λ f depth frames args at i few slot. at_slot f depth frames args at i slot;
+      others = λ f depth frames args w past. no_function f depth frames args (slice_get_past p.functions f (let count = host.count in omega (arith, count, past))) w;
     }
 
-  points : (bound : Bound) → NextKeeps access y machine budget far bound → PointsKeep access y machine budget far (setting_of numbers p) bound
+  points : (bound : Bound) → NextKeeps access y machine budget far (length numbers) bound → PointsKeep access y machine budget far (setting_of numbers p) bound
   points = points_keep access y machine words closed budget far p numbers loaded known.points known.arrivals known.told known.pointers
 
   pub all_keep : (k : ℕ) → Conventions access y machine budget far (setting_of numbers p) (source_levels p numbers k)

@@ -26,7 +26,7 @@ use Rattle.mv_select.specs.Calls.Convention.{Layout, IsTarget, Stands, Enters, C
 use Rattle.mv_select.specs.Functions.FunctionCode.{bytes_of}
 use Rattle.mv_select.specs.Functions.Functions.{FunctionsKeep, LaterKeeps, LowersStack, IsOpen, frame_in, part, shape_of}
 use Rattle.mv_select.proofs.OfFunctions.Alone.{word_in}
-use Rattle.mv_select.proofs.OfFunctions.Prologue.{room_for_saved}
+use Rattle.mv_select.proofs.OfFunctions.Frame.{room_for_saved}
 use Rattle.mv_select.specs.Slots.Narrowed.{has_bindings, words_alone}
 use Rattle.mv_select.specs.Slots.Laws as narrow
 use Rattle.mv_lower_spec.specs.Calls.SourceCalls.{source_call, source_levels, Promises}
@@ -125,7 +125,7 @@ module _ {M : Type 0} (access : Access M) (y : Layout) (machine : Machine M) (wo
             i + (spare + 44 + (body_from setting frame contents s.body args levels w).cost) ≤ budget → far ≤ i + length levels →
             FC spare i back (body_from setting frame contents s.body args levels w).end)
         kept =
-            keep access y host.laid machine host.memory setting host.entries budget far host.serves levels below true [] s.reach s.is_fine s.body s.ample s.fits s.place s.linked s.is_attributed
+            keep access y host.laid machine host.memory setting host.entries budget far host.serves levels below [] s.reach s.is_fine s.body s.ample s.fits s.place s.linked s.is_attributed
             (y.entry f) (y.entry f + 4) s.next (host.runs (y.entry f + 4) s.next s.reach s.open_there) s.later depth frames args back i (count ∙ sym s.params) target ra lowers
 
     module _ (vs : List ℕ) (combination : IsCombination (map (switch_domain p) g.switches) vs) (fitting : length vs ≡ length g.switches) where

@@ -90,10 +90,10 @@ one_word p formed q x there =
 -- ---- what follows
 
 module _ {M : Type 0} (access : Access M) (y : Layout) (machine : Machine M) (budget far : ℕ) where
-  -- the functions keep the convention at the next bound below
-  abbrev pub NextKeeps : Bound → Type 0
-  NextKeeps [] = Unit {0}
-  NextKeeps (calls ∷ below) = Convention access y machine budget far calls (length below)
+  -- so many functions keep the convention at the next bound below
+  abbrev pub NextKeeps : (count : ℕ) → Bound → Type 0
+  NextKeeps count [] = Unit {0}
+  NextKeeps count (calls ∷ below) = Convention access y machine budget far count calls (length below)
 
   -- what follows at a bound follows at one above
   above : (spare k i back : ℕ) (e : End) → FollowsCall access y machine budget far spare k i back e → FollowsCall access y machine budget far spare (suc k) i back e
@@ -114,12 +114,12 @@ module _ {M : Type 0} (access : Access M) (y : Layout) (machine : Machine M) (bu
   Tested v back w i = (v ≡ 0 → i + 8 ≤ budget → (j : ℕ) × Stops access y machine budget far null_call w j) × (v ≢ 0 → Calls access y machine budget far v back w i)
 
   module _ (arrivals : ArrivalsFollow M) (numbers : List ℕ) (entries : (f : ℕ) → f < length numbers → (slice_index numbers f ≡ y.entry f) × IsPlace (y.entry f))
-      (bound : Bound) (next : NextKeeps bound) (depth frames : ℕ) (args : List ℕ) (few : length args < 9) (at i : ℕ) (here : IsPlace at)
+      (bound : Bound) (next : NextKeeps (length numbers) bound) (depth frames : ℕ) (args : List ℕ) (few : length args < 9) (at i : ℕ) (here : IsPlace at)
       (spare : ℕ) (w : World) (stands : Stands access y machine budget far at w i) (comes : Comes access y machine budget far depth frames args i) (asked : far ≤ i + length bound) where
     abbrev FC : End → Type 0
     FC = FollowsCounted access y machine budget far spare (length bound) i (at + 16)
 
-    follows_arrival : (bound : Bound) → NextKeeps bound → (f : ℕ) (j : ℕ) → far ≤ i + length bound → Arrives access y machine budget far (y.entry f) (at + 16) w i j →
+    follows_arrival : (bound : Bound) → NextKeeps (length numbers) bound → (f : ℕ) (j : ℕ) → far ≤ i + length bound → Arrives access y machine budget far (y.entry f) (at + 16) w i j →
         i + (spare + 55 + (call_within bound f args depth frames w).cost) ≤ budget → FollowsCounted access y machine budget far spare (length bound) i (at + 16) (call_within bound f args depth frames w).end
     follows_arrival [] next f j asked a paid = (i, record { calm = stands.calm; sound = stands.sound; paid = omega (arith, paid); asked = omega (arith, asked) })
     follows_arrival (calls ∷ below) next f j asked a paid =
@@ -279,7 +279,7 @@ module _ {M : Type 0} (access : Access M) (y : Layout) (machine : Machine M) (wo
           by (inr b) = let count = host.count in let lt = b.2 in bound_tested b.0 b.1 (omega (arith, lt, count))
 
   -- slots of four words keep the convention
-  pub points_keep : (bound : Bound) → NextKeeps access y machine budget far bound → PointsKeep access y machine budget far (setting_of numbers p) bound
+  pub points_keep : (bound : Bound) → NextKeeps access y machine budget far (length numbers) bound → PointsKeep access y machine budget far (setting_of numbers p) bound
   points_keep bound next g depth frames args at i some few point spare w stands comes paid asked =
       follows_goal access y machine budget far arrivals numbers host.entries bound next depth frames args few at i (here g at some point) spare w stands comes asked ((setting_of numbers p).switched g w)
       (tested g at some point w i stands) paid

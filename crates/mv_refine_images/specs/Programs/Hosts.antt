@@ -83,7 +83,7 @@ module _ (y : Layout) (text : Text) (words : List Binding → ℕ → Option ℕ
     pub is_fine : Tree → Bool
     pub fits : IsFunction y (setting_of numbers p) false [] reach is_fine body
     pub place : ℕ → ℕ
-    pub linked : IsLinked y place
+    pub linked : IsLinked y (length numbers) place
     pub is_attributed : ℕ → Bool
     pub next : ℕ
     pub open_there : IsOpenIn text closed (y.entry f) next reach
@@ -101,7 +101,7 @@ module _ (y : Layout) (text : Text) (words : List Binding → ℕ → Option ℕ
     pub is_fine : Tree → Bool
     pub fits : IsFunction y (setting_of numbers p) true (zip (lower_function p g).switches vs) reach is_fine body
     pub place : ℕ → ℕ
-    pub linked : IsLinked y place
+    pub linked : IsLinked y (length numbers) place
     pub is_attributed : ℕ → Bool
     pub next : ℕ
     pub open_there : IsOpenIn text closed address next reach
@@ -124,7 +124,7 @@ module _ (y : Layout) (text : Text) (words : List Binding → ℕ → Option ℕ
     pub is_fine : Tree → Bool
     pub fits : IsFunction y (setting_of numbers p) true [] reach is_fine body
     pub place : ℕ → ℕ
-    pub linked : IsLinked y place
+    pub linked : IsLinked y (length numbers) place
     pub is_attributed : ℕ → Bool
     pub next : ℕ
     pub open_there : IsOpenIn text closed (y.entry f + 4) next reach
@@ -148,7 +148,7 @@ module _ (y : Layout) (text : Text) (words : List Binding → ℕ → Option ℕ
 -- The slots of four words of a pointer switch: while it is free they load it, and go to the check stub; while it is bound to a function they go there behind
 -- its test of the pointer, and call the function. What they load is open there, and the check stub is never patched.
 pub record ArePointed (y : Layout) (text : Text) (words : List Binding → ℕ → Option ℕ) (closed : (pc address : ℕ) → Bool) (p : Program) (numbers : List ℕ) (check : ℕ) : Type 0 where
-  pub stub : 0 < length p.pointers → (place : ℕ → ℕ) × IsLinked y place × HasCheck text place check
+  pub stub : 0 < length p.pointers → (place : ℕ → ℕ) × IsLinked y (length numbers) place × HasCheck text place check
   pub free : (bs : List Binding) (q x at : ℕ) → slice_get p.pointers q ≡ Some x → text.point at ≡ Some (y.place x) → IsFreeIn bs (length (attributed_functions p) + q) →
       PointStands (words bs) at (at + 16) check (y.place x)
   pub open_there : (q x at : ℕ) → slice_get p.pointers q ≡ Some x → text.point at ≡ Some (y.place x) → closed (at + 4) (y.place x) ≡ false

@@ -5,14 +5,14 @@ use Rattle.mv_isa.specs.declared.instr.Instr.TheVariants.{Addi, Ecall}
 use Rattle.mv_isa.specs.declared.labelled.Line.TheVariants.{Word}
 use Rattle.mv_isa.specs.Execution.{reg, put}
 use Rattle.mv_isa.specs.Standing.{InstrStands}
-use Rattle.mv_isa.specs.Registers.{a7 as request_register}
+use Rattle.mv_isa.specs.Registers.{a0, a7 as request_register}
 use Rattle.mv_image.specs.Spelling.{Fields}
 use Rattle.mv_image.specs.Faults.{Rules}
 use Rattle.mv_ir.specs.World.{World}
 use Rattle.mv_machine.specs.Acts.{PollActs}
 use Rattle.mv_machine.specs.Runs.{State, Exit, Trap, bytes_to_come, first as first_state}
 use Rattle.mv_machine.proofs.Turns.{runs_none}
-use Rattle.mv_select_code.specs.Statements.StatementCode.{first, trap_label}
+use Rattle.mv_select_code.specs.Statements.StatementCode.{trap_label}
 use Rattle.mv_select_code.specs.Control.Placed.{Placed}
 use Rattle.mv_select_code.specs.Control.Runs.{Spot, Machine, outside, IsRun}
 use Rattle.mv_select_code.proofs.OfControl.Walk.{before_next}
@@ -22,8 +22,8 @@ use Rattle.mv_refine_machine.specs.MachineRuns as runs
 use Rattle.mv_refine_machine.specs.Laws.{IsFirst}
 use Rattle.mv_refine_machine.specs.Stubs.Ends.{ComesTo}
 use Rattle.mv_refine_machine.specs.Stubs.Laws.{HoldsData, StartIsRight, ExitIsRight, TrapIsRight}
-use Rattle.mv_refine_machine.specs.Stubs.Stubs.{start_address, return_address, start_lines, trap_lines}
-use Rattle.mv_refine_machine.proofs.OfStubs.Walked.{no_frame, none_inside, At, One, sets, number_sets, regs3}
+use Rattle.mv_refine_machine.specs.Stubs.Stubs.{start_address, return_address, start_steps, start_lines, trap_lines}
+use Rattle.mv_refine_machine.proofs.OfStubs.Walked.{no_frame, none_inside, At, One, sets, number_sets, main_regs, exit_stands}
 use Rattle.mv_refine_machine.proofs.OfStubs.Walked as walked
 use Rattle.mv_refine_machine.proofs.OfStubs.Starting.{first_entry}
 use Rattle.mv_refine_machine.specs.Commits.Watch.{texts_of, keeps_text, is_sound}
@@ -82,16 +82,13 @@ module _ (known : Known) (attributed : List ℕ) (closed : (pc address : ℕ) �
   plain_comes pc i w h = record { at = h.here; calm = h.quiet.calm; sound = λ t lt. plainly t (h.sound t lt) }
 
   pub exits : ExitIsRight → (main_label end : ℕ) → Placed (machine_text attributed image) place entry (start_lines main_label) start_address end → (i : ℕ) (w : World)
-      → ComesQuietly closed image start picks return_address w i → EndsQuietly closed image start picks w (i + 1) (Exit (reg (at closed image start picks i).regs first % 2 ^ 8))
+      → ComesQuietly closed image start picks return_address w i → EndsQuietly closed image start picks w (i + 1) (Exit (reg (at closed image start picks i).regs a0 % 2 ^ 8))
   exits exit main_label end p i w h =
-      let first_end = p.1.stands.1 in
-      let second_end = p.2.1.stands.1 in
-      let third_end = p.2.2.1.stands.end_is in
-      let back : return_address ≡ p.2.2.0 = omega (arith, first_end, second_end, third_end) in
-      let q = p.2.2.2 in
-      let a = comes p.2.2.0 i w (record { here = h.here ∙ back; quiet = h.quiet; sound = h.sound }) in
+      let q = exit_stands (machine_text attributed image) place entry main_label end p in
+      let a = comes return_address i w h in
       let regs = put (run i).regs request_register 0 in
-      let b = sets access machine place entry ok (Addi request_register 0 (pos 0)) w p.2.2.0 q.0 i (run i).regs regs (run i).memory (number_sets access entry request_register 0 (run i).regs (run i).memory (omega arith)) q.1 a in
+      let b = sets access machine place entry ok (Addi request_register 0 (pos 0)) w return_address q.0 i (run i).regs regs (run i).memory
+      (number_sets access entry request_register 0 (run i).regs (run i).memory (omega arith)) q.1 a in
       record {
         quiet = quiet_there w q.0 (i + 1) regs (run i).memory b;
         sound = λ t le. before_next (SoundAt closed image start picks) (i + 1) b.sound (call_sound w q.0 q.2.0 (i + 1) regs (run i).memory q.2.1 b) t (omega (arith, le));
@@ -104,8 +101,8 @@ module _ (known : Known) (attributed : List ℕ) (closed : (pc address : ℕ) �
       let q = p.2.2 in
       let m = (run i).memory in
       let a = comes p.0 i w (record { here = h.here ∙ p.1.label ∙ sym p.1.stands; quiet = h.quiet; sound = h.sound }) in
-      let regs1 = put (run i).regs first code in
-      let b = sets access machine place entry ok (Addi first 0 (pos code)) w p.0 p.2.0 i (run i).regs regs1 m (number_sets access entry first code (run i).regs m (omega (arith, le))) p.2.1 a in
+      let regs1 = put (run i).regs a0 code in
+      let b = sets access machine place entry ok (Addi a0 0 (pos code)) w p.0 p.2.0 i (run i).regs regs1 m (number_sets access entry a0 code (run i).regs m (omega (arith, le))) p.2.1 a in
       let regs2 = put regs1 request_register 3 in
       let c = sets access machine place entry ok (Addi request_register 0 (pos 3)) w p.2.0 q.0 (i + 1) regs1 regs2 m (number_sets access entry request_register 3 regs1 m (omega arith)) q.1 b in
       let two : i + 1 + 1 ≡ i + 2 = omega arith in
@@ -144,22 +141,22 @@ module _ (known : Known) (plain : StartIsRight) (attributed : List ℕ) (closed 
     sound = λ t lt. absurd (omega (arith, lt));
   }
 
-  abbrev at3 : At access host place entry is_run w (place main_label) (regs3 access host place entry is_run w main_label end p at0) m 3
-  at3 = walked.at3 access host place entry is_run w main_label end p at0
+  abbrev at_main : At access host place entry is_run w (place main_label) (main_regs access host place entry is_run w main_label end p at0) m start_steps
+  at_main = walked.at_main access host place entry is_run w main_label end p at0
 
   globals_beside : (n : ℕ) → HoldsGlobals runs.access y (machine_of attributed closed image (bytes_to_come bytes) polls picks) budget far w (host.run n).memory.rest
       → HoldsGlobals access y host budget far w (host.run n).memory
   unfolding access runs.access
   globals_beside n h = record { sizes = h.sizes; words = h.words; loads = h.loads }
 
-  pub enters : EntersQuietly y host budget far (place main_label) w 3
+  pub enters : EntersQuietly y host budget far (place main_label) w start_steps
   enters =
       let x = plain attributed closed image bytes polls picks y budget far w begins held entry_is place entry main_label end p in record {
         stands = record {
           at = x.stands.at;
-          calm = subst (λ (z : Spot Watched). is_quiet image (outside w) z.memory ≡ true) (sym at3.is) at3.calm;
-          sound = at3.sound;
-          globals = globals_beside 3 x.stands.globals;
+          calm = subst (λ (z : Spot Watched). is_quiet image (outside w) z.memory ≡ true) (sym at_main.is) at_main.calm;
+          sound = at_main.sound;
+          globals = globals_beside start_steps x.stands.globals;
           are = x.stands.are;
         };
         link = x.link;

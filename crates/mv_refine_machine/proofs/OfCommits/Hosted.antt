@@ -1,5 +1,5 @@
 -- The machine begins in calm, and its memory has words.
-use Rattle.std.proofs.Common.{◌≡◌, ℕ, false, List, [], length, option_map, Option, Some, None, refl, sym, ap, ◌∙◌, subst}
+use Rattle.std.proofs.Common.{◌≡◌, ℕ, false, eqb, List, [], length, option_map, Option, Some, None, refl, sym, ap, ◌∙◌, subst}
 use Rattle.mv_fetch.specs.Held.{fence, first as first_memory}
 use Rattle.mv_rv32.specs.Stepping as memory
 use Rattle.mv_image.specs.Spelling.{Fields}
@@ -12,6 +12,7 @@ use Rattle.mv_machine.specs.Runs.{bytes_to_come, first, runs_from}
 use Rattle.mv_machine.specs.Commits.{commit_from}
 use Rattle.mv_select_code.specs.Control.Runs.{outside}
 use Rattle.mv_select.specs.Calls.Convention.{Layout}
+use Rattle.mv_isa.specs.Registers.{sp}
 use Rattle.mv_select_code.specs.Statements.Frames.{Site}
 use Rattle.mv_select.specs.Functions.Functions.{Kept}
 use Rattle.mv_refine_machine.specs.Calm.{Rest, IsCalm}
@@ -47,14 +48,16 @@ fenced_first image input polls = refl
 -- a frame without cells
 no_frame : Site
 no_frame = record {
-  place = λ g. 0;
+  seats = record { place = λ g. 0; register = λ t. None };
   size = λ g. 0;
   reach = record { is_read = λ g. false; is_written = λ g. false; may_load = λ a. false };
   entry = λ f. 0;
+  may_call = false;
   may_ask = λ k. false;
   temps = 0;
   array_at = λ a. 0;
   array_size = λ a. 0;
+  is_left = eqb sp;
   register = λ q. 0;
   is_kept = λ b. false;
   kept = λ b. 0;

@@ -17,7 +17,7 @@ use Rattle.mv_linker.specs.Linked.{commit_instrs}
 use Rattle.mv_machine.specs.Runs.{State, plan_area}
 use Rattle.mv_machine.specs.Commits.{after_instr}
 use Rattle.mv_select_code.specs.Trees.View.{AreRegisters}
-use Rattle.mv_select_code.proofs.OfTrees.Registers.{put_same, put_other, put_registers}
+use Rattle.mv_select_code.proofs.OfTrees.Registers.{free_above, put_same, put_other, put_registers}
 use Rattle.mv_select_code.proofs.OfControl.Walk.{before_next}
 use Rattle.mv_select.specs.Functions.Loads.{loads_from}
 use Rattle.mv_refine_machine.specs.MachineRuns.{spot_of, opens}
@@ -93,7 +93,7 @@ module _ (between : TextIsBetween) (tested : BetweenIsTested) (differ : PairsAre
       → In (b + 4 * k) done left regs t → In (b + 4 * (suc k)) done left (put regs r v) (t + 1)
   sets k r v i done left regs t lt here which word goes unbarred wants quiet h =
       line k (suc k) (b + 4 * k + 4) i done left done left regs (put regs r v) t here (omega arith) goes unbarred wants quiet h.joined
-      (put_registers regs r v h.registers (omega (arith, which)) (omega (arith, which)) word)
+      (put_registers regs r v h.registers (free_above r (omega (arith, which)) (omega (arith, which))) word)
       (λ q o. put_other regs r q v (omega (arith, which)) (other q o which)) h
     where
       other : (q : ℕ) → IsOther q → (r ≡ 5) ⊎ ((r ≡ 6) ⊎ ((r ≡ 7) ⊎ (r ≡ 28))) → q ≢ r

@@ -17,7 +17,7 @@ use Rattle.mv_ast.specs.Orders.{Answered}
 use Rattle.mv_isa.specs.declared.instr.Instr.TheVariants.{Ecall}
 use Rattle.mv_isa.specs.Execution.{reg}
 use Rattle.mv_isa.specs.Standing.{InstrStands}
-use Rattle.mv_isa.specs.Registers.{ra as link_register, s10 as live_register}
+use Rattle.mv_isa.specs.Registers.{a0, ra as link_register, s10 as live_register}
 use Rattle.mv_image.specs.Spelling.{Fields}
 use Rattle.mv_image.specs.Faults.{Rules}
 use Rattle.mv_patch.specs.Orders.{is_known_order}
@@ -32,7 +32,6 @@ use Rattle.mv_ir_worlds.specs.Fit.{IsFit, is_fit}
 use Rattle.mv_machine.specs.Acts.{PollActs}
 use Rattle.mv_machine.specs.Runs.{State, request_of, environment_call, planned, polled}
 use Rattle.mv_machine.proofs.Calls.{request_plans, request_polls}
-use Rattle.mv_select_code.specs.Statements.StatementCode.{first}
 use Rattle.mv_select_code.specs.Control.Placed.{Placed}
 use Rattle.mv_select_code.specs.Control.Runs.{Machine, outside}
 use Rattle.mv_select.specs.Calls.Convention.{Layout, IsTarget, IsSaved, IsAbove, HoldsGlobals, Stands, SetsBack, Returns}
@@ -265,7 +264,7 @@ module _ (known : Laws) (attributed : List ℕ) (closed : (pc address : ℕ) →
     }
 
     returns : (spare bound : ℕ) → i + (spare + stub_cost + a.cost) ≤ budget → far ≤ i + bound
-        → (t : ℕ) × Returns access y machine budget far spare bound i back a.world t × (reg (run t).regs first ≡ a.value)
+        → (t : ℕ) × Returns access y machine budget far spare bound i back a.world t × (reg (run t).regs a0 ≡ a.value)
     returns spare bound paid asked =
         let n = back_again.1.count in
         let cost = plan.cost in

@@ -27,7 +27,7 @@ use Rattle.mv_machine.specs.Runs.{State, request_of, environment_call, is_going}
 use Rattle.mv_machine.specs.Commits.{opens, is_some_pair, after_instr, commit_from}
 use Rattle.mv_machine.proofs.Turns.{runs_more, turn_by}
 use Rattle.mv_select_code.specs.Trees.View.{AreRegisters}
-use Rattle.mv_select_code.proofs.OfTrees.Registers.{put_same, put_other, put_registers}
+use Rattle.mv_select_code.proofs.OfTrees.Registers.{free_above, put_same, put_other, put_registers}
 use Rattle.mv_select_code.proofs.OfControl.Walk.{before_next}
 use Rattle.mv_select.specs.Functions.Loads.{loads_from}
 use Rattle.mv_refine_machine.specs.Layout.{IsOutsideText}
@@ -298,7 +298,7 @@ module _ (known : Known) (closed : (pc address : ℕ) → Bool) (image : Fields)
           plan = p.plan;
           few = omega (arith, few, few_patchable image rules);
           reserved = omega (arith, few, p.reserve, h.quiet.reserve);
-          registers = subst AreRegisters (sym p.regs) (put_registers (S i).regs 10 answer h.registers (omega arith) (omega arith) h.word);
+          registers = subst AreRegisters (sym p.regs) (put_registers (S i).regs 10 answer h.registers (free_above 10 (omega arith) (omega arith)) h.word);
           sound = sound_call;
         }
 

@@ -25,7 +25,7 @@ use Rattle.mv_select_code.specs.Control.Runs.{Machine, outside}
 use Rattle.mv_select.specs.Calls.Convention.{Layout, FollowsCall}
 use Rattle.mv_refine_machine.specs.MachineRuns.{rest_of, spot_of, has_one_choice, opens, are_open, is_sound}
 use Rattle.mv_refine_machine.specs.Stubs.Ends.{HasStopped}
-use Rattle.mv_refine_machine.specs.Stubs.Stubs.{return_address}
+use Rattle.mv_refine_machine.specs.Stubs.Stubs.{return_address, start_steps}
 use Rattle.mv_refine_machine.specs.Stores.Laws.{BetweenIsTested, RoomsAreWhole}
 use Rattle.mv_refine_machine.specs.Commits.Ends.{EndsQuietly, WatchedExitIsRight, WatchedTrapIsRight}
 use Rattle.mv_refine_machine.specs.Commits.Laws.{QuietIsTested}
@@ -221,7 +221,7 @@ module _ (quiet_tested : QuietIsTested) (tells : SoundPlacesTell) (tested : Betw
 
   module _ (budget far spare k : ℕ) (m : Meant) (cost : ℕ) where
     returned : (v : ℕ) (w : World) → IsExecution m (executed (code.Exited (v % 256)) cost w) → Counts bytes w
-        → FollowsCall access y machine budget far spare k 3 return_address (Returned (Some v) w) → Ended m budget
+        → FollowsCall access y machine budget far spare k start_steps return_address (Returned (Some v) w) → Ended m budget
     returned v w x counts f =
         let stands = f.1.stands in
         let paid = f.1.paid in
@@ -239,7 +239,7 @@ module _ (quiet_tested : QuietIsTested) (tells : SoundPlacesTell) (tested : Betw
         }
 
     trapped : (c : ℕ) (w : World) → IsExecution m (executed (code.Trapped c) cost w) → 1 ≤ c → c ≤ 4 → Counts bytes w
-        → FollowsCall access y machine budget far spare k 3 return_address (Trapped c w) → Ended m budget
+        → FollowsCall access y machine budget far spare k start_steps return_address (Trapped c w) → Ended m budget
     trapped c w x ge le counts f =
         let paid = f.1.paid in
         let placed = stubs.traps c ge le in
@@ -256,7 +256,7 @@ module _ (quiet_tested : QuietIsTested) (tells : SoundPlacesTell) (tested : Betw
         }
 
     late : (w : World) → IsExecution m (executed code.Unfinished cost w) → Counts bytes w
-        → FollowsCall access y machine budget far spare k 3 return_address (More w) → Late m budget far
+        → FollowsCall access y machine budget far spare k start_steps return_address (More w) → Late m budget far
     late w x counts f = record {
       world = w;
       time = f.0;
@@ -269,7 +269,7 @@ module _ (quiet_tested : QuietIsTested) (tells : SoundPlacesTell) (tested : Betw
     }
 
     goes : (e : End) → IsExecution m (execution_of main.first cost e) → IsReached main.first e → ((w : World) → e ≡ Returned None w → ⊥)
-        → FollowsCall access y machine budget far spare k 3 return_address e → Ended m budget ⊎ Late m budget far
+        → FollowsCall access y machine budget far spare k start_steps return_address e → Ended m budget ⊎ Late m budget far
     goes (Returned None w) x reached valued f = absurd (valued w refl)
     goes (Returned (Some v) w) x reached valued f = inl (returned v w x (reached ∙ main.input) f)
     goes (Trapped c w) x reached valued f = inl (trapped c w x reached.0 reached.1 (reached.2 ∙ main.input) f)
@@ -283,7 +283,7 @@ module _ (quiet_tested : QuietIsTested) (tells : SoundPlacesTell) (tested : Betw
   abbrev main_budget : ℕ → ℕ
   main_budget k = main_cost + (20 + 100 * (meaning k).work)
 
-  course : (budget far k : ℕ) → 3 + main_budget k ≤ budget → far ≤ 3 + k → Ended (meaning k) budget ⊎ Late (meaning k) budget far
+  course : (budget far k : ℕ) → start_steps + main_budget k ≤ budget → far ≤ start_steps + k → Ended (meaning k) budget ⊎ Late (meaning k) budget far
   course budget far k paid asked =
       let c = main.calls budget far k in
       let is = cost_is main.first c.call.cost c.call.end in
@@ -321,7 +321,7 @@ module _ (quiet_tested : QuietIsTested) (tells : SoundPlacesTell) (tested : Betw
 
   module _ (n : ℕ) where
     abbrev budget : ℕ
-    budget = 3 + main_budget n
+    budget = start_steps + main_budget n
 
     run_goes : Ended (meaning n) budget ⊎ Late (meaning n) budget (n + 1)
     run_goes = course budget (n + 1) n (omega arith) (omega arith)
@@ -389,13 +389,13 @@ module _ (quiet_tested : QuietIsTested) (tells : SoundPlacesTell) (tested : Betw
   -- ---- all that is meant is done in time
 
   done : (n k : ℕ) → 100 * (1 + (meaning k).work) ≤ n → HasDone (state n) (meaning k)
-  done n k le = ⊎_elim ended late' (course (n - 3) 0 k (omega (arith, le)) (omega arith))
+  done n k le = ⊎_elim ended late' (course (n - start_steps) 0 k (omega (arith, le)) (omega arith))
     where
-      ended : Ended (meaning k) (n - 3) → HasDone (state n) (meaning k)
+      ended : Ended (meaning k) (n - start_steps) → HasDone (state n) (meaning k)
       ended e =
           let soon = e.soon in stopped_done bytes (meaning k) e.world e.stop (state n) (e.ends.stopped n (omega (arith, soon, le))) e.says e.over
 
-      late' : Late (meaning k) (n - 3) 0 → HasDone (state n) (meaning k)
+      late' : Late (meaning k) (n - start_steps) 0 → HasDone (state n) (meaning k)
       late' l = let soon = l.soon in calm_done (meaning k) l.world l.time l.quiet l.says n (omega (arith, soon)) l.unfinished
 
   -- a sound place with the commit that is under way there

@@ -16,11 +16,11 @@ use Rattle.mv_select.specs.Calls.Convention.{Layout, HoldsGlobals, Stands}
 use Rattle.mv_refine_machine.specs.Calm.{Rest, is_calm}
 use Rattle.mv_refine_machine.specs.Laws.{CalmIsTested, RunsAreRuns, RunsBeginInCalm, IsFirst}
 use Rattle.mv_refine_machine.specs.MachineRuns.{access, machine_of, machine_text}
-use Rattle.mv_refine_machine.specs.Stubs.Stubs.{stack_end, start_address, return_address, start_lines}
+use Rattle.mv_refine_machine.specs.Stubs.Stubs.{stack_end, start_address, return_address, start_steps, start_lines}
 use Rattle.mv_refine_machine.specs.Stubs.Laws.{HoldsData, EntersMain}
 use Rattle.mv_refine_machine.proofs.OfStubs.Data.{data_held}
 use Rattle.mv_refine_machine.proofs.OfStubs.Walked as walked
-use Rattle.mv_refine_machine.proofs.OfStubs.Walked.{no_frame, At, regs3, are3, link_there, stack_there, left_there, live_there}
+use Rattle.mv_refine_machine.proofs.OfStubs.Walked.{no_frame, At, main_regs, are_main, link_there, stack_there, left_there, live_there}
 use Rattle.mv_num.proofs.Numbers.{zeros_at}
 
 -- ---- the first state
@@ -68,9 +68,6 @@ module _ (tested : CalmIsTested) (are_runs : RunsAreRuns) (begin_in_calm : RunsB
   zero0 : (q : ℕ) → reg regs0 q ≡ 0
   zero0 q = ap (λ (s : State). reg s.regs q) none ∙ first_zero image bytes polls q
 
-  are0 : AreRegisters regs0
-  are0 = record { count = ok.registers 0; words = λ q. let e = zero0 q in omega (arith, e) }
-
   at0 : At access machine place entry ok w start_address regs0 m 0
   at0 = record {
     is = ap (λ (a : ℕ). record (machine.run 0) { pc = a }) (ap (λ (s : State). s.pc) none ∙ first_entry image bytes polls ∙ entry_is);
@@ -78,29 +75,29 @@ module _ (tested : CalmIsTested) (are_runs : RunsAreRuns) (begin_in_calm : RunsB
     sound = λ t lt. absurd (omega (arith, lt));
   }
 
-  abbrev at3 : At access machine place entry ok w (place main_label) (regs3 access machine place entry ok w main_label end p at0) m 3
-  at3 = walked.at3 access machine place entry ok w main_label end p at0
+  abbrev at_main : At access machine place entry ok w (place main_label) (main_regs access machine place entry ok w main_label end p at0) m start_steps
+  at_main = walked.at_main access machine place entry ok w main_label end p at0
 
-  holds : (q v : ℕ) → reg (regs3 access machine place entry ok w main_label end p at0) q ≡ v → reg (machine.run 3).regs q ≡ v
-  holds q v e = subst (λ (x : Spot Rest). reg x.regs q ≡ v) (sym at3.is) e
+  holds : (q v : ℕ) → reg (main_regs access machine place entry ok w main_label end p at0) q ≡ v → reg (machine.run start_steps).regs q ≡ v
+  holds q v e = subst (λ (x : Spot Rest). reg x.regs q ≡ v) (sym at_main.is) e
 
   globals0 : HoldsGlobals access y machine budget far w m
   globals0 = data_held y image w held m (ap (λ (s : State). s.room.held.globals) none ∙ first_data image bytes polls) machine budget far
 
-  stands : Stands access y machine budget far (place main_label) w 3
+  stands : Stands access y machine budget far (place main_label) w start_steps
   stands = record {
-    at = ap (λ (x : Spot Rest). x.pc) at3.is;
-    calm = subst (λ (x : Spot Rest). is_calm image (outside w) x.memory ≡ true) (sym at3.is) at3.calm;
-    sound = at3.sound;
-    globals = subst (λ (x : Spot Rest). HoldsGlobals access y machine budget far w x.memory) (sym at3.is) globals0;
-    are = subst (λ (x : Spot Rest). AreRegisters x.regs) (sym at3.is) (are3 access machine place entry ok w main_label end p at0 are0);
+    at = ap (λ (x : Spot Rest). x.pc) at_main.is;
+    calm = subst (λ (x : Spot Rest). is_calm image (outside w) x.memory ≡ true) (sym at_main.is) at_main.calm;
+    sound = at_main.sound;
+    globals = subst (λ (x : Spot Rest). HoldsGlobals access y machine budget far w x.memory) (sym at_main.is) globals0;
+    are = subst (λ (x : Spot Rest). AreRegisters x.regs) (sym at_main.is) (are_main access machine place entry ok w main_label end p at0 zero0);
   }
 
-  pub enters : EntersMain y machine budget far (place main_label) w 3
+  pub enters : EntersMain y machine budget far (place main_label) w start_steps
   enters = record {
     stands = stands;
-    link = holds link_register return_address (link_there access machine place entry ok w main_label end p at0 are0);
-    stack = holds stack_register stack_end (stack_there access machine place entry ok w main_label end p at0 are0);
-    left = holds left_register depth_limit (left_there access machine place entry ok w main_label end p at0 are0);
-    live = holds live_register 0 (live_there access machine place entry ok w main_label end p at0 are0 ∙ zero0 live_register);
+    link = holds link_register return_address (link_there access machine place entry ok w main_label end p at0 zero0);
+    stack = holds stack_register stack_end (stack_there access machine place entry ok w main_label end p at0 zero0);
+    left = holds left_register depth_limit (left_there access machine place entry ok w main_label end p at0 zero0);
+    live = holds live_register 0 (live_there access machine place entry ok w main_label end p at0 zero0);
   }

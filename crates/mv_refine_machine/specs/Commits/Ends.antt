@@ -2,13 +2,13 @@
 use Rattle.std.specs.Prelude.{ℕ, ◌≡◌, ◌+◌, ◌%◌, ◌^◌, ◌<◌, ◌≤◌, Bool, List, Option}
 use Rattle.mv_bindings.specs.Traps.{depth_limit}
 use Rattle.mv_isa.specs.Execution.{reg}
-use Rattle.mv_isa.specs.Registers.{ra, sp, s10, s11}
+use Rattle.mv_isa.specs.Registers.{ra, sp, a0, s10, s11}
 use Rattle.mv_image.specs.Spelling.{Fields}
 use Rattle.mv_image.specs.Faults.{Rules}
 use Rattle.mv_ir.specs.World.{World}
 use Rattle.mv_machine.specs.Acts.{PollActs}
 use Rattle.mv_machine.specs.Runs.{State, Stop, Exit, Trap, bytes_to_come, first as first_state}
-use Rattle.mv_select_code.specs.Statements.StatementCode.{first, trap_label}
+use Rattle.mv_select_code.specs.Statements.StatementCode.{trap_label}
 use Rattle.mv_select_code.specs.Control.Placed.{Placed}
 use Rattle.mv_select_code.specs.Control.Runs.{Machine}
 use Rattle.mv_select.specs.Calls.Convention.{Layout, Stands}
@@ -16,7 +16,7 @@ use Rattle.mv_refine_machine.specs.Laws.{IsFirst}
 use Rattle.mv_refine_machine.specs.MachineRuns.{rest_of, machine_text}
 use Rattle.mv_refine_machine.specs.Stubs.Ends.{HasStopped}
 use Rattle.mv_refine_machine.specs.Stubs.Laws.{HoldsData}
-use Rattle.mv_refine_machine.specs.Stubs.Stubs.{stack_end, start_address, return_address, start_lines, trap_lines}
+use Rattle.mv_refine_machine.specs.Stubs.Stubs.{stack_end, start_address, return_address, start_steps, start_lines, trap_lines}
 use Rattle.mv_refine_machine.specs.Commits.Watched.{Watched, access, watched_machine}
 use Rattle.mv_refine_machine.specs.Commits.Served.{at, SoundAt, QuietAt}
 
@@ -44,13 +44,13 @@ module _ (closed : (pc address : ℕ) → Bool) (image : Fields) (start : State)
     pub sound : (t : ℕ) → t ≤ last → SoundAt closed image start picks t
     pub stopped : (t : ℕ) → last < t → HasStopped w stop (rest_of (state t))
 
--- Where the start stub stands at an image's entry, the run is at main after three instructions.
+-- Where the start stub stands at an image's entry, the run is at main after seven instructions.
 abbrev pub WatchedStartIsRight : Type 0
 WatchedStartIsRight =
     (attributed : List ℕ) (closed : (pc address : ℕ) → Bool) (image : Fields) → Rules image → (bytes : List ℕ) (polls : PollActs) (picks : List ℕ) (y : Layout) (budget far : ℕ) (w : World) →
     IsFirst image bytes w → w.hart ≡ polls.hart → w.actions ≡ polls.acts → HoldsData y image w → image.entry ≡ start_address →
     (place entry : ℕ → ℕ) (main_label end : ℕ) → Placed (machine_text attributed image) place entry (start_lines main_label) start_address end →
-    EntersQuietly y (watched_machine attributed closed image (bytes_to_come bytes) polls picks) budget far (place main_label) w 3
+    EntersQuietly y (watched_machine attributed closed image (bytes_to_come bytes) polls picks) budget far (place main_label) w start_steps
 
 -- Behind it, where main returns to, two instructions end the run with what main returned, modulo 256.
 abbrev pub WatchedExitIsRight : Type 0
@@ -58,7 +58,7 @@ WatchedExitIsRight =
     (attributed : List ℕ) (closed : (pc address : ℕ) → Bool) (image : Fields) → Rules image → (input : List (Option ℕ)) (polls : PollActs) (picks : List ℕ) →
     (place entry : ℕ → ℕ) (main_label end : ℕ) → Placed (machine_text attributed image) place entry (start_lines main_label) start_address end →
     (i : ℕ) (w : World) → let start = first_state image input polls in ComesQuietly closed image start picks return_address w i →
-    EndsQuietly closed image start picks w (i + 1) (Exit (reg (state closed image start picks i).regs first % 2 ^ 8))
+    EndsQuietly closed image start picks w (i + 1) (Exit (reg (state closed image start picks i).regs a0 % 2 ^ 8))
 
 -- Where the stub of a trap stands, three instructions end the run with its code.
 abbrev pub WatchedTrapIsRight : Type 0

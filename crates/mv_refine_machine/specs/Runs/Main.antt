@@ -13,7 +13,7 @@ use Rattle.mv_meaning.specs.Meaning.{hart_mean}
 use Rattle.mv_select_code.specs.Control.Placed.{Placed}
 use Rattle.mv_select.specs.Calls.Convention.{Layout, FollowsCall}
 use Rattle.mv_refine_machine.specs.MachineRuns.{machine_text}
-use Rattle.mv_refine_machine.specs.Stubs.Stubs.{start_address, return_address, start_lines, trap_lines}
+use Rattle.mv_refine_machine.specs.Stubs.Stubs.{start_address, return_address, start_steps, start_lines, trap_lines}
 use Rattle.mv_refine_machine.specs.Commits.Watched.{access, watched_machine}
 
 -- The stubs stand in the text of an image, those of traps where the layout has them.
@@ -32,14 +32,14 @@ main_cost = 44
 
 module _ (attributed : List ℕ) (closed : (pc address : ℕ) → Bool) (p : Program) (image : Fields) (bytes : List ℕ) (polls : PollActs) (picks : List ℕ) (y : Layout) (first : World) where
   -- At a bound, with so much paid and asked for, a call of main comes to what the program means in the hart with the acts, and it returns a value where it returns;
-  -- and after the three instructions of the start stub, the run, also while commits are made, does what that call does.
+  -- and after the seven instructions of the start stub, the run, also while commits are made, does what that call does.
   pub record CallsMain (budget far k : ℕ) : Type 0 where
     pub call : Call
     pub means : IsExecution (hart_mean p polls.hart bytes polls.acts k) (execution_of first call.cost call.end)
     pub reached : IsReached first call.end
     pub returns : (w : World) → call.end ≡ Returned None w → ⊥
-    pub follows : (spare : ℕ) → 3 + (spare + main_cost + call.cost) ≤ budget → far ≤ 3 + k →
-        FollowsCall access y (watched_machine attributed closed image (bytes_to_come bytes) polls picks) budget far spare k 3 return_address call.end
+    pub follows : (spare : ℕ) → start_steps + (spare + main_cost + call.cost) ≤ budget → far ≤ start_steps + k →
+        FollowsCall access y (watched_machine attributed closed image (bytes_to_come bytes) polls picks) budget far spare k start_steps return_address call.end
 
 -- The run calls main at every bound, whatever is paid and asked for, from a world that has the input.
 pub record RunsMain (attributed : List ℕ) (closed : (pc address : ℕ) → Bool) (p : Program) (image : Fields) (bytes : List ℕ) (polls : PollActs) (picks : List ℕ) (y : Layout) : Type 0 where

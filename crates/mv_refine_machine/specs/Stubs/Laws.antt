@@ -5,11 +5,11 @@ use Rattle.mv_num.specs.Regions.{data_start, data_limit}
 use Rattle.mv_machine.specs.Acts.{PollActs}
 use Rattle.mv_bindings.specs.Traps.{depth_limit}
 use Rattle.mv_isa.specs.Execution.{reg}
-use Rattle.mv_isa.specs.Registers.{ra, sp, s10, s11}
+use Rattle.mv_isa.specs.Registers.{ra, sp, a0, s10, s11}
 use Rattle.mv_image.specs.Spelling.{Fields}
 use Rattle.mv_ir.specs.World.{World}
 use Rattle.mv_machine.specs.Runs.{Exit, Trap, bytes_to_come}
-use Rattle.mv_select_code.specs.Statements.StatementCode.{first, trap_label}
+use Rattle.mv_select_code.specs.Statements.StatementCode.{trap_label}
 use Rattle.mv_select_code.specs.Control.Placed.{Text, Placed}
 use Rattle.mv_select_code.specs.Control.Runs.{Machine}
 use Rattle.mv_select.specs.Calls.Convention.{Layout, Stands}
@@ -17,7 +17,7 @@ use Rattle.mv_linker.specs.Linked.{check_lines}
 use Rattle.mv_refine_machine.specs.Calm.{Rest}
 use Rattle.mv_refine_machine.specs.Laws.{IsFirst}
 use Rattle.mv_refine_machine.specs.MachineRuns.{access, machine_of, machine_text, run_of}
-use Rattle.mv_refine_machine.specs.Stubs.Stubs.{stack_end, start_address, return_address, start_lines, trap_lines, HasCheck}
+use Rattle.mv_refine_machine.specs.Stubs.Stubs.{stack_end, start_address, return_address, start_steps, start_lines, trap_lines, HasCheck}
 use Rattle.mv_refine_machine.specs.Stubs.Ends.{ComesTo, EndsAfter}
 
 -- The data of an image are the globals of a world, one behind the other from the start of the data on. They are words, and there is room for them.
@@ -37,13 +37,13 @@ pub record EntersMain (y : Layout) (machine : Machine Rest) (budget far place : 
   pub left : reg (machine.run i).regs s11 ≡ depth_limit
   pub live : reg (machine.run i).regs s10 ≡ 0
 
--- Where the start stub stands at an image's entry, the run is at main after three instructions.
+-- Where the start stub stands at an image's entry, the run is at main after seven instructions.
 abbrev pub StartIsRight : Type 0
 StartIsRight =
     (attributed : List ℕ) (closed : (pc address : ℕ) → Bool) (image : Fields) (bytes : List ℕ) (polls : PollActs) (picks : List ℕ) (y : Layout) (budget far : ℕ) (w : World) →
     IsFirst image bytes w → HoldsData y image w → image.entry ≡ start_address →
     (place entry : ℕ → ℕ) (main_label end : ℕ) → Placed (machine_text attributed image) place entry (start_lines main_label) start_address end →
-    EntersMain y (machine_of attributed closed image (bytes_to_come bytes) polls picks) budget far (place main_label) w 3
+    EntersMain y (machine_of attributed closed image (bytes_to_come bytes) polls picks) budget far (place main_label) w start_steps
 
 -- Behind it, where main returns to, two instructions end the run with what main returned, modulo 256.
 abbrev pub ExitIsRight : Type 0
@@ -51,7 +51,7 @@ ExitIsRight =
     (attributed : List ℕ) (closed : (pc address : ℕ) → Bool) (image : Fields) (input : List (Option ℕ)) (polls : PollActs) (picks : List ℕ) →
     (place entry : ℕ → ℕ) (main_label end : ℕ) → Placed (machine_text attributed image) place entry (start_lines main_label) start_address end →
     (i : ℕ) (w : World) → ComesTo closed image input polls picks return_address w i →
-    EndsAfter closed image input polls picks w (i + 1) (Exit (reg (run_of image input polls picks i).regs first % 2 ^ 8))
+    EndsAfter closed image input polls picks w (i + 1) (Exit (reg (run_of image input polls picks i).regs a0 % 2 ^ 8))
 
 -- Where the stub of a trap stands, three instructions end the run with its code.
 abbrev pub TrapIsRight : Type 0

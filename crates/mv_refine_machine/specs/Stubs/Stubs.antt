@@ -1,14 +1,15 @@
 -- Stubs: the code before that of the functions, which starts a program, and the code to which traps jump.
-use Rattle.std.specs.Prelude.{ℕ, ◌+◌, List, [], ◌∷◌, pos}
-use Rattle.mv_num.specs.Regions.{text_start, plan_area, plan_upper}
-use Rattle.mv_bindings.specs.Traps.{depth_limit, null_call, call_too_deep}
-use Rattle.mv_isa.specs.declared.instr.Instr.TheVariants.{Lui, Addi, Ecall}
+use Rattle.std.specs.Prelude.{ℕ, ◌+◌, List, [], ◌∷◌, ◌++◌, map, pos}
+use Rattle.mv_num.specs.Regions.{text_start, plan_area}
+use Rattle.mv_bindings.specs.Traps.{null_call, call_too_deep}
+use Rattle.mv_isa.specs.declared.instr.Instr.TheVariants.{Addi, Ecall}
 use Rattle.mv_isa.specs.declared.labelled.Line.{Line}
 use Rattle.mv_isa.specs.declared.labelled.Line.TheVariants.{Word, Label, Jump}
 use Rattle.mv_isa.specs.Requests as requests
 use Rattle.mv_isa.specs.Code.{IsPlace}
-use Rattle.mv_isa.specs.Registers.{x0, ra, sp, a7, s11}
-use Rattle.mv_select_code.specs.Statements.StatementCode.{first, trap_label}
+use Rattle.mv_isa.specs.Registers.{x0, ra, a0, a7}
+use Rattle.mv_linker.specs.Linked.{start_instrs}
+use Rattle.mv_select_code.specs.Statements.StatementCode.{trap_label}
 use Rattle.mv_select_code.specs.Control.Placed.{Text}
 use Rattle.mv_select.specs.Slots.Points.{CheckStands}
 
@@ -21,19 +22,23 @@ abbrev pub start_address : ℕ
 start_address = text_start
 
 abbrev pub return_address : ℕ
-return_address = 0x100C
+return_address = 0x101C
+
+-- how many instructions come to main
+abbrev pub start_steps : ℕ
+start_steps = 7
 
 -- an environment call of a number, with its argument in a0
 abbrev pub request_lines : ℕ → List Line
 request_lines number = Word (Addi a7 x0 (pos number)) ∷ Word Ecall ∷ []
 
--- The stack is empty and all calls are left; main is called, and what it returns is the exit status.
+-- The stack is empty, gp and tp point into data, and all calls are left; main is called, and what it returns is the exit status.
 abbrev pub start_lines : (main_label : ℕ) → List Line
-start_lines main_label = Word (Lui sp (pos plan_upper)) ∷ Word (Addi s11 x0 (pos depth_limit)) ∷ Jump ra main_label ∷ request_lines requests.exit
+start_lines main_label = map Word start_instrs ++ (Jump ra main_label ∷ request_lines requests.exit)
 
 -- the run ends with the code of a trap
 abbrev pub trap_lines : ℕ → List Line
-trap_lines code = Label (trap_label code) ∷ Word (Addi first x0 (pos code)) ∷ request_lines requests.trap
+trap_lines code = Label (trap_label code) ∷ Word (Addi a0 x0 (pos code)) ∷ request_lines requests.trap
 
 -- The stub of calls through pointer switches stands at an address, with the stubs of its traps in text.
 pub record HasCheck (text : Text) (place : ℕ → ℕ) (check : ℕ) : Type 0 where

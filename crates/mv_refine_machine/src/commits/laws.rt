@@ -77,7 +77,7 @@ pub fn sound_places_tell()
     ensures { SoundPlacesTell }
 {}
 
-/// How that run starts and ends. `starts`: where the start stub stands at an image's entry, it is at `main` after three instructions. `exits` and `traps`: behind
+/// How that run starts and ends. `starts`: where the start stub stands at an image's entry, it is at `main` after seven instructions. `exits` and `traps`: behind
 /// `main`, and at the stub of a trap, it ends. Each place on the way is sound.
 pub fn watched_ends_law()
     ensures starts { WatchedStartIsRight }

@@ -2,7 +2,7 @@ ghost use Rattle.mv_refine_machine.specs.Stubs.Laws.{StartIsRight, ExitIsRight, 
 
 use crate::{calm_is_tested, environment_calls, runs_are_runs, runs_begin_in_calm};
 
-/// A run that begins at the start stub is at `main` after three instructions, with the globals in memory. The call does
+/// A run that begins at the start stub is at `main` after seven instructions, with the globals in memory. The call does
 /// nothing: its contract is the law.
 pub fn start_is_right()
     ensures { StartIsRight }

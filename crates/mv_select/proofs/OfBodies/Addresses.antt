@@ -1,13 +1,13 @@
 -- Where labels and slots of a function's code stand, wherever the code stands.
-use Rattle.std.proofs.Common.{◌≡◌, ℕ, zero, suc, ◌+◌, ◌<◌, ◌≤◌, ◌⊎◌, inl, inr, ⊎_elim, true, false, List, [], ◌∷◌, ◌++◌, length, Option, Some, None, pos, ◌-ℤ◌, refl, sym, ap, ◌∙◌, subst, arith}
+use Rattle.std.proofs.Common.{◌≡◌, ℕ, zero, suc, ◌+◌, ◌<◌, ◌≤◌, ◌⊎◌, inl, inr, ⊎_elim, true, false, List, [], ◌∷◌, ◌++◌, Bool, length, Option, Some, None, length-append, refl, sym, ap, ◌∙◌, subst, arith}
 use Rattle.std.proofs.lemmas.Bool.{cases_lt}
 use Rattle.std.proofs.lemmas.List.Sums.{sum_by_more}
-use Rattle.mv_isa.specs.declared.instr.Instr.{Instr}
-use Rattle.mv_isa.specs.declared.instr.Instr.TheVariants.{Addi}
 use Rattle.mv_isa.specs.declared.labelled.Line.{Line}
 use Rattle.mv_isa.specs.declared.labelled.Line.TheVariants.{Word, Label, Jump, Branch, Entry, Slot, Point}
-use Rattle.mv_isa.specs.Code.{line_at, least_words, offset, label_index, label_address, IsSizing}
-use Rattle.mv_select.specs.Functions.FunctionCode.{bytes_of, end_label, lowered_lines, body_lines, epilogue_lines, function_lines}
+use Rattle.mv_isa.specs.Code.{nop, line_at, least_words, offset, label_index, label_address, IsSizing}
+use Rattle.mv_ir.specs.declared.stm.Stm.{Stm}
+use Rattle.mv_select.specs.Functions.FunctionCode.{Shape, end_label, body_lines, entry_by, return_by, led, function_lines}
+use Rattle.mv_select.specs.Laws.{IsPlain}
 use Rattle.mv_select.specs.Bodies.Lines.{Stays, StaysBefore, IsApart, Links, FirstsAreNoLabels, NoLinkIsSlot}
 use Rattle.mv_select.proofs.OfBodies.FunctionNames.{function_apart}
 use Rattle.mv_isa.proofs.Common.{offset-cons}
@@ -27,21 +27,58 @@ module _ (lines : List Line) (sizing : List ℕ) (sizes : IsSizing lines sizing)
   behind : (k n : ℕ) → k < length lines → n ≤ least_words (line_at lines k) → offset sizing k + n ≤ offset sizing (k + 1)
   behind k n lt le = let more = sum_by_more (λ (x : ℕ). x) sizing k 0 (omega (arith, sizes.one_each)) in omega (arith, more, sizes.at_least k lt)
 
--- ---- the first word
+-- ---- the first line
 
--- where the first line is a word, each label is behind it
-module _ (i : Instr) (rest : List Line) (base : ℕ) (sizing : List ℕ) (sizes : IsSizing (Word i ∷ rest) sizing) where
-  label_behind : (l : ℕ) → base + 4 ≤ label_address base (Word i ∷ rest) sizing l
-  label_behind l =
-      let word = behind (Word i ∷ rest) sizing sizes 0 1 (omega arith) (omega arith) in
-      let later = offset_rises sizing 1 (1 + label_index rest l) (omega arith) in
-      omega (arith, word, later)
+plain_words : (x : Line) → IsPlain x → 1 ≤ least_words x
+plain_words (Word i) h = omega arith
+plain_words (Label l) h = absurd h
+plain_words (Jump rd l) h = omega arith
+plain_words (Branch funct3 a b l) h = omega arith
+plain_words (Entry rd f) h = omega arith
+plain_words (Slot f) h = absurd h
+plain_words (Point a) h = absurd h
+
+plain_index : (x : Line) (rest : List Line) (l : ℕ) → IsPlain x → label_index (x ∷ rest) l ≡ 1 + label_index rest l
+plain_index (Word i) rest l h = refl
+plain_index (Label n) rest l h = absurd h
+plain_index (Jump rd n) rest l h = refl
+plain_index (Branch funct3 a b n) rest l h = refl
+plain_index (Entry rd f) rest l h = refl
+plain_index (Slot f) rest l h = absurd h
+plain_index (Point a) rest l h = absurd h
+
+-- where the first line is plain, each label is behind it
+label_behind : (x : Line) (rest : List Line) → IsPlain x → (base : ℕ) (sizing : List ℕ) → IsSizing (x ∷ rest) sizing → (l : ℕ) → base + 4 ≤ label_address base (x ∷ rest) sizing l
+label_behind x rest plain base sizing sizes l =
+    let word = behind (x ∷ rest) sizing sizes 0 1 (omega arith) (plain_words x plain) in
+    let later = offset_rises sizing 1 (1 + label_index rest l) (omega arith) in
+    omega (arith, word, later, ap (offset sizing) (plain_index x rest l plain))
+
+-- lines begin with a plain one
+abbrev pub Opens : List Line → Type 0
+Opens lines = (x : Line) × (rest : List Line) × (lines ≡ x ∷ rest) × IsPlain x
+
+led_opens : (lines : List Line) → 0 < length lines → IsApart None (led lines) → Opens (led lines)
+led_opens [] some apart = absurd (omega (arith, some))
+led_opens (Word i ∷ lines) some apart = (Word i, lines, refl, tt)
+led_opens (Label l ∷ lines) some apart = (Word nop, Label l ∷ lines, refl, tt)
+led_opens (Jump rd l ∷ lines) some apart = (Jump rd l, lines, refl, tt)
+led_opens (Branch funct3 a b l ∷ lines) some apart = (Branch funct3 a b l, lines, refl, tt)
+led_opens (Entry rd f ∷ lines) some apart = (Entry rd f, lines, refl, tt)
+led_opens (Slot f ∷ lines) some apart = absurd apart.0
+led_opens (Point a ∷ lines) some apart = absurd apart.0
+
+pub function_opens : (place size : ℕ → ℕ) (is_attributed : ℕ → Bool) (shape : Shape) (code : List Stm) → Opens (function_lines place size is_attributed shape code)
+function_opens place size is_attributed shape code =
+    let entry = entry_by shape.keeping shape in
+    let stop = Label end_label ∷ return_by shape.keeping shape in
+    let body = body_lines place size is_attributed shape code in
+    led_opens (entry ++ (body ++ stop)) (omega (arith, length-append entry (body ++ stop), length-append body stop)) (function_apart place size is_attributed shape code)
 
 pub firsts_are_no_labels : FirstsAreNoLabels
 firsts_are_no_labels place size is_attributed shape code base sizing sizes l =
-    label_behind (Addi 2 2 (pos 0 -ℤ pos (bytes_of shape)))
-    (lowered_lines shape.attributed shape.params shape.temps
-    ++ (body_lines place size is_attributed shape code ++ (Label end_label ∷ epilogue_lines shape.attributed shape.temps (bytes_of shape)))) base sizing sizes l
+    let o = function_opens place size is_attributed shape code in
+    subst (λ lines. base + 4 ≤ label_address base lines sizing l) (sym o.2) (label_behind o.0 o.1 o.3 base sizing (subst (λ lines. IsSizing lines sizing) o.2 sizes) l)
 
 -- ---- slots
 

@@ -23,7 +23,7 @@ use Rattle.mv_ir.proofs.Rolls.{reads_temp_roll, trees_roll, named_roll, arrays_r
 use Rattle.mv_select_code.specs.Trees.TreeCode.{temps_of}
 use Rattle.mv_select_code.proofs.OfTrees.Rolls.{temps_roll}
 use Rattle.mv_select_code.specs.Control.FlowCode.{Uses, may_read, may_write, fine_target, fine_callee, fine_known, fine_layer, is_fine_statement, are_fine}
-use Rattle.mv_select_code.proofs.OfControl.StatementsDo.{fine_roll}
+use Rattle.mv_select_code.proofs.OfControl.Equations.{fine_roll}
 use Rattle.mv_select.specs.Bodies.SelectedBodies.{knowns_layer, stm_knowns, written_layer, stm_written}
 use Rattle.mv_select.proofs.OfBodies.Lists.{each_both, true_each, each_weaker}
 use Rattle.mv_num.proofs.Booleans.{and_right, and_left}
@@ -109,7 +109,7 @@ module _ (is_fine : Tree → Bool) (may_ask : Known → Bool) (limit : ℕ) (use
   IsAsked k = fine_known is_fine may_ask limit uses k ≡ true
 
 module _ (is_fine : Tree → Bool) (may_ask : Known → Bool) (limit : ℕ) (uses : Uses) (P : Tree → Type 0)
-    (tree_fine : (v : Tree) → P v → ReadsBelow limit v → is_fine v ≡ true) where
+    (tree_fine : (v : Tree) → P v → ReadsBelow limit v → is_fine v ≡ true) (may_call : uses.may_call ≡ true) where
   abbrev Fine : Stm → Bool
   Fine = is_fine_statement is_fine may_ask limit uses
 
@@ -293,7 +293,8 @@ module _ (is_fine : Tree → Bool) (may_ask : Known → Bool) (limit : ℕ) (use
       let trees = and_from (fine_callee is_fine may_ask limit uses c) (all_true (map is_fine args)) of_callee of_args in
       let callee_and_args = fine_callee is_fine may_ask limit uses c && all_true (map is_fine args) in
       let is_target = fine_target is_fine may_ask limit uses w in
-      and_from (ltb (length args) 9) (is_target && callee_and_args) h.arguments (and_from is_target callee_and_args target trees)
+      and_from uses.may_call (ltb (length args) 9 && (is_target && callee_and_args)) may_call
+      (and_from (ltb (length args) 9) (is_target && callee_and_args) h.arguments (and_from is_target callee_and_args target trees))
   layer (stm.Known w k args) f r h m =
       let on = λ (t : ℕ). (r t).next in
       let below = trees_below limit args w on (λ t. (m t).0) in

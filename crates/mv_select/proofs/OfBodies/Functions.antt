@@ -142,7 +142,7 @@ module _ (y : Layout) (setting : ir.Setting) (attributed : Bool) (bound : List (
   is_read = reach.is_read
 
   abbrev uses : Uses
-  uses = uses_in y.size reach
+  uses = uses_in y.size reach true
 
   abbrev count : ℕ
   count = length setting.numbers
@@ -201,7 +201,7 @@ module _ (y : Layout) (setting : ir.Setting) (attributed : Bool) (bound : List (
 
   code_fine : are_fine is_fine y.may_ask b.temps uses b.code ≡ true
   code_fine =
-      all_fine is_fine y.may_ask b.temps uses IsGood tree_fine b.code trees_good (each_weaker (IsKnownArray (has_room b.rooms)) IsWordy wordy (named b.code) (known_arrays b member.within.formed)) asked
+      all_fine is_fine y.may_ask b.temps uses IsGood tree_fine refl b.code trees_good (each_weaker (IsKnownArray (has_room b.rooms)) IsWordy wordy (named b.code) (known_arrays b member.within.formed)) asked
       (each_among is_read (arrays_read b.code) (λ g. among_back g (scalars_read b.code) (arrays_read b.code)))
       (each_among reach.is_written (globals_written b.code) (λ g h. h))
       member.within.formed.arguments (λ t. nowhere) (marks_below b b.temps member.within.formed.temps (omega arith))

@@ -64,7 +64,7 @@ module _ (L P C Q S A : ℕ → Type 0) where
     entry = λ r f h. (All-cons Named (Entry r f) [] h nothing.0, tt);
   }
 
-  -- the call of a stub
+  -- the call of a stub, or of an entry
   pub stub_names : (l : ℕ) → C l → AllName (Jump link_register l ∷ [])
   stub_names l h = (All-cons Named (Jump link_register l) [] (inr (refl, h)) nothing.0, tt)
 

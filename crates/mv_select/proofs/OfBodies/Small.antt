@@ -55,7 +55,7 @@ module _ (b : Body) (formed : IsWellFormed b) (few : b.temps ≤ 507) (shallow :
 
   code_small : are_small b.code ≡ true
   code_small =
-      all_fine is_small any_known 507 any_global (λ v. depth v ≤ 4) tree_small b.code shallow (any_arrays (named b.code))
+      all_fine is_small any_known 507 any_global (λ v. depth v ≤ 4) tree_small refl b.code shallow (any_arrays (named b.code))
       (each_weaker IsOrder (IsAsked is_small any_known 507 any_global) (λ k. order_fine is_small any_known 507 any_global k refl) (knowns b.code) orders) (any_globals (arrays_read b.code)) (any_globals (globals_written b.code))
       formed.arguments (λ t. nowhere) (marks_below b 507 formed.temps few)
 

@@ -1,6 +1,5 @@
 -- What the caller's frame shows when a call has come back.
-use Rattle.std.proofs.Common.{◌≡◌, inl, inr, ℕ, zero, suc, ◌+◌, ◌*◌, ◌^◌, ◌<◌, cond, List, length, Some, refl, sym, ap, ◌∙◌, subst, arith}
-use Rattle.std.proofs.lemmas.Bool.{ne_eqb}
+use Rattle.std.proofs.Common.{◌≡◌, ◌≢◌, inl, inr, ℕ, ◌+◌, ◌*◌, ◌^◌, ◌<◌, ◌≤◌, List, length, Some, sym, ap, ◌∙◌, subst, arith}
 use Rattle.mv_isa.specs.Execution.{Access, reg}
 use Rattle.mv_ir.specs.declared.stm.Array.{Array}
 use Rattle.mv_ir.specs.declared.stm.Array.TheVariants as array
@@ -8,22 +7,29 @@ use Rattle.mv_ir.specs.World as ir
 use Rattle.mv_ir.specs.World.{World}
 use Rattle.mv_ir.specs.Outcome.{State}
 use Rattle.mv_ir.specs.Meaning.{elements, with_world}
-use Rattle.mv_select_code.specs.Trees.TreeCode.{temp_register}
 use Rattle.mv_select_code.specs.Trees.View.{AreRegisters}
-use Rattle.mv_select_code.specs.Statements.Frames.{Site, Cell, TempCell, Element, Kept, IsLeft, address, IsThere, content, size_of, Shows}
+use Rattle.mv_select_code.specs.Statements.Frames.{Site, Cell, TempCell, Element, Kept, address, IsThere, content, size_of, Shows}
+use Rattle.mv_select_code.proofs.OfStatements.FrameChanges.{frame_same}
 use Rattle.mv_select_code.specs.Control.Runs.{Machine}
 use Rattle.mv_select.specs.Calls.Convention.{Layout, IsSaved, IsAbove, HoldsGlobals}
 use Rattle.mv_select.specs.Calls.Laws.{IsCaller}
 
--- the registers of temporaries are set back
-pub temp_saved : (t : ℕ) → t < 9 → IsSaved (temp_register t)
-unfolding temp_register
-temp_saved zero h = inr (inl refl)
-temp_saved (suc t) h = subst (λ b. IsSaved (cond b 9 (17 + suc t))) (sym (ne_eqb (suc t) 0 (λ e. omega arith))) (inr (inr (omega arith, omega arith)))
+-- the registers that callees set back are apart from the registers of arguments and from scratch registers
+pub saved_below : (q : ℕ) → IsSaved q → q < 28
+saved_below q (inl h) = omega (arith, h)
+saved_below q (inr (inl h)) = omega (arith, h)
+saved_below q (inr (inr h)) = h.1
 
-pub left_saved : (q : ℕ) → IsLeft q → IsSaved q
-left_saved q (inl h) = inl h
-left_saved q (inr h) = inr (inr (omega (arith, h.0), h.1))
+pub saved_apart : (q r : ℕ) → 10 ≤ r → r < 18 → IsSaved q → q ≢ r
+saved_apart q r low high (inl h) e = omega (arith, h, e, low)
+saved_apart q r low high (inr (inl h)) e = omega (arith, h, e, low)
+saved_apart q r low high (inr (inr h)) e = let least = h.0 in omega (arith, least, e, high)
+
+-- where the registers that callees set back are as they were, the frame of a caller is still shown
+pub shown_saved : {M : Type 0} (access : Access M) (y : Layout) (s : Site) (setting : ir.Setting) (frame : ir.Frame) → IsCaller y s setting frame → (l : State) (regs regs' : List ℕ) (m : M)
+    → AreRegisters regs' → ((q : ℕ) → IsSaved q → reg regs' q ≡ reg regs q) → Shows s access l regs m → Shows s access l regs' m
+shown_saved access y s setting frame caller l regs regs' m are saved =
+    frame_same s access l regs regs' m are (λ q h. saved q (caller.left q h)) (λ t q p h. saved q (caller.saved t q h))
 
 module _ {M : Type 0} (access : Access M) (y : Layout) (s : Site) (setting : ir.Setting) (frame : ir.Frame) (caller : IsCaller y s setting frame)
     (machine : Machine M) (budget far : ℕ) where
@@ -50,12 +56,11 @@ module _ {M : Type 0} (access : Access M) (y : Layout) (s : Site) (setting : ir.
       → ((q : ℕ) → IsSaved q → reg regs' q ≡ reg regs q) → ((b : ℕ) → IsAbove y (s.register 2) b → access.load m' b 4 ≡ access.load m b 4) → Shows s access (with_world l w) regs' m'
   shows_after l w regs regs' m m' f g are saved stack = record {
     are = are;
-    left = λ q h. saved q (left_saved q h) ∙ f.left q h;
+    left = λ q h. saved q (caller.left q h) ∙ f.left q h;
     count = f.count;
     sizes = sizes;
-    low_words = f.low_words;
-    in_register = λ t p q. saved (temp_register t) (temp_saved t q) ∙ f.in_register t p q;
-    unused = λ t p q. saved (temp_register t) (temp_saved t q) ∙ f.unused t p q;
+    temp_words = f.temp_words;
+    in_register = λ t q p h. saved q (caller.saved t q h) ∙ f.in_register t q p h;
     words = words;
     in_memory = in_memory;
   }

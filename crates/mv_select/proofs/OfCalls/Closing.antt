@@ -5,7 +5,7 @@ use Rattle.mv_isa.specs.declared.labelled.Line.{Line}
 use Rattle.mv_isa.specs.declared.labelled.Line.TheVariants.{Slot, Point}
 use Rattle.mv_isa.specs.Registers.{t3 as scratch_register}
 use Rattle.mv_ir.specs.declared.tree.Tree.{Tree}
-use Rattle.mv_select_code.specs.Trees.TreeCode.{tree_into}
+use Rattle.mv_select_code.specs.Trees.TreeCode.{Seats, tree_into}
 use Rattle.mv_select_code.specs.Control.Labels.{tree_functions}
 use Rattle.mv_select_code.proofs.OfTrees.TreesAreMade as trees
 use Rattle.mv_select_code.proofs.OfControl.TreeNames.{AnyNumber, all_any, functions_inside}
@@ -33,11 +33,11 @@ closes_on : (before : Option Line) (a b : List Line) → Closes b → StaysBefor
 closes_on before [] b h = any_before before b h
 closes_on before (line ∷ a) b h = closes_on (kept line) a b h
 
-tree_closes : (place : ℕ → ℕ) (t : Tree) (d r : ℕ) → Closes (tree_into place t d r)
-tree_closes place t d r =
+tree_closes : (s : Seats) (t : Tree) (d r : ℕ) → Closes (tree_into s t d r)
+tree_closes s t d r =
     trees.into_made (λ lines. Unit {0}) Closes tt (λ lines h. tt) (λ i h. h) (λ a b p h. closes_on None a b h) (λ t. All AnyNumber (tree_functions t)) (functions_inside AnyNumber)
-    (λ f q h. tt) place t (all_any (tree_functions t)) d r
+    (λ f q h. tt) s t (all_any (tree_functions t)) d r
 
-pub arguments_close : (place : ℕ → ℕ) (n : ℕ) (t : Tree) (ts : List Tree) → Closes (argument_lines place n (t ∷ ts))
-arguments_close place n t [] = subst Closes (sym (append-nil (tree_into place t n scratch_register))) (tree_closes place t n scratch_register)
-arguments_close place n t (u ∷ ts) = closes_on None (tree_into place t n scratch_register) (argument_lines place (suc n) (u ∷ ts)) (arguments_close place (suc n) u ts)
+pub arguments_close : (s : Seats) (n : ℕ) (t : Tree) (ts : List Tree) → Closes (argument_lines s n (t ∷ ts))
+arguments_close s n t [] = subst Closes (sym (append-nil (tree_into s t n scratch_register))) (tree_closes s t n scratch_register)
+arguments_close s n t (u ∷ ts) = closes_on None (tree_into s t n scratch_register) (argument_lines s (suc n) (u ∷ ts)) (arguments_close s (suc n) u ts)

@@ -1,5 +1,5 @@
 -- A call is made where one is left, and is a trap where none is.
-use Rattle.std.proofs.Common.{◌≡◌, inr, ℕ, suc, ◌+◌, ◌-◌, ◌^◌, ◌<◌, ◌≤◌, Bool, true, false, cond, eqb, ltb, List, [], ◌∷◌, ◌++◌, length, Option, sum_by, refl, sym, ap, ◌∙◌, subst, arith}
+use Rattle.std.proofs.Common.{◌≡◌, ℕ, suc, ◌+◌, ◌-◌, ◌^◌, ◌<◌, ◌≤◌, Bool, true, false, cond, eqb, ltb, List, [], ◌∷◌, ◌++◌, length, Option, sum_by, refl, sym, ap, ◌∙◌, subst, arith}
 use Rattle.std.proofs.lemmas.List.{append-nil}
 use Rattle.std.proofs.lemmas.Bool.{ltb-true, ltb-false, eq-eqb, ne_eqb}
 use Rattle.mv_num.specs.Words.{add}
@@ -44,7 +44,7 @@ unfolding add
 one_less n h = omega arith
 
 module _ {M : Type 0} (access : Access M) (y : Layout) (s : Site) (setting : ir.Setting) (frame : ir.Frame) (fit : IsFit s access setting frame) (caller : IsCaller y s setting frame)
-    (machine : Machine M) (ok : IsRun access s machine) (budget far : ℕ) (place : ℕ → ℕ) (end : ℕ) (linked : IsLinked y place)
+    (machine : Machine M) (ok : IsRun access s machine) (budget far : ℕ) (place : ℕ → ℕ) (end : ℕ) (linked : IsLinked y (length setting.numbers) place)
     (is_fine : Tree → Bool) where
   open call_course access s machine ok place end budget far use {of.{Placed as P, Follows as F}, Stands as W, Reaches as R}
 
@@ -85,7 +85,7 @@ module _ {M : Type 0} (access : Access M) (y : Layout) (s : Site) (setting : ir.
       branch_passes access s machine ok place end budget far w pc mid 0 r 0 (trap_label c) regs m i fails p a
 
   left_held : (l : State) (regs : List ℕ) (m : M) → Shows s access l regs m → reg regs left_register ≡ s.register left_register
-  left_held l regs m f = f.left left_register (inr (omega arith, omega arith))
+  left_held l regs m f = f.left left_register caller.counters.1
 
   -- one call less is left
   counted : (n : ℕ) (l : State) (pc mid : ℕ) (regs : List ℕ) (m : M) (i : ℕ) → n + 1 ≡ s.register left_register → Shows s access l regs m
@@ -99,7 +99,7 @@ module _ {M : Type 0} (access : Access M) (y : Layout) (s : Site) (setting : ir.
   -- a call that is left is made, at each bound
   made : (go : List Line) (result : Option ℕ) (f : ℕ) (args : List ℕ) (spare pc mid next : ℕ) (around : List Enclosing) (bound : Bound) (l : State) (regs : List ℕ) (m : M) (i : ℕ)
       → fine_target is_fine s.may_ask s.temps (uses_of s) result ≡ true → (s.register left_register ≡ 0 → ⊥) → Shows s access l regs m → Conventions access y machine budget far setting bound → Goes go f args l regs m
-      → IsPlaced machine.text place s.entry pc mid (Branch 0 left_register 0 (trap_label 4)) → P (Word (Addi left_register left_register minus_one) ∷ (go ++ back_lines result)) mid next
+      → IsPlaced machine.text place s.entry pc mid (Branch 0 left_register 0 (trap_label 4)) → P (Word (Addi left_register left_register minus_one) ∷ (go ++ back_lines s.seats result)) mid next
       → W l.world pc regs m i
       → i + (spare + 52 + (within bound (λ calls. made_call result l (calls f args frame.depth frame.live l.world)) l).cost) ≤ budget → far ≤ i + length bound
       → F spare (length bound) around next (within bound (λ calls. made_call result l (calls f args frame.depth frame.live l.world)) l).outcome
@@ -110,7 +110,7 @@ module _ {M : Type 0} (access : Access M) (y : Layout) (s : Site) (setting : ir.
       let e : n + 1 ≡ s.register left_register = grind (arith, ne) in
       let b = other_passes 4 left_register (s.register left_register) l.world pc mid regs m i (left_held l regs m sh) ne branch a in
       let c = counted n l mid p.0 regs m (i + 1) e sh p.1 b in
-      let q = placed_split machine.text place s.entry go (back_lines result) p.0 next p.2 in
+      let q = placed_split machine.text place s.entry go (back_lines s.seats result) p.0 next p.2 in
       let x = goes calls (length below) n (spare + 2) p.0 q.0 (i + 1 + 1) keep.0 e q.1 c (omega (arith, paid)) (omega (arith, asked)) in
       let end_of = (calls f args frame.depth frame.live l.world).end in
       fewer access s machine place end budget far spare spare (length below) (suc (length below)) around next (made_call result l (calls f args frame.depth frame.live l.world)).outcome (omega arith) (omega arith)
@@ -118,7 +118,7 @@ module _ {M : Type 0} (access : Access M) (y : Layout) (s : Site) (setting : ir.
 
   pub guarded_does : (go : List Line) (result : Option ℕ) (f : ℕ) (args : List ℕ) (spare pc next : ℕ) (around : List Enclosing) (bound : Bound) (l : State) (regs : List ℕ) (m : M) (i : ℕ)
       → fine_target is_fine s.may_ask s.temps (uses_of s) result ≡ true → Shows s access l regs m → Conventions access y machine budget far setting bound → Goes go f args l regs m
-      → P (guarded_lines go result) pc next → W l.world pc regs m i → i + (spare + 52 + (call_to (At f) frame.depth frame.live result args bound l).cost) ≤ budget → far ≤ i + length bound
+      → P (guarded_lines s.seats go result) pc next → W l.world pc regs m i → i + (spare + 52 + (call_to (At f) frame.depth frame.live result args bound l).cost) ≤ budget → far ≤ i + length bound
       → F spare (length bound) around next (call_to (At f) frame.depth frame.live result args bound l).outcome
   guarded_does go result f args spare pc next around bound l regs m i fine sh keep goes p a paid asked = by_depth (ltb frame.depth 512) refl paid
     where
@@ -126,6 +126,6 @@ module _ {M : Type 0} (access : Access M) (y : Layout) (s : Site) (setting : ir.
           → i + (spare + 52 + (cond b (within bound (λ calls. made_call result l (calls f args frame.depth frame.live l.world)) l) (now (traps 4 l))).cost) ≤ budget
           → F spare (length bound) around next (cond b (within bound (λ calls. made_call result l (calls f args frame.depth frame.live l.world)) l) (now (traps 4 l))).outcome
       by_depth true is paid =
-          made go result f args spare pc p.0 next around bound l regs m i fine (λ z. omega (arith, z, caller.left, ltb-true frame.depth 512 is)) sh keep goes p.1 p.2 a paid asked
+          made go result f args spare pc p.0 next around bound l regs m i fine (λ z. omega (arith, z, caller.calls_left, ltb-true frame.depth 512 is)) sh keep goes p.1 p.2 a paid asked
       by_depth false is paid =
-          zero_traps 4 left_register spare (length bound) around pc p.0 next l regs m i (left_held l regs m sh ∙ omega (arith, caller.left, ltb-false frame.depth 512 is)) p.1 a (omega (arith, paid))
+          zero_traps 4 left_register spare (length bound) around pc p.0 next l regs m i (left_held l regs m sh ∙ omega (arith, caller.calls_left, ltb-false frame.depth 512 is)) p.1 a (omega (arith, paid))

@@ -1,15 +1,15 @@
 -- The code of a call of a known function does what the call means.
-use Rattle.std.proofs.Common.{◌≡◌, inl, inr, ℕ, ◌+◌, ◌*◌, ◌%◌, ◌^◌, ◌<◌, ◌≤◌, Bool, true, ◌&&◌, eqb, ltb, List, ◌∷◌, ◌++◌, length, map, slice_index, pos, Option, sum_by, refl, sym, ap, ◌∙◌, subst, arith}
+use Rattle.std.proofs.Common.{◌≡◌, ◌≢◌, ◌⊎◌, inl, inr, ⊎_elim, ℕ, ◌+◌, ◌*◌, ◌%◌, ◌^◌, ◌<◌, ◌≤◌, Bool, true, ◌&&◌, eqb, ltb, List, ◌∷◌, ◌++◌, length, map, slice_index, pos, Option, sum_by, refl, sym, ap, ◌∙◌, subst, arith}
 use Rattle.std.proofs.lemmas.List.{length-map}
 use Rattle.std.proofs.lemmas.List.Sums.{sum_by-cons}
-use Rattle.std.proofs.lemmas.Bool.{ltb-true, eqb-true}
+use Rattle.std.proofs.lemmas.Bool.{ltb-true, eqb-true, cases_lt}
 use Rattle.mv_ast.specs.declared.program.Known.{Known}
 use Rattle.mv_ast.specs.declared.program.Known.TheVariants.{Getchar, Putchar, Poll, Plan}
 use Rattle.mv_isa.specs.declared.instr.Instr.TheVariants.{Addi, Ecall}
 use Rattle.mv_isa.specs.declared.labelled.Line.TheVariants.{Word, Jump}
 use Rattle.mv_isa.specs.Code.{greatest_words}
 use Rattle.mv_isa.specs.Execution.{Access, reg, put}
-use Rattle.mv_isa.specs.Registers.{ra as link_register, s10 as live_register, a7 as request_register}
+use Rattle.mv_isa.specs.Registers.{ra as link_register, a0 as first_register, a1 as second_register, a7 as request_register, s10 as live_register}
 use Rattle.mv_ir.specs.declared.tree.Tree.{Tree}
 use Rattle.mv_ir.specs.declared.stm.Stm.TheOpen as stm
 use Rattle.mv_ir.specs.World as ir
@@ -24,13 +24,11 @@ use Rattle.mv_select_code.specs.Trees.Straight.{Straight}
 use Rattle.mv_select_code.specs.Trees.View.{AreRegisters}
 use Rattle.mv_select_code.proofs.OfTrees.Gives.{number_gives}
 use Rattle.mv_select_code.proofs.OfTrees.Instructions.{addi_sets}
-use Rattle.mv_select_code.proofs.OfTrees.Registers.{reg_zero, put_same, put_other, put_registers, changes_put}
+use Rattle.mv_select_code.proofs.OfTrees.Registers.{free_low, free_above, reg_zero, put_same, put_other, put_registers}
 use Rattle.mv_select_code.proofs.OfTrees.TreesAreShort.{number_size}
 use Rattle.mv_select_code.proofs.OfTrees.Words.{add_zero}
-use Rattle.mv_select_code.specs.Statements.StatementCode.{first, second}
 use Rattle.mv_select_code.specs.Statements.Leads.{limited}
 use Rattle.mv_select_code.specs.Statements.Frames.{Site, IsFine, IsFit, Shows}
-use Rattle.mv_select_code.proofs.OfStatements.FrameChanges.{frame_scratch}
 use Rattle.mv_select_code.specs.Control.FlowCode.{fine_known, fine_target, fine_layer}
 use Rattle.mv_select_code.specs.Control.Runs.{Spot, Machine, outside, IsRun}
 use Rattle.mv_select_code.specs.Control.Laws.{uses_of, LinesDo}
@@ -41,7 +39,7 @@ use Rattle.mv_select.specs.Calls.Convention.{Layout, IsSaved, IsAbove, HoldsGlob
 use Rattle.mv_select.specs.Calls.Environment.{IsDirect, HoldsOrder, Asks, ServesKnown}
 use Rattle.mv_select.specs.Calls.Laws.{IsCaller, IsLinked}
 use Rattle.mv_select.proofs.OfCalls.Arguments.{arguments_short, values, arguments_first}
-use Rattle.mv_select.proofs.OfCalls.CallerShown.{globals_held, shows_after}
+use Rattle.mv_select.proofs.OfCalls.CallerShown.{saved_apart, shown_saved, globals_held, shows_after}
 use Rattle.mv_select.proofs.OfCalls.Transfers.{sets_on, result_stands}
 use Rattle.mv_select.proofs.OfCalls.Guarded.{straight_walk}
 use Rattle.mv_select.proofs.OfCalls.Small.{few_arguments}
@@ -50,7 +48,7 @@ use Rattle.mv_num.proofs.Booleans.{and_right, and_left}
 use Rattle.mv_num.proofs.Numbers.{word_of_pos}
 
 module _ {M : Type 0} (access : Access M) (y : Layout) (s : Site) (setting : ir.Setting) (frame : ir.Frame) (fit : IsFit s access setting frame) (caller : IsCaller y s setting frame)
-    (machine : Machine M) (ok : IsRun access s machine) (budget far : ℕ) (place : ℕ → ℕ) (end : ℕ) (linked : IsLinked y place)
+    (machine : Machine M) (ok : IsRun access s machine) (budget far : ℕ) (place : ℕ → ℕ) (end : ℕ) (linked : IsLinked y (length setting.numbers) place)
     (is_fine : Tree → Bool) (fine_trees : (t : Tree) → is_fine t ≡ true → IsFine s setting frame t) (serves : ServesKnown access y machine budget far setting) where
   open call_course access s machine ok place end budget far use {of.{Placed as P, Here as H}, Stands as W}
 
@@ -63,7 +61,7 @@ module _ {M : Type 0} (access : Access M) (y : Layout) (s : Site) (setting : ir.
   record Asked (k : Known) (args : List ℕ) (l : State) (regs : List ℕ) (m : M) : Type 0 where
     pub shown : Shows s access l regs m
     pub number : reg regs request_register ≡ request_of k
-    pub held : (j : ℕ) → j < length args → reg regs (first + j) ≡ slice_index args j
+    pub held : (j : ℕ) → j < length args → reg regs (first_register + j) ≡ slice_index args j
     pub order : HoldsOrder k regs
 
   asks_at : (k : Known) (args : List ℕ) (pc : ℕ) (l : State) (regs regs' : List ℕ) (m : M) (i : ℕ) → Asked k args l regs m → ((q : ℕ) → 2 ≤ q → reg regs' q ≡ reg regs q)
@@ -79,11 +77,11 @@ module _ {M : Type 0} (access : Access M) (y : Layout) (s : Site) (setting : ir.
     },
     record {
       number = held request_register (omega arith) ∙ x.number;
-      arguments = λ j lt. held (first + j) (omega arith) ∙ x.held j lt;
+      arguments = λ j lt. held (first_register + j) (omega arith) ∙ x.held j lt;
       order = subst (HoldsOrder k) (sym regs_is) order;
-      high = omega (arith, held 2 (omega arith), x.shown.left 2 (inl (omega arith)), caller.room);
+      high = omega (arith, held 2 (omega arith), x.shown.left 2 fit.left.stack, caller.room);
     },
-    held live_register (omega arith) ∙ x.shown.left live_register (inr (omega arith, omega arith)) ∙ caller.live,
+    held live_register (omega arith) ∙ x.shown.left live_register caller.counters.0 ∙ caller.live,
   )
     where
       regs_is : (machine.run i).regs ≡ regs'
@@ -101,11 +99,11 @@ module _ {M : Type 0} (access : Access M) (y : Layout) (s : Site) (setting : ir.
   above_one q (inr (inr h)) = omega (arith, h.0)
 
   abbrev Served : (spare k i back : ℕ) → Answer → Type 0
-  Served spare k i back a = (j : ℕ) × Returns access y machine budget far spare k i back a.world j × (reg (machine.run j).regs first ≡ a.value)
+  Served spare k i back a = (j : ℕ) × Returns access y machine budget far spare k i back a.world j × (reg (machine.run j).regs first_register ≡ a.value)
 
   -- the answer comes into its temporary
   answered : (result : Option ℕ) (a : Answer) (spare k i back next : ℕ) (l : State) (regs regs' : List ℕ) (m : M) (pc : ℕ) → fine_target is_fine s.may_ask s.temps (uses_of s) result ≡ true
-      → Shows s access l regs m → ((q : ℕ) → 2 ≤ q → reg regs' q ≡ reg regs q) → W l.world pc regs' m i → P (result_lines result) back next → Served (spare + 1) k i back a
+      → Shows s access l regs m → ((q : ℕ) → 2 ≤ q → reg regs' q ≡ reg regs q) → W l.world pc regs' m i → P (result_lines s.seats result) back next → Served (spare + 1) k i back a
       → (t : ℕ) × H 0 spare k next (meaning.put result a.value (with_world l a.world)) t
   answered result a spare k i back next l regs regs' m pc fine f same at p x =
       let r = x.1 in
@@ -123,13 +121,13 @@ module _ {M : Type 0} (access : Access M) (y : Layout) (s : Site) (setting : ir.
 
       stack : (b : ℕ) → IsAbove y (s.register 2) b → access.load (machine.run x.0).memory b 4 ≡ access.load m b 4
       stack b h =
-          x.1.kept.stack b (subst (λ sp. IsAbove y sp b) (sym (before 2 (inl refl) ∙ f.left 2 (inl refl))) h) ∙ ap (λ (z : Spot M). access.load z.memory b 4) at.is
+          x.1.kept.stack b (subst (λ sp. IsAbove y sp b) (sym (before 2 (inl refl) ∙ f.left 2 fit.left.stack)) h) ∙ ap (λ (z : Spot M). access.load z.memory b 4) at.is
 
   -- ---- the question
 
   -- an environment call
   direct_asked : (k : Known) (args : List ℕ) (result : Option ℕ) (spare bound pc next : ℕ) (l : State) (regs : List ℕ) (m : M) (i : ℕ) → y.may_ask k ≡ true → IsDirect k → length args ≡ known_arguments k
-      → fine_target is_fine s.may_ask s.temps (uses_of s) result ≡ true → Asked k args l regs m → P (Word Ecall ∷ result_lines result) pc next → W l.world pc regs m i
+      → fine_target is_fine s.may_ask s.temps (uses_of s) result ≡ true → Asked k args l regs m → P (Word Ecall ∷ result_lines s.seats result) pc next → W l.world pc regs m i
       → i + (spare + 2 + (Gives k args l).cost) ≤ budget → far ≤ i + bound
       → (t : ℕ) × H 0 spare bound next (meaning.put result (Gives k args l).value (with_world l (Gives k args l).world)) t
   direct_asked k args result spare bound pc next l regs m i may is count fine x p a paid asked =
@@ -143,7 +141,7 @@ module _ {M : Type 0} (access : Access M) (y : Layout) (s : Site) (setting : ir.
   -- a jump to the stub
   stub_asked : (k : Known) (args : List ℕ) (result : Option ℕ) (spare bound pc next : ℕ) (l : State) (regs : List ℕ) (m : M) (i : ℕ) → y.may_ask k ≡ true → (IsDirect k → ⊥) → length args ≡ known_arguments k
       → fine_target is_fine s.may_ask s.temps (uses_of s) result ≡ true → Asked k args l regs m → ((back : ℕ) → HoldsOrder k (put regs link_register back))
-      → P (Jump link_register commit_label ∷ result_lines result) pc next → W l.world pc regs m i → i + (spare + 17 + (Gives k args l).cost) ≤ budget → far ≤ i + bound
+      → P (Jump link_register commit_label ∷ result_lines s.seats result) pc next → W l.world pc regs m i → i + (spare + 17 + (Gives k args l).cost) ≤ budget → far ≤ i + bound
       → (t : ℕ) × H 0 spare bound next (meaning.put result (Gives k args l).value (with_world l (Gives k args l).world)) t
   stub_asked k args result spare bound pc next l regs m i may is count fine x order p a paid asked =
       answered result (Gives k args l) spare bound (i + 1) p.0 next l regs to m y.commit fine x.shown same now p.2 (subst (Served (spare + 1) bound (i + 1) p.0) live served)
@@ -163,7 +161,7 @@ module _ {M : Type 0} (access : Access M) (y : Layout) (s : Site) (setting : ir.
       small = let here = p.1.here in omega (arith, here.1, p.1.stands.end_is)
 
       z : convention.Stands access y machine budget far y.commit l.world (i + 1) × Asks access y machine budget far setting k args (i + 1) × (reg (machine.run (i + 1)).regs live_register ≡ frame.live)
-      z = asks_at k args y.commit l regs to m (i + 1) x same (order p.0) (put_registers regs link_register p.0 x.shown.are (omega arith) (omega arith) small) now
+      z = asks_at k args y.commit l regs to m (i + 1) x same (order p.0) (put_registers regs link_register p.0 x.shown.are (free_low link_register (omega arith) (omega arith)) small) now
 
       even : p.0 % 4 ≡ 0
       even = let here = p.1.here in omega (arith, here.2, p.1.stands.end_is)
@@ -184,7 +182,7 @@ module _ {M : Type 0} (access : Access M) (y : Layout) (s : Site) (setting : ir.
 
   -- the known function is asked
   asked_follows : (k : Known) (args : List ℕ) (result : Option ℕ) (spare bound pc next : ℕ) (l : State) (regs : List ℕ) (m : M) (i : ℕ) → y.may_ask k ≡ true → length args ≡ known_arguments k
-      → fine_target is_fine s.may_ask s.temps (uses_of s) result ≡ true → Asked k args l regs m → P (ask_lines k ++ result_lines result) pc next → W l.world pc regs m i
+      → fine_target is_fine s.may_ask s.temps (uses_of s) result ≡ true → Asked k args l regs m → P (ask_lines k ++ result_lines s.seats result) pc next → W l.world pc regs m i
       → i + (spare + 17 + (Gives k args l).cost) ≤ budget → far ≤ i + bound
       → (t : ℕ) × H 0 spare bound next (meaning.put result (Gives k args l).value (with_world l (Gives k args l).world)) t
   asked_follows Getchar args result spare bound pc next l regs m i may count fine x p a paid asked = direct_asked Getchar args result spare bound pc next l regs m i may tt count fine x p a (omega (arith, paid)) asked
@@ -193,7 +191,7 @@ module _ {M : Type 0} (access : Access M) (y : Layout) (s : Site) (setting : ir.
       stub_asked Poll args result spare bound pc next l regs m i may (λ h. h) count fine x (λ back. tt) p a paid asked
   asked_follows (Plan code index) args result spare bound pc next l regs m i may count fine x p a paid asked =
       stub_asked (Plan code index) args result spare bound pc next l regs m i may (λ h. h) count fine x
-      (λ back. (put_other regs link_register first back (omega arith) (λ e. omega (arith, e)) ∙ x.order.0, put_other regs link_register second back (omega arith) (λ e. omega (arith, e)) ∙ x.order.1)) p a paid asked
+      (λ back. (put_other regs link_register first_register back (omega arith) (λ e. omega (arith, e)) ∙ x.order.0, put_other regs link_register second_register back (omega arith) (λ e. omega (arith, e)) ∙ x.order.1)) p a paid asked
 
   -- ---- an order's numbers
 
@@ -202,13 +200,17 @@ module _ {M : Type 0} (access : Access M) (y : Layout) (s : Site) (setting : ir.
     pub runs : Straight (limited access s) m s.entry (order_lines k) regs after
     pub shown : Shows s access l after m
     pub order : HoldsOrder k after
-    pub kept : (j : ℕ) → j < known_arguments k → reg after (first + j) ≡ reg regs (first + j)
+    pub kept : (j : ℕ) → j < known_arguments k → reg after (first_register + j) ≡ reg regs (first_register + j)
+
+  -- another register is outside of one alone
+  beside : (r q : ℕ) → q ≢ r → (q < r) ⊎ (r + 1 ≤ q)
+  beside r q ne = ⊎_elim (λ (l : q < r). inl l) (λ (l : r ≤ q). inr (grind (arith, ne))) (cases_lt q r)
 
   order_short : (k : Known) → sum_by greatest_words (order_lines k) ≤ 3
   order_short Getchar = omega arith
   order_short Putchar = omega arith
   order_short Poll = omega arith
-  order_short (Plan code index) = omega (arith, sum_by-cons greatest_words (Word (Addi first 0 (pos code))) (number_lines index second), number_size index second)
+  order_short (Plan code index) = omega (arith, sum_by-cons greatest_words (Word (Addi first_register 0 (pos code))) (number_lines index second_register), number_size index second_register)
 
   order_held : (k : Known) (l : State) (regs : List ℕ) (m : M) → fine_known is_fine s.may_ask s.temps (uses_of s) k ≡ true → Shows s access l regs m → HasOrder k l regs m
   order_held Getchar l regs m fine f = record { after = regs; runs = refl; shown = f; order = tt; kept = λ j lt. refl }
@@ -218,15 +220,15 @@ module _ {M : Type 0} (access : Access M) (y : Layout) (s : Site) (setting : ir.
       let fit = and_right (s.may_ask (Plan code index)) (ltb code 256 && ltb index (2 ^ 32)) fine in
       let small = ltb-true code 256 (and_left (ltb code 256) (ltb index (2 ^ 32)) fit) in
       let word = ltb-true index (2 ^ 32) (and_right (ltb code 256) (ltb index (2 ^ 32)) fit) in
-      let mid = put regs first code in
-      let changes = changes_put 10 11 first code regs f.are (omega arith) (omega arith) (omega arith) (omega arith) (omega (arith, small)) in
-      let shown = frame_scratch s access 10 11 l regs mid m (inl (omega arith, omega arith)) changes f in
-      let g = number_gives (limited access s) m s.entry 11 12 second index mid shown.are (record { low = omega arith; from = omega arith; below = omega arith; high = omega arith }) word in
+      let mid = put regs first_register code in
+      let are = put_registers regs first_register code f.are (free_above first_register (omega arith) (omega arith)) (omega (arith, small)) in
+      let g = number_gives (limited access s) m s.entry 11 12 second_register index mid are (record { from = omega arith; below = omega arith; free = free_above second_register (omega arith) (omega arith) }) word in
       record {
         after = g.after;
-        runs = (mid, addi_sets (limited access s) m first 0 (pos code) regs 0 code code (reg_zero regs) (word_of_pos code (omega (arith, small))) (add_zero code (omega (arith, small))), g.runs);
-        shown = frame_scratch s access 11 12 l mid g.after m (inl (omega arith, omega arith)) g.changes shown;
-        order = (g.changes.others first (inl (omega arith)) ∙ put_same regs first code (omega arith) (omega (arith, f.are.count)), g.holds);
+        runs = (mid, addi_sets (limited access s) m first_register 0 (pos code) regs 0 code code (reg_zero regs) (word_of_pos code (omega (arith, small))) (add_zero code (omega (arith, small))), g.runs);
+        shown = shown_saved access y s setting frame caller l regs g.after m g.changes.are
+            (λ q h. g.changes.others q (beside second_register q (saved_apart q second_register (omega arith) (omega arith) h)) ∙ put_other regs first_register q code (omega arith) (saved_apart q first_register (omega arith) (omega arith) h)) f;
+        order = (g.changes.others first_register (inl (omega arith)) ∙ put_same regs first_register code (omega arith) (omega (arith, f.are.count)), g.holds);
         kept = λ j lt. absurd (omega (arith, lt));
       }
 
@@ -250,16 +252,17 @@ module _ {M : Type 0} (access : Access M) (y : Layout) (s : Site) (setting : ir.
   order_kept Putchar regs v h = tt
   order_kept Poll regs v h = tt
   order_kept (Plan code index) regs v h =
-      (put_other regs request_register first v (omega arith) (λ e. omega (arith, e)) ∙ h.0, put_other regs request_register second v (omega arith) (λ e. omega (arith, e)) ∙ h.1)
+      (put_other regs request_register first_register v (omega arith) (λ e. omega (arith, e)) ∙ h.0, put_other regs request_register second_register v (omega arith) (λ e. omega (arith, e)) ∙ h.1)
 
   -- the number of the request stands in a7
   requested : (k : Known) (args : List ℕ) (l : State) (regs : List ℕ) (m : M) → length args ≡ known_arguments k → Shows s access l regs m
-      → ((j : ℕ) → j < length args → reg regs (first + j) ≡ slice_index args j) → HoldsOrder k regs → Asked k args l (put regs request_register (request_of k)) m
+      → ((j : ℕ) → j < length args → reg regs (first_register + j) ≡ slice_index args j) → HoldsOrder k regs → Asked k args l (put regs request_register (request_of k)) m
   requested k args l regs m count f held order = record {
-    shown = frame_scratch s access 17 18 l regs (put regs request_register n) m (inl (omega arith, omega arith))
-        (changes_put 17 18 request_register n regs f.are (omega arith) (omega arith) (omega arith) (omega arith) (omega (arith, request_small k))) f;
+    shown = shown_saved access y s setting frame caller l regs (put regs request_register n) m
+        (put_registers regs request_register n f.are (free_above request_register (omega arith) (omega arith)) (omega (arith, request_small k)))
+        (λ q h. put_other regs request_register q n (omega arith) (saved_apart q request_register (omega arith) (omega arith) h)) f;
     number = put_same regs request_register n (omega arith) (omega (arith, f.are.count));
-    held = λ j lt. put_other regs request_register (first + j) n (omega arith) (λ e. omega (arith, e, lt, count, few_arguments k)) ∙ held j lt;
+    held = λ j lt. put_other regs request_register (first_register + j) n (omega arith) (λ e. omega (arith, e, lt, count, few_arguments k)) ∙ held j lt;
     order = order_kept k regs n order;
   }
     where
@@ -267,7 +270,7 @@ module _ {M : Type 0} (access : Access M) (y : Layout) (s : Site) (setting : ir.
       n = request_of k
 
   pub known_done : (top : Bound) (result : Option ℕ) (k : Known) (args : List Tree) → fine_layer is_fine s.may_ask s.temps (uses_of s) (stm.Known result k args) ≡ true
-      → LinesDo access s setting frame machine place end budget far is_fine top (known_lines s.place result k args) (stm.Known result k args)
+      → LinesDo access s setting frame machine place end budget far is_fine top (known_lines s.seats result k args) (stm.Known result k args)
   known_done top result k args fine spare around pc next bound within p l i h =
       let trees = all_true (map is_fine args) in
       let target = fine_target is_fine s.may_ask s.temps (uses_of s) result in
@@ -277,16 +280,16 @@ module _ {M : Type 0} (access : Access M) (y : Layout) (s : Site) (setting : ir.
       let both = and_right order (target && trees) parts in
       let m = (machine.run i).memory in
       let regs = (machine.run i).regs in
-      let vs = values access s setting frame fit is_fine fine_trees args l in
+      let vs = values setting frame args l in
       let same = length-map args (λ t. of_tree setting frame t l) ∙ count in
       let request = Addi request_register 0 (pos (request_of k)) in
-      let z = arguments_first access s setting frame fit is_fine fine_trees args first l regs m (omega arith) (omega (arith, count, few_arguments k)) (and_right target trees both) h.shows in
-      let q = placed_split machine.text place s.entry (argument_lines s.place first args) (order_lines k ++ (Word request ∷ (ask_lines k ++ result_lines result))) pc next p in
+      let z = arguments_first access y s setting frame fit caller is_fine fine_trees args first_register l regs m (omega arith) (omega (arith, count, few_arguments k)) (and_right target trees both) h.shows in
+      let q = placed_split machine.text place s.entry (argument_lines s.seats first_register args) (order_lines k ++ (Word request ∷ (ask_lines k ++ result_lines s.seats result))) pc next p in
       let o = order_held k l z.after m (and_left order (target && trees) parts) z.shown in
-      let u = placed_split machine.text place s.entry (order_lines k) (Word request ∷ (ask_lines k ++ result_lines result)) q.0 next q.2 in
+      let u = placed_split machine.text place s.entry (order_lines k) (Word request ∷ (ask_lines k ++ result_lines s.seats result)) q.0 next q.2 in
       let cost = (Gives k vs l).cost in
-      let r = straight_walk access y s setting frame fit caller machine ok budget far place end linked is_fine (argument_lines s.place first args) (2 * nodes_of_all args) l.world pc q.0 regs z.after m i
-      (arguments_short s.place first args) q.1 z.runs
+      let r = straight_walk access y s setting frame fit caller machine ok budget far place end linked is_fine (argument_lines s.seats first_register args) (2 * nodes_of_all args) l.world pc q.0 regs z.after m i
+      (arguments_short s.seats first_register args) q.1 z.runs
       (to_stands access s machine ok place end budget far 0 (spare + (30 + 3 * nodes_of_all args + cost)) (length bound) pc l i h) in
       let w = straight_walk access y s setting frame fit caller machine ok budget far place end linked is_fine (order_lines k) 3 l.world q.0 u.0 z.after o.after m r.time (order_short k) u.1 o.runs r.stands in
       let a = sets_on access y s setting frame fit caller machine ok budget far place end linked is_fine request l.world u.0 u.2.0 o.after (put o.after request_register (request_of k)) m w.time

@@ -1,15 +1,14 @@
 -- The code of a call through a pointer switch does what the call means.
-use Rattle.std.proofs.Common.{◌≡◌, inl, inr, ℕ, ◌+◌, ◌*◌, ◌%◌, ◌<◌, ◌≤◌, Bool, true, false, cond, ltb, List, [], ◌∷◌, length, slice_index, Option, Some, None, refl, sym, ap, ◌∙◌, subst, arith}
+use Rattle.std.proofs.Common.{◌≡◌, ℕ, ◌+◌, ◌*◌, ◌%◌, ◌<◌, ◌≤◌, Bool, true, false, cond, ltb, List, [], ◌∷◌, length, slice_index, Option, Some, None, refl, sym, ap, ◌∙◌, subst, arith}
 use Rattle.mv_isa.specs.declared.labelled.Line.TheVariants.{Point}
 use Rattle.mv_isa.specs.Execution.{Access, reg}
-use Rattle.mv_isa.specs.Registers.{s11 as left_register, s10 as live_register}
+use Rattle.mv_isa.specs.Registers.{a0 as first_register, s11 as left_register, s10 as live_register}
 use Rattle.mv_ir.specs.declared.tree.Tree.{Tree}
 use Rattle.mv_ir.specs.World as ir
 use Rattle.mv_ir.specs.World.{World}
 use Rattle.mv_ir.specs.Outcome.{State, Run, End, Returned, Trapped, More, Stuck, Bound, now}
 use Rattle.mv_ir.specs.Meaning.{Goal, Nowhere, Null, At, goal_of, made_call, within, call_to, traps}
 use Rattle.mv_select_code.specs.Trees.View.{AreRegisters}
-use Rattle.mv_select_code.specs.Statements.StatementCode.{first}
 use Rattle.mv_select_code.specs.Statements.Frames.{Site, IsFit, Shows}
 use Rattle.mv_select_code.specs.declared.control.enclosing.Enclosing.{Enclosing}
 use Rattle.mv_select_code.specs.Control.FlowCode.{fine_target}
@@ -49,7 +48,7 @@ points_keep access y machine budget far setting [] keep = keep
 points_keep access y machine budget far setting (calls ∷ below) keep = keep.1
 
 module _ {M : Type 0} (access : Access M) (y : Layout) (s : Site) (setting : ir.Setting) (frame : ir.Frame) (fit : IsFit s access setting frame) (caller : IsCaller y s setting frame)
-    (machine : Machine M) (ok : IsRun access s machine) (budget far : ℕ) (place : ℕ → ℕ) (end : ℕ) (linked : IsLinked y place)
+    (machine : Machine M) (ok : IsRun access s machine) (budget far : ℕ) (place : ℕ → ℕ) (end : ℕ) (linked : IsLinked y (length setting.numbers) place)
     (is_fine : Tree → Bool) where
   open call_course access s machine ok place end budget far use {of.{Placed as P, Follows as F}, Stands as W}
 
@@ -64,10 +63,10 @@ module _ {M : Type 0} (access : Access M) (y : Layout) (s : Site) (setting : ir.
     is q = ap (λ rs. reg rs q) regs_is
 
     sp_is : reg (machine.run i).regs 2 ≡ s.register 2
-    sp_is = is 2 ∙ f.left 2 (inl refl)
+    sp_is = is 2 ∙ f.left 2 fit.left.stack
 
     left_is : reg (machine.run i).regs left_register ≡ s.register left_register
-    left_is = is left_register ∙ f.left left_register (inr (omega arith, omega arith))
+    left_is = is left_register ∙ f.left left_register caller.counters.1
 
     stands : convention.Stands access y machine budget far pc l.world i
     stands = record {
@@ -79,12 +78,12 @@ module _ {M : Type 0} (access : Access M) (y : Layout) (s : Site) (setting : ir.
     }
 
     -- what a slot of four words finds
-    comes : ((j : ℕ) → j < length args → reg regs (first + j) ≡ slice_index args j) → Comes access y machine budget far frame.depth frame.live args i
+    comes : ((j : ℕ) → j < length args → reg regs (first_register + j) ≡ slice_index args j) → Comes access y machine budget far frame.depth frame.live args i
     comes held = record {
-      arguments = λ j lt. is (first + j) ∙ held j lt;
-      live = is live_register ∙ f.left live_register (inr (omega arith, omega arith)) ∙ caller.live;
+      arguments = λ j lt. is (first_register + j) ∙ held j lt;
+      live = is live_register ∙ f.left live_register caller.counters.0 ∙ caller.live;
       counts = caller.counts;
-      left = ap (λ n. n + frame.depth) left_is ∙ caller.left;
+      left = ap (λ n. n + frame.depth) left_is ∙ caller.calls_left;
       even = subst (λ sp. sp % 4 ≡ 0) (sym sp_is) caller.even;
       room = subst (λ sp. y.bottom + reg (machine.run i).regs left_register * frame_limit ≤ sp) (sym sp_is)
           (subst (λ c. y.bottom + c * frame_limit ≤ s.register 2) (sym left_is) caller.room);
@@ -112,8 +111,8 @@ module _ {M : Type 0} (access : Access M) (y : Layout) (s : Site) (setting : ir.
     came_back Stuck spare k back h = tt
 
   pub point_does : (result : Option ℕ) (g : ℕ) (args : List ℕ) (spare pc next : ℕ) (around : List Enclosing) (bound : Bound) (l : State) (regs : List ℕ) (m : M) (i : ℕ)
-      → fine_target is_fine s.may_ask s.temps (uses_of s) result ≡ true → s.reach.is_read g ≡ true → length args < 9 → Shows s access l regs m → ((j : ℕ) → j < length args → reg regs (first + j) ≡ slice_index args j)
-      → PointsKeep access y machine budget far setting bound → P (Point (s.place g) ∷ back_lines result) pc next → W l.world pc regs m i
+      → fine_target is_fine s.may_ask s.temps (uses_of s) result ≡ true → s.reach.is_read g ≡ true → length args < 9 → Shows s access l regs m → ((j : ℕ) → j < length args → reg regs (first_register + j) ≡ slice_index args j)
+      → PointsKeep access y machine budget far setting bound → P (Point (s.seats.place g) ∷ back_lines s.seats result) pc next → W l.world pc regs m i
       → i + (spare + 57 + (call_to (goal_of setting.numbers (setting.switched g l.world)) frame.depth frame.live result args bound l).cost) ≤ budget → far ≤ i + length bound
       → F spare (length bound) around next (call_to (goal_of setting.numbers (setting.switched g l.world)) frame.depth frame.live result args bound l).outcome
   point_does result g args spare pc next around bound l regs m i fine may few f held keep p a paid asked =

@@ -18,11 +18,12 @@ use Rattle.mv_select.specs.Calls.Convention.{Layout, Stands, Enters, Returns, Fo
 use Rattle.mv_select.specs.Calls.Environment.{ServesKnown}
 use Rattle.mv_select.specs.Functions.FunctionCode.{later_lines, function_lines}
 use Rattle.mv_select.specs.Functions.Functions as functions
-use Rattle.mv_select.specs.Functions.Functions.{part, shape_of, frame_in, main_frame, IsMemory, FunctionsKeep, LaterKeeps, MainKeeps}
+use Rattle.mv_select.specs.Functions.Functions.{part, keeping_of, shape_of, frame_in, main_frame, IsMemory, FunctionsKeep, LaterKeeps, MainKeeps}
 use Rattle.mv_select.proofs.OfFunctions.Begun.{begun_called, begun_main}
 use Rattle.mv_select.proofs.OfFunctions.Contents.{contents_at}
 use Rattle.mv_select.proofs.OfFunctions.FunctionKeeps as keeps
-use Rattle.mv_select.proofs.OfFunctions.WholeFunction.{function_keeps, called_keeps}
+use Rattle.mv_select.proofs.OfFunctions.BodyKeeps.{is_kept}
+use Rattle.mv_select.proofs.OfFunctions.WholeFunction.{kept_keeps}
 
 -- ---- lines in a part of a text
 
@@ -169,6 +170,7 @@ module _ {M : Type 0} (access : Access M) (y : Layout) (machine : Machine M) (fr
         slots = λ f depth frames args at i few slot.
             answers_alone 47 (length below) at (at + 8) depth frames args (calls f args depth frames) i
             (keep.0.slots f depth frames args at i few (in_whole (leb from at && ltb at to) (machine.text.slot at) f slot));
+        others = keep.0.others;
       },
       points_alone setting (calls ∷ below) keep.1,
       conventions_alone setting below keep.2,
@@ -191,34 +193,38 @@ module _ {M : Type 0} (access : Access M) (y : Layout) (machine : Machine M) (fr
 pub functions_keep : (M : Type 0) → FunctionsKeep M
 functions_keep M access y laid machine memory setting entries budget far serves levels keep attributed bound reach is_fine body ample fn place linked is_attributed pc next runs placed depth live args back i count target ra =
     let own = functions.alone machine pc next in
-    let k =
-    called_keeps access y laid own (memory_alone access y machine pc next memory) reach ample runs setting entries budget far (serves_alone access y machine pc next budget far setting serves) levels
-    (conventions_alone access y machine pc next budget far setting levels keep) attributed bound is_fine body fn place linked is_attributed pc next
-    (placed_in machine.text place y.entry pc next (function_lines y.place y.size is_attributed (shape_of attributed body) body.code) pc (omega arith) placed) back i target ra depth live args count in
-    (k.0, answers_back access y machine pc next budget far 44 (length levels) pc back depth live args (body_from setting (frame_in attributed bound depth live) k.0 body args levels) i k.1)
+    let contents = contents_at access own (shape_of attributed body) (length args) i in (
+      contents,
+      answers_back access y machine pc next budget far 44 (length levels) pc back depth live args (body_from setting (frame_in attributed bound depth live) contents body args levels) i (λ spare w stands enters paid asked.
+          kept_keeps access y laid own (memory_alone access y machine pc next memory) reach ample runs setting entries budget far (serves_alone access y machine pc next budget far setting serves) levels
+          (conventions_alone access y machine pc next budget far setting levels keep) attributed bound is_fine body place linked is_attributed pc next back i target ra (depth + 1) live args count w stands
+          (begun_called access y own i budget far attributed depth live args enters) (keeping_of attributed body) (is_kept y setting attributed bound reach is_fine body fn)
+          (placed_in machine.text place y.entry pc next (function_lines y.place y.size is_attributed (shape_of attributed body) body.code) pc (omega arith) placed) spare paid asked),
+    )
 
 pub later_keeps : (M : Type 0) → LaterKeeps M
-later_keeps M access y laid machine memory setting entries budget far serves levels keep attributed bound reach is_fine body ample fn place linked is_attributed pc mid next runs placed depth live args back i count target ra lowers =
+later_keeps M access y laid machine memory setting entries budget far serves levels keep bound reach is_fine body ample fn place linked is_attributed pc mid next runs placed depth live args back i count target ra lowers =
     let own = functions.alone machine mid next in
-    let contents = contents_at access own attributed body (length args) i in (
+    let contents = contents_at access own (shape_of true body) (length args) i in (
       contents,
-      answers_back access y machine mid next budget far 44 (length levels) pc back depth live args (body_from setting (frame_in attributed bound depth live) contents body args levels) i (λ spare w stands enters paid asked.
+      answers_back access y machine mid next budget far 44 (length levels) pc back depth live args (body_from setting (frame_in true bound depth live) contents body args levels) i (λ spare w stands enters paid asked.
           keeps.later_keeps access y laid own (memory_alone access y machine mid next memory) reach ample runs setting entries budget far (serves_alone access y machine mid next budget far setting serves) levels
-          (conventions_alone access y machine mid next budget far setting levels keep) attributed bound is_fine body fn place linked is_attributed pc mid next
-          (placed_in machine.text place y.entry mid next (later_lines y.place y.size is_attributed (shape_of attributed body) body.code) mid (omega arith) placed)
-          (depth + 1) live args back i count target ra w stands (begun_called access y own i budget far attributed depth live args enters) (record { goes = lowers.goes; sound = lowers.sound }) spare paid asked),
+          (conventions_alone access y machine mid next budget far setting levels keep) true bound is_fine body (is_kept y setting true bound reach is_fine body fn) place linked is_attributed pc mid next
+          (placed_in machine.text place y.entry mid next (later_lines y.place y.size is_attributed (shape_of true body) body.code) mid (omega arith) placed)
+          (depth + 1) live args back i count target ra w stands (begun_called access y own i budget far true depth live args enters) (record { goes = lowers.goes; sound = lowers.sound }) spare paid asked),
     )
 
 pub main_keeps : (M : Type 0) → MainKeeps M
 main_keeps M access y laid machine memory setting entries budget far serves levels keep bound reach is_fine body ample fn none place linked is_attributed pc next runs placed back i target ra =
     let own = functions.alone machine pc next in
-    let contents = contents_at access own false body 0 i in (
+    let contents = contents_at access own (shape_of false body) 0 i in (
       contents,
       λ spare w stands begins paid asked.
           follows_back access y machine pc next budget far spare (length levels) i back (body_from setting (main_frame bound) contents body [] levels w).end
-          (function_keeps access y laid own (memory_alone access y machine pc next memory) reach ample runs setting entries budget far (serves_alone access y machine pc next budget far setting serves) levels
-          (conventions_alone access y machine pc next budget far setting levels keep) false bound is_fine body fn place linked is_attributed pc next
-          (placed_in machine.text place y.entry pc next (function_lines y.place y.size is_attributed (shape_of false body) body.code) pc (omega arith) placed) back i target ra
-          0 0 [] (sym none) spare w (stands_alone access y machine pc next budget far pc w i stands)
-          (begun_main access y own i (record { live = begins.live; left = begins.left; even = begins.even; room = begins.room; within = begins.within })) paid asked),
+          (kept_keeps access y laid own (memory_alone access y machine pc next memory) reach ample runs setting entries budget far (serves_alone access y machine pc next budget far setting serves) levels
+          (conventions_alone access y machine pc next budget far setting levels keep) false bound is_fine body place linked is_attributed pc next back i target ra 0 0 [] (sym none) w
+          (stands_alone access y machine pc next budget far pc w i stands)
+          (begun_main access y own i (record { live = begins.live; left = begins.left; even = begins.even; room = begins.room; within = begins.within })) (keeping_of false body)
+          (is_kept y setting false bound reach is_fine body fn)
+          (placed_in machine.text place y.entry pc next (function_lines y.place y.size is_attributed (shape_of false body) body.code) pc (omega arith) placed) spare paid asked),
     )

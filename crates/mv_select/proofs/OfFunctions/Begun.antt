@@ -2,9 +2,8 @@
 use Rattle.std.proofs.Common.{◌≡◌, ℕ, ◌+◌, ◌*◌, ◌%◌, ◌<◌, ◌≤◌, Bool, false, cond, List, [], length, slice_index, arith}
 use Rattle.mv_bindings.specs.Traps.{depth_limit}
 use Rattle.mv_isa.specs.Execution.{Access, reg}
-use Rattle.mv_isa.specs.Registers.{s11 as left_register, s10 as live_register}
+use Rattle.mv_isa.specs.Registers.{a0, s11 as left_register, s10 as live_register}
 use Rattle.mv_ir.specs.World as ir
-use Rattle.mv_select_code.specs.Statements.StatementCode.{first}
 use Rattle.mv_select_code.specs.Control.Runs.{Machine}
 use Rattle.mv_select.specs.Calls.Convention.{Layout, Enters, frame_limit}
 use Rattle.mv_select.specs.Functions.Functions.{Begins}
@@ -16,7 +15,7 @@ frame_at attributed bound depth live = record { depth = depth; live = live + con
 
 -- what time i has for a function whose frame gets these numbers, before it counts as live
 pub record Begun {M : Type 0} (y : Layout) (machine : Machine M) (attributed : Bool) (depth live : ℕ) (args : List ℕ) (i : ℕ) : Type 0 where
-  pub arguments : (j : ℕ) → j < length args → reg (machine.run i).regs (first + j) ≡ slice_index args j
+  pub arguments : (j : ℕ) → j < length args → reg (machine.run i).regs (a0 + j) ≡ slice_index args j
   pub live_is : reg (machine.run i).regs live_register ≡ live
   pub counts : live + cond attributed 1 0 ≤ depth
   pub left : reg (machine.run i).regs left_register + depth ≡ depth_limit

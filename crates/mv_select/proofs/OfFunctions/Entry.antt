@@ -5,16 +5,17 @@ use Rattle.mv_num.specs.Words.{word_of, add}
 use Rattle.mv_isa.specs.declared.instr.Instr.TheVariants.{Lw, Sw, Addi}
 use Rattle.mv_isa.specs.declared.labelled.Line.{Line}
 use Rattle.mv_isa.specs.Execution.{Access, reg, put}
+use Rattle.mv_isa.specs.Registers.{a0}
 use Rattle.mv_ir.specs.World.{World}
 use Rattle.mv_select_code.specs.Trees.TreeCode.{one, temp_register}
 use Rattle.mv_select_code.specs.Trees.View.{AreRegisters}
 use Rattle.mv_select_code.proofs.OfTrees.Instructions.{addi_sets}
-use Rattle.mv_select_code.proofs.OfTrees.Registers.{put_same, put_other, put_registers}
+use Rattle.mv_select_code.proofs.OfTrees.Registers.{IsFree, free_above, free_low, put_same, put_other, put_registers}
 use Rattle.mv_select_code.proofs.OfTrees.TreesFit.{register_below}
 use Rattle.mv_select_code.proofs.OfTrees.Words.{zero_add, add_word}
-use Rattle.mv_select_code.specs.Statements.StatementCode.{first}
 use Rattle.mv_select_code.specs.Statements.Frames.{Reach}
-use Rattle.mv_select_code.proofs.OfStatements.FrameChanges.{register_is, register_zero, one_register, register_low}
+use Rattle.mv_select_code.proofs.OfTrees.KeepingSeats.{temp_register_above, temp_register_zero}
+use Rattle.mv_select.proofs.OfFunctions.Seats.{one_register, register_low}
 use Rattle.mv_select_code.proofs.OfStatements.TreesFirst.{add_small}
 use Rattle.mv_select_code.specs.Control.Runs.{Machine, outside}
 use Rattle.mv_select_code.proofs.OfControl.Walk.{placed_split, stands_at}
@@ -34,6 +35,10 @@ saved_above (suc t) = omega (arith, register_low t)
 pub saved_below : (k : ℕ) → k < 10 → saved_register k < 32
 saved_below zero lt = omega arith
 saved_below (suc t) lt = register_below t (omega (arith, lt))
+
+saved_free : (k : ℕ) → k < 10 → IsFree (saved_register k)
+saved_free zero lt = free_low 1 (omega arith) (omega arith)
+saved_free (suc t) lt = free_above (temp_register t) (omega (arith, register_low t)) (register_below t (omega (arith, lt)))
 
 pub saved_apart : (j k : ℕ) → (j ≡ k → ⊥) → saved_register j ≢ saved_register k
 saved_apart zero zero ne e = ne refl
@@ -110,7 +115,7 @@ module _ {M : Type 0} (access : Access M) (y : Layout) (laid : IsLaid y) (machin
 
   pub record Moved (k : ℕ) (regs after : List ℕ) : Type 0 where
     pub are : AreRegisters after
-    pub moved : (j : ℕ) → j < k → reg after (temp_register j) ≡ reg regs (first + j)
+    pub moved : (j : ℕ) → j < k → reg after (temp_register j) ≡ reg regs (a0 + j)
     pub others : (q : ℕ) → ((j : ℕ) → j < k → q ≢ temp_register j) → reg after q ≡ reg regs q
 
   pub record Moves (k : ℕ) (w : World) (next : ℕ) (regs : List ℕ) (m : M) (i : ℕ) : Type 0 where
@@ -119,13 +124,13 @@ module _ {M : Type 0} (access : Access M) (y : Layout) (laid : IsLaid y) (machin
     pub moved : Moved k regs after
 
   -- no temporary's register is one of a0 to a7
-  argument_apart : (k j : ℕ) → k < 8 → first + k ≢ temp_register j
-  argument_apart k zero lt e = omega (arith, lt, e, register_zero)
-  argument_apart k (suc j) lt e = omega (arith, lt, e, register_is (suc j) (omega arith))
+  argument_apart : (k j : ℕ) → k < 8 → a0 + k ≢ temp_register j
+  argument_apart k zero lt e = omega (arith, lt, e, temp_register_zero)
+  argument_apart k (suc j) lt e = omega (arith, lt, e, temp_register_above (suc j) (omega arith))
 
-  moved_more : (k : ℕ) (regs mid : List ℕ) → k < 8 → Moved k regs mid → Moved (suc k) regs (put mid (temp_register k) (reg regs (first + k)))
+  moved_more : (k : ℕ) (regs mid : List ℕ) → k < 8 → Moved k regs mid → Moved (suc k) regs (put mid (temp_register k) (reg regs (a0 + k)))
   moved_more k regs mid small before = record {
-    are = put_registers mid r v before.are above (register_below k (omega (arith, small))) (subst (λ z. z < 2 ^ 32) (before.others (first + k) (λ j lt. argument_apart k j small)) (before.are.words (first + k)));
+    are = put_registers mid r v before.are (free_above r (omega (arith, register_low k)) (register_below k (omega (arith, small)))) (subst (λ z. z < 2 ^ 32) (before.others (a0 + k) (λ j lt. argument_apart k j small)) (before.are.words (a0 + k)));
     moved = λ j lt. ⊎_elim (same j) (other j lt) (cases_eq j k);
     others = λ q away. put_other mid r q v above (away k (omega arith)) ∙ before.others q (λ j lt. away j (omega (arith, lt)));
   }
@@ -134,17 +139,17 @@ module _ {M : Type 0} (access : Access M) (y : Layout) (laid : IsLaid y) (machin
       r = temp_register k
 
       v : ℕ
-      v = reg regs (first + k)
+      v = reg regs (a0 + k)
 
       above : 0 < temp_register k
       above = omega (arith, register_low k)
 
-      same : (j : ℕ) → j ≡ k → reg (put mid (temp_register k) (reg regs (first + k))) (temp_register j) ≡ reg regs (first + j)
-      same j e = subst (λ n. reg (put mid (temp_register k) (reg regs (first + k))) (temp_register n) ≡ reg regs (first + n)) (sym e)
-          (put_same mid (temp_register k) (reg regs (first + k)) above (omega (arith, before.are.count, register_below k (omega (arith, small)))))
+      same : (j : ℕ) → j ≡ k → reg (put mid (temp_register k) (reg regs (a0 + k))) (temp_register j) ≡ reg regs (a0 + j)
+      same j e = subst (λ n. reg (put mid (temp_register k) (reg regs (a0 + k))) (temp_register n) ≡ reg regs (a0 + n)) (sym e)
+          (put_same mid (temp_register k) (reg regs (a0 + k)) above (omega (arith, before.are.count, register_below k (omega (arith, small)))))
 
-      other : (j : ℕ) → j < suc k → (j ≡ k → ⊥) → reg (put mid (temp_register k) (reg regs (first + k))) (temp_register j) ≡ reg regs (first + j)
-      other j lt ne = put_other mid (temp_register k) (temp_register j) (reg regs (first + k)) above (one_register j k ne) ∙ before.moved j (grind (arith, lt, ne))
+      other : (j : ℕ) → j < suc k → (j ≡ k → ⊥) → reg (put mid (temp_register k) (reg regs (a0 + k))) (temp_register j) ≡ reg regs (a0 + j)
+      other j lt ne = put_other mid (temp_register k) (temp_register j) (reg regs (a0 + k)) above (one_register j k ne) ∙ before.moved j (grind (arith, lt, ne))
 
   pub parameter_walk : (k : ℕ) (w : World) (pc next : ℕ) (regs : List ℕ) (m : M) (i : ℕ) → k ≤ 8 → AreRegisters regs → Ps (parameter_lines k) pc next → Ws w pc regs m i → Moves k w next regs m (i + k)
   parameter_walk zero w pc next regs m i small are p a =
@@ -157,13 +162,13 @@ module _ {M : Type 0} (access : Access M) (y : Layout) (laid : IsLaid y) (machin
       sum_zero : (i : ℕ) → i ≡ i + 0
       sum_zero i = omega arith
   parameter_walk (suc k) w pc next regs m i small are p a =
-      let q = split (parameter_lines k) (one (Addi (temp_register k) (first + k) (pos 0))) pc next p in
+      let q = split (parameter_lines k) (one (Addi (temp_register k) (a0 + k) (pos 0))) pc next p in
       let before = parameter_walk k w pc q.0 regs m i (omega (arith, small)) are q.1 a in
-      let v = reg regs (first + k) in
-      let from : reg before.after (first + k) ≡ v = before.moved.others (first + k) (λ j lt. argument_apart k j (omega (arith, small))) in
+      let v = reg regs (a0 + k) in
+      let from : reg before.after (a0 + k) ≡ v = before.moved.others (a0 + k) (λ j lt. argument_apart k j (omega (arith, small))) in
       let after = put before.after (temp_register k) v in
-      let b = sets access y laid machine memory reach ample runs budget far place (Addi (temp_register k) (first + k) (pos 0)) w q.0 q.2.0 before.after after m (i + k)
-      (addi_sets (limited access (words_site y reach)) m (temp_register k) (first + k) (pos 0) before.after v 0 v from (word_of_pos 0 (omega arith)) (zero_add v (subst (λ z. z < 2 ^ 32) from (before.moved.are.words (first + k))))) q.2.1 before.stands in
+      let b = sets access y laid machine memory reach ample runs budget far place (Addi (temp_register k) (a0 + k) (pos 0)) w q.0 q.2.0 before.after after m (i + k)
+      (addi_sets (limited access (words_site y reach)) m (temp_register k) (a0 + k) (pos 0) before.after v 0 v from (word_of_pos 0 (omega arith)) (zero_add v (subst (λ z. z < 2 ^ 32) from (before.moved.are.words (a0 + k))))) q.2.1 before.stands in
       let same : i + k + 1 ≡ i + suc k = omega arith in
       record { after = after; stands = subst (Ws w next after m) same (moved w q.2.0 next after m (i + k + 1) (sym q.2.2) b); moved = moved_more k regs before.after (omega (arith, small)) before.moved }
 
@@ -182,7 +187,7 @@ module _ {M : Type 0} (access : Access M) (y : Layout) (laid : IsLaid y) (machin
   restored_more : (k sp v : ℕ) (regs mid : List ℕ) (m : M) → k < 10 → v < 2 ^ 32 → access.load m (sp + 4 * k) 4 ≡ Some v → Restored k sp regs mid m
       → Restored (suc k) sp regs (put mid (saved_register k) v) m
   restored_more k sp v regs mid m small word load before = record {
-    are = put_registers mid r v before.are (saved_above k) (saved_below k small) word;
+    are = put_registers mid r v before.are (saved_free k small) word;
     restored = λ j u lt e. ⊎_elim (same j u e) (other j u lt e) (cases_eq j k);
     others = λ q away. put_other mid r q v (saved_above k) (away k (omega arith)) ∙ before.others q (λ j lt. away j (omega (arith, lt)));
   }

@@ -1,5 +1,5 @@
 -- At the end of the prologue the frame shows the state in which a body begins.
-use Rattle.std.proofs.Common.{◌≡◌, inl, ⊎_elim, ℕ, zero, suc, ◌+◌, ◌-◌, ◌^◌, ◌<◌, ◌≤◌, Bool, true, List, [], ◌∷◌, length, slice_index, slice_index_or, unwrap_or, Some, refl, sym, ap, ◌∙◌, subst, arith}
+use Rattle.std.proofs.Common.{◌≡◌, inl, ⊎_elim, ℕ, zero, suc, ◌+◌, ◌-◌, ◌^◌, ◌<◌, ◌≤◌, Bool, true, List, [], ◌∷◌, length, slice_index, slice_index_or, unwrap_or, Some, None, refl, sym, ap, ◌∙◌, subst, arith}
 use Rattle.std.proofs.lemmas.Bool.{cases_lt}
 use Rattle.std.proofs.lemmas.List.{get_or_append_left, get_or-append_right, length-append}
 use Rattle.mv_isa.specs.Execution.{Access, reg}
@@ -9,13 +9,15 @@ use Rattle.mv_ir.specs.declared.stm.Array.TheVariants as array
 use Rattle.mv_ir.specs.World.{World}
 use Rattle.mv_ir.specs.Outcome.{State}
 use Rattle.mv_ir.specs.Meaning.{Contents, first_items, first_temps, first_arrays, entry_state, elements}
-use Rattle.mv_select_code.specs.Trees.TreeCode.{temp_register}
+use Rattle.mv_select_code.specs.Trees.TreeCode.{register_of}
+use Rattle.mv_select_code.specs.declared.trees.places.Keeping.{Keeping}
 use Rattle.mv_select_code.specs.Trees.View.{AreRegisters}
 use Rattle.mv_select_code.specs.Statements.Frames.{Site, Cell, TempCell, Element, Kept, IsThere, address, content, size_of, Shows, Reach}
 use Rattle.mv_select_code.specs.Control.Runs.{Machine}
 use Rattle.mv_select.specs.Calls.Convention.{Layout, IsAbove, HoldsGlobals}
-use Rattle.mv_select.specs.Functions.Functions.{IsStack, IsWord, IsLaid, IsMemory, shape_of}
-use Rattle.mv_select.proofs.OfFunctions.Frame.{IsFrame, S, frame_word}
+use Rattle.mv_select.specs.Functions.Functions.{IsStack, IsWord, IsLaid, IsMemory}
+use Rattle.mv_select.proofs.OfFunctions.Frame.{shape_at, IsFrame, S, frame_word}
+use Rattle.mv_select.proofs.OfFunctions.Seats.{unseated}
 use Rattle.mv_ir.proofs.Joining.{items_count}
 
 -- ---- what a frame holds when it begins
@@ -48,36 +50,37 @@ abbrev pub word_at : {M : Type 0} → Access M → M → ℕ → ℕ
 word_at access m b = unwrap_or (access.load m b 4) 0
 
 module _ {M : Type 0} (access : Access M) (y : Layout) (laid : IsLaid y) (machine : Machine M) (memory : IsMemory access y machine) (budget far : ℕ)
-    (reach : Reach) (attributed : Bool) (body : Body) (w : World) (regs : List ℕ) (m : M) (caller : ℕ) (is : IsFrame y (shape_of attributed body) (reg regs 2) caller)
+    (reach : Reach) (attributed : Bool) (k : Keeping) (body : Body) (w : World) (regs : List ℕ) (m : M) (caller : ℕ) (is : IsFrame y (shape_at attributed k body) (reg regs 2) caller)
     (calm : machine.is_calm w m ≡ true) where
   abbrev pub Here : Site
-  Here = S y laid reach (shape_of attributed body) (reg regs) caller (word_at access m) is
+  Here = S y laid reach (shape_at attributed k body) (reg regs) caller (word_at access m) is
 
   pub loaded : (b : ℕ) → IsStack y b → access.load m b 4 ≡ Some (word_at access m b)
   loaded b h = let v = memory.stack w m b calm h in v.1 ∙ ap Some (sym (ap (λ o. unwrap_or o 0) v.1))
 
   -- the contents of the frame, behind so many arguments, are what registers and memory have
   pub record Holds (count : ℕ) (contents : Contents) : Type 0 where
-    pub low : (t : ℕ) → count ≤ t → t < 9 → contents.temps (t - count) ≡ reg regs (temp_register t)
-    pub high : (t : ℕ) → count ≤ t → 9 ≤ t → t < body.temps → contents.temps (t - count) ≡ word_at access m (address Here (TempCell t))
+    pub low : (t q : ℕ) → count ≤ t → register_of k t ≡ Some q → contents.temps (t - count) ≡ reg regs q
+    pub high : (t : ℕ) → count ≤ t → register_of k t ≡ None → t < body.temps → contents.temps (t - count) ≡ word_at access m (address Here (TempCell t))
     pub arrays : (a i : ℕ) → i < slice_index body.arrays a → contents.arrays a i ≡ word_at access m (address Here (Element (array.Local a) i))
 
   module _ (args : List ℕ) (contents : Contents) (now : World) (few : length args ≤ 8) (count : length args ≤ body.temps) (are : AreRegisters regs)
-      (globals : HoldsGlobals access y machine budget far now m) (held : (j : ℕ) → j < length args → reg regs (temp_register j) ≡ slice_index args j) (holds : Holds (length args) contents) where
+      (globals : HoldsGlobals access y machine budget far now m) (held : (j q : ℕ) → j < length args → register_of k j ≡ Some q → reg regs q ≡ slice_index args j) (holds : Holds (length args) contents) where
     abbrev pub begin : State
     begin = entry_state contents body args now
 
     behind : (t : ℕ) → length args ≤ t → t < body.temps → slice_index begin.temps t ≡ contents.temps (t - length args)
     behind t le lt = rest_at contents.temps body.temps args t le lt
 
-    low_temp : (t : ℕ) → t < body.temps → t < 9 → reg regs (temp_register t) ≡ slice_index begin.temps t
-    low_temp t lt small = ⊎_elim
-        (λ (h : t < length args). held t h ∙ sym (argument_at contents.temps body.temps args t h))
-        (λ (h : length args ≤ t). sym (behind t h lt ∙ holds.low t h small))
+    low_temp : (t q : ℕ) → t < body.temps → register_of k t ≡ Some q → reg regs q ≡ slice_index begin.temps t
+    low_temp t q lt seat = ⊎_elim
+        (λ (h : t < length args). held t q h seat ∙ sym (argument_at contents.temps body.temps args t h))
+        (λ (h : length args ≤ t). sym (behind t h lt ∙ holds.low t q h seat))
         (cases_lt t (length args))
 
-    high_temp : (t : ℕ) → t < body.temps → 9 ≤ t → slice_index begin.temps t ≡ word_at access m (address Here (TempCell t))
-    high_temp t lt big = let le : length args ≤ t = omega (arith, few, big) in behind t le lt ∙ holds.high t le big lt
+    high_temp : (t : ℕ) → t < body.temps → register_of k t ≡ None → slice_index begin.temps t ≡ word_at access m (address Here (TempCell t))
+    high_temp t lt none =
+        let le : length args ≤ t = omega (arith, few, (unseated k t body.temps none lt is.few).0) in behind t le lt ∙ holds.high t le none lt
 
     local_is : (a i : ℕ) → i < slice_index body.arrays a → slice_index (elements (array.Local a) begin) i ≡ word_at access m (address Here (Element (array.Local a) i))
     local_is a i lt =
@@ -92,23 +95,23 @@ module _ {M : Type 0} (access : Access M) (y : Layout) (laid : IsLaid y) (machin
 
     in_memory : (x : Cell) → IsThere Here x → access.load m (address Here x) 4 ≡ Some (content Here begin x)
     in_memory (TempCell t) h =
-        loaded (address Here (TempCell t)) (stack_cell (TempCell t) (frame_word y laid reach (shape_of attributed body) (reg regs) caller (word_at access m) is (TempCell t) h tt))
+        loaded (address Here (TempCell t)) (stack_cell (TempCell t) (frame_word y laid reach (shape_at attributed k body) (reg regs) caller (word_at access m) is (TempCell t) h tt))
         ∙ ap Some (sym (high_temp t h.1 h.0))
     in_memory (Element (array.Global g) i) h = globals.loads g i h
     in_memory (Element (array.Local a) i) h =
-        loaded (address Here (Element (array.Local a) i)) (stack_cell (Element (array.Local a) i) (frame_word y laid reach (shape_of attributed body) (reg regs) caller (word_at access m) is (Element (array.Local a) i) h tt))
+        loaded (address Here (Element (array.Local a) i)) (stack_cell (Element (array.Local a) i) (frame_word y laid reach (shape_at attributed k body) (reg regs) caller (word_at access m) is (Element (array.Local a) i) h tt))
         ∙ ap Some (sym (local_is a i h))
-    in_memory (Kept b) h = loaded b (stack_cell (Kept b) (frame_word y laid reach (shape_of attributed body) (reg regs) caller (word_at access m) is (Kept b) h tt))
+    in_memory (Kept b) h = loaded b (stack_cell (Kept b) (frame_word y laid reach (shape_at attributed k body) (reg regs) caller (word_at access m) is (Kept b) h tt))
 
     word_below : (x : Cell) → IsWord y (address Here x) → IsThere Here x → content Here begin x < 2 ^ 32
     word_below x word h = memory.words m (address Here x) (content Here begin x) word (in_memory x h)
 
     words : (x : Cell) → IsThere Here x → content Here begin x < 2 ^ 32
-    words (TempCell t) h = word_below (TempCell t) (inl (stack_cell (TempCell t) (frame_word y laid reach (shape_of attributed body) (reg regs) caller (word_at access m) is (TempCell t) h tt))) h
+    words (TempCell t) h = word_below (TempCell t) (inl (stack_cell (TempCell t) (frame_word y laid reach (shape_at attributed k body) (reg regs) caller (word_at access m) is (TempCell t) h tt))) h
     words (Element (array.Global g) i) h = globals.words g i h
     words (Element (array.Local a) i) h =
-        word_below (Element (array.Local a) i) (inl (stack_cell (Element (array.Local a) i) (frame_word y laid reach (shape_of attributed body) (reg regs) caller (word_at access m) is (Element (array.Local a) i) h tt))) h
-    words (Kept b) h = word_below (Kept b) (inl (stack_cell (Kept b) (frame_word y laid reach (shape_of attributed body) (reg regs) caller (word_at access m) is (Kept b) h tt))) h
+        word_below (Element (array.Local a) i) (inl (stack_cell (Element (array.Local a) i) (frame_word y laid reach (shape_at attributed k body) (reg regs) caller (word_at access m) is (Element (array.Local a) i) h tt))) h
+    words (Kept b) h = word_below (Kept b) (inl (stack_cell (Kept b) (frame_word y laid reach (shape_at attributed k body) (reg regs) caller (word_at access m) is (Kept b) h tt))) h
 
     pub begins_shown : Shows Here access begin regs m
     begins_shown = record {
@@ -116,9 +119,16 @@ module _ {M : Type 0} (access : Access M) (y : Layout) (laid : IsLaid y) (machin
       left = λ q h. refl;
       count = temps_count contents.temps body.temps args count;
       sizes = sizes;
-      low_words = λ t lt small. subst (λ z. z < 2 ^ 32) (low_temp t lt small) (are.words (temp_register t));
+      temp_words = λ t q lt seat. subst (λ z. z < 2 ^ 32) (low_temp t q lt seat) (are.words q);
       in_register = low_temp;
-      unused = λ t p q. refl;
       words = words;
       in_memory = in_memory;
     }
+
+  -- and a state that is shown has the globals of its world
+  pub globals_shown : (l : State) (after : List ℕ) (m' : M) → Shows Here access l after m' → HoldsGlobals access y machine budget far l.world m'
+  globals_shown l after m' f = record {
+    sizes = λ g. f.sizes (array.Global g);
+    words = λ g i h. f.words (Element (array.Global g) i) h;
+    loads = λ g i h. f.in_memory (Element (array.Global g) i) h;
+  }

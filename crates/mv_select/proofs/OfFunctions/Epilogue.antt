@@ -4,45 +4,46 @@ use Rattle.std.proofs.Math.Nat.{min-le_left, min-le_right, le-min}
 use Rattle.std.proofs.lemmas.Bool.{cases_lt}
 use Rattle.mv_isa.specs.declared.instr.Instr.TheVariants.{Addi, Jalr}
 use Rattle.mv_isa.specs.Execution.{Access, reg, put}
-use Rattle.mv_isa.specs.Registers.{ra as link_register, s11 as left_register, s10 as live_register}
+use Rattle.mv_isa.specs.Registers.{a0, ra as link_register, s11 as left_register, s10 as live_register}
 use Rattle.mv_ir.specs.declared.body.Body.{Body}
 use Rattle.mv_ir.specs.World.{World}
 use Rattle.mv_ir.specs.Outcome.{State}
 use Rattle.mv_select_code.specs.Trees.TreeCode.{two, temp_register}
-use Rattle.mv_select_code.specs.Trees.View.{AreRegisters}
-use Rattle.mv_select_code.proofs.OfTrees.Registers.{put_same, put_other, put_registers}
-use Rattle.mv_select_code.specs.Statements.StatementCode.{first}
+use Rattle.mv_select_code.specs.declared.trees.places.Keeping.TheVariants.{Saved}
+use Rattle.mv_select_code.proofs.OfTrees.Registers.{free_low, put_same, put_other, put_registers}
 use Rattle.mv_select_code.specs.Statements.Frames.{Kept, Shows, Reach}
-use Rattle.mv_select_code.proofs.OfStatements.FrameChanges.{register_is, register_zero, register_low, register_high, one_register}
+use Rattle.mv_select_code.proofs.OfTrees.KeepingSeats.{temp_register_above, temp_register_zero}
+use Rattle.mv_select.proofs.OfFunctions.Seats.{register_low, register_high, one_register, unused_left, counters_left, stack_left}
+use Rattle.mv_select.proofs.OfFunctions.Entered.{Unwound}
 use Rattle.mv_select_code.specs.Control.Runs.{Machine, outside}
 use Rattle.mv_select_code.proofs.OfControl.Walk.{placed_split}
 use Rattle.mv_select.specs.Calls.Convention.{Layout, IsTarget, IsSaved, IsAbove}
 use Rattle.mv_select.specs.Functions.FunctionCode.{bytes_of, saved_count, saved_register, restore_lines, leave_lines, epilogue_lines}
-use Rattle.mv_select.specs.Functions.Functions.{IsStack, IsLaid, IsMemory, shape_of, IsAmple, RunsWithin}
+use Rattle.mv_select.specs.Functions.Functions.{IsStack, IsLaid, IsMemory, IsAmple, RunsWithin}
 use Rattle.mv_select.proofs.OfFunctions.Entry.{sp_apart, Restores, restore_walk}
 use Rattle.mv_select.proofs.OfFunctions.EntryShown.{Here, word_at, loaded}
-use Rattle.mv_select.proofs.OfFunctions.Frame.{IsFrame, kept_low, kept_high}
+use Rattle.mv_select.proofs.OfFunctions.Frame.{shape_at, IsFrame, kept_low, kept_high, room_for_saved}
 use Rattle.mv_select.proofs.OfFunctions.FrameWords.{frame_course}
-use Rattle.mv_select.proofs.OfFunctions.Prologue.{Prepared, room_for_saved, saved_words}
+use Rattle.mv_select.proofs.OfFunctions.Prologue.{Prepared, saved_words}
 use Rattle.mv_select.proofs.OfFunctions.Steps.{Counted, up, leave_walk, back}
 
 -- a register that is set back is sp, that of one of the first nine temporaries, s10 or s11
 as_temp : (q : ℕ) → (18 ≤ q) × (q < 26) → (t : ℕ) × (t < 9) × (q ≡ temp_register t)
-as_temp q h = let low = h.0 in let high = h.1 in (q - 17, omega (arith, low, high), sym (register_is (q - 17) (omega (arith, low)) ∙ omega (arith, low)))
+as_temp q h = let low = h.0 in let high = h.1 in (q - 17, omega (arith, low, high), sym (temp_register_above (q - 17) (omega (arith, low)) ∙ omega (arith, low)))
 
 pub saved_cases : (q : ℕ) → IsSaved q → (q ≡ 2) ⊎ (((t : ℕ) × (t < 9) × (q ≡ temp_register t)) ⊎ ((q ≡ live_register) ⊎ (q ≡ left_register)))
 saved_cases q (inl h) = inl h
-saved_cases q (inr (inl h)) = inr (inl (0, omega arith, h ∙ sym register_zero))
+saved_cases q (inr (inl h)) = inr (inl (0, omega arith, h ∙ sym temp_register_zero))
 saved_cases q (inr (inr h)) = ⊎_elim
     (λ (low : q < 26). inr (inl (as_temp q (h.0, low))))
     (λ (high : 26 ≤ q). let below = h.1 in ⊎_elim (λ (e : q < 27). inr (inr (inl (omega (arith, high, e))))) (λ (e : 27 ≤ q). inr (inr (inr (omega (arith, below, e))))) (cases_lt q 27))
     (cases_lt q 26)
 
 -- a0, s10 and s11 aren't saved
-first_apart : (j : ℕ) → first ≢ saved_register j
+first_apart : (j : ℕ) → a0 ≢ saved_register j
 first_apart zero e = omega (arith, e)
-first_apart (suc zero) e = omega (arith, e, register_zero)
-first_apart (suc (suc t)) e = omega (arith, e, register_is (suc t) (omega arith))
+first_apart (suc zero) e = omega (arith, e, temp_register_zero)
+first_apart (suc (suc t)) e = omega (arith, e, temp_register_above (suc t) (omega arith))
 
 high_apart : (q j : ℕ) → 26 ≤ q → j < 10 → q ≢ saved_register j
 high_apart q zero le lt e = omega (arith, le, e)
@@ -53,32 +54,20 @@ module _ {M : Type 0} (access : Access M) (y : Layout) (laid : IsLaid y) (machin
   open frame_course access y laid machine memory reach ample runs budget far place use {of.{Placed as Ps}, Stands as Ws}
 
   abbrev bytes : ℕ
-  bytes = bytes_of (shape_of attributed body)
-
-  -- what is as it was before the prologue
-  pub record Unwound (before : List ℕ) (m0 : M) (back_to : ℕ) (w : World) (regs : List ℕ) (m : M) (i : ℕ) : Type 0 where
-    pub after : List ℕ
-    pub time : ℕ
-    pub late : i ≤ time
-    pub soon : time ≤ i + 13
-    pub stands : Ws w back_to after m time
-    pub are : AreRegisters after
-    pub result : reg after first ≡ reg regs first
-    pub registers : (q : ℕ) → IsSaved q → reg after q ≡ reg before q
-    pub stack : (b : ℕ) → IsAbove y (reg before 2) b → access.load m b 4 ≡ access.load m0 b 4
+  bytes = bytes_of (shape_at attributed Saved body)
 
   module _ (args : List ℕ) (live sp caller : ℕ) (before : List ℕ) (m0 : M) (w0 : World) (next0 i0 : ℕ)
-      (p : Prepared access y laid machine memory reach ample runs budget far place (shape_of attributed body) args live sp before m0 w0 next0 i0)
-      (is : IsFrame y (shape_of attributed body) (reg p.regs 2) caller) (calm : machine.is_calm (outside w0) p.mem ≡ true) where
+      (p : Prepared access y laid machine memory reach ample runs budget far place (shape_at attributed Saved body) args live sp before m0 w0 next0 i0)
+      (is : IsFrame y (shape_at attributed Saved body) (reg p.regs 2) caller) (calm : machine.is_calm (outside w0) p.mem ≡ true) where
     module _ (w : World) (l : State) (regs : List ℕ) (m : M)
-        (f : Shows (Here access y laid machine memory budget far reach attributed body (outside w0) p.regs p.mem caller is calm) access l regs m) where
+        (f : Shows (Here access y laid machine memory budget far reach attributed Saved body (outside w0) p.regs p.mem caller is calm) access l regs m) where
       -- the saved registers are still in the frame
       still_saved : (j : ℕ) → j < saved_count body.temps → access.load m (sp + 4 * j) 4 ≡ Some (reg before (saved_register j))
       still_saved j lt =
           let few : j < 10 = omega (arith, lt, min-le_right body.temps 9) in
           let at : reg p.regs 2 + 4 * j ≡ sp + 4 * j = ap (λ z. z + 4 * j) p.sp_is in
-          let stack = saved_words y (shape_of attributed body) (reg p.regs 2) caller is j few in
-          let kept = kept_low (reg p.regs 2) caller y.top (reg p.regs 2 + 4 * j) stack.2 (omega arith) (omega (arith, few)) in
+          let stack = saved_words y (shape_at attributed Saved body) refl (reg p.regs 2) caller is j few in
+          let kept = kept_low (reg p.regs 2) (reg p.regs 2 + 40) caller y.top (reg p.regs 2 + 4 * j) stack.2 (omega arith) (omega (arith, few)) in
           let held : access.load m (sp + 4 * j) 4 ≡ Some (word_at access p.mem (sp + 4 * j)) =
           subst (λ b. access.load m b 4 ≡ Some (word_at access p.mem b)) at (f.in_memory (Kept (reg p.regs 2 + 4 * j)) kept) in
           held ∙ ap Some (ap (λ o. unwrap_or o 0) (p.saved j lt))
@@ -87,9 +76,9 @@ module _ {M : Type 0} (access : Access M) (y : Layout) (laid : IsLaid y) (machin
       above_frame from b h =
           let low : caller ≤ b = omega (arith, from, h.0) in
           let stack : IsStack y b = (omega (arith, low, is.low, is.below), h.1, h.2) in
-          let kept = kept_high (reg p.regs 2) caller y.top b h.2 low h.1 in
-          f.in_memory (Kept b) kept ∙ sym (loaded access y laid machine memory budget far reach attributed body (outside w0) p.regs p.mem caller is calm b stack)
-          ∙ p.words b (inl stack) (λ j lt e. omega (arith, e, low, is.below, p.sp_is, lt, min-le_right body.temps 9, room_for_saved (shape_of attributed body)))
+          let kept = kept_high (reg p.regs 2) (reg p.regs 2 + 40) caller y.top b h.2 low h.1 in
+          f.in_memory (Kept b) kept ∙ sym (loaded access y laid machine memory budget far reach attributed Saved body (outside w0) p.regs p.mem caller is calm b stack)
+          ∙ p.words b (inl stack) (λ j lt e. omega (arith, e, low, is.below, p.sp_is, lt, min-le_right body.temps 9, room_for_saved (shape_at attributed Saved body)))
 
       -- what a temporary's register had
       temp_back : (t : ℕ) (mid after : List ℕ) → t < 9 → body.params ≤ body.temps → reg mid (temp_register t) ≡ reg regs (temp_register t)
@@ -106,21 +95,21 @@ module _ {M : Type 0} (access : Access M) (y : Layout) (laid : IsLaid y) (machin
           unsaved le (suc u) lt e = one_register t u (λ same. omega (arith, same, le, lt, min-le_left body.temps 9)) e
 
           high : body.temps ≤ t → reg after (temp_register t) ≡ reg before (temp_register t)
-          high le = others (temp_register t) (unsaved le) ∙ mid_is ∙ f.unused t le small
+          high le = others (temp_register t) (unsaved le) ∙ mid_is ∙ f.left (temp_register t) (unused_left body.temps t le small)
               ∙ p.others (temp_register t) (λ e. omega (arith, e, register_low t)) (λ e. omega (arith, e, register_high t small))
               (λ j lt e. one_register t j (λ same. omega (arith, same, le, lt, enough)) e)
 
       pub epilogue_walk : (back_to pc next i : ℕ) → body.params ≤ 8 → body.params ≤ body.temps → reg before 2 ≡ caller → reg before live_register ≡ live → live + 1 < 2 ^ 32
-          → reg before link_register ≡ back_to → IsTarget back_to → Ps (epilogue_lines attributed body.temps (bytes_of (shape_of attributed body))) pc next → Ws w pc regs m i → Unwound before m0 back_to w regs m i
+          → reg before link_register ≡ back_to → IsTarget back_to → Ps (epilogue_lines attributed body.temps (bytes_of (shape_at attributed Saved body))) pc next → Ws w pc regs m i → Unwound access y laid machine memory reach ample runs budget far place before m0 back_to w regs m i
       epilogue_walk back_to pc next i few enough from live_before small ra target lines a = record {
         after = after;
         time = c.time + saved_count body.temps + 1 + 1;
         late = let late = c.late in omega (arith, late);
         soon = let soon = c.soon in omega (arith, soon, saved_few);
         stands = back access y laid machine memory reach ample runs budget far place back_to w u.2.0 u.2.2.0 after m (c.time + saved_count body.temps + 1) link_is target u.2.2.1 raised;
-        are = put_registers d.after 2 (sp + bytes_of (shape_of attributed body)) d.restored.are (omega arith) (omega arith) below;
-        result = put_other d.after 2 first (sp + bytes_of (shape_of attributed body)) (omega arith) (λ e. omega (arith, e)) ∙ d.restored.others first (λ j lt. first_apart j)
-            ∙ c.others first (λ e. omega (arith, e));
+        are = put_registers d.after 2 (sp + bytes_of (shape_at attributed Saved body)) d.restored.are (free_low 2 (omega arith) (omega arith)) below;
+        result = put_other d.after 2 a0 (sp + bytes_of (shape_at attributed Saved body)) (omega arith) (λ e. omega (arith, e)) ∙ d.restored.others a0 (λ j lt. first_apart j)
+            ∙ c.others a0 (λ e. omega (arith, e));
         registers = registers;
         stack = above_frame from;
       }
@@ -128,58 +117,58 @@ module _ {M : Type 0} (access : Access M) (y : Layout) (laid : IsLaid y) (machin
           saved_few : saved_count body.temps ≤ 10
           saved_few = omega (arith, min-le_right body.temps 9)
 
-          q : (mid : ℕ) × Ps (leave_lines attributed) pc mid × Ps (restore_lines (saved_count body.temps) ++ two (Addi 2 2 (pos (bytes_of (shape_of attributed body)))) (Jalr 0 link_register (pos 0))) mid next
-          q = placed_split machine.text place y.entry (leave_lines attributed) (restore_lines (saved_count body.temps) ++ two (Addi 2 2 (pos (bytes_of (shape_of attributed body)))) (Jalr 0 link_register (pos 0))) pc next lines
+          q : (mid : ℕ) × Ps (leave_lines attributed) pc mid × Ps (restore_lines (saved_count body.temps) ++ two (Addi 2 2 (pos (bytes_of (shape_at attributed Saved body)))) (Jalr 0 link_register (pos 0))) mid next
+          q = placed_split machine.text place y.entry (leave_lines attributed) (restore_lines (saved_count body.temps) ++ two (Addi 2 2 (pos (bytes_of (shape_at attributed Saved body)))) (Jalr 0 link_register (pos 0))) pc next lines
 
-          u : (mid : ℕ) × Ps (restore_lines (saved_count body.temps)) q.0 mid × Ps (two (Addi 2 2 (pos (bytes_of (shape_of attributed body)))) (Jalr 0 link_register (pos 0))) mid next
-          u = placed_split machine.text place y.entry (restore_lines (saved_count body.temps)) (two (Addi 2 2 (pos (bytes_of (shape_of attributed body)))) (Jalr 0 link_register (pos 0))) q.0 next q.2
+          u : (mid : ℕ) × Ps (restore_lines (saved_count body.temps)) q.0 mid × Ps (two (Addi 2 2 (pos (bytes_of (shape_at attributed Saved body)))) (Jalr 0 link_register (pos 0))) mid next
+          u = placed_split machine.text place y.entry (restore_lines (saved_count body.temps)) (two (Addi 2 2 (pos (bytes_of (shape_at attributed Saved body)))) (Jalr 0 link_register (pos 0))) q.0 next q.2
 
           c : Counted access y laid machine memory reach ample runs budget far place live w q.0 regs m i
-          c = leave_walk access y laid machine memory reach ample runs budget far place attributed live w pc q.0 regs m i f.are small (f.left live_register (inr (omega arith, omega arith)) ∙ p.live_is) q.1 a
+          c = leave_walk access y laid machine memory reach ample runs budget far place attributed live w pc q.0 regs m i f.are small (f.left live_register (counters_left body.temps live_register (omega arith) (omega arith)) ∙ p.live_is) q.1 a
 
           sp_held : reg c.after 2 ≡ sp
-          sp_held = c.others 2 (λ e. omega (arith, e)) ∙ f.left 2 (inl refl) ∙ p.sp_is
+          sp_held = c.others 2 (λ e. omega (arith, e)) ∙ f.left 2 (stack_left Saved body.temps) ∙ p.sp_is
 
           d : Restores access y laid machine memory reach ample runs budget far place (saved_count body.temps) sp w u.0 c.after m (c.time + saved_count body.temps)
           d = restore_walk access y laid machine memory reach ample runs budget far place (saved_count body.temps) sp w q.0 u.0 c.after m c.time saved_few sp_held
-              (λ j lt. subst (λ z. IsStack y (z + 4 * j)) p.sp_is (saved_words y (shape_of attributed body) (reg p.regs 2) caller is j (omega (arith, lt, saved_few)))) c.are u.1 c.stands
+              (λ j lt. subst (λ z. IsStack y (z + 4 * j)) p.sp_is (saved_words y (shape_at attributed Saved body) refl (reg p.regs 2) caller is j (omega (arith, lt, saved_few)))) c.are u.1 c.stands
 
-          frame_is : sp + bytes_of (shape_of attributed body) ≡ caller
+          frame_is : sp + bytes_of (shape_at attributed Saved body) ≡ caller
           frame_is = omega (arith, is.below, p.sp_is)
 
-          below : sp + bytes_of (shape_of attributed body) < 2 ^ 32
+          below : sp + bytes_of (shape_at attributed Saved body) < 2 ^ 32
           below = omega (arith, frame_is, is.high, laid.top)
 
           after : List ℕ
-          after = put d.after 2 (sp + bytes_of (shape_of attributed body))
+          after = put d.after 2 (sp + bytes_of (shape_at attributed Saved body))
 
-          raised : Ws w u.2.0 (put d.after 2 (sp + bytes_of (shape_of attributed body))) m (c.time + saved_count body.temps + 1)
-          raised = up access y laid machine memory reach ample runs budget far place (bytes_of (shape_of attributed body)) sp w u.0 u.2.0 d.after m (c.time + saved_count body.temps) below
+          raised : Ws w u.2.0 (put d.after 2 (sp + bytes_of (shape_at attributed Saved body))) m (c.time + saved_count body.temps + 1)
+          raised = up access y laid machine memory reach ample runs budget far place (bytes_of (shape_at attributed Saved body)) sp w u.0 u.2.0 d.after m (c.time + saved_count body.temps) below
               (d.restored.others 2 (λ j lt. sp_apart j) ∙ sp_held) u.2.1 d.stands
 
-          other : (r : ℕ) → r ≢ 2 → reg (put d.after 2 (sp + bytes_of (shape_of attributed body))) r ≡ reg d.after r
-          other r ne = put_other d.after 2 r (sp + bytes_of (shape_of attributed body)) (omega arith) ne
+          other : (r : ℕ) → r ≢ 2 → reg (put d.after 2 (sp + bytes_of (shape_at attributed Saved body))) r ≡ reg d.after r
+          other r ne = put_other d.after 2 r (sp + bytes_of (shape_at attributed Saved body)) (omega arith) ne
 
-          link_is : reg (put d.after 2 (sp + bytes_of (shape_of attributed body))) link_register ≡ back_to
+          link_is : reg (put d.after 2 (sp + bytes_of (shape_at attributed Saved body))) link_register ≡ back_to
           link_is = other link_register (λ e. omega (arith, e)) ∙ d.restored.restored 0 (reg before link_register) (omega arith) (still_saved 0 (omega arith)) ∙ ra
 
           by_case : (r : ℕ) → (r ≡ 2) ⊎ (((t : ℕ) × (t < 9) × (r ≡ temp_register t)) ⊎ ((r ≡ live_register) ⊎ (r ≡ left_register)))
-              → reg (put d.after 2 (sp + bytes_of (shape_of attributed body))) r ≡ reg before r
+              → reg (put d.after 2 (sp + bytes_of (shape_at attributed Saved body))) r ≡ reg before r
           by_case r (inl e) =
-              ap (reg (put d.after 2 (sp + bytes_of (shape_of attributed body)))) e ∙ put_same d.after 2 (sp + bytes_of (shape_of attributed body)) (omega arith) (omega (arith, d.restored.are.count))
+              ap (reg (put d.after 2 (sp + bytes_of (shape_at attributed Saved body)))) e ∙ put_same d.after 2 (sp + bytes_of (shape_at attributed Saved body)) (omega arith) (omega (arith, d.restored.are.count))
               ∙ frame_is ∙ sym from ∙ ap (reg before) (sym e)
           by_case r (inr (inl h)) =
-              ap (reg (put d.after 2 (sp + bytes_of (shape_of attributed body)))) h.2 ∙ other (temp_register h.0) (λ e. omega (arith, e, register_low h.0))
+              ap (reg (put d.after 2 (sp + bytes_of (shape_at attributed Saved body)))) h.2 ∙ other (temp_register h.0) (λ e. omega (arith, e, register_low h.0))
               ∙ temp_back h.0 c.after d.after h.1 enough (c.others (temp_register h.0) (λ e. omega (arith, e, register_high h.0 h.1))) d.restored.restored d.restored.others ∙ ap (reg before) (sym h.2)
           by_case r (inr (inr (inl e))) =
-              ap (reg (put d.after 2 (sp + bytes_of (shape_of attributed body)))) e ∙ other live_register (λ e. omega (arith, e))
+              ap (reg (put d.after 2 (sp + bytes_of (shape_at attributed Saved body)))) e ∙ other live_register (λ e. omega (arith, e))
               ∙ d.restored.others live_register (λ j lt. high_apart live_register j (omega arith) (omega (arith, lt, saved_few))) ∙ c.live ∙ sym live_before ∙ ap (reg before) (sym e)
           by_case r (inr (inr (inr e))) =
-              ap (reg (put d.after 2 (sp + bytes_of (shape_of attributed body)))) e ∙ other left_register (λ e. omega (arith, e))
+              ap (reg (put d.after 2 (sp + bytes_of (shape_at attributed Saved body)))) e ∙ other left_register (λ e. omega (arith, e))
               ∙ d.restored.others left_register (λ j lt. high_apart left_register j (omega arith) (omega (arith, lt, saved_few))) ∙ c.others left_register (λ e. omega (arith, e))
-              ∙ f.left left_register (inr (omega arith, omega arith))
+              ∙ f.left left_register (counters_left body.temps left_register (omega arith) (omega arith))
               ∙ p.others left_register (λ e. omega (arith, e)) (λ e. omega (arith, e)) (λ j lt e. omega (arith, e, register_high j (omega (arith, lt, few))))
               ∙ ap (reg before) (sym e)
 
-          registers : (r : ℕ) → IsSaved r → reg (put d.after 2 (sp + bytes_of (shape_of attributed body))) r ≡ reg before r
+          registers : (r : ℕ) → IsSaved r → reg (put d.after 2 (sp + bytes_of (shape_at attributed Saved body))) r ≡ reg before r
           registers r h = by_case r (saved_cases r h)

@@ -1,8 +1,8 @@
 -- What the code of entry and return is, one register at a time.
 use Rattle.std.proofs.Common.{◌≡◌, ℕ, suc, ◌+◌, ◌*◌, ◌++◌, [], pos, refl, ap, arith, append_assoc}
 use Rattle.mv_isa.specs.declared.instr.Instr.TheVariants.{Lw, Sw, Addi}
+use Rattle.mv_isa.specs.Registers.{a0}
 use Rattle.mv_select_code.specs.Trees.TreeCode.{one, temp_register}
-use Rattle.mv_select_code.specs.Statements.StatementCode.{first}
 use Rattle.mv_select.specs.Functions.FunctionCode.{saved_register, save_lines, restore_lines, parameter_lines}
 
 pub save_none : save_lines 0 ≡ []
@@ -20,7 +20,7 @@ restore_next k = let e : k + 1 ≡ suc k = omega arith in ap restore_lines e
 pub parameter_none : parameter_lines 0 ≡ []
 parameter_none = refl
 
-pub parameter_next : (k : ℕ) → parameter_lines (k + 1) ≡ parameter_lines k ++ one (Addi (temp_register k) (first + k) (pos 0))
+pub parameter_next : (k : ℕ) → parameter_lines (k + 1) ≡ parameter_lines k ++ one (Addi (temp_register k) (a0 + k) (pos 0))
 parameter_next k = let e : k + 1 ≡ suc k = omega arith in ap parameter_lines e
 
 pub ruleset frames = (save_none, save_next, restore_none, restore_next, parameter_none, parameter_next, append_assoc)

@@ -1,23 +1,28 @@
 -- The frame of a function: where its cells stand, and that they stand apart.
 use Rattle.std.proofs.Common.{◌≡◌, inl, inr, ⊎_elim, ℕ, zero, suc, ◌+◌, ◌*◌, ◌%◌, ◌^◌, ◌<◌, ◌≤◌, ◌⊎◌, Bool, true, not, ◌&&◌, ◌||◌, eqb, ltb, max, List, [], ◌∷◌, length, slice_index, None, refl, sym, ap, ◌∙◌, subst, arith}
 use Rattle.std.proofs.Math.Nat.{le-max_left, le-max_right}
-use Rattle.std.proofs.lemmas.Bool.{eqb-true, ltb-true, ltb-false, lt-ltb, le-ltb, eq-eqb, not-true}
+use Rattle.std.proofs.lemmas.Bool.{cases_lt, eqb-true, ltb-true, ltb-false, lt-ltb, le-ltb, eq-eqb, not-true}
 use Rattle.mv_bindings.specs.Traps.{depth_limit}
 use Rattle.mv_isa.specs.Code.{IsPlace}
 use Rattle.mv_isa.specs.Execution.{Access}
+use Rattle.mv_ir.specs.declared.body.Body.{Body}
 use Rattle.mv_ir.specs.declared.stm.Array.{Array}
 use Rattle.mv_ir.specs.declared.stm.Array.TheVariants as array
 use Rattle.mv_ir.specs.World as ir
 use Rattle.mv_ir.specs.Measures.{total}
 use Rattle.mv_ir.specs.Trees.{found}
-use Rattle.mv_select_code.specs.Trees.TreeCode.{temp_offset}
-use Rattle.mv_select_code.specs.Statements.Frames.{Site, Cell, TempCell, Element, Kept, IsThere, address, size_of, Stored, IsFit, Reach, IsLoaded}
+use Rattle.mv_select_code.specs.Trees.TreeCode.{temp_offset, register_of}
+use Rattle.mv_select_code.specs.declared.trees.places.Keeping.{Keeping}
+use Rattle.mv_select_code.specs.declared.trees.places.Keeping.TheVariants.{Saved, Arguments}
+use Rattle.mv_select_code.proofs.OfTrees.KeepingSeats.{keeping_seats}
+use Rattle.mv_select_code.specs.Statements.Frames.{Site, Cell, TempCell, Element, Kept, IsThere, address, size_of, LeavesAlone, Stored, IsFit, Reach, IsLoaded}
 use Rattle.mv_select_code.specs.Control.Runs.{Machine}
 use Rattle.mv_select.specs.Calls.Convention.{Layout, IsAbove, frame_limit}
 use Rattle.mv_select.specs.Calls.Laws.{IsOfFrame, IsCaller}
-use Rattle.mv_select.specs.Functions.FunctionCode.{words_before, Shape, bytes_of}
+use Rattle.mv_select.specs.Functions.FunctionCode.{words_before, Shape, bytes_of, is_left_by}
 use Rattle.mv_select.specs.Functions.Functions as functions
-use Rattle.mv_select.specs.Functions.Functions.{IsStack, IsWord, IsLaid, IsMemory, StandsInWords, site_of, IsAmple}
+use Rattle.mv_select.specs.Functions.Functions.{IsStack, IsWord, IsLaid, IsMemory, StandsInWords, asks_by, site_of, IsAmple}
+use Rattle.mv_select.proofs.OfFunctions.Seats.{SeatsSaved, LeftSaved, seats_saved, left_saved, unseated, stack_left, counters_left, left_real, left_result, left_scratch, left_temps}
 use Rattle.mv_num.proofs.Booleans.{and_right, and_left, or_true, or_cases}
 
 -- ---- arrays in a row
@@ -45,9 +50,9 @@ size_within (n ∷ sizes) (suc a) = omega (arith, size_within sizes a)
 abbrev pub is_between : (from to b : ℕ) → Bool
 is_between from to b = not (ltb b from) && ltb b to
 
--- the words of saved registers, and the stack from the caller's sp up
-abbrev pub keeps : (sp caller top b : ℕ) → Bool
-keeps sp caller top b = eqb (b % 4) 0 && (is_between sp (sp + 40) b || is_between caller top b)
+-- the words of saved registers, as far as they go, and the stack from the caller's sp up
+abbrev pub keeps : (sp stop caller top b : ℕ) → Bool
+keeps sp stop caller top b = eqb (b % 4) 0 && (is_between sp stop b || is_between caller top b)
 
 between : (from to b : ℕ) → is_between from to b ≡ true → (from ≤ b) × (b < to)
 between from to b e = (ltb-false b from (not-true (ltb b from) (and_left (not (ltb b from)) (ltb b to) e)), ltb-true b to (and_right (not (ltb b from)) (ltb b to) e))
@@ -55,21 +60,21 @@ between from to b e = (ltb-false b from (not-true (ltb b from) (and_left (not (l
 is_between_true : (from to b : ℕ) → from ≤ b → b < to → is_between from to b ≡ true
 is_between_true from to b low high = ap (λ x. not x && ltb b to) (le-ltb b from low) ∙ lt-ltb b to high
 
-kept_cases : (sp caller top b : ℕ) → keeps sp caller top b ≡ true → (b % 4 ≡ 0) × (((sp ≤ b) × (b < sp + 40)) ⊎ ((caller ≤ b) × (b < top)))
-kept_cases sp caller top b e = (
-  eqb-true (b % 4) 0 (and_left (eqb (b % 4) 0) (is_between sp (sp + 40) b || is_between caller top b) e),
-  ⊎_elim (λ (h : is_between sp (sp + 40) b ≡ true). inl (between sp (sp + 40) b h)) (λ (h : is_between caller top b ≡ true). inr (between caller top b h))
-      (or_cases (is_between sp (sp + 40) b) (is_between caller top b) (and_right (eqb (b % 4) 0) (is_between sp (sp + 40) b || is_between caller top b) e)),
+kept_cases : (sp stop caller top b : ℕ) → keeps sp stop caller top b ≡ true → (b % 4 ≡ 0) × (((sp ≤ b) × (b < stop)) ⊎ ((caller ≤ b) × (b < top)))
+kept_cases sp stop caller top b e = (
+  eqb-true (b % 4) 0 (and_left (eqb (b % 4) 0) (is_between sp stop b || is_between caller top b) e),
+  ⊎_elim (λ (h : is_between sp stop b ≡ true). inl (between sp stop b h)) (λ (h : is_between caller top b ≡ true). inr (between caller top b h))
+      (or_cases (is_between sp stop b) (is_between caller top b) (and_right (eqb (b % 4) 0) (is_between sp stop b || is_between caller top b) e)),
 )
 
-pub kept_low : (sp caller top b : ℕ) → b % 4 ≡ 0 → sp ≤ b → b < sp + 40 → keeps sp caller top b ≡ true
-kept_low sp caller top b even low high =
-    ap (λ x. x && (is_between sp (sp + 40) b || is_between caller top b)) (eq-eqb (b % 4) 0 even) ∙ ap (λ x. x || is_between caller top b) (is_between_true sp (sp + 40) b low high)
+pub kept_low : (sp stop caller top b : ℕ) → b % 4 ≡ 0 → sp ≤ b → b < stop → keeps sp stop caller top b ≡ true
+kept_low sp stop caller top b even low high =
+    ap (λ x. x && (is_between sp stop b || is_between caller top b)) (eq-eqb (b % 4) 0 even) ∙ ap (λ x. x || is_between caller top b) (is_between_true sp stop b low high)
 
-pub kept_high : (sp caller top b : ℕ) → b % 4 ≡ 0 → caller ≤ b → b < top → keeps sp caller top b ≡ true
-kept_high sp caller top b even low high =
-    ap (λ x. x && (is_between sp (sp + 40) b || is_between caller top b)) (eq-eqb (b % 4) 0 even) ∙ ap (λ x. is_between sp (sp + 40) b || x) (is_between_true caller top b low high)
-    ∙ or_true (is_between sp (sp + 40) b)
+pub kept_high : (sp stop caller top b : ℕ) → b % 4 ≡ 0 → caller ≤ b → b < top → keeps sp stop caller top b ≡ true
+kept_high sp stop caller top b even low high =
+    ap (λ x. x && (is_between sp stop b || is_between caller top b)) (eq-eqb (b % 4) 0 even) ∙ ap (λ x. is_between sp stop b || x) (is_between_true caller top b low high)
+    ∙ or_true (is_between sp stop b)
 
 -- ---- a frame
 
@@ -77,46 +82,112 @@ pub temp_is : (t : ℕ) → temp_offset t ≡ 4 * (t + 1)
 unfolding temp_offset
 temp_is t = refl
 
--- a frame of a function, below the sp of its caller
+-- by how many bytes sp is moved
+abbrev pub lowered_by : Keeping → List ℕ → ℕ → ℕ
+lowered_by Saved sizes bytes = bytes
+lowered_by Arguments [] bytes = 0
+lowered_by Arguments (n ∷ sizes) bytes = bytes
+
+abbrev pub frame_of : Shape → ℕ
+frame_of shape = lowered_by shape.keeping shape.arrays (bytes_of shape)
+
+-- where the words of saved registers end
+abbrev pub saved_end : Keeping → ℕ → ℕ
+saved_end Saved sp = sp + 40
+saved_end Arguments sp = sp
+
+pub lowered_small : (k : Keeping) (sizes : List ℕ) (bytes : ℕ) → lowered_by k sizes bytes ≤ bytes
+lowered_small Saved sizes bytes = omega arith
+lowered_small Arguments [] bytes = omega arith
+lowered_small Arguments (n ∷ sizes) bytes = omega arith
+
+lowered_even : (k : Keeping) (sizes : List ℕ) (bytes : ℕ) → bytes % 4 ≡ 0 → lowered_by k sizes bytes % 4 ≡ 0
+lowered_even Saved sizes bytes e = e
+lowered_even Arguments [] bytes e = refl
+lowered_even Arguments (n ∷ sizes) bytes e = e
+
+-- where there is an array, sp is moved
+lowered_whole : (k : Keeping) (sizes : List ℕ) (bytes a i : ℕ) → i < slice_index sizes a → lowered_by k sizes bytes ≡ bytes
+lowered_whole Saved sizes bytes a i lt = refl
+lowered_whole Arguments [] bytes a i lt = absurd (omega (arith, lt))
+lowered_whole Arguments (n ∷ sizes) bytes a i lt = refl
+
+saved_end_low : (k : Keeping) (sp : ℕ) → saved_end k sp ≤ sp + 40
+saved_end_low Saved sp = omega arith
+saved_end_low Arguments sp = omega arith
+
+saved_end_within : (k : Keeping) (sizes : List ℕ) (sp bytes : ℕ) → 40 ≤ bytes → saved_end k sp ≤ sp + lowered_by k sizes bytes
+saved_end_within Saved sizes sp bytes h = omega (arith, h)
+saved_end_within Arguments sizes sp bytes h = omega arith
+
+-- A frame of a function, below the sp of its caller. One that saves no registers has few temporaries.
 pub record IsFrame (y : Layout) (shape : Shape) (sp caller : ℕ) : Type 0 where
-  pub below : sp + bytes_of shape ≡ caller
+  pub below : sp + frame_of shape ≡ caller
   pub even : caller % 4 ≡ 0
   pub low : y.bottom ≤ sp
   pub high : caller ≤ y.top
+  pub few : shape.keeping ≡ Arguments → shape.temps < 9
+
+-- the numbers of a body that keeps its temporaries in a way
+abbrev pub shape_at : Bool → Keeping → Body → Shape
+shape_at attributed k body = record { attributed = attributed; keeping = k; params = body.params; temps = body.temps; arrays = body.arrays }
+
+-- a frame has room for its saved registers
+pub room_for_saved : (shape : Shape) → 40 ≤ bytes_of shape
+room_for_saved shape = omega (arith, le-max_right shape.temps 9)
 
 module _ (y : Layout) (laid : IsLaid y) (reach : Reach) (shape : Shape) (register : ℕ → ℕ) (caller : ℕ) (kept : ℕ → ℕ) (is : IsFrame y shape (register 2) caller) where
+  abbrev stop : ℕ
+  stop = saved_end shape.keeping (register 2)
+
   abbrev pub S : Site
-  S = site_of y reach shape register (keeps (register 2) caller y.top) kept
+  S = site_of y reach shape register (keeps (register 2) (saved_end shape.keeping (register 2)) caller y.top) kept
 
   abbrev start : ℕ
   start = max shape.temps 9
 
-  -- where a temporary, an element of an array and a word that is left alone stand, in bytes above sp
-  temp_place : (t : ℕ) → 9 ≤ t → t < shape.temps → (address S (TempCell t) ≡ register 2 + 4 * (t + 1)) × (4 * (t + 1) + 4 ≤ 4 * start + 4)
-  temp_place t low high = (ap (λ n. register 2 + n) (temp_is t), omega (arith, high, le-max_left shape.temps 9))
+  -- where a temporary and an element of an array stand, in bytes above sp
+  record TempPlace (t : ℕ) : Type 0 where
+    at : address S (TempCell t) ≡ register 2 + 4 * (t + 1)
+    low : 9 ≤ t
+    high : 4 * (t + 1) + 4 ≤ 4 * start + 4
+    whole : register 2 + bytes_of shape ≡ caller
+
+  temp_place : (t : ℕ) → register_of shape.keeping t ≡ None → t < shape.temps → TempPlace t
+  temp_place t none lt =
+      let un = unseated shape.keeping t shape.temps none lt is.few in record {
+        at = ap (λ n. register 2 + n) (temp_is t);
+        low = un.0;
+        high = omega (arith, lt, le-max_left shape.temps 9);
+        whole = ap (λ k. register 2 + lowered_by k shape.arrays (bytes_of shape)) (sym un.1) ∙ is.below;
+      }
 
   element_place : (a i : ℕ) → i < slice_index shape.arrays a → (address S (Element (array.Local a) i) ≡ register 2 + 4 * (start + 1 + words_before shape.arrays a + i))
       × (register 2 + 4 * (start + 1 + words_before shape.arrays a + i) + 4 ≤ caller)
-  element_place a i h = (omega arith, omega (arith, element_within shape.arrays a i h, is.below))
+  element_place a i h =
+      (omega arith, omega (arith, element_within shape.arrays a i h, is.below, lowered_whole shape.keeping shape.arrays (bytes_of shape) a i h))
 
-  enough : register 2 + 40 ≤ caller
-  enough = omega (arith, is.below, le-max_right shape.temps 9)
+  stop_low : stop ≤ register 2 + 40
+  stop_low = saved_end_low shape.keeping (register 2)
+
+  enough : stop ≤ caller
+  enough = omega (arith, is.below, saved_end_within shape.keeping shape.arrays (register 2) (bytes_of shape) (room_for_saved shape))
 
   even_sp : register 2 % 4 ≡ 0
-  even_sp = omega (arith, is.below, is.even)
+  even_sp = omega (arith, is.below, is.even, lowered_even shape.keeping shape.arrays (bytes_of shape) (omega arith))
 
   -- each cell but those of globals stands in the stack, from sp up
   pub frame_word : (x : Cell) → IsThere S x → IsOfFrame x → IsAbove y (register 2) (address S x)
   frame_word (TempCell t) h own =
       let p = temp_place t h.0 h.1 in
-      subst (IsAbove y (register 2)) (sym p.0) (omega arith, omega (arith, p.1, is.below, is.high), omega (arith, even_sp))
+      subst (IsAbove y (register 2)) (sym p.at) (omega arith, omega (arith, p.high, p.whole, is.high), omega (arith, even_sp))
   frame_word (Element (array.Global g) i) h own = absurd own
   frame_word (Element (array.Local a) i) h own =
       let p = element_place a i h in
       subst (IsAbove y (register 2)) (sym p.0) (omega arith, omega (arith, p.1, is.high), omega (arith, even_sp))
   frame_word (Kept b) h own =
-      let k = kept_cases (register 2) caller y.top b h in
-      ⊎_elim (λ (r : (register 2 ≤ b) × (b < register 2 + 40)). (r.0, omega (arith, r.1, enough, is.high), k.0))
+      let k = kept_cases (register 2) stop caller y.top b h in
+      ⊎_elim (λ (r : (register 2 ≤ b) × (b < stop)). (r.0, omega (arith, r.1, enough, is.high), k.0))
       (λ (r : (caller ≤ b) × (b < y.top)). (omega (arith, r.0, is.below), r.1, k.0)) k.1
 
   in_stack : (b : ℕ) → IsAbove y (register 2) b → IsStack y b
@@ -131,21 +202,21 @@ module _ (y : Layout) (laid : IsLaid y) (reach : Reach) (shape : Shape) (registe
   off_global : (g i : ℕ) → i < y.size g → (x : Cell) → IsThere S x → IsOfFrame x → address S x ≡ y.place g + 4 * i → ⊥
   off_global g i lt x h own e = laid.off_stack g i lt (subst (IsStack y) e (in_stack (address S x) (frame_word x h own)))
 
-  temp_or_kept : (t b : ℕ) → 9 ≤ t → t < shape.temps → IsThere S (Kept b) → address S (TempCell t) ≡ b → ⊥
-  temp_or_kept t b low high h e =
-      let p = temp_place t low high in
-      ⊎_elim (λ (r : (register 2 ≤ b) × (b < register 2 + 40)). omega (arith, low, p.0, e, r.1))
-      (λ (r : (caller ≤ b) × (b < y.top)). omega (arith, p.0, p.1, e, r.0, is.below)) (kept_cases (register 2) caller y.top b h).1
+  temp_or_kept : (t b : ℕ) → register_of shape.keeping t ≡ None → t < shape.temps → IsThere S (Kept b) → address S (TempCell t) ≡ b → ⊥
+  temp_or_kept t b none lt h e =
+      let p = temp_place t none lt in
+      ⊎_elim (λ (r : (register 2 ≤ b) × (b < stop)). omega (arith, p.low, p.at, e, r.1, stop_low))
+      (λ (r : (caller ≤ b) × (b < y.top)). omega (arith, p.at, p.high, e, r.0, p.whole)) (kept_cases (register 2) stop caller y.top b h).1
 
   element_or_kept : (a i b : ℕ) → i < slice_index shape.arrays a → IsThere S (Kept b) → address S (Element (array.Local a) i) ≡ b → ⊥
   element_or_kept a i b lt h e =
       let p = element_place a i lt in
-      ⊎_elim (λ (r : (register 2 ≤ b) × (b < register 2 + 40)). omega (arith, p.0, e, r.1, le-max_right shape.temps 9))
-      (λ (r : (caller ≤ b) × (b < y.top)). omega (arith, p.0, p.1, e, r.0)) (kept_cases (register 2) caller y.top b h).1
+      ⊎_elim (λ (r : (register 2 ≤ b) × (b < stop)). omega (arith, p.0, e, r.1, stop_low, le-max_right shape.temps 9))
+      (λ (r : (caller ≤ b) × (b < y.top)). omega (arith, p.0, p.1, e, r.0)) (kept_cases (register 2) stop caller y.top b h).1
 
-  temp_or_element : (t a i : ℕ) → 9 ≤ t → t < shape.temps → i < slice_index shape.arrays a → address S (TempCell t) ≡ address S (Element (array.Local a) i) → ⊥
-  temp_or_element t a i low high lt e =
-      let p = temp_place t low high in let q = element_place a i lt in omega (arith, p.0, p.1, q.0, e)
+  temp_or_element : (t a i : ℕ) → register_of shape.keeping t ≡ None → t < shape.temps → i < slice_index shape.arrays a → address S (TempCell t) ≡ address S (Element (array.Local a) i) → ⊥
+  temp_or_element t a i none few lt e =
+      let p = temp_place t none few in let q = element_place a i lt in omega (arith, p.at, p.high, q.0, e)
 
   pub cells_apart : (u v : Cell) → IsThere S u → IsThere S v → address S u ≡ address S v → u ≡ v
   cells_apart (TempCell t) (TempCell n) h k e = ap TempCell (omega (arith, e, temp_is t, temp_is n))
@@ -180,7 +251,22 @@ module _ (y : Layout) (laid : IsLaid y) (reach : Reach) (shape : Shape) (registe
 
   sizes_below : (a : Array) → size_of S a < 2 ^ 32
   sizes_below (array.Global g) = laid.sizes g
-  sizes_below (array.Local a) = omega (arith, size_within shape.arrays a, is.below, is.high, laid.top)
+  sizes_below (array.Local a) = ⊎_elim few some (cases_lt 0 (slice_index shape.arrays a))
+    where
+      few : 0 < slice_index shape.arrays a → slice_index shape.arrays a < 2 ^ 32
+      few lt = omega (arith, size_within shape.arrays a, is.below, lowered_whole shape.keeping shape.arrays (bytes_of shape) a 0 lt, is.high, laid.top)
+
+      some : slice_index shape.arrays a ≤ 0 → slice_index shape.arrays a < 2 ^ 32
+      some le = omega (arith, le)
+
+  leaves_alone : LeavesAlone S
+  leaves_alone = record {
+    stack = stack_left shape.keeping shape.temps;
+    real = left_real shape.keeping shape.temps;
+    result = left_result shape.keeping shape.temps;
+    scratch = left_scratch shape.keeping shape.temps;
+    temps = left_temps shape.keeping shape.temps;
+  }
 
   module _ {M : Type 0} (access : Access M) (machine : Machine M) (memory : IsMemory access y machine) (setting : ir.Setting) (frame : ir.Frame)
       (entries : (f : ℕ) → f < length setting.numbers → (slice_index setting.numbers f ≡ y.entry f) × IsPlace (y.entry f)) where
@@ -195,6 +281,8 @@ module _ (y : Layout) (laid : IsLaid y) (reach : Reach) (shape : Shape) (registe
 
     pub frame_fits : IsAmple y reach → ((g : ℕ) → reach.is_read g ≡ true → 0 < y.size g) → ((g : ℕ) → reach.is_read g ≡ true → found frame.bound g ≡ None) → IsFit S access setting frame
     frame_fits ample read free = record {
+      seats = keeping_seats y.place shape.keeping;
+      left = leaves_alone;
       stores = λ m x v w there lt load. stored_in m x v (memory.stores m (address S x) v w (cell_word x there) lt load);
       apart = cells_apart;
       addresses = cells_below;
@@ -206,16 +294,20 @@ module _ (y : Layout) (laid : IsLaid y) (reach : Reach) (shape : Shape) (registe
       entry_words = λ f lt. let there = (entries f lt).1 in omega (arith, there.1);
     }
 
-    pub frame_calls : register 26 ≡ frame.live → frame.live ≤ frame.depth → register 27 + frame.depth ≡ depth_limit → y.bottom + register 27 * frame_limit ≤ register 2 → IsCaller y S setting frame
-    frame_calls live counts left room = record {
+    pub frame_calls : shape.keeping ≡ Saved → register 26 ≡ frame.live → frame.live ≤ frame.depth → register 27 + frame.depth ≡ depth_limit → y.bottom + register 27 * frame_limit ≤ register 2 → IsCaller y S setting frame
+    frame_calls saves live counts left room = record {
       places = λ g. refl;
       sizes = λ g. refl;
+      saved = subst SeatsSaved (sym saves) seats_saved;
+      left = λ q. subst (λ k. LeftSaved k shape.temps q) (sym saves) (left_saved shape.temps q);
+      counters = subst (λ k. (is_left_by k shape.temps 26 ≡ true) × (is_left_by k shape.temps 27 ≡ true)) (sym saves)
+          (counters_left shape.temps 26 (omega arith) (omega arith), counters_left shape.temps 27 (omega arith) (omega arith));
       entries = λ f. refl;
-      may_ask = λ k e. e;
+      may_ask = λ k. subst (λ by. asks_by by y.may_ask k ≡ true → y.may_ask k ≡ true) (sym saves) (λ e. e);
       entry_places = λ f lt. (entries f lt).1;
       live = live;
       counts = counts;
-      left = left;
+      calls_left = left;
       even = even_sp;
       room = room;
       within = omega (arith, is.below, is.high);

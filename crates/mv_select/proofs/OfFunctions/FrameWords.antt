@@ -25,14 +25,16 @@ use Rattle.mv_select_code.specs.Statements.Leads.{limited}
 -- a frame whose own cells are all words of the stack
 abbrev pub words_site : Layout → Reach → Site
 words_site y reach = record {
-  place = λ g. 0;
+  seats = record { place = λ g. 0; register = λ t. None };
   size = λ g. 0;
   reach = record { is_read = λ g. false; is_written = λ g. false; may_load = reach.may_load };
   entry = y.entry;
+  may_call = false;
   may_ask = y.may_ask;
   temps = 0;
   array_at = λ a. 0;
   array_size = λ a. (y.top - y.bottom + 3) / 4;
+  is_left = λ q. false;
   register = λ q. y.bottom;
   is_kept = λ b. false;
   kept = λ b. 0;

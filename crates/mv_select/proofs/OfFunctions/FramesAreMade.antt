@@ -1,12 +1,15 @@
 -- What holds of instructions and of lines that are put together holds of the code that enters a function, and of the code that leaves it.
-use Rattle.std.proofs.Common.{ℕ, zero, suc, ◌*◌, ◌+◌, Bool, true, false, List, ◌++◌, pos, ◌-ℤ◌}
+use Rattle.std.proofs.Common.{ℕ, zero, suc, ◌*◌, ◌+◌, Bool, true, false, List, [], ◌∷◌, ◌++◌, ℤ, pos, ◌-ℤ◌}
 use Rattle.mv_isa.specs.declared.instr.Instr.TheVariants.{Lw, Sw, Addi, Jalr}
 use Rattle.mv_isa.specs.declared.labelled.Line.{Line}
-use Rattle.mv_isa.specs.Registers.{ra as link_register, s10 as live_register}
+use Rattle.mv_isa.specs.declared.labelled.Line.TheVariants.{Word, Label, Jump, Branch, Entry, Slot, Point}
+use Rattle.mv_isa.specs.Code.{nop}
+use Rattle.mv_isa.specs.Registers.{a0, ra as link_register, s10 as live_register}
 use Rattle.mv_select_code.specs.Trees.TreeCode.{one, two, minus_one, temp_register}
-use Rattle.mv_select_code.specs.Statements.StatementCode.{first}
+use Rattle.mv_select_code.specs.declared.trees.places.Keeping.{Keeping}
+use Rattle.mv_select_code.specs.declared.trees.places.Keeping.TheVariants.{Saved, Arguments}
 use Rattle.mv_select_code.proofs.OfControl.StatementsAreMade.{LineByLine, words_made}
-use Rattle.mv_select.specs.Functions.FunctionCode.{saved_count, saved_register, save_lines, restore_lines, parameter_lines, enter_lines, leave_lines, lowered_lines, prologue_lines, epilogue_lines}
+use Rattle.mv_select.specs.Functions.FunctionCode.{saved_count, saved_register, save_lines, restore_lines, parameter_lines, enter_lines, leave_lines, lowered_lines, prologue_lines, epilogue_lines, Shape, bytes_of, move_lines, entry_by, return_by, led}
 
 module _ {P : List Line → Type 0} {L J Q : ℕ → Type 0} (made : LineByLine P L J Q) where
   save_made : (k : ℕ) → P (save_lines k)
@@ -19,7 +22,7 @@ module _ {P : List Line → Type 0} {L J Q : ℕ → Type 0} (made : LineByLine 
 
   parameter_made : (k : ℕ) → P (parameter_lines k)
   parameter_made zero = made.none
-  parameter_made (suc k) = let i = Addi (temp_register k) (first + k) (pos 0) in made.after (parameter_lines k) (one i) (parameter_made k) (made.word i)
+  parameter_made (suc k) = let i = Addi (temp_register k) (a0 + k) (pos 0) in made.after (parameter_lines k) (one i) (parameter_made k) (made.word i)
 
   enter_made : (attributed : Bool) → P (enter_lines attributed)
   enter_made true = made.word (Addi live_register live_register (pos 1))
@@ -29,16 +32,40 @@ module _ {P : List Line → Type 0} {L J Q : ℕ → Type 0} (made : LineByLine 
   leave_made true = made.word (Addi live_register live_register minus_one)
   leave_made false = made.none
 
-  pub prologue_made : (attributed : Bool) (params temps bytes : ℕ) → P (prologue_lines attributed params temps bytes)
+  prologue_made : (attributed : Bool) (params temps bytes : ℕ) → P (prologue_lines attributed params temps bytes)
   prologue_made attributed params temps bytes =
       let lower = Addi 2 2 (pos 0 -ℤ pos bytes) in
       made.after (one lower) (lowered_lines attributed params temps) (made.word lower)
       (made.after (save_lines (saved_count temps)) (parameter_lines params ++ enter_lines attributed) (save_made (saved_count temps))
       (made.after (parameter_lines params) (enter_lines attributed) (parameter_made params) (enter_made attributed)))
 
-  pub epilogue_made : (attributed : Bool) (temps bytes : ℕ) → P (epilogue_lines attributed temps bytes)
+  epilogue_made : (attributed : Bool) (temps bytes : ℕ) → P (epilogue_lines attributed temps bytes)
   epilogue_made attributed temps bytes =
       let raise = Addi 2 2 (pos bytes) in
       let back = Jalr 0 link_register (pos 0) in
       made.after (leave_lines attributed) (restore_lines (saved_count temps) ++ two raise back) (leave_made attributed)
       (made.after (restore_lines (saved_count temps)) (two raise back) (restore_made (saved_count temps)) (words_made made raise back))
+
+  move_made : (sizes : List ℕ) (n : ℤ) → P (move_lines sizes n)
+  move_made [] n = made.none
+  move_made (x ∷ sizes) n = made.word (Addi 2 2 n)
+
+  pub entry_made : (k : Keeping) (shape : Shape) → P (entry_by k shape)
+  entry_made Saved shape = prologue_made shape.attributed shape.params shape.temps (bytes_of shape)
+  entry_made Arguments shape = move_made shape.arrays (pos 0 -ℤ pos (bytes_of shape))
+
+  pub return_made : (k : Keeping) (shape : Shape) → P (return_by k shape)
+  return_made Saved shape = epilogue_made shape.attributed shape.temps (bytes_of shape)
+  return_made Arguments shape =
+      let back = Jalr 0 link_register (pos 0) in made.after (move_lines shape.arrays (pos (bytes_of shape))) (one back) (move_made shape.arrays (pos (bytes_of shape))) (made.word back)
+
+  -- also where a word is put before a label
+  pub led_made : (lines : List Line) → P lines → P (led lines)
+  led_made [] h = h
+  led_made (Label l ∷ lines) h = made.after (one nop) (Label l ∷ lines) (made.word nop) h
+  led_made (Word i ∷ lines) h = h
+  led_made (Jump rd l ∷ lines) h = h
+  led_made (Branch funct3 a b l ∷ lines) h = h
+  led_made (Entry rd f ∷ lines) h = h
+  led_made (Slot f ∷ lines) h = h
+  led_made (Point a ∷ lines) h = h

@@ -1,33 +1,30 @@
 -- The prologue as a whole.
 use Rattle.std.proofs.Common.{◌≡◌, ◌≢◌, ℕ, ◌+◌, ◌*◌, ◌^◌, ◌<◌, ◌≤◌, cond, List, ◌++◌, slice_index, Some, sym, ap, ◌∙◌, arith}
-use Rattle.std.proofs.Math.Nat.{le-max_right, min-le_right}
+use Rattle.std.proofs.Math.Nat.{min-le_right}
 use Rattle.mv_isa.specs.Execution.{Access, reg, put}
-use Rattle.mv_isa.specs.Registers.{s10 as live_register}
+use Rattle.mv_isa.specs.Registers.{a0, s10 as live_register}
 use Rattle.mv_ir.specs.World.{World}
 use Rattle.mv_select_code.specs.Trees.TreeCode.{temp_register}
 use Rattle.mv_select_code.specs.Trees.View.{AreRegisters}
-use Rattle.mv_select_code.proofs.OfTrees.Registers.{put_same, put_other, put_registers}
-use Rattle.mv_select_code.specs.Statements.StatementCode.{first}
+use Rattle.mv_select_code.specs.declared.trees.places.Keeping.TheVariants.{Saved}
+use Rattle.mv_select_code.proofs.OfTrees.Registers.{free_low, put_same, put_other, put_registers}
 use Rattle.mv_select_code.specs.Statements.Frames.{Reach}
-use Rattle.mv_select_code.proofs.OfStatements.FrameChanges.{register_low, register_high}
+use Rattle.mv_select.proofs.OfFunctions.Seats.{register_low, register_high}
 use Rattle.mv_select_code.specs.Control.Runs.{Machine}
 use Rattle.mv_select_code.proofs.OfControl.Walk.{placed_split}
 use Rattle.mv_select.specs.Calls.Convention.{Layout}
 use Rattle.mv_select.specs.Functions.FunctionCode.{Shape, bytes_of, saved_count, saved_register, save_lines, parameter_lines, enter_lines, lowered_lines}
 use Rattle.mv_select.specs.Functions.Functions.{IsStack, IsWord, IsLaid, IsMemory, IsAmple, RunsWithin}
 use Rattle.mv_select.proofs.OfFunctions.Entry.{Saves, Moves, sp_apart, save_walk, parameter_walk}
-use Rattle.mv_select.proofs.OfFunctions.Frame.{IsFrame}
+use Rattle.mv_select.proofs.OfFunctions.Frame.{lowered_by, IsFrame, room_for_saved}
 use Rattle.mv_select.proofs.OfFunctions.FrameWords.{frame_course}
 use Rattle.mv_select.proofs.OfFunctions.Steps.{Counted, enter_walk}
 
--- a frame has room for its saved registers
-pub room_for_saved : (shape : Shape) → 40 ≤ bytes_of shape
-room_for_saved shape = omega (arith, le-max_right shape.temps 9)
-
 -- the words for saved registers are words of the stack
-pub saved_words : (y : Layout) (shape : Shape) (sp caller : ℕ) → IsFrame y shape sp caller → (j : ℕ) → j < 10 → IsStack y (sp + 4 * j)
-saved_words y shape sp caller is j lt =
-    let low = is.low in let high = is.high in let below = is.below in let even = is.even in
+pub saved_words : (y : Layout) (shape : Shape) → shape.keeping ≡ Saved → (sp caller : ℕ) → IsFrame y shape sp caller → (j : ℕ) → j < 10 → IsStack y (sp + 4 * j)
+saved_words y shape saves sp caller is j lt =
+    let low = is.low in let high = is.high in let even = is.even in
+    let below : sp + bytes_of shape ≡ caller = ap (λ k. sp + lowered_by k shape.arrays (bytes_of shape)) (sym saves) ∙ is.below in
     (omega (arith, low), omega (arith, lt, high, below, room_for_saved shape), omega (arith, below, even))
 
 module _ {M : Type 0} (access : Access M) (y : Layout) (laid : IsLaid y) (machine : Machine M) (memory : IsMemory access y machine)
@@ -56,10 +53,10 @@ module _ {M : Type 0} (access : Access M) (y : Layout) (laid : IsLaid y) (machin
   temp_high : (q j : ℕ) → 26 ≤ q → j < 9 → q ≢ temp_register j
   temp_high q j le lt e = omega (arith, le, e, register_high j lt)
 
-  pub prologue_walk : (shape : Shape) (args : List ℕ) (live sp caller : ℕ) (before : List ℕ) (m0 : M) (w : World) (pc next i : ℕ) → IsFrame y shape sp caller → shape.params ≤ 8
-      → reg before 2 ≡ caller → reg before live_register ≡ live → live + 1 < 2 ^ 32 → AreRegisters before → ((j : ℕ) → j < shape.params → reg before (first + j) ≡ slice_index args j)
+  pub prologue_walk : (shape : Shape) (args : List ℕ) (live sp caller : ℕ) (before : List ℕ) (m0 : M) (w : World) (pc next i : ℕ) → shape.keeping ≡ Saved → IsFrame y shape sp caller → shape.params ≤ 8
+      → reg before 2 ≡ caller → reg before live_register ≡ live → live + 1 < 2 ^ 32 → AreRegisters before → ((j : ℕ) → j < shape.params → reg before (a0 + j) ≡ slice_index args j)
       → Ps (lowered_lines shape.attributed shape.params shape.temps) pc next → Ws w pc (put before 2 sp) m0 (i + 1) → Prepared shape args live sp before m0 w next i
-  prologue_walk shape args live sp caller before m0 w pc next i is few sp_before live_before small are held p a = record {
+  prologue_walk shape args live sp caller before m0 w pc next i saves is few sp_before live_before small are held p a = record {
     regs = d.after;
     mem = b.after;
     time = d.time;
@@ -70,7 +67,7 @@ module _ {M : Type 0} (access : Access M) (y : Layout) (laid : IsLaid y) (machin
     sp_is = d.others 2 (λ e. omega (arith, e)) ∙ c.moved.others 2 (λ j lt. temp_low 2 j (omega arith)) ∙ sp_now;
     live_is = d.live;
     held = λ j lt. d.others (temp_register j) (λ e. omega (arith, e, register_high j (omega (arith, lt, few)))) ∙ c.moved.moved j lt
-        ∙ put_other before 2 (first + j) sp (omega arith) (λ e. omega (arith, e)) ∙ held j lt;
+        ∙ put_other before 2 (a0 + j) sp (omega arith) (λ e. omega (arith, e)) ∙ held j lt;
     others = λ q two live away. d.others q live ∙ c.moved.others q away ∙ put_other before 2 q sp (omega arith) two;
     saved = λ j lt. b.saved.saved j lt ∙ ap Some (put_other before 2 (saved_register j) sp (omega arith) (λ e. sp_apart j (sym e)));
     words = b.saved.others;
@@ -89,7 +86,7 @@ module _ {M : Type 0} (access : Access M) (y : Layout) (laid : IsLaid y) (machin
       below = omega (arith, is.below, is.high, laid.top)
 
       are_now : AreRegisters (put before 2 sp)
-      are_now = put_registers before 2 sp are (omega arith) (omega arith) below
+      are_now = put_registers before 2 sp are (free_low 2 (omega arith) (omega arith)) below
 
       q : (mid : ℕ) × Ps (save_lines (saved_count shape.temps)) pc mid × Ps (parameter_lines shape.params ++ enter_lines shape.attributed) mid next
       q = placed_split machine.text place y.entry (save_lines (saved_count shape.temps)) (parameter_lines shape.params ++ enter_lines shape.attributed) pc next p
@@ -99,7 +96,7 @@ module _ {M : Type 0} (access : Access M) (y : Layout) (laid : IsLaid y) (machin
 
       b : Saves access y laid machine memory reach ample runs budget far place (saved_count shape.temps) sp w q.0 (put before 2 sp) m0 (i + 1 + saved_count shape.temps)
       b = save_walk access y laid machine memory reach ample runs budget far place (saved_count shape.temps) sp w pc q.0 now m0 (i + 1) saved_few sp_now
-          (λ j lt. saved_words y shape sp caller is j (omega (arith, lt, saved_few))) are_now q.1 a
+          (λ j lt. saved_words y shape saves sp caller is j (omega (arith, lt, saved_few))) are_now q.1 a
 
       c : Moves access y laid machine memory reach ample runs budget far place shape.params w u.0 (put before 2 sp) b.after (i + 1 + saved_count shape.temps + shape.params)
       c = parameter_walk access y laid machine memory reach ample runs budget far place shape.params w q.0 u.0 now b.after (i + 1 + saved_count shape.temps) few are_now u.1 b.stands

@@ -13,7 +13,7 @@ use Rattle.mv_select_code.specs.Trees.Straight.{Sets}
 use Rattle.mv_select_code.specs.Trees.TreeCode.{minus_one}
 use Rattle.mv_select_code.specs.Trees.View.{AreRegisters}
 use Rattle.mv_select_code.proofs.OfTrees.Instructions.{addi_sets}
-use Rattle.mv_select_code.proofs.OfTrees.Registers.{put_same, put_other, put_registers}
+use Rattle.mv_select_code.proofs.OfTrees.Registers.{free_above, put_same, put_other, put_registers}
 use Rattle.mv_select_code.proofs.OfTrees.Words.{zero_add, minus_one_is}
 use Rattle.mv_select_code.specs.Statements.Frames.{Reach}
 use Rattle.mv_select_code.proofs.OfStatements.TreesFirst.{add_small}
@@ -82,7 +82,7 @@ module _ {M : Type 0} (access : Access M) (y : Layout) (laid : IsLaid y) (machin
     late = omega arith;
     soon = omega arith;
     stands = a;
-    are = put_registers regs live_register n are (omega arith) (omega arith) lt;
+    are = put_registers regs live_register n are (free_above live_register (omega arith) (omega arith)) lt;
     live = put_same regs live_register n (omega arith) (omega (arith, are.count));
     others = λ q ne. put_other regs live_register q n (omega arith) ne;
   }

@@ -30,7 +30,7 @@ use Rattle.mv_select_code.proofs.OfTrees.Rolls.{in_view_roll}
 use Rattle.mv_select_code.specs.Statements.Frames.{Reach, view_of}
 use Rattle.mv_select_code.specs.Control.FlowCode.{are_fine, is_fine_statement}
 use Rattle.mv_select_code.specs.Control.Runs.{Machine}
-use Rattle.mv_select_code.proofs.OfControl.StatementsDo.{fine_roll}
+use Rattle.mv_select_code.proofs.OfControl.Equations.{fine_roll}
 use Rattle.mv_select.specs.Calls.Convention.{Layout, Stands, Enters, FollowsCall}
 use Rattle.mv_select.specs.Functions.Functions.{IsLaid, IsMemory, IsAmple, RunsWithin, IsFunction, frame_in, shape_of, site_of}
 use Rattle.mv_select.specs.Inline.InlineOf.{parameter_pair, load_pair, store_pair, number_pair, return_layer, return_pair, set_layer, set_pair, statement_layer, statement_pair, code_pair, inline_of}
@@ -71,10 +71,10 @@ module _ {M : Type 0} (access : Access M) (y : Layout) (laid : IsLaid y) (machin
   S = Shape access y laid machine memory reach ample runs budget far bound body at here depth live args k i spare w stands enters paid asked
 
   abbrev Fine : List Stm → Bool
-  Fine = are_fine is_fine y.may_ask body.temps (uses_in y.size reach)
+  Fine = are_fine is_fine y.may_ask body.temps (uses_in y.size reach true)
 
   abbrev Fine_statement : Stm → Bool
-  Fine_statement = is_fine_statement is_fine y.may_ask body.temps (uses_in y.size reach)
+  Fine_statement = is_fine_statement is_fine y.may_ask body.temps (uses_in y.size reach true)
 
   -- ---- what a tree names is there
 
@@ -93,11 +93,11 @@ module _ {M : Type 0} (access : Access M) (y : Layout) (laid : IsLaid y) (machin
   fine_alone x e = and_left (Fine_statement (roll-Stm x)) true e
 
   returned_fine : (v : Tree) → Fine (roll-Stm (stm.Return v) ∷ []) ≡ true → is_fine v ≡ true
-  returned_fine v e = sym (fine_roll is_fine y.may_ask body.temps (uses_in y.size reach) (stm.Return v)) ∙ fine_alone (stm.Return v) e
+  returned_fine v e = sym (fine_roll is_fine y.may_ask body.temps (uses_in y.size reach true) (stm.Return v)) ∙ fine_alone (stm.Return v) e
 
   stored_there : (g : ℕ) (v : Tree) → Fine (roll-Stm (stm.SetGlobal g v) ∷ []) ≡ true → 0 < y.size g
   stored_there g v e =
-      ltb-true 0 (y.size g) (and_left (ltb 0 (y.size g)) (reach.is_written g) (and_left (ltb 0 (y.size g) && reach.is_written g) (is_fine v) (sym (fine_roll is_fine y.may_ask body.temps (uses_in y.size reach) (stm.SetGlobal g v)) ∙ fine_alone (stm.SetGlobal g v) e)))
+      ltb-true 0 (y.size g) (and_left (ltb 0 (y.size g)) (reach.is_written g) (and_left (ltb 0 (y.size g) && reach.is_written g) (is_fine v) (sym (fine_roll is_fine y.may_ask body.temps (uses_in y.size reach true) (stm.SetGlobal g v)) ∙ fine_alone (stm.SetGlobal g v) e)))
 
   -- the global that is returned is one that the code reads
   read_alone : (g : ℕ) → Contains (scalars_read (roll-Stm (stm.Return (roll-Tree (tree.Global g))) ∷ [])) g

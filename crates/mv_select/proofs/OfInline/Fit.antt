@@ -6,6 +6,7 @@ use Rattle.mv_isa.specs.declared.instr.Instr.{Instr}
 use Rattle.mv_isa.specs.declared.instr.Instr.TheVariants.{Lui, Addi}
 use Rattle.mv_isa.specs.Encoding.{Fits}
 use Rattle.mv_isa.specs.Code.{nop}
+use Rattle.mv_isa.specs.Registers.{a0 as result_register}
 use Rattle.mv_ir.specs.declared.tree.Tree.{Tree, out-Tree}
 use Rattle.mv_ir.specs.declared.tree.Tree.TheOpen.{Tree-F}
 use Rattle.mv_ir.specs.declared.tree.Tree.TheOpen as tree
@@ -14,7 +15,6 @@ use Rattle.mv_ir.specs.declared.stm.Stm.TheOpen.{Stm-F}
 use Rattle.mv_ir.specs.declared.stm.Stm.TheOpen as stm
 use Rattle.mv_select_code.specs.Trees.TreeCode.{upper_bits, lower_bits}
 use Rattle.mv_select_code.proofs.OfTrees.TreesFit.{small_fits, lower_fits, upper_fits}
-use Rattle.mv_select_code.specs.Statements.StatementCode.{first}
 use Rattle.mv_select.specs.Inline.InlineOf.{number_pair, parameter_pair, load_pair, store_pair, return_layer, return_pair, set_layer, set_pair, statement_layer, statement_pair, code_pair}
 use Rattle.mv_select.specs.Inline.Laws.{InlineFits}
 use Rattle.mv_select.proofs.OfInline.Bodies.{chosen_test, chosen}
@@ -29,7 +29,7 @@ number_fit : (n : ℕ) → Both (number_pair n)
 unfolding number_pair
 number_fit n = by_length (eqb (upper_bits n) 0)
   where
-    by_length : (is_short : Bool) → Both (cond is_short (Addi first 0 (lower_bits n), nop) (Lui first (pos (upper_bits n)), Addi first first (lower_bits n)))
+    by_length : (is_short : Bool) → Both (cond is_short (Addi result_register 0 (lower_bits n), nop) (Lui result_register (pos (upper_bits n)), Addi result_register result_register (lower_bits n)))
     by_length true = ((omega arith, omega arith, lower_fits n), nop_fits)
     by_length false = ((omega arith, upper_fits n), (omega arith, omega arith, lower_fits n))
 

@@ -8,7 +8,7 @@ use Rattle.mv_isa.specs.declared.instr.Instr.TheVariants.{Lui, Lw, Sw, Addi}
 use Rattle.mv_isa.specs.Code.{IsPlace, nop}
 use Rattle.mv_isa.specs.Execution.{Access, reg, put, upper}
 use Rattle.mv_isa.specs.Standing.{InstrStands}
-use Rattle.mv_isa.specs.Registers.{t0 as address_register}
+use Rattle.mv_isa.specs.Registers.{t0 as address_register, a0 as result_register}
 use Rattle.mv_ir.specs.declared.body.Body.{Body}
 use Rattle.mv_ir.specs.Trees.{found, scalar}
 use Rattle.mv_ir.specs.World.{World}
@@ -18,9 +18,8 @@ use Rattle.mv_select_code.specs.Trees.Straight.{Sets}
 use Rattle.mv_select_code.specs.Trees.TreeCode.{upper_bits, lower_bits}
 use Rattle.mv_select_code.specs.Trees.View.{AreRegisters}
 use Rattle.mv_select_code.proofs.OfTrees.Instructions.{lui_sets, lw_sets, addi_sets}
-use Rattle.mv_select_code.proofs.OfTrees.Registers.{reg_zero, put_same, put_other, put_registers}
+use Rattle.mv_select_code.proofs.OfTrees.Registers.{free_above, reg_zero, put_same, put_other, put_registers}
 use Rattle.mv_select_code.proofs.OfTrees.Words.{zero_add, parts_add, lower_add, upper_below}
-use Rattle.mv_select_code.specs.Statements.StatementCode.{first}
 use Rattle.mv_select_code.specs.Statements.Frames.{Reach}
 use Rattle.mv_select_code.proofs.OfStatements.Walks.{sw_moves}
 use Rattle.mv_select_code.specs.Control.Runs.{Machine}
@@ -56,7 +55,7 @@ module _ {M : Type 0} (access : Access M) (y : Layout) (laid : IsLaid y) (machin
       InstrStands machine.text.word at p.0 → InstrStands machine.text.word (at + 4) p.1 → IsDone access y machine budget far bound body p.0 p.1 spare k i (at + 8) e
 
   abbrev Others : List ℕ → Type 0
-  Others after = (q : ℕ) → q ≢ first → q ≢ address_register → reg after q ≡ reg (machine.run i).regs q
+  Others after = (q : ℕ) → q ≢ result_register → q ≢ address_register → reg after q ≡ reg (machine.run i).regs q
 
   -- instructions that leave memory alone
   same_memory : (one two : Instr) (mid after : List ℕ) → InstrStands machine.text.word at one → InstrStands machine.text.word (at + 4) two
@@ -74,40 +73,40 @@ module _ {M : Type 0} (access : Access M) (y : Layout) (laid : IsLaid y) (machin
     second_loads = subst (λ r. LoadsRead y bound body two r) (sym c.middle) b;
   }
 
-  with_value : (one two : Instr) (v : ℕ) (w' : World) (mid after : List ℕ) → C w' mid after → Others after → reg after first ≡ v → LoadsRead y bound body one R → LoadsRead y bound body two mid
+  with_value : (one two : Instr) (v : ℕ) (w' : World) (mid after : List ℕ) → C w' mid after → Others after → reg after result_register ≡ v → LoadsRead y bound body one R → LoadsRead y bound body two mid
       → IsDone access y machine budget far bound body one two spare k i (at + 8) (Returned (Some v) w')
   with_value one two v w' mid after c others e a b = record {
-    comes = (c.returns, ap (λ r. reg r first) c.last ∙ e);
+    comes = (c.returns, ap (λ r. reg r result_register) c.last ∙ e);
     others = λ q n n'. ap (λ r. reg r q) c.last ∙ others q n n';
     first_loads = a;
     second_loads = subst (λ r. LoadsRead y bound body two r) (sym c.middle) b;
   }
 
-  result_same : (v : ℕ) (regs : List ℕ) → AreRegisters regs → reg (put regs first v) first ≡ v
-  result_same v regs are = put_same regs first v (omega arith) (omega (arith, are.count))
+  result_same : (v : ℕ) (regs : List ℕ) → AreRegisters regs → reg (put regs result_register v) result_register ≡ v
+  result_same v regs are = put_same regs result_register v (omega arith) (omega (arith, are.count))
 
-  result_other : (v : ℕ) (regs : List ℕ) → Others regs → Others (put regs first v)
-  result_other v regs h q n n' = put_other regs first q v (omega arith) n ∙ h q n n'
+  result_other : (v : ℕ) (regs : List ℕ) → Others regs → Others (put regs result_register v)
+  result_other v regs h q n n' = put_other regs result_register q v (omega arith) n ∙ h q n n'
 
-  result_are : (v : ℕ) (regs : List ℕ) → AreRegisters regs → v < 2 ^ 32 → AreRegisters (put regs first v)
-  result_are v regs are small = put_registers regs first v are (omega arith) (omega arith) small
+  result_are : (v : ℕ) (regs : List ℕ) → AreRegisters regs → v < 2 ^ 32 → AreRegisters (put regs result_register v)
+  result_are v regs are small = put_registers regs result_register v are (free_above result_register (omega arith) (omega arith)) small
 
   -- a value in one instruction, and in two, of which the first leaves another in a0
-  by_one : (one : Instr) (v : ℕ) → v < 2 ^ 32 → Sets (own access y machine reach runs budget far) m one R (put R first v) → loads_from one R ≡ None → Shape (one, nop) (Returned (Some v) w)
+  by_one : (one : Instr) (v : ℕ) → v < 2 ^ 32 → Sets (own access y machine reach runs budget far) m one R (put R result_register v) → loads_from one R ≡ None → Shape (one, nop) (Returned (Some v) w)
   by_one one v small does none p q =
-      let after = put R first v in
+      let after = put R result_register v in
       let are = result_are v R stands.are small in
-      let others : Others (put (machine.run i).regs first v) = result_other v R (λ r n n'. refl) in
+      let others : Others (put (machine.run i).regs result_register v) = result_other v R (λ r n n'. refl) in
       with_value one nop v w after after (same_memory one nop after after p q does (nop_sets (own access y machine reach runs budget far) m after) are others) others (result_same v R stands.are)
       (no_load y bound body one R none) (no_load y bound body nop after refl)
 
-  by_two : (one two : Instr) (u v : ℕ) → u < 2 ^ 32 → v < 2 ^ 32 → Sets (own access y machine reach runs budget far) m one R (put R first u) → Sets (own access y machine reach runs budget far) m two (put R first u) (put (put R first u) first v)
-      → loads_from one R ≡ None → LoadsRead y bound body two (put R first u) → Shape (one, two) (Returned (Some v) w)
+  by_two : (one two : Instr) (u v : ℕ) → u < 2 ^ 32 → v < 2 ^ 32 → Sets (own access y machine reach runs budget far) m one R (put R result_register u) → Sets (own access y machine reach runs budget far) m two (put R result_register u) (put (put R result_register u) result_register v)
+      → loads_from one R ≡ None → LoadsRead y bound body two (put R result_register u) → Shape (one, two) (Returned (Some v) w)
   by_two one two u v low small does then none loads p q =
-      let mid = put R first u in
-      let after = put mid first v in
+      let mid = put R result_register u in
+      let after = put mid result_register v in
       let are = result_are u R stands.are low in
-      let others : Others (put (put (machine.run i).regs first u) first v) = result_other v (put (machine.run i).regs first u) (result_other u R (λ r n n'. refl)) in
+      let others : Others (put (put (machine.run i).regs result_register u) result_register v) = result_other v (put (machine.run i).regs result_register u) (result_other u R (λ r n n'. refl)) in
       with_value one two v w mid after (same_memory one two mid after p q does then (result_are v mid are small) others) others (result_same v mid are)
       (no_load y bound body one R none) loads
 
@@ -121,7 +120,7 @@ module _ {M : Type 0} (access : Access M) (y : Layout) (laid : IsLaid y) (machin
   -- ---- a constant
 
   abbrev by_length : ℕ → Bool → Instr × Instr
-  by_length n is_short = cond is_short (Addi first 0 (lower_bits n), nop) (Lui first (pos (upper_bits n)), Addi first first (lower_bits n))
+  by_length n is_short = cond is_short (Addi result_register 0 (lower_bits n), nop) (Lui result_register (pos (upper_bits n)), Addi result_register result_register (lower_bits n))
 
   pub number_done : (n : ℕ) → n < 2 ^ 32 → Shape (number_pair n) (Returned (Some n) w)
   unfolding number_pair
@@ -130,29 +129,29 @@ module _ {M : Type 0} (access : Access M) (y : Layout) (laid : IsLaid y) (machin
       short : upper_bits n ≡ 0 → Shape (by_length n (eqb (upper_bits n) 0)) (Returned (Some n) w)
       short e =
           subst (λ is_short. Shape (by_length n is_short) (Returned (Some n) w)) (sym (eq-eqb (upper_bits n) 0 e))
-          (by_one (Addi first 0 (lower_bits n)) n small (addi_sets (own access y machine reach runs budget far) m first 0 (lower_bits n) R 0 (word_of (lower_bits n)) n (reg_zero R) refl (lower_add n small e)) refl)
+          (by_one (Addi result_register 0 (lower_bits n)) n small (addi_sets (own access y machine reach runs budget far) m result_register 0 (lower_bits n) R 0 (word_of (lower_bits n)) n (reg_zero R) refl (lower_add n small e)) refl)
 
       long : (upper_bits n ≡ 0 → ⊥) → Shape (by_length n (eqb (upper_bits n) 0)) (Returned (Some n) w)
       long ne =
           let up = upper (pos (upper_bits n)) in
           subst (λ is_short. Shape (by_length n is_short) (Returned (Some n) w)) (sym (ne_eqb (upper_bits n) 0 ne))
-          (by_two (Lui first (pos (upper_bits n))) (Addi first first (lower_bits n)) up n (upper_below n) small (lui_sets (own access y machine reach runs budget far) m first (pos (upper_bits n)) R up refl)
-          (addi_sets (own access y machine reach runs budget far) m first first (lower_bits n) (put R first up) up (word_of (lower_bits n)) n (result_same up R stands.are) refl (parts_add n small))
-          refl (no_load y bound body (Addi first first (lower_bits n)) (put R first up) refl))
+          (by_two (Lui result_register (pos (upper_bits n))) (Addi result_register result_register (lower_bits n)) up n (upper_below n) small (lui_sets (own access y machine reach runs budget far) m result_register (pos (upper_bits n)) R up refl)
+          (addi_sets (own access y machine reach runs budget far) m result_register result_register (lower_bits n) (put R result_register up) up (word_of (lower_bits n)) n (result_same up R stands.are) refl (parts_add n small))
+          refl (no_load y bound body (Addi result_register result_register (lower_bits n)) (put R result_register up) refl))
 
   -- ---- a parameter
 
-  parameter_is : (t : ℕ) → t < length args → reg R (first + t) ≡ slice_index args t
+  parameter_is : (t : ℕ) → t < length args → reg R (result_register + t) ≡ slice_index args t
   parameter_is t lt = enters.arguments t lt
 
   parameter_small : (t : ℕ) → t < length args → slice_index args t < 2 ^ 32
-  parameter_small t lt = subst (λ v. v < 2 ^ 32) (parameter_is t lt) (stands.are.words (first + t))
+  parameter_small t lt = subst (λ v. v < 2 ^ 32) (parameter_is t lt) (stands.are.words (result_register + t))
 
   pub parameter_done : (t : ℕ) → t < length args → Shape (parameter_pair t) (Returned (Some (slice_index args t)) w)
   parameter_done t lt =
       let v = slice_index args t in
-      by_one (Addi first (first + t) (pos 0)) v (parameter_small t lt)
-      (addi_sets (own access y machine reach runs budget far) m first (first + t) (pos 0) R v 0 v (parameter_is t lt) (word_of_pos 0 (omega arith)) (zero_add v (parameter_small t lt))) refl
+      by_one (Addi result_register (result_register + t) (pos 0)) v (parameter_small t lt)
+      (addi_sets (own access y machine reach runs budget far) m result_register (result_register + t) (pos 0) R v 0 v (parameter_is t lt) (word_of_pos 0 (omega arith)) (zero_add v (parameter_small t lt))) refl
 
   -- ---- a global scalar
 
@@ -166,15 +165,15 @@ module _ {M : Type 0} (access : Access M) (y : Layout) (laid : IsLaid y) (machin
   load_done g read lt reads free =
       let a = y.place g in
       let up = upper (pos (upper_bits a)) in
-      let mid = put R first up in
-      let to : add (reg mid first) (word_of (lower_bits a)) ≡ a = parts a first mid (place_small g lt) (result_same up R stands.are) in
+      let mid = put R result_register up in
+      let to : add (reg mid result_register) (word_of (lower_bits a)) ≡ a = parts a result_register mid (place_small g lt) (result_same up R stands.are) in
       let same : a ≡ y.place g + 4 * 0 = omega arith in
       let may : reach.may_load a ≡ true = ap reach.may_load same ∙ ample.globals g 0 read lt in
       let loads : (own access y machine reach runs budget far).load m a 4 ≡ Some (scalar w.globals g) =
       ap (λ c. cond c (access.load m a 4) None) may ∙ ap (λ b. access.load m b 4) same ∙ stands.globals.loads g 0 lt in
-      by_two (Lui first (pos (upper_bits a))) (Lw first first (lower_bits a)) up (scalar w.globals g) (upper_below a) (stands.globals.words g 0 lt)
-      (lui_sets (own access y machine reach runs budget far) m first (pos (upper_bits a)) R up refl) (lw_sets (own access y machine reach runs budget far) m first first (lower_bits a) mid a (scalar w.globals g) to loads)
-      refl (λ b e. (g, reads, free, sym (same_Some (add (reg mid first) (word_of (lower_bits a))) b e) ∙ to))
+      by_two (Lui result_register (pos (upper_bits a))) (Lw result_register result_register (lower_bits a)) up (scalar w.globals g) (upper_below a) (stands.globals.words g 0 lt)
+      (lui_sets (own access y machine reach runs budget far) m result_register (pos (upper_bits a)) R up refl) (lw_sets (own access y machine reach runs budget far) m result_register result_register (lower_bits a) mid a (scalar w.globals g) to loads)
+      refl (λ b e. (g, reads, free, sym (same_Some (add (reg mid result_register) (word_of (lower_bits a))) b e) ∙ to))
 
   -- ---- a store of a parameter
 
@@ -185,16 +184,16 @@ module _ {M : Type 0} (access : Access M) (y : Layout) (laid : IsLaid y) (machin
       let up = upper (pos (upper_bits a)) in
       let mid = put R address_register up in
       let one = Lui address_register (pos (upper_bits a)) in
-      let two = Sw address_register (first + t) (lower_bits a) in
+      let two = Sw address_register (result_register + t) (lower_bits a) in
       let room = enters.room in
       let stored : Put access y laid machine memory reach budget far w m g v (reg (machine.run i).regs 2) =
       stored_global access y laid machine memory reach budget far w m g v (reg R 2) lt (parameter_small t few) (omega (arith, room)) stands.globals in
       let to : add (reg mid address_register) (word_of (lower_bits a)) ≡ a =
       parts a address_register mid (place_small g lt) (put_same R address_register up (omega arith) (omega (arith, stands.are.count))) in
-      let value : reg mid (first + t) ≡ v = put_other R address_register (first + t) up (omega arith) (λ e. omega (arith, e)) ∙ parameter_is t few in
+      let value : reg mid (result_register + t) ≡ v = put_other R address_register (result_register + t) up (omega arith) (λ e. omega (arith, e)) ∙ parameter_is t few in
       let others : Others (put (machine.run i).regs address_register (upper (pos (upper_bits (y.place g))))) = λ r n n'. put_other R address_register r up (omega arith) n' in
       let came = comes access y machine reach runs budget far w (set_in w g v) at spare k i mid mid stored.after refl
-      (put_registers R address_register up stands.are (omega arith) (omega arith) (upper_below a)) others stored.globals stored.stack paid asked
+      (put_registers R address_register up stands.are (free_above address_register (omega arith) (omega arith)) (upper_below a)) others stored.globals stored.stack paid asked
       (two_steps access y machine reach runs budget far one two at here p q w R mid mid m stored.after i (lui_sets (own access y machine reach runs budget far) m address_register (pos (upper_bits a)) R up refl)
-      (sw_moves (own access y machine reach runs budget far) (globals_site y reach) address_register (first + t) (lower_bits a) mid m stored.after a v to value stored.stored) stored.writes (begun access y machine reach runs budget far w at i stands)) in
+      (sw_moves (own access y machine reach runs budget far) (globals_site y reach) address_register (result_register + t) (lower_bits a) mid m stored.after a v to value stored.stored) stored.writes (begun access y machine reach runs budget far w at i stands)) in
       no_value one two (set_in w g v) mid mid came others (no_load y bound body one R refl) (no_load y bound body two mid refl)

@@ -1,12 +1,12 @@
 -- Two instructions that stand in text, and a call that they come back from.
-use Rattle.std.proofs.Common.{◌≡◌, ◌≢◌, inl, inr, ℕ, ◌+◌, ◌≤◌, true, false, List, pos, refl, sym, ap, ◌∙◌, subst, arith}
+use Rattle.std.proofs.Common.{◌≡◌, ◌≢◌, inl, inr, ℕ, ◌+◌, ◌≤◌, true, false, List, pos, None, refl, sym, ap, ◌∙◌, subst, arith}
 use Rattle.mv_num.specs.Words.{add}
 use Rattle.mv_isa.specs.declared.instr.Instr.{Instr}
 use Rattle.mv_isa.specs.Code.{IsPlace, nop}
 use Rattle.mv_isa.specs.Execution.{Access, Goes, reg, execute}
 use Rattle.mv_isa.specs.Standing.{InstrStands}
 use Rattle.mv_isa.proofs.LineSteps.{stands_steps}
-use Rattle.mv_isa.specs.Registers.{t0 as address_register}
+use Rattle.mv_isa.specs.Registers.{t0 as address_register, a0 as result_register}
 use Rattle.mv_ir.specs.declared.stm.Array.TheVariants as array
 use Rattle.mv_ir.specs.World.{World}
 use Rattle.mv_select_code.specs.Trees.Straight.{Sets}
@@ -14,7 +14,6 @@ use Rattle.mv_select_code.specs.Trees.View.{AreRegisters}
 use Rattle.mv_select_code.proofs.OfTrees.Instructions.{addi_sets}
 use Rattle.mv_select_code.proofs.OfTrees.Registers.{reg_zero}
 use Rattle.mv_select_code.proofs.OfTrees.Words.{add_zero}
-use Rattle.mv_select_code.specs.Statements.StatementCode.{first}
 use Rattle.mv_select_code.specs.Statements.Frames.{Reach, Site, TempCell, Element, Kept}
 use Rattle.mv_select_code.specs.Statements.Leads.{limited, Writes}
 use Rattle.mv_select_code.proofs.OfStatements.TreesFirst.{add_small}
@@ -23,19 +22,22 @@ use Rattle.mv_select_code.proofs.OfControl.Walk as walk
 use Rattle.mv_select_code.proofs.OfControl.Walk.{put_zero, steps_on, stands_at}
 use Rattle.mv_select.specs.Calls.Convention.{Layout, IsSaved, IsAbove, HoldsGlobals, Stands, Returns}
 use Rattle.mv_select.specs.Functions.Functions.{StandsInWords, RunsWithin}
+use Rattle.mv_select.proofs.OfCalls.CallerShown.{saved_apart}
 use Rattle.mv_num.proofs.Numbers.{word_of_pos}
 
 -- a frame that has no cells but the words of globals
 abbrev pub globals_site : Layout → Reach → Site
 globals_site y reach = record {
-  place = y.place;
+  seats = record { place = y.place; register = λ t. None };
   size = y.size;
   reach = record { is_read = λ g. false; is_written = λ g. true; may_load = reach.may_load };
   entry = y.entry;
+  may_call = false;
   may_ask = y.may_ask;
   temps = 0;
   array_at = λ a. 0;
   array_size = λ a. 0;
+  is_left = λ q. false;
   register = λ q. 0;
   is_kept = λ b. false;
   kept = λ b. 0;
@@ -47,12 +49,7 @@ globals_stand y reach (Element (array.Global g) i) own h = inr (g, i, h, refl)
 globals_stand y reach (Element (array.Local a) i) own h = absurd (omega (arith, h))
 globals_stand y reach (Kept b) own h = absurd own
 
--- what a callee sets back is neither a0 nor t0
-saved_result : (q : ℕ) → IsSaved q → q ≢ first
-saved_result q (inl e) same = omega (arith, e, same)
-saved_result q (inr (inl e)) same = omega (arith, e, same)
-saved_result q (inr (inr h)) same = omega (arith, h.0, same)
-
+-- what a callee sets back isn't t0
 saved_address : (q : ℕ) → IsSaved q → q ≢ address_register
 saved_address q (inl e) same = omega (arith, e, same)
 saved_address q (inr (inl e)) same = omega (arith, e, same)
@@ -105,7 +102,7 @@ module _ {M : Type 0} (access : Access M) (y : Layout) (machine : Machine M) (re
     pub last : (machine.run (i + 2)).regs ≡ after
 
   pub comes : (w w' : World) (at spare k i : ℕ) (mid after : List ℕ) (m' : M) → outside w ≡ outside w' → AreRegisters after
-      → ((q : ℕ) → q ≢ first → q ≢ address_register → reg after q ≡ reg (machine.run i).regs q)
+      → ((q : ℕ) → q ≢ result_register → q ≢ address_register → reg after q ≡ reg (machine.run i).regs q)
       → HoldsGlobals access y machine budget far w' m'
       → ((b : ℕ) → IsAbove y (reg (machine.run i).regs 2) b → access.load m' b 4 ≡ access.load (machine.run i).memory b 4)
       → i + (spare + 2) ≤ budget → far ≤ i + k → Walked w at mid after (machine.run i).memory m' i → Came w' mid after spare k i (at + 8)
@@ -119,7 +116,7 @@ module _ {M : Type 0} (access : Access M) (y : Layout) (machine : Machine M) (re
         are = subst AreRegisters (sym regs_is) are;
       };
       kept = record {
-        registers = λ q s. ap (λ r. reg r q) regs_is ∙ others q (saved_result q s) (saved_address q s);
+        registers = λ q s. ap (λ r. reg r q) regs_is ∙ others q (saved_apart q result_register (omega arith) (omega arith) s) (saved_address q s);
         stack = λ b s. ap (λ (m : M). access.load m b 4) memory_is ∙ stack b s;
       };
       paid = omega (arith, paid);

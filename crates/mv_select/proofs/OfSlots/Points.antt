@@ -16,7 +16,7 @@ use Rattle.mv_ir.specs.Outcome.{End, Returned, Trapped, More, Stuck}
 use Rattle.mv_select_code.specs.Trees.TreeCode.{upper_bits, lower_bits, minus_one}
 use Rattle.mv_select_code.specs.Trees.View.{AreRegisters}
 use Rattle.mv_select_code.proofs.OfTrees.Instructions.{lui_sets, lw_sets, addi_sets}
-use Rattle.mv_select_code.proofs.OfTrees.Registers.{reg_zero, put_same, put_other, put_registers}
+use Rattle.mv_select_code.proofs.OfTrees.Registers.{IsFree, free_above, free_low, reg_zero, put_same, put_other, put_registers}
 use Rattle.mv_select_code.proofs.OfTrees.Words.{zero_add, minus_one_is, parts_add, upper_below}
 use Rattle.mv_select_code.specs.Statements.Frames.{Reach}
 use Rattle.mv_select_code.specs.Statements.Leads.{limited}
@@ -107,12 +107,12 @@ module _ {M : Type 0} (access : Access M) (y : Layout) (laid : IsLaid y) (machin
         (addi_sets own (machine.run i).memory 0 0 (pos 0) regs 0 0 0 (reg_zero regs) (word_of_pos 0 (omega arith)) (zero_add 0 (omega arith)) pc
         ∙ ap (λ rs. Goes rs (add pc 4) (machine.run i).memory) (put_zero regs 0) ∙ on_four (machine.run i).memory pc regs lt) (are_registers pc regs w i j a) a
 
-    jal_on : (rd pc to link : ℕ) (regs : List ℕ) (j : ℕ) → pc + 4 ≡ link → 0 < rd → rd < 32 → pc < 2 ^ 31 → to < 2 ^ 31 → to % 4 ≡ 0 → InstrStands text.word pc (Jal rd (distance pc to)) → Walked pc regs w i j
+    jal_on : (rd pc to link : ℕ) (regs : List ℕ) (j : ℕ) → pc + 4 ≡ link → IsFree rd → pc < 2 ^ 31 → to < 2 ^ 31 → to % 4 ≡ 0 → InstrStands text.word pc (Jal rd (distance pc to)) → Walked pc regs w i j
         → Walked to (put regs rd link) w i (j + 1)
-    jal_on rd pc to link regs j is some few lt high even stands a =
+    jal_on rd pc to link regs j is free lt high even stands a =
         walk_on (Jal rd (distance pc to)) pc to regs (put regs rd link) j stands
         (jal_leads own (machine.run i).memory regs rd pc to lt high even ∙ ap (λ z. Goes (put regs rd z) to (machine.run i).memory) is)
-        (put_registers regs rd link (are_registers pc regs w i j a) some few (omega (arith, lt, is))) a
+        (put_registers regs rd link (are_registers pc regs w i j a) free (omega (arith, lt, is))) a
 
     -- a trap where a register is 0, and else on behind
     unless_stops : (r pc to : ℕ) (regs : List ℕ) (j : ℕ) → pc + 4 < 2 ^ 31 → to < 2 ^ 31 → to % 4 ≡ 0 → reg regs r ≡ 0 → InstrStands text.word pc (Bne r 0 (pos 8))
@@ -158,7 +158,7 @@ module _ {M : Type 0} (access : Access M) (y : Layout) (laid : IsLaid y) (machin
         let small : n + 1 < 2 ^ 32 = subst (λ z. z < 2 ^ 32) some (are.words 27) in
         let b = unless_passes pass stub nothing runs w holds i 27 (check + 8) regs j (omega (arith, here.1)) (omega (arith, here.2)) (λ z. omega (arith, z, some)) stands.depth_test a in
         let on : check + 16 + 4 ≡ check + 20 = omega arith in
-        let less = put_registers regs 27 n are (omega arith) (omega arith) (omega (arith, small)) in
+        let less = put_registers regs 27 n are (free_above 27 (omega arith) (omega arith)) (omega (arith, small)) in
         let c = walk_on pass stub nothing runs w holds i (Addi 27 27 minus_one) (check + 16) (check + 20) regs (put regs 27 n) (j + 1) stands.count
         (addi_sets (own pass stub nothing runs w holds i) (machine.run i).memory 27 27 minus_one regs (n + 1) (2 ^ 32 - 1) n some minus_one_is (one_less n small) (check + 16)
         ∙ on_four (machine.run i).memory (check + 16) (put regs 27 n) (omega (arith, here.1)) ∙ ap (λ z. Goes (put regs 27 n) z (machine.run i).memory) on) less
@@ -188,7 +188,7 @@ module _ {M : Type 0} (access : Access M) (y : Layout) (laid : IsLaid y) (machin
   }
     where
       some : 1 < length (put regs 27 n)
-      some = let puts = put_registers regs 27 n are (omega arith) (omega arith) small in omega (arith, puts.count)
+      some = let puts = put_registers regs 27 n are (free_above 27 (omega arith) (omega arith)) small in omega (arith, puts.count)
 
   -- ---- slots
 
@@ -237,7 +237,7 @@ module _ {M : Type 0} (access : Access M) (y : Layout) (laid : IsLaid y) (machin
 
       bound_tested : Walked (check + 8) bound_regs w i (i + 1)
       bound_tested =
-          jal_on test shown nothing runs w holds i 6 at (check + 8) (at + 4) (machine.run i).regs i refl (omega arith) (omega arith) (omega (arith, begin.1)) (omega (arith, here.1)) (omega (arith, here.2)) bound.test start
+          jal_on test shown nothing runs w holds i 6 at (check + 8) (at + 4) (machine.run i).regs i refl (free_above 6 (omega arith) (omega arith)) (omega (arith, begin.1)) (omega (arith, here.1)) (omega (arith, here.2)) bound.test start
 
       bound_way : reg bound_regs 6 ≡ at + 4
       bound_way = put_same (machine.run i).regs 6 (at + 4) (omega arith) (omega (arith, comes.are.count))
@@ -249,7 +249,7 @@ module _ {M : Type 0} (access : Access M) (y : Layout) (laid : IsLaid y) (machin
           let t = i + 1 + 1 + 1 + 1 in
           let b = at_place (at + 4 + 4) (at + 8) regs w i (t + 1) (omega arith) (nop_on test shown nothing runs w holds i (at + 4) regs t (omega (arith, begin.1)) bound.first_pad a) in
           let c = at_place (at + 8 + 4) (at + 12) regs w i (t + 1 + 1) (omega arith) (nop_on test shown nothing runs w holds i (at + 8) regs (t + 1) (omega (arith, begin.1)) bound.second_pad b) in
-          let d = jal_on test shown nothing runs w holds i 1 (at + 12) target (at + 16) regs (t + 1 + 1) (omega arith) (omega arith) (omega arith) (omega (arith, begin.1)) (omega (arith, there.1)) there.2 bound.call c in
+          let d = jal_on test shown nothing runs w holds i 1 (at + 12) target (at + 16) regs (t + 1 + 1) (omega arith) (free_low 1 (omega arith) (omega arith)) (omega (arith, begin.1)) (omega (arith, there.1)) there.2 bound.call c in
           (t + 1 + 1 + 1, arrives target (at + 16) less bound_regs w i (t + 1 + 1 + 1) (omega arith) (omega arith) (left_is some) small (are_registers (check + 8) bound_regs w i (i + 1) bound_tested) bound_same d)
 
       bound_calls : Calls access y machine budget far target (at + 16) w i
@@ -272,10 +272,10 @@ module _ {M : Type 0} (access : Access M) (y : Layout) (laid : IsLaid y) (machin
       free_regs = put loaded_regs 6 (at + 12)
 
       upper_are : AreRegisters upper_regs
-      upper_are = put_registers (machine.run i).regs 5 upper_of comes.are (omega arith) (omega arith) (upper_below pointer)
+      upper_are = put_registers (machine.run i).regs 5 upper_of comes.are (free_above 5 (omega arith) (omega arith)) (upper_below pointer)
 
       loaded_are : AreRegisters loaded_regs
-      loaded_are = put_registers upper_regs 5 v upper_are (omega arith) (omega arith) word
+      loaded_are = put_registers upper_regs 5 v upper_are (free_above 5 (omega arith) (omega arith)) word
 
       free_same : Same free_regs
       free_same q p t = put_other loaded_regs 6 q (at + 12) (omega arith) t ∙ put_other upper_regs 5 q v (omega arith) p ∙ put_other (machine.run i).regs 5 q upper_of (omega arith) p
@@ -301,7 +301,7 @@ module _ {M : Type 0} (access : Access M) (y : Layout) (laid : IsLaid y) (machin
 
       free_tested : Walked check free_regs w i (i + 1 + 1 + 1)
       free_tested =
-          jal_on test shown nothing runs w holds i 6 (at + 8) check (at + 12) loaded_regs (i + 1 + 1) (omega arith) (omega arith) (omega arith) (omega (arith, begin.1)) (omega (arith, here.1)) here.2 point.test loaded
+          jal_on test shown nothing runs w holds i 6 (at + 8) check (at + 12) loaded_regs (i + 1 + 1) (omega arith) (free_above 6 (omega arith) (omega arith)) (omega (arith, begin.1)) (omega (arith, here.1)) here.2 point.test loaded
 
       free_pointer : reg free_regs 5 ≡ v
       free_pointer = put_other loaded_regs 6 5 (at + 12) (omega arith) (λ e. omega (arith, e)) ∙ put_same upper_regs 5 v (omega arith) (omega (arith, upper_are.count))
@@ -327,10 +327,10 @@ module _ {M : Type 0} (access : Access M) (y : Layout) (laid : IsLaid y) (machin
           let a = one_call (at + 12) free_regs t free_same free_way (omega (arith, begin.1)) (omega (arith, begin.2)) (free_passed other) some in
           let to : reg regs 5 ≡ v = put_other free_regs 27 5 less (omega arith) (λ e. omega (arith, e)) ∙ free_pointer in
           let back : add (at + 12) 4 ≡ at + 16 = add_small (at + 12) 4 (omega (arith, begin.1)) ∙ omega arith in
-          let regs_are = put_registers free_regs 27 less are (omega arith) (omega arith) small in
+          let regs_are = put_registers free_regs 27 less are (free_above 27 (omega arith) (omega arith)) small in
           let b = walk_on test shown nothing runs w holds i (Jalr 1 5 (pos 0)) (at + 12) v regs after (t + 1 + 1 + 1) point.call
           (jalr_goes (own test shown nothing runs w holds i) m 1 5 (at + 12) v regs to (omega (arith, there.1)) there.2 ∙ ap (λ z. Goes (put regs 1 z) v m) back)
-          (put_registers regs 1 (at + 16) regs_are (omega arith) (omega arith) (omega (arith, begin.1))) a in
+          (put_registers regs 1 (at + 16) regs_are (free_low 1 (omega arith) (omega arith)) (omega (arith, begin.1))) a in
           (t + 1 + 1 + 1 + 1, arrives v (at + 16) less free_regs w i (t + 1 + 1 + 1 + 1) (omega arith) (omega arith) (left_is some) small are free_same b)
 
       free_calls : v ≢ 0 → Calls access y machine budget far v (at + 16) w i

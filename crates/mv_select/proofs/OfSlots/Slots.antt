@@ -6,12 +6,11 @@ use Rattle.mv_isa.specs.Execution.{Access, reg, put}
 use Rattle.mv_isa.specs.LineSteps.{Leads, LineRuns}
 use Rattle.mv_isa.specs.Standing.{SlotStands}
 use Rattle.mv_isa.proofs.LineSteps.{line_runs}
-use Rattle.mv_isa.specs.Registers.{ra as link_register, s11 as left_register, s10 as live_register}
+use Rattle.mv_isa.specs.Registers.{ra as link_register, a0 as result_register, s11 as left_register, s10 as live_register}
 use Rattle.mv_ir.specs.World.{World}
 use Rattle.mv_ir.specs.Outcome.{End, Returned, Trapped, More, Stuck, Call}
 use Rattle.mv_select_code.specs.Trees.View.{AreRegisters}
-use Rattle.mv_select_code.proofs.OfTrees.Registers.{put_same, put_other, put_registers}
-use Rattle.mv_select_code.specs.Statements.StatementCode.{first}
+use Rattle.mv_select_code.proofs.OfTrees.Registers.{free_low, put_same, put_other, put_registers}
 use Rattle.mv_select_code.specs.Statements.Frames.{Reach}
 use Rattle.mv_select_code.specs.Statements.Leads.{limited}
 use Rattle.mv_select_code.specs.Control.Runs.{Spot, Machine, outside, IsRun}
@@ -76,7 +75,7 @@ module _ {M : Type 0} (access : Access M) (y : Layout) (laid : IsLaid y) (machin
 
     goes : (w : World) (i : ℕ) → At at w i → Stepped to (put (machine.run i).regs link_register (at + 4)) w i
     goes w i h =
-        stepped at to (put (machine.run i).regs link_register (at + 4)) w i (put_registers (machine.run i).regs link_register (at + 4) h.are (omega arith) (omega arith) behind)
+        stepped at to (put (machine.run i).regs link_register (at + 4)) w i (put_registers (machine.run i).regs link_register (at + 4) h.are (free_low link_register (omega arith) (omega arith)) behind)
         (does (machine.run i).memory (machine.run i).regs h.are.count).0 h
 
     comes : (w : World) (j : ℕ) → At (at + 4) w j → Stepped (at + 8) (machine.run j).regs w j
@@ -96,7 +95,7 @@ module _ {M : Type 0} (access : Access M) (y : Layout) (laid : IsLaid y) (machin
           let left = other left_register (λ z. omega (arith, z)) in
           let sp = other 2 (λ z. omega (arith, z)) in
           record {
-            arguments = λ j lt. other (first + j) (λ z. omega (arith, z)) ∙ e.arguments j lt;
+            arguments = λ j lt. other (result_register + j) (λ z. omega (arith, z)) ∙ e.arguments j lt;
             live = live ∙ e.live;
             counts = e.counts;
             left = omega (arith, left, e.left);
@@ -122,7 +121,7 @@ module _ {M : Type 0} (access : Access M) (y : Layout) (laid : IsLaid y) (machin
       -- what follows the call of the function follows that of the slot
       follows : (spare k : ℕ) (x : End) → FollowsCall access y machine budget far (spare + 1) k (i + 1) (at + 4) x → FollowsCall access y machine budget far spare k i (at + 8) x
       follows spare k (Returned None u) c = (c.0 + 1, came spare k u c.0 c.1)
-      follows spare k (Returned (Some v) u) c = (c.0 + 1, came spare k u c.0 c.1, ap (λ r. reg r first) (comes u c.0 c.1.stands).registers ∙ c.2)
+      follows spare k (Returned (Some v) u) c = (c.0 + 1, came spare k u c.0 c.1, ap (λ r. reg r result_register) (comes u c.0 c.1.stands).registers ∙ c.2)
       follows spare k (Trapped code u) c = c
       follows spare k (More u) c = c
       follows spare k Stuck c = tt

@@ -8,7 +8,7 @@ use Rattle.mv_ir.specs.declared.stm.Stm.{Stm}
 use Rattle.mv_select_code.specs.Trees.Straight.{is_link}
 use Rattle.mv_select_code.specs.Statements.StatementCode.{trap_label}
 use Rattle.mv_select_code.specs.Control.FlowCode.{code_of}
-use Rattle.mv_select_code.specs.Control.Labels.{functions, pointers}
+use Rattle.mv_select_code.specs.Control.Labels.{call_label, functions, pointers}
 use Rattle.mv_select.specs.Calls.CallCode.{commit_label}
 use Rattle.mv_select.specs.Functions.FunctionCode.{Shape, plan, function_lines}
 
@@ -56,10 +56,14 @@ Links _ = ⊥
 abbrev pub IsGoal : (labels : ℕ) → ℕ → Type 0
 IsGoal labels l = (l < labels) ⊎ ((trap_label 1 ≤ l) × (l ≤ trap_label 4))
 
+-- the stub of orders and polls, or the entry of a function
+abbrev pub IsCalled : (is_named : ℕ → Bool) → ℕ → Type 0
+IsCalled is_named l = (l ≡ commit_label) ⊎ ((f : ℕ) × (l ≡ call_label f) × (is_named f ≡ true))
+
 -- a line names these labels, functions and pointers, and in a slot of two words stands an attributed function
 abbrev pub NamesThese : (labels : ℕ) (is_named is_attributed is_pointer : ℕ → Bool) → Line → Type 0
 NamesThese labels is_named is_attributed is_pointer =
-    Names (λ l. l < labels) (IsGoal labels) (λ l. l ≡ commit_label) (λ f. is_named f ≡ true) (λ f. (is_named f ≡ true) × (is_attributed f ≡ true)) (λ a. is_pointer a ≡ true)
+    Names (λ l. l < labels) (IsGoal labels) (IsCalled is_named) (λ f. is_named f ≡ true) (λ f. (is_named f ≡ true) × (is_attributed f ≡ true)) (λ a. is_pointer a ≡ true)
 
 module _ (place size : ℕ → ℕ) (is_attributed : ℕ → Bool) (shape : Shape) (code : List Stm) where
   abbrev lines : List Line
@@ -69,8 +73,8 @@ module _ (place size : ℕ → ℕ) (is_attributed : ℕ → Bool) (shape : Shap
   abbrev pub labels_of : ℕ
   labels_of = suc (code_of (plan place size is_attributed shape) code).labels
 
-  -- It jumps to labels of the function and to the stubs of traps, calls the stub of orders and polls and no other label, and names only functions that the
-  -- statements name, those in slots attributed, and pointers through which they call.
+  -- It jumps to labels of the function and to the stubs of traps, calls the stub of orders and polls and the entries of functions and no other label, and names
+  -- only functions that the statements name, those in slots attributed, and pointers through which they call.
   abbrev pub IsNamed : Type 0
   IsNamed =
       (is_named is_pointer : ℕ → Bool) → All (λ f. is_named f ≡ true) (functions code) → All (λ g. is_pointer (place g) ≡ true) (pointers code) →

@@ -1,18 +1,18 @@
--- The calling convention of generated code. Arguments stand in a0 to a7 and the return address in ra; the result comes back in a0. The callee sets back
--- sp and s1 to s11 and leaves the stack from sp up as it was; every other register it may change. s10 has the number of live attributed frames, and s11
--- how many calls are left: one less in the callee than in its caller. For each of these, and one more, there is room for a frame below sp.
+-- The calling convention of generated code. Arguments stand in a0 to a7 and the return address in ra; the result comes back in a0. gp and tp point into
+-- data and are never changed. The callee sets back sp and s1 to s11 and leaves the stack from sp up as it was; every other register it may change. s10 has
+-- the number of live attributed frames, and s11 how many calls are left: one less in the callee than in its caller. For each of these, and one more, there
+-- is room for a frame below sp.
 use Rattle.std.specs.Prelude.{ℕ, ◌≡◌, ◌≢◌, ◌+◌, ◌*◌, ◌%◌, ◌^◌, ◌<◌, ◌≤◌, ◌⊎◌, Bool, true, cond, ltb, List, [], ◌∷◌, length, slice_index, slice_index_or, Some, None}
 pub use Rattle.mv_num.specs.Limits.{frame_limit}
 use Rattle.mv_ast.specs.declared.program.Known.{Known}
 use Rattle.mv_bindings.specs.Traps.{depth_limit, null_call, call_too_deep}
 use Rattle.mv_isa.specs.Execution.{Access, reg}
-use Rattle.mv_isa.specs.Registers.{ra, sp, s1, s2, s10, s11, t3}
+use Rattle.mv_isa.specs.Registers.{ra, sp, s1, a0, s2, s10, s11, t3}
 use Rattle.mv_ir.specs.World as ir
 use Rattle.mv_ir.specs.World.{World}
 use Rattle.mv_ir.specs.Meaning.{Goal, Nowhere, Null, At, goal_of}
 use Rattle.mv_ir.specs.Outcome.{End, Returned, Trapped, More, Stuck, Call, Calls, Bound}
 use Rattle.mv_select_code.specs.Trees.View.{AreRegisters}
-use Rattle.mv_select_code.specs.Statements.StatementCode.{first}
 use Rattle.mv_select_code.specs.Control.Runs.{Machine, outside}
 
 -- What the functions of a program share: the address of each global and the number of its words, where each function begins, where the stub of each trap
@@ -87,7 +87,7 @@ module _ {M : Type 0} (access : Access M) (y : Layout) (machine : Machine M) (bu
 
   -- time i has what a callee finds, called with arguments from a frame with so many above that of main and so many live attributed ones
   pub record Enters (depth frames : ℕ) (args : List ℕ) (i : ℕ) : Type 0 where
-    pub arguments : (j : ℕ) → j < length args → reg (machine.run i).regs (first + j) ≡ slice_index args j
+    pub arguments : (j : ℕ) → j < length args → reg (machine.run i).regs (a0 + j) ≡ slice_index args j
     pub live : reg (machine.run i).regs s10 ≡ frames
     pub counts : frames ≤ depth
     pub left : reg (machine.run i).regs s11 + 1 + depth ≡ depth_limit
@@ -124,7 +124,7 @@ module _ {M : Type 0} (access : Access M) (y : Layout) (machine : Machine M) (bu
   -- what follows a call that was made at time i; one that has no meaning promises nothing
   abbrev pub FollowsCall : (spare k i back : ℕ) → End → Type 0
   FollowsCall spare k i back (Returned None w) = (j : ℕ) × Returns spare k i back w j
-  FollowsCall spare k i back (Returned (Some v) w) = (j : ℕ) × Returns spare k i back w j × (reg (machine.run j).regs first ≡ v)
+  FollowsCall spare k i back (Returned (Some v) w) = (j : ℕ) × Returns spare k i back w j × (reg (machine.run j).regs a0 ≡ v)
   FollowsCall spare k i back (Trapped c w) = (j : ℕ) × Stops c w j
   FollowsCall spare k i back (More w) = (j : ℕ) × IsLate w j
   FollowsCall spare k i back Stuck = Unit {0}
@@ -137,7 +137,7 @@ module _ {M : Type 0} (access : Access M) (y : Layout) (machine : Machine M) (bu
 
   -- Time i has what a slot of four words finds: as a callee does, but one call more is left, which it counts itself.
   pub record Comes (depth frames : ℕ) (args : List ℕ) (i : ℕ) : Type 0 where
-    pub arguments : (j : ℕ) → j < length args → reg (machine.run i).regs (first + j) ≡ slice_index args j
+    pub arguments : (j : ℕ) → j < length args → reg (machine.run i).regs (a0 + j) ≡ slice_index args j
     pub live : reg (machine.run i).regs s10 ≡ frames
     pub counts : frames ≤ depth
     pub left : reg (machine.run i).regs s11 + depth ≡ depth_limit
@@ -160,7 +160,7 @@ module _ {M : Type 0} (access : Access M) (y : Layout) (machine : Machine M) (bu
   -- what follows where a slot of four words was come to at time i
   abbrev pub FollowsCounted : (spare k i back : ℕ) → End → Type 0
   FollowsCounted spare k i back (Returned None w) = (j : ℕ) × ReturnsCounted spare k i back w j
-  FollowsCounted spare k i back (Returned (Some v) w) = (j : ℕ) × ReturnsCounted spare k i back w j × (reg (machine.run j).regs first ≡ v)
+  FollowsCounted spare k i back (Returned (Some v) w) = (j : ℕ) × ReturnsCounted spare k i back w j × (reg (machine.run j).regs a0 ≡ v)
   FollowsCounted spare k i back (Trapped c w) = (j : ℕ) × Stops c w j
   FollowsCounted spare k i back (More w) = (j : ℕ) × IsLate w j
   FollowsCounted spare k i back Stuck = Unit {0}
@@ -172,14 +172,16 @@ module _ {M : Type 0} (access : Access M) (y : Layout) (machine : Machine M) (bu
       (spare : ℕ) (w : World) → Stands at w i → Comes depth frames args i → i + (spare + point_cost + (call_through setting bound g args depth frames w).cost) ≤ budget → far ≤ i + length bound →
       FollowsCounted spare (length bound) i (at + 16) (call_through setting bound g args depth frames w).end
 
-  -- The functions keep the convention at a bound of k, called at their first words; and so do slots, which return behind their two words.
-  pub record Convention (calls : Calls) (k : ℕ) : Type 0 where
+  -- So many functions keep the convention at a bound of k, called at their first words; and so do slots, which return behind their two words. A call of any
+  -- other function has no meaning.
+  pub record Convention (count : ℕ) (calls : Calls) (k : ℕ) : Type 0 where
     pub functions : (f depth frames : ℕ) (args : List ℕ) (back i : ℕ) → length args < 9 → IsTarget back → reg (machine.run i).regs ra ≡ back →
         Answers entry_cost k (y.entry f) back depth frames args (calls f args depth frames) i
     pub slots : (f depth frames : ℕ) (args : List ℕ) (at i : ℕ) → length args < 9 → machine.text.slot at ≡ Some f →
         Answers slot_cost k at (at + 8) depth frames args (calls f args depth frames) i
+    pub others : (f depth frames : ℕ) (args : List ℕ) (w : World) → count ≤ f → (calls f args depth frames w).end ≡ Stuck
 
   -- they keep it at each bound, and so do slots of four words, which may trap where the bound is used up
   abbrev pub Conventions : ir.Setting → Bound → Type 0
   Conventions setting [] = PointsKeep setting []
-  Conventions setting (calls ∷ below) = Convention calls (length below) × PointsKeep setting (calls ∷ below) × Conventions setting below
+  Conventions setting (calls ∷ below) = Convention (length setting.numbers) calls (length below) × PointsKeep setting (calls ∷ below) × Conventions setting below

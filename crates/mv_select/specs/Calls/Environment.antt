@@ -5,11 +5,10 @@ use Rattle.mv_ast.specs.declared.program.Known.TheVariants.{Getchar, Putchar, Pl
 use Rattle.mv_isa.specs.declared.instr.Instr.TheVariants.{Ecall}
 use Rattle.mv_isa.specs.Encoding.{encode}
 use Rattle.mv_isa.specs.Execution.{Access, reg}
-use Rattle.mv_isa.specs.Registers.{ra, sp, a7, s10}
+use Rattle.mv_isa.specs.Registers.{ra, sp, a0, a1, a7, s10}
 use Rattle.mv_ir.specs.World as ir
 use Rattle.mv_ir.specs.World.{World}
 use Rattle.mv_ir.specs.WellFormed.{known_arguments}
-use Rattle.mv_select_code.specs.Statements.StatementCode.{first, second}
 use Rattle.mv_select_code.specs.Control.Runs.{Machine}
 use Rattle.mv_select.specs.Calls.CallCode.{request_of}
 use Rattle.mv_select.specs.Calls.Convention.{Layout, IsTarget, Stands, Returns}
@@ -22,7 +21,7 @@ IsDirect _ = ⊥
 
 -- an order's code and what it addresses
 abbrev pub HoldsOrder : Known → List ℕ → Type 0
-HoldsOrder (Plan code index) regs = (reg regs first ≡ code) × (reg regs second ≡ index)
+HoldsOrder (Plan code index) regs = (reg regs a0 ≡ code) × (reg regs a1 ≡ index)
 HoldsOrder _ regs = Unit {0}
 
 -- of what a known function costs, what is left at the stub
@@ -33,7 +32,7 @@ module _ {M : Type 0} (access : Access M) (y : Layout) (machine : Machine M) (bu
   -- time i asks for what a known function does
   pub record Asks (k : Known) (args : List ℕ) (i : ℕ) : Type 0 where
     pub number : reg (machine.run i).regs a7 ≡ request_of k
-    pub arguments : (j : ℕ) → j < length args → reg (machine.run i).regs (first + j) ≡ slice_index args j
+    pub arguments : (j : ℕ) → j < length args → reg (machine.run i).regs (a0 + j) ≡ slice_index args j
     pub order : HoldsOrder k (machine.run i).regs
     pub high : y.bottom ≤ reg (machine.run i).regs sp
 
@@ -43,7 +42,7 @@ module _ {M : Type 0} (access : Access M) (y : Layout) (machine : Machine M) (bu
       (spare bound : ℕ) (w : World) → Stands access y machine budget far pc w i → Asks k args i →
       i + (spare + extra + (setting.known k args (reg (machine.run i).regs s10) w).cost) ≤ budget → far ≤ i + bound →
       (j : ℕ) × Returns access y machine budget far spare bound i back (setting.known k args (reg (machine.run i).regs s10) w).world j
-      × (reg (machine.run j).regs first ≡ (setting.known k args (reg (machine.run i).regs s10) w).value)
+      × (reg (machine.run j).regs a0 ≡ (setting.known k args (reg (machine.run i).regs s10) w).value)
 
   -- of the known functions that may be asked for: an environment call stands where text has an ECALL
   abbrev pub ServesCalls : Type 0

@@ -1,13 +1,19 @@
 -- The code of a whole function: its frame is made, its body carried out, and the frame taken down.
-use Rattle.std.specs.Prelude.{ℕ, zero, suc, ◌+◌, ◌*◌, ◌/◌, Bool, cond, max, min, slice_index, List, [], ◌∷◌, ◌++◌, pos, ◌-ℤ◌}
+use Rattle.std.specs.Prelude.{ℕ, zero, suc, ◌+◌, ◌*◌, ◌/◌, Bool, true, false, ◌&&◌, ◌||◌, cond, eqb, leb, ltb, max, min, slice_index, List, [], ◌∷◌, ◌++◌, map, ℤ, pos, ◌-ℤ◌}
 use Rattle.mv_isa.specs.declared.instr.Instr.TheVariants.{Lw, Sw, Addi, Jalr}
 use Rattle.mv_isa.specs.declared.labelled.Line.{Line}
 use Rattle.mv_isa.specs.declared.labelled.Line.TheVariants.{Word, Label}
-use Rattle.mv_isa.specs.Registers.{x0, ra, sp, s10}
+use Rattle.mv_isa.specs.Code.{nop}
+use Rattle.mv_isa.specs.Registers.{x0, ra, sp, s1, a0, a7, s2, s10, t3}
 use Rattle.mv_ir.specs.declared.stm.Stm.{Stm}
+use Rattle.mv_ir.specs.declared.stm.Stm.TheOpen.{Stm-F}
+use Rattle.mv_ir.specs.declared.stm.Stm.TheOpen as stm
+use Rattle.mv_ir.specs.declared.stm.Stm.TheFolds.{fold-Stm}
+use Rattle.mv_ir.specs.WellFormed.{all_true}
 use Rattle.mv_ir.specs.Measures.{total}
-use Rattle.mv_select_code.specs.Trees.TreeCode.{one, two, minus_one, temp_register}
-use Rattle.mv_select_code.specs.Statements.StatementCode.{first}
+use Rattle.mv_select_code.specs.Trees.TreeCode.{Seats, one, two, minus_one, temp_register, register_of}
+use Rattle.mv_select_code.specs.declared.trees.places.Keeping.{Keeping}
+use Rattle.mv_select_code.specs.declared.trees.places.Keeping.TheVariants.{Saved, Arguments}
 use Rattle.mv_select_code.specs.Control.FlowCode.{Plan, fall_to, code_of}
 use Rattle.mv_select.specs.Calls.CallCode.{calls_of}
 
@@ -52,7 +58,7 @@ restore_lines (suc k) = restore_lines k ++ one (Lw (saved_register k) sp (pos (4
 -- the parameters come into the registers of the first temporaries
 abbrev pub parameter_lines : ℕ → List Line
 parameter_lines zero = []
-parameter_lines (suc k) = parameter_lines k ++ one (Addi (temp_register k) (first + k) (pos 0))
+parameter_lines (suc k) = parameter_lines k ++ one (Addi (temp_register k) (a0 + k) (pos 0))
 
 -- an attributed function counts as live
 abbrev pub enter_lines : Bool → List Line
@@ -78,38 +84,81 @@ epilogue_lines attributed temps bytes =
 abbrev pub end_label : ℕ
 end_label = 0
 
--- a function's own numbers: whether it is attributed, how many parameters and temporaries it has, and the words of each of its arrays
+-- a function's own numbers: whether it is attributed, in which registers it keeps its temporaries, how many parameters and temporaries it has, and the words
+-- of each of its arrays
 pub record Shape : Type 0 where
   pub attributed : Bool
+  pub keeping : Keeping
   pub params : ℕ
   pub temps : ℕ
   pub arrays : List ℕ
 
+-- whether a statement calls nothing, neither a function nor a known one, given whether those within it do
+abbrev pub silent_layer : Stm-F Bool → Bool
+silent_layer (stm.If t a b) = all_true a && all_true b
+silent_layer (stm.Loop b) = all_true b
+silent_layer (stm.Block b) = all_true b
+silent_layer (stm.Call r f args) = false
+silent_layer (stm.Known r k args) = false
+silent_layer _ = true
+
+unfoldable pub is_silent : Stm → Bool
+is_silent = fold-Stm Bool silent_layer
+
+-- whether some code calls nothing
+abbrev pub calls_nothing : List Stm → Bool
+calls_nothing code = all_true (map is_silent code)
+
 abbrev pub bytes_of : Shape → ℕ
 bytes_of shape = frame_bytes shape.temps shape.arrays
+
+abbrev pub seats_of : (ℕ → ℕ) → Shape → Seats
+seats_of place shape = record { place = place; register = register_of shape.keeping }
+
+-- The registers that the body of a function leaves alone: sp, s10 and s11, and the rest of s1 to s9 where it saves those of its temporaries; and ra and all of
+-- s1 to s11 where it keeps them where arguments come.
+abbrev pub is_left_by : Keeping → (temps : ℕ) → ℕ → Bool
+is_left_by Saved temps q = eqb q sp || ((eqb temps 0 && eqb q s1) || (leb (a7 + max (min temps 9) 1) q && ltb q t3))
+is_left_by Arguments temps q = eqb q ra || (eqb q sp || (eqb q s1 || (leb s2 q && ltb q t3)))
+
+-- what calls nothing and keeps its temporaries where arguments come has a frame for arrays alone
+abbrev pub move_lines : List ℕ → ℤ → List Line
+move_lines [] bytes = []
+move_lines (n ∷ sizes) bytes = one (Addi sp sp bytes)
+
+abbrev pub entry_by : Keeping → Shape → List Line
+entry_by Saved shape = prologue_lines shape.attributed shape.params shape.temps (bytes_of shape)
+entry_by Arguments shape = move_lines shape.arrays (pos 0 -ℤ pos (bytes_of shape))
+
+abbrev pub return_by : Keeping → Shape → List Line
+return_by Saved shape = epilogue_lines shape.attributed shape.temps (bytes_of shape)
+return_by Arguments shape = move_lines shape.arrays (pos (bytes_of shape)) ++ one (Jalr x0 ra (pos 0))
+
+-- lines that begin with a word: so no two functions begin at the same address
+abbrev pub led : List Line → List Line
+led (Label l ∷ lines) = Word nop ∷ Label l ∷ lines
+led lines = lines
 
 module _ (place size : ℕ → ℕ) (is_attributed : ℕ → Bool) (shape : Shape) where
   abbrev pub plan : Plan
   plan = record {
-    place = place;
+    seats = seats_of place shape;
     size = size;
     array_at = array_offset shape.temps shape.arrays;
     array_size = slice_index shape.arrays;
     end = end_label;
-    calls = calls_of place is_attributed;
+    calls = calls_of (seats_of place shape) is_attributed;
   }
 
   -- behind the body stands the label of the end
   abbrev pub body_lines : List Stm → List Line
   body_lines code = (code_of plan code).lines [] (end_label + 1) (fall_to end_label)
 
-  -- the code behind its first instruction
+  -- the code behind its first instruction, where the function saves registers
   abbrev pub later_lines : List Stm → List Line
   later_lines code =
       lowered_lines shape.attributed shape.params shape.temps
       ++ (body_lines code ++ (Label end_label ∷ epilogue_lines shape.attributed shape.temps (bytes_of shape)))
 
   abbrev pub function_lines : List Stm → List Line
-  function_lines code =
-      prologue_lines shape.attributed shape.params shape.temps (bytes_of shape)
-      ++ (body_lines code ++ (Label end_label ∷ epilogue_lines shape.attributed shape.temps (bytes_of shape)))
+  function_lines code = led (entry_by shape.keeping shape ++ (body_lines code ++ (Label end_label ∷ return_by shape.keeping shape)))

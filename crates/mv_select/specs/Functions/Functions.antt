@@ -1,5 +1,6 @@
 -- What the code of a whole function promises: it keeps the calling convention, if the functions do at each lower bound.
-use Rattle.std.specs.Prelude.{ℕ, ◌≡◌, ◌≢◌, ◌+◌, ◌-◌, ◌*◌, ◌%◌, ◌^◌, ◌<◌, ◌≤◌, ◌⊎◌, Bool, true, false, ◌&&◌, cond, leb, ltb, List, [], length, slice_index, Some, None}
+use Rattle.std.specs.Prelude.{ℕ, ◌≡◌, ◌≢◌, ◌+◌, ◌-◌, ◌*◌, ◌%◌, ◌^◌, ◌<◌, ◌≤◌, ◌⊎◌, Bool, true, false, not, ◌&&◌, cond, leb, ltb, List, [], length, slice_index, Some, None}
+use Rattle.mv_ast.specs.declared.program.Known.{Known}
 use Rattle.mv_bindings.specs.Traps.{depth_limit}
 use Rattle.mv_isa.specs.Code.{IsPlace}
 use Rattle.mv_isa.specs.Execution.{Access, reg, put}
@@ -18,7 +19,9 @@ use Rattle.mv_select_code.specs.Control.Runs.{Machine, IsRun}
 use Rattle.mv_select.specs.Calls.Convention.{Layout, IsTarget, IsAbove, frame_limit, Stands, FollowsCall, Conventions, Answers}
 use Rattle.mv_select.specs.Calls.Environment.{ServesKnown}
 use Rattle.mv_select.specs.Calls.Laws.{IsLinked}
-use Rattle.mv_select.specs.Functions.FunctionCode.{Shape, array_offset, bytes_of, later_lines, function_lines}
+use Rattle.mv_select.specs.Functions.FunctionCode.{Shape, seats_of, is_left_by, calls_nothing, array_offset, bytes_of, later_lines, function_lines}
+use Rattle.mv_select_code.specs.declared.trees.places.Keeping.{Keeping}
+use Rattle.mv_select_code.specs.declared.trees.places.Keeping.TheVariants.{Saved, Arguments}
 use Rattle.mv_select_code.specs.Control.Laws.{uses_in}
 
 -- a word of the stack, and a word of the stack or of a global
@@ -81,24 +84,45 @@ RunsWithin access y machine reach = (s : Site) → StandsInWords y s → ((a : �
 abbrev pub IsOpen : (closed : (pc address : ℕ) → Bool) → (from to : ℕ) → Reach → Type 0
 IsOpen closed from to reach = (pc a : ℕ) → from ≤ pc → pc < to → reach.may_load a ≡ true → closed pc a ≡ false
 
+-- what keeps its temporaries where arguments come calls nothing
+abbrev pub calls_by : Keeping → Bool
+calls_by Saved = true
+calls_by Arguments = false
+
+abbrev pub asks_by : Keeping → (Known → Bool) → Known → Bool
+asks_by Saved may_ask k = may_ask k
+asks_by Arguments may_ask k = false
+
 -- a frame of a function, given its registers and what it is to leave alone
 abbrev pub site_of : Layout → Reach → Shape → (register : ℕ → ℕ) → (is_kept : ℕ → Bool) → (kept : ℕ → ℕ) → Site
 site_of y reach shape register is_kept kept = record {
-  place = y.place;
+  seats = seats_of y.place shape;
   size = y.size;
   reach = reach;
   entry = y.entry;
-  may_ask = y.may_ask;
+  may_call = calls_by shape.keeping;
+  may_ask = asks_by shape.keeping y.may_ask;
   temps = shape.temps;
   array_at = array_offset shape.temps shape.arrays;
   array_size = slice_index shape.arrays;
+  is_left = is_left_by shape.keeping shape.temps;
   register = register;
   is_kept = is_kept;
   kept = kept;
 }
 
+-- A function that isn't attributed, calls nothing and has at most eight temporaries keeps them where arguments come.
+abbrev pub keeping_of : Bool → Body → Keeping
+keeping_of attributed body = cond (not attributed && (ltb body.temps 9 && calls_nothing body.code)) Arguments Saved
+
 abbrev pub shape_of : Bool → Body → Shape
-shape_of attributed body = record { attributed = attributed; params = body.params; temps = body.temps; arrays = body.arrays }
+shape_of attributed body = record {
+  attributed = attributed;
+  keeping = keeping_of attributed body;
+  params = body.params;
+  temps = body.temps;
+  arrays = body.arrays;
+}
 
 -- the frame of a function that is called from one with these numbers
 abbrev pub frame_in : Bool → List (ℕ × ℕ) → (depth live : ℕ) → ir.Frame
@@ -116,7 +140,7 @@ pub record IsFunction (y : Layout) (setting : ir.Setting) (attributed : Bool) (b
   pub small : bytes_of (shape_of attributed body) ≤ frame_limit
   pub read : (g : ℕ) → reach.is_read g ≡ true → 0 < y.size g
   pub free : (g : ℕ) → reach.is_read g ≡ true → found bound g ≡ None
-  pub fine : are_fine is_fine y.may_ask body.temps (uses_in y.size reach) body.code ≡ true
+  pub fine : are_fine is_fine y.may_ask body.temps (uses_in y.size reach true) body.code ≡ true
   pub trees : (t : Tree) → is_fine t ≡ true → (depth live : ℕ) (register : ℕ → ℕ) (is_kept : ℕ → Bool) (kept : ℕ → ℕ) →
       IsFine (site_of y reach (shape_of attributed body) register is_kept kept) setting (frame_in attributed bound depth live) t
 
@@ -129,7 +153,7 @@ FunctionsKeep M =
     ((f : ℕ) → f < length setting.numbers → (slice_index setting.numbers f ≡ y.entry f) × IsPlace (y.entry f)) →
     (budget far : ℕ) → ServesKnown access y machine budget far setting → (levels : Bound) → Conventions access y machine budget far setting levels →
     (attributed : Bool) (bound : List (ℕ × ℕ)) (reach : Reach) (is_fine : Tree → Bool) (body : Body) → IsAmple y reach → IsFunction y setting attributed bound reach is_fine body →
-    (place : ℕ → ℕ) → IsLinked y place → (is_attributed : ℕ → Bool) (pc next : ℕ) → RunsWithin access y (alone machine pc next) reach →
+    (place : ℕ → ℕ) → IsLinked y (length setting.numbers) place → (is_attributed : ℕ → Bool) (pc next : ℕ) → RunsWithin access y (alone machine pc next) reach →
     Placed machine.text place y.entry (function_lines y.place y.size is_attributed (shape_of attributed body) body.code) pc next →
     (depth live : ℕ) (args : List ℕ) (back i : ℕ) → length args ≡ body.params → IsTarget back → reg (machine.run i).regs ra ≡ back →
     (contents : Contents)
@@ -145,22 +169,22 @@ pub record LowersStack {M : Type 0} (machine : Machine M) (bytes mid i : ℕ) : 
   }
   pub sound : machine.is_sound (machine.run i) ≡ true
 
--- So does a function whose first instruction is carried out wherever it stands, as at an entry that may be patched: the rest of its code is text that is
--- never patched.
+-- So does an attributed function whose first instruction is carried out wherever it stands, as at an entry that may be patched: the rest of its code is text
+-- that is never patched.
 abbrev pub LaterKeeps : Type 0 → Type 0
 LaterKeeps M =
     (access : Access M) (y : Layout) → IsLaid y → (machine : Machine M) → IsMemory access y machine →
     (setting : ir.Setting) →
     ((f : ℕ) → f < length setting.numbers → (slice_index setting.numbers f ≡ y.entry f) × IsPlace (y.entry f)) →
     (budget far : ℕ) → ServesKnown access y machine budget far setting → (levels : Bound) → Conventions access y machine budget far setting levels →
-    (attributed : Bool) (bound : List (ℕ × ℕ)) (reach : Reach) (is_fine : Tree → Bool) (body : Body) → IsAmple y reach → IsFunction y setting attributed bound reach is_fine body →
-    (place : ℕ → ℕ) → IsLinked y place → (is_attributed : ℕ → Bool) (pc mid next : ℕ) → RunsWithin access y (alone machine mid next) reach →
-    Placed machine.text place y.entry (later_lines y.place y.size is_attributed (shape_of attributed body) body.code) mid next →
+    (bound : List (ℕ × ℕ)) (reach : Reach) (is_fine : Tree → Bool) (body : Body) → IsAmple y reach → IsFunction y setting true bound reach is_fine body →
+    (place : ℕ → ℕ) → IsLinked y (length setting.numbers) place → (is_attributed : ℕ → Bool) (pc mid next : ℕ) → RunsWithin access y (alone machine mid next) reach →
+    Placed machine.text place y.entry (later_lines y.place y.size is_attributed (shape_of true body) body.code) mid next →
     (depth live : ℕ) (args : List ℕ) (back i : ℕ) → length args ≡ body.params → IsTarget back → reg (machine.run i).regs ra ≡ back →
-    LowersStack machine (bytes_of (shape_of attributed body)) mid i →
+    LowersStack machine (bytes_of (shape_of true body)) mid i →
     (contents : Contents)
     × Answers access y machine budget far 44 (length levels) pc back depth live args
-    (body_from setting (frame_in attributed bound depth live) contents body args levels) i
+    (body_from setting (frame_in true bound depth live) contents body args levels) i
 
 module _ {M : Type 0} (access : Access M) (y : Layout) (machine : Machine M) where
   -- Time i has what the main function finds at program startup: no attributed frame is live, all calls are left, and below sp there is room for its own
@@ -186,7 +210,7 @@ MainKeeps M =
     ((f : ℕ) → f < length setting.numbers → (slice_index setting.numbers f ≡ y.entry f) × IsPlace (y.entry f)) →
     (budget far : ℕ) → ServesKnown access y machine budget far setting → (levels : Bound) → Conventions access y machine budget far setting levels →
     (bound : List (ℕ × ℕ)) (reach : Reach) (is_fine : Tree → Bool) (body : Body) → IsAmple y reach → IsFunction y setting false bound reach is_fine body → body.params ≡ 0 →
-    (place : ℕ → ℕ) → IsLinked y place → (is_attributed : ℕ → Bool) (pc next : ℕ) → RunsWithin access y (alone machine pc next) reach →
+    (place : ℕ → ℕ) → IsLinked y (length setting.numbers) place → (is_attributed : ℕ → Bool) (pc next : ℕ) → RunsWithin access y (alone machine pc next) reach →
     Placed machine.text place y.entry (function_lines y.place y.size is_attributed (shape_of false body) body.code) pc next →
     (back i : ℕ) → IsTarget back → reg (machine.run i).regs ra ≡ back →
     (contents : Contents)

@@ -5,7 +5,7 @@ use Rattle.mv_isa.specs.declared.instr.Instr.{Instr}
 use Rattle.mv_isa.specs.declared.instr.Instr.TheVariants.{Lui, Lw, Sw, Addi}
 use Rattle.mv_isa.specs.Encoding.{encode}
 use Rattle.mv_isa.specs.Code.{nop}
-use Rattle.mv_isa.specs.Registers.{x0, t0}
+use Rattle.mv_isa.specs.Registers.{x0, t0, a0}
 use Rattle.mv_ir.specs.declared.tree.Tree.{Tree, out-Tree}
 use Rattle.mv_ir.specs.declared.tree.Tree.TheOpen.{Tree-F}
 use Rattle.mv_ir.specs.declared.tree.Tree.TheOpen as tree
@@ -14,26 +14,25 @@ use Rattle.mv_ir.specs.declared.stm.Stm.TheOpen.{Stm-F}
 use Rattle.mv_ir.specs.declared.stm.Stm.TheOpen as stm
 use Rattle.mv_ir.specs.declared.body.Body.{Body}
 use Rattle.mv_select_code.specs.Trees.TreeCode.{upper_bits, lower_bits}
-use Rattle.mv_select_code.specs.Statements.StatementCode.{first}
 
--- t0 has the address of a store. A value comes back in a0, the first register.
+-- t0 has the address of a store. A value comes back in a0.
 
 -- a number into a0, in one instruction where its lower bits alone give it
 unfoldable pub number_pair : ℕ → Instr × Instr
 number_pair n =
-    cond (eqb (upper_bits n) 0) (Addi first x0 (lower_bits n), nop) (Lui first (pos (upper_bits n)), Addi first first (lower_bits n))
+    cond (eqb (upper_bits n) 0) (Addi a0 x0 (lower_bits n), nop) (Lui a0 (pos (upper_bits n)), Addi a0 a0 (lower_bits n))
 
 -- a parameter into a0
 abbrev pub parameter_pair : ℕ → Instr × Instr
-parameter_pair t = (Addi first (first + t) (pos 0), nop)
+parameter_pair t = (Addi a0 (a0 + t) (pos 0), nop)
 
 -- the word at an address into a0
 abbrev pub load_pair : ℕ → Instr × Instr
-load_pair a = (Lui first (pos (upper_bits a)), Lw first first (lower_bits a))
+load_pair a = (Lui a0 (pos (upper_bits a)), Lw a0 a0 (lower_bits a))
 
 -- a parameter to an address
 abbrev pub store_pair : (address t : ℕ) → Instr × Instr
-store_pair a t = (Lui t0 (pos (upper_bits a)), Sw t0 (first + t) (lower_bits a))
+store_pair a t = (Lui t0 (pos (upper_bits a)), Sw t0 (a0 + t) (lower_bits a))
 
 -- Given the address of each global and the number of parameters, which are the first temporaries.
 module _ (place : ℕ → ℕ) (params : ℕ) where

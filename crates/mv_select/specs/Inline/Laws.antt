@@ -5,7 +5,7 @@ use Rattle.mv_isa.specs.Encoding.{Fits}
 use Rattle.mv_isa.specs.Code.{IsPlace}
 use Rattle.mv_isa.specs.Execution.{Access, reg}
 use Rattle.mv_isa.specs.Standing.{InstrStands}
-use Rattle.mv_isa.specs.Registers.{t0}
+use Rattle.mv_isa.specs.Registers.{t0, a0}
 use Rattle.mv_ir.specs.declared.tree.Tree.{Tree}
 use Rattle.mv_ir.specs.declared.body.Body.{Body}
 use Rattle.mv_ir.specs.Trees.{found}
@@ -16,7 +16,6 @@ use Rattle.mv_ir.specs.Meaning.{Contents, body_from}
 use Rattle.mv_ir.specs.Measures.{scalars_read}
 use Rattle.mv_ir.specs.WellFormed.{IsWellFormed}
 use Rattle.mv_select_code.specs.Trees.Rooms.{place_in}
-use Rattle.mv_select_code.specs.Statements.StatementCode.{first}
 use Rattle.mv_select_code.specs.Statements.Frames.{Reach}
 use Rattle.mv_select_code.specs.Control.Runs.{Machine}
 use Rattle.mv_select.specs.Calls.Convention.{Layout, Stands, Enters, Returns, Answers, slot_cost}
@@ -34,14 +33,14 @@ module _ {M : Type 0} (access : Access M) (y : Layout) (machine : Machine M) (bu
   -- time i + 2 stands where a call that was made at time i returns to; and the call does return
   abbrev pub ComesBack : (spare k i back : ℕ) → End → Type 0
   ComesBack spare k i back (Returned None w) = Returns access y machine budget far spare k i back w (i + 2)
-  ComesBack spare k i back (Returned (Some v) w) = Returns access y machine budget far spare k i back w (i + 2) × (reg (machine.run (i + 2)).regs first ≡ v)
+  ComesBack spare k i back (Returned (Some v) w) = Returns access y machine budget far spare k i back w (i + 2) × (reg (machine.run (i + 2)).regs a0 ≡ v)
   ComesBack spare k i back _ = ⊥
 
   -- Two instructions from time i on do what a body means, change no register but a0 and t0, and load no word but that of a global that the body
   -- reads and that isn't read as a bound value.
   pub record IsDone (bound : List (ℕ × ℕ)) (body : Body) (one two : Instr) (spare k i back : ℕ) (e : End) : Type 0 where
     pub comes : ComesBack spare k i back e
-    pub others : (q : ℕ) → q ≢ first → q ≢ t0 → reg (machine.run (i + 2)).regs q ≡ reg (machine.run i).regs q
+    pub others : (q : ℕ) → q ≢ a0 → q ≢ t0 → reg (machine.run (i + 2)).regs q ≡ reg (machine.run i).regs q
     pub first_loads : LoadsRead y bound body one (machine.run i).regs
     pub second_loads : LoadsRead y bound body two (machine.run (i + 1)).regs
 

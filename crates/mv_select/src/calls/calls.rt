@@ -2,21 +2,21 @@
 
 ghost use Rattle.std.specs.Prelude.{◌≡◌, ◌+◌, ◌<◌, ◌≤◌, ◌++◌, pos, All, length, IfSome, OnOk};
 ghost use Rattle.mv_ir.specs.Measures.{callee_trees};
-ghost use Rattle.mv_select_code.specs.Trees.Rooms.{place_in};
+ghost use Rattle.mv_select_code.specs.Trees.TreeCode.{seats_at};
 ghost use Rattle.mv_select_code.specs.Statements.Encoded.{IsSmall};
-ghost use Rattle.mv_select.specs.Calls.CallCode.{result_lines, argument_lines, guard_lines, back_lines, slot_lines, guarded_lines, jump_lines, pointer_lines, transfer_lines, pad_lines, call_lines, order_lines, ask_lines, known_lines, request_of, is_marked};
+ghost use Rattle.mv_select.specs.Calls.CallCode.{result_lines, argument_lines, guard_lines, back_lines, slot_lines, entry_lines, guarded_lines, jump_lines, pointer_lines, transfer_lines, pad_lines, call_lines, order_lines, ask_lines, known_lines, request_of, is_marked};
 
 use mv_ast::program::Known;
 use mv_bindings::traps::{CALL_TOO_DEEP, NULL_CALL};
-use mv_ir::body::Room;
 use mv_ir::stm::Callee;
 use mv_ir::tree::Tree;
 use mv_isa::Instr;
 use mv_isa::labelled::Line;
-use mv_isa::labels::{COMMIT, TRAPS};
+use mv_isa::labels::{COMMIT, ENTRIES, TRAPS};
 use mv_isa::requests::{PLAN, POLL, READ, WRITE};
 use mv_num::list::List;
 use mv_select_code::statements::write_temp;
+use mv_select_code::trees::places::Places;
 use mv_select_code::trees::{place_of, push_into, push_number, push_one, push_tree};
 use std::alloc::AllocError;
 
@@ -40,28 +40,32 @@ const NOP: Instr = Instr::Addi {
 };
 
 // The result of a call into a temporary, if it has one.
-fn push_result(code: &mut List<Line>, temp: Option<u32>) -> Result<(), AllocError>
+fn push_result(
+    code: &mut List<Line>,
+    places: Places<'_>,
+    temp: Option<u32>,
+) -> Result<(), AllocError>
     requires { IfSome temp (λ t. t < 507) }
-    ensures { OnOk result (code.new ≡ code.old ++ result_lines temp) }
+    ensures { OnOk result (code.new ≡ code.old ++ result_lines (seats_at places.entry.rooms.now places.entry.keeping) temp) }
 {
     match temp {
         None => Ok(()),
-        Some(temp) => push_one(code, write_temp(temp, FIRST)),
+        Some(temp) => push_one(code, write_temp(places, temp, FIRST)),
     }
 }
 
 // Arguments into registers from one on.
 fn push_arguments(
     code: &mut List<Line>,
-    rooms: &[Room],
+    places: Places<'_>,
     arguments: &[Tree],
 ) -> Result<(), AllocError>
     requires few { length arguments.now < 9 }
     requires small { All IsSmall arguments.now }
-    ensures { OnOk result (code.new ≡ code.old ++ argument_lines (place_in rooms.now) 10 arguments.now) }
+    ensures { OnOk result (code.new ≡ code.old ++ argument_lines (seats_at places.entry.rooms.now places.entry.keeping) 10 arguments.now) }
 {
     for (index, argument) in arguments.iter().enumerate() {
-        push_into(code, rooms, argument, FIRST + index as u8, SCRATCH)?;
+        push_into(code, places, argument, FIRST + index as u8, SCRATCH)?;
     }
     Ok(())
 }
@@ -82,9 +86,9 @@ fn push_guard(code: &mut List<Line>) -> Result<(), AllocError>
 }
 
 // One call more is left again, and the result comes into its temporary.
-fn push_back(code: &mut List<Line>, temp: Option<u32>) -> Result<(), AllocError>
+fn push_back(code: &mut List<Line>, places: Places<'_>, temp: Option<u32>) -> Result<(), AllocError>
     requires { IfSome temp (λ t. t < 507) }
-    ensures { OnOk result (code.new ≡ code.old ++ back_lines temp) }
+    ensures { OnOk result (code.new ≡ code.old ++ back_lines (seats_at places.entry.rooms.now places.entry.keeping) temp) }
 {
     push_one(
         code,
@@ -94,23 +98,43 @@ fn push_back(code: &mut List<Line>, temp: Option<u32>) -> Result<(), AllocError>
             imm: 1,
         },
     )?;
-    push_result(code, temp)
+    push_result(code, places, temp)
 }
 
 // A call by a slot.
-fn push_slot(code: &mut List<Line>, function: u32, temp: Option<u32>) -> Result<(), AllocError>
+fn push_slot(
+    code: &mut List<Line>,
+    places: Places<'_>,
+    function: u32,
+    temp: Option<u32>,
+) -> Result<(), AllocError>
     requires { IfSome temp (λ t. t < 507) }
-    ensures { OnOk result (code.new ≡ code.old ++ guarded_lines (slot_lines function) temp) }
+    ensures { OnOk result (code.new ≡ code.old ++ guarded_lines (seats_at places.entry.rooms.now places.entry.keeping) (slot_lines function) temp) }
 {
     push_guard(code)?;
     code.push(Line::Slot(function))?;
-    push_back(code, temp)
+    push_back(code, places, temp)
+}
+
+// A call of a function that isn't attributed.
+fn push_entry(
+    code: &mut List<Line>,
+    places: Places<'_>,
+    function: u32,
+    temp: Option<u32>,
+) -> Result<(), AllocError>
+    requires { IfSome temp (λ t. t < 507) }
+    ensures { OnOk result (code.new ≡ code.old ++ guarded_lines (seats_at places.entry.rooms.now places.entry.keeping) (entry_lines function) temp) }
+{
+    push_guard(code)?;
+    code.push(Line::Jump(LINK, ENTRIES + function % ENTRIES))?;
+    push_back(code, places, temp)
 }
 
 // A call to the address in t3.
-fn push_jump(code: &mut List<Line>, temp: Option<u32>) -> Result<(), AllocError>
+fn push_jump(code: &mut List<Line>, places: Places<'_>, temp: Option<u32>) -> Result<(), AllocError>
     requires { IfSome temp (λ t. t < 507) }
-    ensures { OnOk result (code.new ≡ code.old ++ guarded_lines jump_lines temp) }
+    ensures { OnOk result (code.new ≡ code.old ++ guarded_lines (seats_at places.entry.rooms.now places.entry.keeping) jump_lines temp) }
 {
     push_guard(code)?;
     push_one(
@@ -121,46 +145,49 @@ fn push_jump(code: &mut List<Line>, temp: Option<u32>) -> Result<(), AllocError>
             imm: 0,
         },
     )?;
-    push_back(code, temp)
+    push_back(code, places, temp)
 }
 
 // A call to the address in t3, with a trap where it is null.
-fn push_pointer(code: &mut List<Line>, temp: Option<u32>) -> Result<(), AllocError>
+fn push_pointer(
+    code: &mut List<Line>,
+    places: Places<'_>,
+    temp: Option<u32>,
+) -> Result<(), AllocError>
     requires { IfSome temp (λ t. t < 507) }
-    ensures { OnOk result (code.new ≡ code.old ++ pointer_lines temp) }
+    ensures { OnOk result (code.new ≡ code.old ++ pointer_lines (seats_at places.entry.rooms.now places.entry.keeping) temp) }
 {
     code.push(Line::Branch(0, SCRATCH, 0, TRAPS + u32::from(NULL_CALL)))?;
-    push_jump(code, temp)
+    push_jump(code, places, temp)
 }
 
 // The call, its arguments in their registers.
 fn push_transfer(
     code: &mut List<Line>,
-    rooms: &[Room],
+    places: Places<'_>,
     marked: &[u32],
     callee: &Callee,
     temp: Option<u32>,
 ) -> Result<(), AllocError>
     requires temp { IfSome temp (λ t. t < 507) }
     requires small { All IsSmall (callee_trees callee.now) }
-    ensures { OnOk result (code.new ≡ code.old ++ transfer_lines (place_in rooms.now) (is_marked marked.now) callee.now temp) }
+    ensures { OnOk result (code.new ≡ code.old ++ transfer_lines (seats_at places.entry.rooms.now places.entry.keeping) (is_marked marked.now) callee.now temp) }
 {
     match callee {
         Callee::Direct(function) => {
             if marked.contains(function) {
-                push_slot(code, *function, temp)
+                push_slot(code, places, *function, temp)
             } else {
-                code.push(Line::Entry(SCRATCH, *function))?;
-                push_jump(code, temp)
+                push_entry(code, places, *function, temp)
             }
         }
         Callee::Through(pointer) => {
-            push_tree(code, rooms, pointer, SCRATCH)?;
-            push_pointer(code, temp)
+            push_tree(code, places, pointer, SCRATCH)?;
+            push_pointer(code, places, temp)
         }
         Callee::Switched(global) => {
-            code.push(Line::Point(place_of(rooms, *global)))?;
-            push_back(code, temp)
+            code.push(Line::Point(place_of(places.rooms, *global)))?;
+            push_back(code, places, temp)
         }
     }
 }
@@ -180,7 +207,7 @@ fn push_pad(code: &mut List<Line>, callee: &Callee, arguments: &[Tree]) -> Resul
 /// many trap 4.
 pub fn push_call(
     code: &mut List<Line>,
-    rooms: &[Room],
+    places: Places<'_>,
     marked: &[u32],
     temp: Option<u32>,
     callee: &Callee,
@@ -190,11 +217,11 @@ pub fn push_call(
     requires few { length arguments.now < 9 }
     requires small { All IsSmall arguments.now }
     requires small_callee { All IsSmall (callee_trees callee.now) }
-    ensures { OnOk result (code.new ≡ code.old ++ call_lines (place_in rooms.now) (is_marked marked.now) temp callee.now arguments.now) }
+    ensures { OnOk result (code.new ≡ code.old ++ call_lines (seats_at places.entry.rooms.now places.entry.keeping) (is_marked marked.now) temp callee.now arguments.now) }
 {
     push_pad(code, callee, arguments)?;
-    push_arguments(code, rooms, arguments)?;
-    push_transfer(code, rooms, marked, callee, temp)
+    push_arguments(code, places, arguments)?;
+    push_transfer(code, places, marked, callee, temp)
 }
 
 // The numbers of an order.
@@ -245,7 +272,7 @@ fn push_ask(code: &mut List<Line>, known: Known) -> Result<(), AllocError>
 /// Calls a known function, and puts its answer into a temporary where one is named.
 pub fn push_known(
     code: &mut List<Line>,
-    rooms: &[Room],
+    places: Places<'_>,
     temp: Option<u32>,
     known: Known,
     arguments: &[Tree],
@@ -253,9 +280,9 @@ pub fn push_known(
     requires temp { IfSome temp (λ t. t < 507) }
     requires few { length arguments.now < 9 }
     requires small { All IsSmall arguments.now }
-    ensures { OnOk result (code.new ≡ code.old ++ known_lines (place_in rooms.now) temp known arguments.now) }
+    ensures { OnOk result (code.new ≡ code.old ++ known_lines (seats_at places.entry.rooms.now places.entry.keeping) temp known arguments.now) }
 {
-    push_arguments(code, rooms, arguments)?;
+    push_arguments(code, places, arguments)?;
     push_order(code, known)?;
     push_one(
         code,
@@ -266,5 +293,5 @@ pub fn push_known(
         },
     )?;
     push_ask(code, known)?;
-    push_result(code, temp)
+    push_result(code, places, temp)
 }

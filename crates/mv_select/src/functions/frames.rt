@@ -1,11 +1,13 @@
 //! The entry of a function, which makes its frame, and its return, which takes it down.
 
 ghost use Rattle.std.specs.Prelude.{◌≡◌, ◌<◌, ◌≤◌, ◌++◌, OnOk};
-ghost use Rattle.mv_select.specs.Functions.FunctionCode.{saved_count, saved_register, save_lines, restore_lines, parameter_lines, enter_lines, leave_lines, prologue_lines, epilogue_lines};
+ghost use Rattle.mv_select.specs.Functions.FunctionCode.{saved_count, saved_register, save_lines, restore_lines, parameter_lines, enter_lines, leave_lines, prologue_lines, epilogue_lines, move_lines, entry_by, return_by, bytes_of};
+ghost use Rattle.mv_select.specs.Functions.Outlines.{outlined};
 
 use mv_isa::Instr;
 use mv_isa::labelled::Line;
 use mv_num::list::List;
+use mv_select_code::trees::places::Keeping;
 use mv_select_code::trees::{push_one, push_two, temp_register};
 use std::alloc::AllocError;
 
@@ -131,8 +133,79 @@ fn push_leave(code: &mut List<Line>, attributed: bool) -> Result<(), AllocError>
     }
 }
 
-/// Makes the frame of a function, of so many bytes, and puts its parameters into its first temporaries.
-pub fn push_prologue(
+/// A function's own numbers, with the bytes of its frame.
+#[derive(Clone, Copy, Debug, Drop)]
+pub struct Outline<'a> {
+    pub attributed: bool,
+    pub keeping: Keeping,
+    pub params: u32,
+    pub temps: u32,
+    /// How many words each array has.
+    pub arrays: &'a [u32],
+    pub bytes: u32,
+}
+
+// Moves sp, where there are arrays.
+fn push_move(code: &mut List<Line>, arrays: &[u32], bytes: i32) -> Result<(), AllocError>
+    ensures { OnOk result (code.new ≡ code.old ++ move_lines arrays.now bytes) }
+{
+    if arrays.is_empty() {
+        return Ok(());
+    }
+    push_one(
+        code,
+        Instr::Addi {
+            rd: STACK,
+            rs1: STACK,
+            imm: bytes,
+        },
+    )
+}
+
+/// The entry of a function: its frame is made, and its parameters come to their temporaries. One that keeps its temporaries where
+/// arguments come needs a frame for arrays alone.
+pub fn push_entry(code: &mut List<Line>, outline: Outline<'_>) -> Result<(), AllocError>
+    requires params { outline.params ≤ 8 }
+    requires bytes { outline.bytes ≡ bytes_of (outlined outline) }
+    requires few { outline.bytes ≤ 2032 }
+    ensures { OnOk result (code.new ≡ code.old ++ entry_by outline.entry.keeping (outlined outline.entry)) }
+{
+    match outline.keeping {
+        Keeping::Saved => push_prologue(
+            code,
+            outline.attributed,
+            outline.params,
+            outline.temps,
+            outline.bytes,
+        ),
+        Keeping::Arguments => push_move(code, outline.arrays, -(outline.bytes as i32)),
+    }
+}
+
+/// The return of a function: its frame is taken down.
+pub fn push_return(code: &mut List<Line>, outline: Outline<'_>) -> Result<(), AllocError>
+    requires bytes { outline.bytes ≡ bytes_of (outlined outline) }
+    requires few { outline.bytes ≤ 2032 }
+    ensures { OnOk result (code.new ≡ code.old ++ return_by outline.entry.keeping (outlined outline.entry)) }
+{
+    match outline.keeping {
+        Keeping::Saved => push_epilogue(code, outline.attributed, outline.temps, outline.bytes),
+        Keeping::Arguments => {
+            push_move(code, outline.arrays, outline.bytes as i32)?;
+            push_one(
+                code,
+                Instr::Jalr {
+                    rd: 0,
+                    rs1: LINK,
+                    imm: 0,
+                },
+            )
+        }
+    }
+}
+
+// Makes the frame of a function, of so many bytes, and puts its parameters into its first temporaries.
+fn push_prologue(
     code: &mut List<Line>,
     attributed: bool,
     params: u32,
@@ -156,8 +229,8 @@ pub fn push_prologue(
     push_enter(code, attributed)
 }
 
-/// Takes the frame of a function down, and returns.
-pub fn push_epilogue(
+// Takes the frame of a function down, and returns.
+fn push_epilogue(
     code: &mut List<Line>,
     attributed: bool,
     temps: u32,

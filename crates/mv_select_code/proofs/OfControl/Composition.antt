@@ -204,67 +204,66 @@ module _ {M : Type 0} (access : Access M) (s : Site) (machine : Machine M) (plac
 
   -- ---- loops
 
-  abbrev Again : (bar spare k : ℕ) → List Enclosing → Way → (pc : ℕ) → (State → Run) → Type 0
-  Again bar spare k around way pc again = (l : State) (j : ℕ) → H 1 (spare + (again l).cost) k pc l j → Arrives bar spare k around way (again l).outcome
+  -- what is asked of the next turns of a loop, from where turns start, with so many instructions more than are asked for
+  abbrev pub Again : (bar over spare k : ℕ) → List Enclosing → Way → (pc : ℕ) → (State → Run) → Type 0
+  Again bar over spare k around way pc again = (l : State) (j : ℕ) → H over (spare + (jumps way + (again l).cost)) k pc l j → Arrives bar spare k around way (again l).outcome
 
-  -- what follows a turn of a loop, which goes on to its start by a jump
-  turn_arrives : (bar label spare k : ℕ) (around : List Enclosing) (way : Way) (pc : ℕ) (r : Outcome) (again : State → Run) → bar ≤ label → place label ≡ pc
-      → Arrives (label + 1) (spare + (turn_end r again).cost) k (loop_at label way ∷ around) (jump_to label) r → Again bar spare k around way pc again → Arrives bar spare k around way (turn_end r again).outcome
-  turn_arrives bar label spare k around way pc (Next l) again le start f g =
-      let more = spare + (again l).cost in
-      g l f.0 (at_place 1 more k (place label) pc l f.0 start (rest (least (label + 1) (jump_to label) label) more k 1 more k (place label) l f.0 (omega (arith, least_again label)) (omega arith) f.1))
-  turn_arrives bar label spare k around way pc (Leaves zero l) again le start f g = (
+  -- what follows a turn of a loop, which goes on to where turns start
+  pub turn_arrives : (bar bar' over spare k : ℕ) (around : List Enclosing) (way next : Way) (pc : ℕ) (r : Outcome) (again : State → Run) → ((l : ℕ) → least bar way l ≤ least bar' next l)
+      → over ≤ least bar' next next.after → place next.after ≡ pc → Arrives bar' (spare + (jumps way + (turn_end r again).cost)) k (loop_at next.after way ∷ around) next r → Again bar over spare k around way pc again
+      → Arrives bar spare k around way (turn_end r again).outcome
+  turn_arrives bar bar' over spare k around way next pc (Next l) again fewer certain start f g =
+      let more = spare + (jumps way + (again l).cost) in
+      g l f.0 (at_place over more k (place next.after) pc l f.0 start (rest (least bar' next next.after) more k over more k (place next.after) l f.0 (sum (least bar' next next.after) over certain) (omega arith) f.1))
+    where
+      sum : (a c : ℕ) → c ≤ a → c + k ≤ a + k
+      sum a c le = omega (arith, le)
+  turn_arrives bar bar' over spare k around way next pc (Leaves zero l) again fewer certain start f g = (
     f.0,
-    rest (least (label + 1) (jump_to label) way.after) (spare + 0) k (least bar way way.after) spare k (place way.after) l f.0
-        (sum (least (label + 1) (jump_to label) way.after) (least bar way way.after) (least_jump bar (label + 1) label way.after way (omega (arith, le)))) (omega arith) f.1,
+    rest (least bar' next way.after) (spare + (jumps way + 0)) k (least bar way way.after) spare k (place way.after) l f.0 (sum (least bar' next way.after) (least bar way way.after) (fewer way.after)) (omega arith) f.1,
   )
     where
       sum : (a c : ℕ) → c ≤ a → c + k ≤ a + k
       sum a c le = omega (arith, le)
-  turn_arrives bar label spare k around way pc (Leaves (suc n) l) again le start f g =
-      let to = (enclosing_at around n end).end in (
-        f.0,
-        rest (least (label + 1) (jump_to label) to) (spare + 0) k (least bar way to) spare k (place to) l f.0
-            (sum (least (label + 1) (jump_to label) to) (least bar way to) (least_jump bar (label + 1) label to way (omega (arith, le)))) (omega arith) f.1,
-      )
+  turn_arrives bar bar' over spare k around way next pc (Leaves (suc n) l) again fewer certain start f g =
+      let to = (enclosing_at around n end).end in
+      (f.0, rest (least bar' next to) (spare + (jumps way + 0)) k (least bar way to) spare k (place to) l f.0 (sum (least bar' next to) (least bar way to) (fewer to)) (omega arith) f.1)
     where
       sum : (a c : ℕ) → c ≤ a → c + k ≤ a + k
       sum a c le = omega (arith, le)
-  turn_arrives bar label spare k around way pc (Restarts zero l) again le start f g = g l f.0 (at_place 1 (spare + (again l).cost) k (place label) pc l f.0 start f.1)
-  turn_arrives bar label spare k around way pc (Restarts (suc n) l) again le start f g =
-      (f.0, rest 1 (spare + 0) k 1 spare k (place (enclosing_at around n end).start) l f.0 (omega arith) (omega arith) f.1)
-  turn_arrives bar label spare k around way pc (Ends x) again le start f g = fewer_end (spare + 0) spare k k x (omega arith) (omega arith) f
+  turn_arrives bar bar' over spare k around way next pc (Restarts zero l) again fewer certain start f g =
+      let more = spare + (jumps way + (again l).cost) in
+      g l f.0 (at_place over more k (place next.after) pc l f.0 start (rest 1 more k over more k (place next.after) l f.0 (sum (least bar' next next.after) certain (least_one bar' next next.after)) (omega arith) f.1))
+    where
+      sum : (a : ℕ) → over ≤ a → a ≤ 1 → over + k ≤ 1 + k
+      sum a le le' = omega (arith, le, le')
+  turn_arrives bar bar' over spare k around way next pc (Restarts (suc n) l) again fewer certain start f g =
+      (f.0, rest 1 (spare + (jumps way + 0)) k 1 spare k (place (enclosing_at around n end).start) l f.0 (omega arith) (omega arith) f.1)
+  turn_arrives bar bar' over spare k around way next pc (Ends x) again fewer certain start f g = fewer_end (spare + (jumps way + 0)) spare k k x (omega arith) (omega arith) f
 
-  -- one turn of a loop and its other turns
+  -- one turn of a loop, which goes back to its start by a jump, and its other turns
   turn_gets : (bar label spare k : ℕ) (around : List Enclosing) (way : Way) (pc : ℕ) (m again : State → Run) → bar ≤ label → place label ≡ pc
-      → ((spare : ℕ) → Gets (label + 1) spare k (loop_at label way ∷ around) (jump_to label) pc m) → Again bar spare k around way pc again
-      → (l : State) (i : ℕ) → H 0 (spare + (turn (m l) again).cost) k pc l i → Arrives bar spare k around way (turn (m l) again).outcome
+      → ((spare : ℕ) → Gets (label + 1) spare k (loop_at label way ∷ around) (jump_to label) pc m) → Again bar 1 spare k around way pc again
+      → Gets bar spare k around way pc (λ l. turn (m l) again)
   turn_gets bar label spare k around way pc m again le start a g l i h =
-      let t = (turn_end (m l).outcome again).cost in
-      turn_arrives bar label spare k around way pc (m l).outcome again le start
-      (a (spare + t) l i (rest 0 (spare + (8 + ((m l).cost + t))) k 0 (spare + t + (1 + (m l).cost)) k pc l i (omega arith) (omega arith) h)) g
+      let t = jumps way + (turn_end (m l).outcome again).cost in
+      turn_arrives bar (label + 1) 1 spare k around way (jump_to label) pc (m l).outcome again (λ n. least_jump bar (label + 1) label n way (omega (arith, le))) (omega (arith, least_again label)) start
+      (a (spare + t) l i (rest 0 (spare + (jumps way + (8 + ((m l).cost + (turn_end (m l).outcome again).cost)))) k 0 (spare + t + (1 + (m l).cost)) k pc l i (omega arith) (omega arith) h)) g
 
   -- where the bound is used up
-  cut : (over spare pc : ℕ) (l : State) (i : ℕ) → H over spare 0 pc l i → IsCut access s machine place end budget far l.world i
+  pub cut : (over spare pc : ℕ) (l : State) (i : ℕ) → H over spare 0 pc l i → IsCut access s machine place end budget far l.world i
   cut over spare pc l i h =
       let paid = h.paid in let asked = h.asked in
       record { calm = h.calm; sound = h.sound; paid = omega (arith, paid); asked = omega (arith, asked) }
 
   -- a loop, by recursion on the bound: each turn may use what its body does at every bound below
-  turns : (bar label spare : ℕ) (around : List Enclosing) (way : Way) (pc : ℕ) (m : Meaning) (bound : Bound) → bar ≤ label → place label ≡ pc
-      → ((spare : ℕ) (b : Bound) → IsWithin b bound → Gets (label + 1) spare (length b) (loop_at label way ∷ around) (jump_to label) pc (m b))
-      → (l : State) (i : ℕ) → H 0 (spare + (loop m bound l).cost) (length bound) pc l i → Arrives bar spare (length bound) around way (loop m bound l).outcome
-  turns bar label spare around way pc m [] le start does =
-      turn_gets bar label spare 0 around way pc (m []) (λ l. now (Ends (More l.world))) le start (λ spare. does spare [] refl) (λ l j h. (j, cut 1 (spare + 0) pc l j h))
-  turns bar label spare around way pc m (calls ∷ below) le start does =
-      turn_gets bar label spare (suc (length below)) around way pc (m (calls ∷ below)) (loop m below) le start (λ spare. does spare (calls ∷ below) (inl refl))
-      (λ l j h. less bar bar spare spare (length below) (suc (length below)) around way way (loop m below l).outcome refl (λ n. omega arith) (omega arith) (omega arith)
-      (turns bar label spare around way pc m below le start (λ spare b le. does spare b (inr le)) l j
-      (rest 1 (spare + (loop m below l).cost) (suc (length below)) 0 (spare + (loop m below l).cost) (length below) pc l j (omega arith) (omega arith) h)))
-
   pub loop_gets : (bar label spare : ℕ) (around : List Enclosing) (way : Way) (pc : ℕ) (m : Meaning) (bound : Bound) → bar ≤ label → place label ≡ pc
       → ((spare : ℕ) (b : Bound) → IsWithin b bound → Gets (label + 1) spare (length b) (loop_at label way ∷ around) (jump_to label) pc (m b))
       → Gets bar spare (length bound) around way pc (loop m bound)
-  loop_gets bar label spare around way pc m bound le start does l i h =
-      let c = (loop m bound l).cost in
-      turns bar label spare around way pc m bound le start does l i (rest 0 (spare + (jumps way + c)) (length bound) 0 (spare + c) (length bound) pc l i (omega arith) (omega arith) h)
+  loop_gets bar label spare around way pc m [] le start does =
+      turn_gets bar label spare 0 around way pc (m []) (λ l. now (Ends (More l.world))) le start (λ spare. does spare [] refl) (λ l j h. (j, cut 1 (spare + (jumps way + 0)) pc l j h))
+  loop_gets bar label spare around way pc m (calls ∷ below) le start does =
+      turn_gets bar label spare (suc (length below)) around way pc (m (calls ∷ below)) (loop m below) le start (λ spare. does spare (calls ∷ below) (inl refl))
+      (λ l j h. less bar bar spare spare (length below) (suc (length below)) around way way (loop m below l).outcome refl (λ n. omega arith) (omega arith) (omega arith)
+      (loop_gets bar label spare around way pc m below le start (λ spare b le. does spare b (inr le)) l j
+      (rest 1 (spare + (jumps way + (loop m below l).cost)) (suc (length below)) 0 (spare + (jumps way + (loop m below l).cost)) (length below) pc l j (omega arith) (omega arith) h)))

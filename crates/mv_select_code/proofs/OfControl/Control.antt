@@ -1,5 +1,5 @@
 -- The code of branches, loops and blocks, and of what leaves them and starts them again, on a run.
-use Rattle.std.proofs.Common.{◌≡◌, ℕ, ◌+◌, ◌*◌, ◌≤◌, ◌&&◌, Bool, true, false, cond, eqb, List, [], ◌∷◌, ◌++◌, length, refl, sym, ap, ◌∙◌, subst, arith}
+use Rattle.std.proofs.Common.{◌≡◌, ℕ, suc, ◌+◌, ◌-◌, ◌*◌, ◌≤◌, ◌&&◌, Bool, true, false, cond, eqb, List, [], ◌∷◌, ◌++◌, length, inl, inr, refl, sym, ap, ◌∙◌, subst, arith}
 use Rattle.std.proofs.lemmas.Bool.{eqb-true}
 use Rattle.mv_isa.specs.declared.labelled.Line.{Line}
 use Rattle.mv_isa.specs.declared.labelled.Line.TheVariants.{Label, Jump}
@@ -7,7 +7,7 @@ use Rattle.mv_isa.specs.Execution.{Access, reg}
 use Rattle.mv_ir.specs.declared.tree.Tree.{Tree}
 use Rattle.mv_ir.specs.declared.stm.Stm.TheOpen as stm
 use Rattle.mv_ir.specs.World as ir
-use Rattle.mv_ir.specs.Outcome.{State, Outcome, Next, Leaves, Restarts, Ends, Run, Bound, Meaning, spend, now, in_order, loop}
+use Rattle.mv_ir.specs.Outcome.{State, More, Outcome, Next, Leaves, Restarts, Ends, Run, Bound, Meaning, spend, now, then_do, in_order, turn_end, turn, loop}
 use Rattle.mv_ir.specs.Trees.{nodes}
 use Rattle.mv_ir.specs.Meaning.{of_tree, statement}
 use Rattle.mv_select_code.specs.Trees.TreeCode.{is_taken, branch_lines}
@@ -21,10 +21,10 @@ use Rattle.mv_select_code.specs.declared.control.enclosing.Enclosing.{Enclosing}
 use Rattle.mv_select_code.specs.declared.control.enclosing.Leading.{Leading}
 use Rattle.mv_select_code.specs.declared.control.enclosing.Leading.TheVariants as lead
 use Rattle.mv_select_code.specs.declared.control.enclosing.Way.{Way}
-use Rattle.mv_select_code.specs.Control.FlowCode.{enclosing_at, jump_to, go_to, go_on, jumps, leads_to, loop_at, block_at}
-use Rattle.mv_select_code.specs.Control.Runs.{Spot, Machine, IsRun}
+use Rattle.mv_select_code.specs.Control.FlowCode.{enclosing_at, fall_to, jump_to, go_to, go_on, jumps, leads_to, loop_at, block_at}
+use Rattle.mv_select_code.specs.Control.Runs.{Spot, Machine, outside, IsRun}
 use Rattle.mv_select_code.specs.Control.Flow.{IsWithin}
-use Rattle.mv_select_code.proofs.OfControl.Composition.{least, least_one, one_at_most, least_go, least_jump, least_on, Arrives, Gets, rest, at_place, fewer, less, block_gets, loop_gets}
+use Rattle.mv_select_code.proofs.OfControl.Composition.{least, least_one, one_at_most, least_go, least_jump, least_fall, least_on, Arrives, Gets, Again, rest, at_place, fewer, less, both_get, block_gets, turn_arrives, cut, loop_gets}
 use Rattle.mv_select_code.proofs.OfControl.Walk.{placed_split, jumps_or_falls, leads_walk, leads_later, to_stands, to_here}
 use Rattle.mv_select_code.proofs.OfControl.Course.{course}
 use Rattle.mv_num.proofs.Booleans.{and_cases}
@@ -124,24 +124,24 @@ module _ {M : Type 0} (access : Access M) (s : Site) (setting : ir.Setting) (fra
   abbrev V : Tree → State → ℕ
   V = of_tree setting frame
 
-  pub return_gets : (bar spare k pc stop : ℕ) (around : List Enclosing) (way : Way) (bound : Bound) (v : Tree) → IsFine s setting frame v → P (result_lines s.place v ++ go_to way end) pc stop → Falls place way stop
+  pub return_gets : (bar spare k pc stop : ℕ) (around : List Enclosing) (way : Way) (bound : Bound) (v : Tree) → IsFine s setting frame v → P (result_lines s.seats v ++ go_to way end) pc stop → Falls place way stop
       → G bar spare k around way pc (statement setting frame (stm.Return v) bound)
   return_gets bar spare k pc stop around way bound v fine p falls x i h =
-      let q = split (result_lines s.place v) (go_to way end) pc stop p in
+      let q = split (result_lines s.seats v) (go_to way end) pc stop p in
       let regs = (machine.run i).regs in
       let m = (machine.run i).memory in
       let g = result_done access s setting frame fit v fine x regs m h.shows in
-      let w = leads_walk access s machine ok place end budget far (result_lines s.place v) (2 * nodes v) x.world pc q.0 regs m Past g.0 g.1 i q.1 g.2
+      let w = leads_walk access s machine ok place end budget far (result_lines s.seats v) (2 * nodes v) x.world pc q.0 regs m Past g.2 g.3 i q.1 g.4
       (to_stands access s machine ok place end budget far 0 (spare + (jumps way + (8 + 3 * nodes v))) k pc x i h) in
       let b = way.falls && eqb way.after end in
-      let st = jumps_or_falls access s machine ok place end budget far x.world q.0 stop end b g.0 g.1 w.time q.2 (falls_to way stop end falls) w.stands in
+      let st = jumps_or_falls access s machine ok place end budget far x.world q.0 stop end b g.2 g.3 w.time q.2 (falls_to way stop end falls) w.stands in
       let paid = h.paid in let asked = h.asked in let late = w.late in let soon = w.soon in
-      let value = ap (λ (z : Spot M). reg z.regs first) st.is in (
+      let value = ap (λ (z : Spot M). reg z.regs 10) st.is in (
         w.time + cond b 0 1,
-        x,
-        refl,
-        to_here access s machine ok place end budget far 0 spare k (place end) x x.world g.0 g.1 (w.time + cond b 0 1) refl g.3 (omega (arith, paid, soon, one_at_most b)) (omega (arith, asked, late)) st,
-        value ∙ g.4,
+        g.0,
+        g.1,
+        to_here access s machine ok place end budget far 0 spare k (place end) g.0 x.world g.2 g.3 (w.time + cond b 0 1) (ap outside g.1) g.5 (omega (arith, paid, soon, one_at_most b)) (omega (arith, asked, late)) st,
+        value ∙ g.6,
       )
 
   -- ---- blocks and loops
@@ -165,7 +165,7 @@ module _ {M : Type 0} (access : Access M) (s : Site) (setting : ir.Setting) (fra
   Branched label spare k mid x true = (j : ℕ) × H 1 spare k (place label) x j
   Branched label spare k mid x false = (j : ℕ) × H 0 spare k mid x j
 
-  branch_goes : (v : Tree) (sense : Bool) (label spare k pc mid : ℕ) (x : State) (i : ℕ) (d : Bool) → IsFine s setting frame v → is_taken sense (V v x) ≡ d → P (branch_lines s.place v sense first label) pc mid
+  branch_goes : (v : Tree) (sense : Bool) (label spare k pc mid : ℕ) (x : State) (i : ℕ) (d : Bool) → IsFine s setting frame v → is_taken sense (V v x) ≡ d → P (branch_lines s.seats v sense first label) pc mid
       → H 0 (spare + (2 * nodes v + 3)) k pc x i → Branched label spare k mid x d
   branch_goes v sense label spare k pc mid x i d fine is p h = by d (subst (λ d. To d) is (branch_done access s setting frame fit sense label v fine x regs m h.shows))
     where
@@ -176,7 +176,7 @@ module _ {M : Type 0} (access : Access M) (s : Site) (setting : ir.Setting) (fra
       m = (machine.run i).memory
 
       lines : List Line
-      lines = branch_lines s.place v sense first label
+      lines = branch_lines s.seats v sense first label
 
       n : ℕ
       n = 2 * nodes v + 2
@@ -203,15 +203,15 @@ module _ {M : Type 0} (access : Access M) (s : Site) (setting : ir.Setting) (fra
 
   -- a branch to where one of two runs leads, before the other one
   pub branch_gets : (bar spare k pc stop : ℕ) (around : List Enclosing) (way : Way) (v : Tree) (sense : Bool) (l : Leading) (ls : List Line) (m m' : State → Run) → IsFine s setting frame v
-      → P (branch_lines s.place v sense first (leads_to end around way l) ++ ls) pc stop → ((x : State) → (m x).outcome ≡ led l x) → ((mid : ℕ) → P ls mid stop → G bar spare k around way mid m')
+      → P (branch_lines s.seats v sense first (leads_to end around way l) ++ ls) pc stop → ((x : State) → (m x).outcome ≡ led l x) → ((mid : ℕ) → P ls mid stop → G bar spare k around way mid m')
       → G bar spare k around way pc (λ x. spend (8 + 3 * nodes v) (cond (is_taken sense (V v x)) (m x) (m' x)))
   branch_gets bar spare k pc stop around way v sense l ls m m' fine p leads does x i h = go (is_taken sense (V v x)) refl h
     where
       to : ℕ
       to = leads_to end around way l
 
-      q : (mid : ℕ) × P (branch_lines s.place v sense first to) pc mid × P ls mid stop
-      q = split (branch_lines s.place v sense first to) ls pc stop p
+      q : (mid : ℕ) × P (branch_lines s.seats v sense first to) pc mid × P ls mid stop
+      q = split (branch_lines s.seats v sense first to) ls pc stop p
 
       go : (d : Bool) → is_taken sense (V v x) ≡ d → H 0 (spare + (jumps way + (8 + 3 * nodes v + (cond d (m x) (m' x)).cost))) k pc x i → A bar spare k around way (cond d (m x) (m' x)).outcome
       go true is h =
@@ -226,12 +226,12 @@ module _ {M : Type 0} (access : Access M) (s : Site) (setting : ir.Setting) (fra
 
   -- a branch to the second of two runs, and the first one before it
   pub either_gets : (bar label spare k pc stop : ℕ) (around : List Enclosing) (way : Way) (v : Tree) (la lb : List Line) (m m' : State → Run) → IsFine s setting frame v
-      → P (branch_lines s.place v false first label ++ (la ++ (Label label ∷ lb))) pc stop → ((mid next : ℕ) → P la mid next → G bar spare k around (jump_to way.after) mid m)
+      → P (branch_lines s.seats v false first label ++ (la ++ (Label label ∷ lb))) pc stop → ((mid next : ℕ) → P la mid next → G bar spare k around (jump_to way.after) mid m)
       → ((mid : ℕ) → P lb mid stop → G bar spare k around way mid m') → G bar spare k around way pc (λ x. spend (8 + 3 * nodes v) (cond (is_taken false (V v x)) (m' x) (m x)))
   either_gets bar label spare k pc stop around way v la lb m m' fine p da db x i h = go (is_taken false (V v x)) refl h
     where
-      q : (mid : ℕ) × P (branch_lines s.place v false first label) pc mid × P (la ++ (Label label ∷ lb)) mid stop
-      q = split (branch_lines s.place v false first label) (la ++ (Label label ∷ lb)) pc stop p
+      q : (mid : ℕ) × P (branch_lines s.seats v false first label) pc mid × P (la ++ (Label label ∷ lb)) mid stop
+      q = split (branch_lines s.seats v false first label) (la ++ (Label label ∷ lb)) pc stop p
 
       r : (mid : ℕ) × P la q.0 mid × P (Label label ∷ lb) mid stop
       r = split la (Label label ∷ lb) q.0 stop q.2
@@ -251,6 +251,110 @@ module _ {M : Type 0} (access : Access M) (s : Site) (setting : ir.Setting) (fra
           let b = branch_goes v false label more k pc q.0 x i false fine is q.1 (let_go 0 (spare + (jumps way + (8 + 3 * nodes v + c))) k 0 (more + (2 * nodes v + 3)) pc x i (omega arith) (omega arith) h) in
           less access s machine place end budget far bar bar spare spare k k around (jump_to way.after) way (m x).outcome refl (λ l. least_jump bar bar way.after l way (omega arith)) (omega arith) (omega arith)
           (da q.0 r.0 r.1 x b.0 b.1)
+
+  -- ---- loops that begin with a test which leaves them, which stands at their end
+
+  -- A turn of such a loop does what stands behind the test where that goes on, and else leaves the loop.
+  pub record IsTested (v : Tree) (sense : Bool) (m inner : Meaning) : Type 0 where
+    pub stays : (b : Bound) (x : State) → is_taken sense (V v x) ≡ true → ((m b x).outcome ≡ (inner b x).outcome) × (8 + 3 * nodes v + (inner b x).cost ≤ (m b x).cost)
+    pub leaves : (b : Bound) (x : State) → is_taken sense (V v x) ≡ false → ((m b x).outcome ≡ Leaves 0 x) × (8 + 3 * nodes v ≤ (m b x).cost)
+
+  module _ (v : Tree) (sense : Bool) (fine : IsFine s setting frame v) (m inner : Meaning) (tested : IsTested v sense m inner) (bar label spare : ℕ) (le : bar ≤ label) (around : List Enclosing) (way : Way)
+      (start test mid stop : ℕ) (at_start : place label ≡ start) (at_test : place (label + 1) ≡ test) (branch : P (branch_lines s.seats v sense first label) test mid) (on : P (go_on way) mid stop) (falls : Falls place way stop) where
+    abbrev Inner : (spare : ℕ) → Bound → Type 0
+    Inner spare b = G bar spare (length b) (loop_at (label + 1) way ∷ around) (fall_to (label + 1)) start (inner b)
+
+    -- One turn from the test on, and the other turns. The test may be come to with one instruction fewer than the bound asks for: to stay takes one at least.
+    turn_tested : (k : ℕ) (b : Bound) (again : State → Run) → length b ≤ k → k ≤ length b + 1 → ((spare : ℕ) → Inner spare b)
+        → Again access s machine place end budget far bar 0 spare (length b) around way test again
+        → (paid : ℕ) (x : State) (i : ℕ) → spare + (jumps way + (turn (m b x) again).cost) ≤ paid + 1 → H 0 paid k test x i → A bar spare k around way (turn (m b x) again).outcome
+    turn_tested k b again low high does others paid x i enough h = go (is_taken sense (V v x)) refl
+      where
+        go : (d : Bool) → is_taken sense (V v x) ≡ d → A bar spare k around way (turn_end (m b x).outcome again).outcome
+        go true is =
+            let same = tested.stays b x is in
+            let o = (inner b x).outcome in
+            let c = (inner b x).cost in
+            let more = spare + (jumps way + (turn_end o again).cost) in
+            let cost = ap (λ r. (turn_end r again).cost) same.0 in
+            let n = more + (jumps (fall_to (label + 1)) + c) in
+            let t = branch_goes v sense label n k test mid x i true fine is branch (let_go 0 paid k 0 (n + (2 * nodes v + 3)) test x i (omega arith) (omega (arith, enough, same.1, cost)) h) in
+            let begun = at_place access s machine place end budget far 0 n (length b) (place label) start x t.0 at_start
+            (rest access s machine place end budget far 1 n k 0 n (length b) (place label) x t.0 (omega (arith, high)) (omega arith) t.1) in
+            subst (λ r. A bar spare k around way (turn_end r again).outcome) (sym same.0)
+            (less access s machine place end budget far bar bar spare spare (length b) k around way way (turn_end o again).outcome refl (λ n. omega arith) (omega arith) low
+            (turn_arrives access s machine place end budget far bar bar 0 spare (length b) around way (fall_to (label + 1)) test o again (λ l. least_fall bar (label + 1) l way (omega (arith, le))) (omega arith) at_test
+            (does more x t.0 begun) others))
+        go false is =
+            let same = tested.leaves b x is in
+            let n = spare + jumps way in
+            let t = branch_goes v sense label n k test mid x i false fine is branch (let_go 0 paid k 0 (n + (2 * nodes v + 3)) test x i (omega arith) (omega (arith, enough, same.1)) h) in
+            subst (λ r. A bar spare k around way (turn_end r again).outcome) (sym same.0) (goes_on bar spare k mid stop way x t.0 on falls t.1)
+
+    -- by recursion on the bound
+    turns_tested : (bound : Bound) → ((spare : ℕ) (b : Bound) → IsWithin b bound → Inner spare b) → (k : ℕ) → length bound ≤ k → k ≤ length bound + 1
+        → (paid : ℕ) (x : State) (i : ℕ) → spare + (jumps way + (loop m bound x).cost) ≤ paid + 1 → H 0 paid k test x i → A bar spare k around way (loop m bound x).outcome
+    turns_tested [] does k low high =
+        turn_tested k [] (λ x. now (Ends (More x.world))) low high (λ spare. does spare [] refl) (λ x j h. (j, cut access s machine place end budget far 0 (spare + (jumps way + 0)) test x j h))
+    turns_tested (calls ∷ below) does k low high =
+        turn_tested k (calls ∷ below) (loop m below) low high (λ spare. does spare (calls ∷ below) (inl refl))
+        (λ x j h. turns_tested below (λ spare b w. does spare b (inr w)) (suc (length below)) (omega arith) (omega arith) (spare + (jumps way + (loop m below x).cost)) x j (omega arith) h)
+
+  loop_costs : (m : Meaning) (bound : Bound) (x : State) → 1 ≤ (loop m bound x).cost
+  loop_costs m [] x = omega arith
+  loop_costs m (calls ∷ below) x = omega arith
+
+  -- the jump to the test, what the test leads to, the rest of a turn, and the test
+  pub turned_stands : (v : Tree) (sense : Bool) → IsFine s setting frame v → (m one other : Meaning) → IsTested v sense m (λ b x. then_do (one b x) (other b)) → (bar label spare pc stop : ℕ) (around : List Enclosing) (way : Way)
+      (bound : Bound) (la lb : List Line) → bar ≤ label
+      → P (Jump 0 (label + 1) ∷ Label label ∷ (la ++ (Label (label + 2) ∷ (lb ++ (Label (label + 1) ∷ (branch_lines s.seats v sense first label ++ go_on way)))))) pc stop → Falls place way stop
+      → ((spare : ℕ) (b : Bound) (at next : ℕ) → IsWithin b bound → P la at next → place (label + 2) ≡ next → G bar spare (length b) (loop_at (label + 1) way ∷ around) (fall_to (label + 2)) at (one b))
+      → ((spare : ℕ) (b : Bound) (at next : ℕ) → IsWithin b bound → P lb at next → place (label + 1) ≡ next → G bar spare (length b) (loop_at (label + 1) way ∷ around) (fall_to (label + 1)) at (other b))
+      → G bar spare (length bound) around way pc (loop m bound)
+  turned_stands v sense fine m one other tested bar label spare pc stop around way bound la lb le p falls does_one does_other x i h =
+      turns_tested v sense fine m (λ b x. then_do (one b x) (other b)) tested bar label spare le around way start test.0 end_of.0 stop begins tests end_of.1 end_of.2 falls bound
+      (λ spare b w. both_get access s machine place end budget far bar (label + 2) spare (length b) (loop_at (label + 1) way ∷ around) (fall_to (label + 1)) start second_at (one b) (other b) (omega (arith, le)) between
+      (λ spare. does_one spare b start first_list.0 w first_list.1 (first_list.2.1.label)) (does_other spare b second_at second_list.0 w second_list.1 second_list.2.1.label))
+      (length bound) (omega arith) (omega arith) paid x (i + 1) (omega (arith, costs))
+      (at_place access s machine place end budget far 0 paid (length bound) (place (label + 1)) test.0 x (i + 1) tests
+      (let_go 1 paid (length bound) 0 paid (place (label + 1)) x (i + 1) (omega arith) (omega arith)
+      (goes paid (length bound) pc p.0 (label + 1) false x i (p.0, p.1, refl) (λ e. absurd cc) (let_go 0 (spare + (jumps way + (loop m bound x).cost)) (length bound) 0 (paid + 1) pc x i (omega arith) (omega (arith, costs)) h))))
+    where
+      costs : 1 ≤ (loop m bound x).cost
+      costs = loop_costs m bound x
+
+      paid : ℕ
+      paid = spare + (jumps way + (loop m bound x).cost) - 1
+
+      start : ℕ
+      start = p.2.0
+
+      begins : place label ≡ start
+      begins = p.2.1.label ∙ sym p.2.1.stands
+
+      tail : List Line
+      tail = branch_lines s.seats v sense first label ++ go_on way
+
+      first_list : (mid : ℕ) × P la start mid × P (Label (label + 2) ∷ (lb ++ (Label (label + 1) ∷ tail))) mid stop
+      first_list = split la (Label (label + 2) ∷ (lb ++ (Label (label + 1) ∷ tail))) start stop p.2.2
+
+      second_at : ℕ
+      second_at = first_list.2.0
+
+      between : place (label + 2) ≡ second_at
+      between = first_list.2.1.label ∙ sym first_list.2.1.stands
+
+      second_list : (mid : ℕ) × P lb second_at mid × P (Label (label + 1) ∷ tail) mid stop
+      second_list = split lb (Label (label + 1) ∷ tail) second_at stop first_list.2.2
+
+      test : P (Label (label + 1) ∷ tail) second_list.0 stop
+      test = second_list.2
+
+      tests : place (label + 1) ≡ test.0
+      tests = test.1.label ∙ sym test.1.stands
+
+      end_of : (mid : ℕ) × P (branch_lines s.seats v sense first label) test.0 mid × P (go_on way) mid stop
+      end_of = split (branch_lines s.seats v sense first label) (go_on way) test.0 stop test.2
 
   -- runs that are the same
   pub gets_same : (bar spare k pc : ℕ) (around : List Enclosing) (way : Way) (m m' : State → Run) → ((x : State) → m' x ≡ m x) → G bar spare k around way pc m → G bar spare k around way pc m'

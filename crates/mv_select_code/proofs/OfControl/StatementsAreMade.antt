@@ -1,5 +1,5 @@
 -- What holds of single lines and of lines that are put together holds of the code of statements without control.
-use Rattle.std.proofs.Common.{ℕ, ◌+◌, ◌*◌, ◌&&◌, Bool, true, false, not, cond, eqb, ltb, List, [], ◌∷◌, ◌++◌, Option, Some, None, pos, All, sym, subst}
+use Rattle.std.proofs.Common.{ℕ, ◌+◌, ◌*◌, ◌&&◌, Bool, true, false, not, cond, eqb, List, [], ◌∷◌, ◌++◌, Option, Some, None, pos, All, sym, subst}
 use Rattle.std.proofs.lemmas.List.Elements.{All-append, All-cons, All-nil}
 use Rattle.mv_isa.specs.declared.instr.Instr.{Instr}
 use Rattle.mv_isa.specs.declared.instr.Instr.TheVariants.{Lui, Lw, Sw, Addi, Slli, Add}
@@ -10,12 +10,13 @@ use Rattle.mv_ir.specs.declared.tree.Tree.TheOpen.{Tree-F}
 use Rattle.mv_ir.specs.declared.tree.Tree.TheOpen as tree
 use Rattle.mv_ir.specs.declared.tree.Tree.TheViews.{roll-Tree}
 use Rattle.mv_ir.proofs.Induction.{TreeChildren, tree_ind}
-use Rattle.mv_select_code.specs.Trees.TreeCode.{one, two, upper_bits, lower_bits, number_lines, temp_offset, tree_into, tree_lines, operand_lines, operand_register, is_taken, word_branch, comparison, branch_lines}
+use Rattle.mv_select_code.specs.Trees.TreeCode.{Seats, one, two, upper_bits, lower_bits, near, number_lines, load_by, load_lines, temp_offset, literal, tree_into, tree_lines, operand_lines, operand_register, is_taken, word_branch, comparison, branch_lines}
 use Rattle.mv_select_code.proofs.OfTrees.Rolls.{word_lines, compared_or, branch_tree, branch_roll}
 use Rattle.mv_select_code.proofs.OfTrees.TreesAreMade as trees
+use Rattle.mv_select_code.specs.declared.trees.leaves.Based.{Based}
 use Rattle.mv_select_code.specs.declared.statements.elements.Home.{Home}
 use Rattle.mv_select_code.specs.declared.statements.elements.Home.TheVariants as home
-use Rattle.mv_select_code.specs.Statements.StatementCode.{first, second, third, trap_label, target, keep_lines, division, element_offset, element_lines, test_lines, bounds_lines, clear_lines, set_lines, set_global_lines, divide_lines, check_lines, read_lines, write_lines, result_lines}
+use Rattle.mv_select_code.specs.Statements.StatementCode.{first, second, third, trap_label, target, keep_in, keep_lines, division, element_offset, base_by, element_lines, fixed, element_at, fetch_lines, store_by, store_lines, put_lines, test_lines, divisor_lines, check_by, read_by, write_by, bounds_lines, clear_lines, set_lines, set_global_lines, divide_lines, check_lines, read_lines, write_lines, result_lines}
 use Rattle.mv_select_code.specs.declared.control.enclosing.Way.{Way}
 use Rattle.mv_select_code.specs.Control.FlowCode.{go_to, go_on}
 use Rattle.mv_select_code.specs.Control.Labels.{tree_functions, Names}
@@ -39,20 +40,37 @@ module _ {P : List Line → Type 0} {L J Q : ℕ → Type 0} (made : LineByLine 
   pub number_made : (n r : ℕ) → P (number_lines n r)
   number_made = trees.number_made P P made.none (λ a h. h) (λ i plain. made.word i) made.after
 
-  keep_made : (t : ℕ) → P (keep_lines t)
-  unfolding keep_lines
-  keep_made t = by_place (ltb t 9)
+  load_made : (a r : ℕ) → P (load_lines a r)
+  unfolding load_lines
+  load_made a r = by (near a)
     where
-      by_place : (is_low : Bool) → P (cond is_low [] (one (Sw 2 first (pos (temp_offset t)))))
-      by_place true = made.none
-      by_place false = made.word (Sw 2 first (pos (temp_offset t)))
+      by : (n : Option Based) → P (load_by n a r)
+      by (Some n) = made.word (Lw r n.base n.offset)
+      by None = words_made (Lui r (pos (upper_bits a))) (Lw r r (lower_bits a))
 
-  last_made : (i : Instr) (t : ℕ) → P (Word i ∷ keep_lines t)
-  last_made i t = made.after (one i) (keep_lines t) (made.word i) (keep_made t)
+  store_made : (a q : ℕ) → P (store_lines a q)
+  unfolding store_lines
+  store_made a q = by (near a)
+    where
+      by : (n : Option Based) → P (store_by n a q)
+      by (Some n) = made.word (Sw n.base q n.offset)
+      by None = words_made (Lui second (pos (upper_bits a))) (Sw second q (lower_bits a))
+
+  base_made : (n : Option Based) (at : ℕ) → P (base_by n at)
+  base_made (Some n) at = made.word (Add first first n.base)
+  base_made None at = words_made (Lui third (pos (upper_bits at))) (Add first first third)
 
   element_made : (h : Home) (q : ℕ) → P (element_lines h q)
-  element_made (home.Data at) q = made.after (one (Slli first q (pos 2))) (two (Lui third (pos (upper_bits at))) (Add first first third)) (made.word (Slli first q (pos 2))) (words_made (Lui third (pos (upper_bits at))) (Add first first third))
+  element_made (home.Data at) q = made.after (one (Slli first q (pos 2))) (base_by (near at) at) (made.word (Slli first q (pos 2))) (base_made (near at) at)
   element_made (home.Frame at) q = words_made (Slli first q (pos 2)) (Add first first 2)
+
+  fetch_made : (h : Home) (d : ℕ) → P (fetch_lines h d)
+  fetch_made (home.Data at) d = load_made at d
+  fetch_made (home.Frame at) d = made.word (Lw d 2 (pos at))
+
+  put_made : (h : Home) (q : ℕ) → P (put_lines h q)
+  put_made (home.Data at) q = store_made at q
+  put_made (home.Frame at) q = made.word (Sw 2 q (pos at))
 
   test_made : (size q : ℕ) → J (trap_label 2) → P (test_lines size q)
   test_made size q h = made.after (number_lines size third) (Branch 7 q third (trap_label 2) ∷ []) (number_made size third) (made.branch 7 q third (trap_label 2) h)
@@ -71,92 +89,131 @@ module _ {P : List Line → Type 0} {L J Q : ℕ → Type 0} (made : LineByLine 
   entry_made : (f r : ℕ) → Fs (roll-Tree (tree.Function f)) → P (Entry r f ∷ [])
   entry_made f r h = made.entry r f (function_named Q f h)
 
-  module _ (place : ℕ → ℕ) where
-    pub tree_made : (t : Tree) → Fs t → (r : ℕ) → P (tree_lines place t r)
-    tree_made = trees.lines_made P P made.none (λ a h. h) (λ i plain. made.word i) made.after Fs (functions_inside Q) entry_made place
+  either_made : (d : Bool) (ls ks : List Line) → P ls → P ks → P (cond d ls ks)
+  either_made true ls ks h k = h
+  either_made false ls ks h k = k
 
-    pub operand_made : (t : Tree) → Fs t → (r : ℕ) → P (operand_lines place t r)
-    operand_made = trees.operand_made P P made.none (λ a h. h) (λ i plain. made.word i) made.after Fs (functions_inside Q) entry_made place
+  divisor_made : (n : Option ℕ) (q : ℕ) → J (trap_label 1) → P (divisor_lines n q)
+  divisor_made None q h = made.branch 0 q 0 (trap_label 1) h
+  divisor_made (Some n) q h = either_made (eqb n 0) (Branch 0 q 0 (trap_label 1) ∷ []) [] (made.branch 0 q 0 (trap_label 1) h) made.none
 
-    pub into_made : (t : Tree) → Fs t → (d r : ℕ) → P (tree_into place t d r)
-    into_made = trees.into_made P P made.none (λ a h. h) (λ i plain. made.word i) made.after Fs (functions_inside Q) entry_made place
+  module _ (s : Seats) where
+    pub tree_made : (t : Tree) → Fs t → (r : ℕ) → P (tree_lines s t r)
+    tree_made = trees.lines_made P P made.none (λ a h. h) (λ i plain. made.word i) made.after Fs (functions_inside Q) entry_made s
 
-    pub set_made : (t : ℕ) (v : Tree) → Fs v → P (set_lines place t v)
-    set_made t v h = made.after (tree_into place v (target t) first) (keep_lines t) (into_made v h (target t) first) (keep_made t)
+    pub operand_made : (t : Tree) → Fs t → (r : ℕ) → P (operand_lines s t r)
+    operand_made = trees.operand_made P P made.none (λ a h. h) (λ i plain. made.word i) made.after Fs (functions_inside Q) entry_made s
 
-    pub set_global_made : (g : ℕ) (v : Tree) → Fs v → P (set_global_lines place g v)
+    pub into_made : (t : Tree) → Fs t → (d r : ℕ) → P (tree_into s t d r)
+    into_made = trees.into_made P P made.none (λ a h. h) (λ i plain. made.word i) made.after Fs (functions_inside Q) entry_made s
+
+    keep_made : (t : ℕ) → P (keep_lines s t)
+    unfolding keep_lines
+    keep_made t = by (s.register t)
+      where
+        by : (own : Option ℕ) → P (keep_in own t)
+        by (Some q) = made.none
+        by None = made.word (Sw 2 first (pos (temp_offset t)))
+
+    last_made : (i : Instr) (t : ℕ) → P (Word i ∷ keep_lines s t)
+    last_made i t = made.after (one i) (keep_lines s t) (made.word i) (keep_made t)
+
+    pub set_made : (t : ℕ) (v : Tree) → Fs v → P (set_lines s t v)
+    set_made t v h = made.after (tree_into s v (target s t) first) (keep_lines s t) (into_made v h (target s t) first) (keep_made t)
+
+    pub set_global_made : (g : ℕ) (v : Tree) → Fs v → P (set_global_lines s g v)
     set_global_made g v h =
-        let high = Lui second (pos (upper_bits (place g))) in
-        let store = Sw second (operand_register v first) (lower_bits (place g)) in
-        made.after (operand_lines place v first) (two high store) (operand_made v h first) (words_made high store)
+        let q = operand_register s v first in
+        made.after (operand_lines s v first) (store_lines (s.place g) q) (operand_made v h first) (store_made (s.place g) q)
 
-    pub divide_made : (t o : ℕ) (a b : Tree) → J (trap_label 1) → Fs a → Fs b → P (divide_lines place t o a b)
+    pub divide_made : (t o : ℕ) (a b : Tree) → J (trap_label 1) → Fs a → Fs b → P (divide_lines s t o a b)
     divide_made t o a b p h k =
-        let left = operand_register a first in
-        let right = operand_register b second in
-        let test = Branch 0 right 0 (trap_label 1) ∷ [] in
-        let divide = division o (target t) left right in
-        made.after (operand_lines place a first) (operand_lines place b second ++ (test ++ (Word divide ∷ keep_lines t))) (operand_made a h first)
-        (made.after (operand_lines place b second) (test ++ (Word divide ∷ keep_lines t)) (operand_made b k second)
-        (made.after test (Word divide ∷ keep_lines t) (made.branch 0 right 0 (trap_label 1) p) (last_made divide t)))
+        let left = operand_register s a first in
+        let right = operand_register s b second in
+        let test = divisor_lines (literal b) right in
+        let divide = division o (target s t) left right in
+        made.after (operand_lines s a first) (operand_lines s b second ++ (test ++ (Word divide ∷ keep_lines s t))) (operand_made a h first)
+        (made.after (operand_lines s b second) (test ++ (Word divide ∷ keep_lines s t)) (operand_made b k second)
+        (made.after test (Word divide ∷ keep_lines s t) (divisor_made (literal b) right p) (last_made divide t)))
 
-    pub check_made : (size : ℕ) (i : Tree) → J (trap_label 2) → Fs i → P (check_lines place size i)
-    check_made size i p h = let q = operand_register i first in made.after (operand_lines place i first) (test_lines size q) (operand_made i h first) (test_made size q p)
+    pub check_made : (size : ℕ) (i : Tree) → J (trap_label 2) → Fs i → P (check_lines s size i)
+    check_made size i p h = by (fixed size (literal i))
+      where
+        q : ℕ
+        q = operand_register s i first
 
-    pub read_made : (t size : ℕ) (e : Home) (i : Tree) → J (trap_label 2) → Fs i → P (read_lines place t e size i)
-    read_made t size e i p h =
-        let q = operand_register i first in
-        let load = Word (Lw (target t) first (element_offset e)) ∷ keep_lines t in
-        made.after (operand_lines place i first) (test_lines size q ++ (element_lines e q ++ load)) (operand_made i h first)
-        (made.after (test_lines size q) (element_lines e q ++ load) (test_made size q p)
-        (made.after (element_lines e q) load (element_made e q) (last_made (Lw (target t) first (element_offset e)) t)))
+        by : (n : Option ℕ) → P (check_by s n size i)
+        by None = made.after (operand_lines s i first) (test_lines size q) (operand_made i h first) (test_made size q p)
+        by (Some n) = made.none
 
-    pub write_made : (size : ℕ) (e : Home) (i v : Tree) → J (trap_label 2) → Fs i → Fs v → P (write_lines place e size i v)
-    write_made size e i v p h k =
-        let q = operand_register i first in
-        let store = Sw first (operand_register v second) (element_offset e) in
-        made.after (operand_lines place i first) (operand_lines place v second ++ (test_lines size q ++ (element_lines e q ++ one store))) (operand_made i h first)
-        (made.after (operand_lines place v second) (test_lines size q ++ (element_lines e q ++ one store)) (operand_made v k second)
-        (made.after (test_lines size q) (element_lines e q ++ one store) (test_made size q p)
-        (made.after (element_lines e q) (one store) (element_made e q) (made.word store))))
+    pub read_made : (t size : ℕ) (e : Home) (i : Tree) → J (trap_label 2) → Fs i → P (read_lines s t e size i)
+    read_made t size e i p h = by (fixed size (literal i))
+      where
+        q : ℕ
+        q = operand_register s i first
 
-    pub result_made : (v : Tree) → Fs v → P (result_lines place v)
-    result_made v h = tree_made v h first
+        load : List Line
+        load = Word (Lw (target s t) first (element_offset e)) ∷ keep_lines s t
+
+        by : (n : Option ℕ) → P (read_by s n t e size i)
+        by None =
+            made.after (operand_lines s i first) (test_lines size q ++ (element_lines e q ++ load)) (operand_made i h first)
+            (made.after (test_lines size q) (element_lines e q ++ load) (test_made size q p)
+            (made.after (element_lines e q) load (element_made e q) (last_made (Lw (target s t) first (element_offset e)) t)))
+        by (Some n) = made.after (fetch_lines (element_at e n) (target s t)) (keep_lines s t) (fetch_made (element_at e n) (target s t)) (keep_made t)
+
+    pub write_made : (size : ℕ) (e : Home) (i v : Tree) → J (trap_label 2) → Fs i → Fs v → P (write_lines s e size i v)
+    write_made size e i v p h k = by (fixed size (literal i))
+      where
+        q : ℕ
+        q = operand_register s i first
+
+        store : Instr
+        store = Sw first (operand_register s v second) (element_offset e)
+
+        by : (n : Option ℕ) → P (write_by s n e size i v)
+        by None =
+            made.after (operand_lines s i first) (operand_lines s v second ++ (test_lines size q ++ (element_lines e q ++ one store))) (operand_made i h first)
+            (made.after (operand_lines s v second) (test_lines size q ++ (element_lines e q ++ one store)) (operand_made v k second)
+            (made.after (test_lines size q) (element_lines e q ++ one store) (test_made size q p)
+            (made.after (element_lines e q) (one store) (element_made e q) (made.word store))))
+        by (Some n) =
+            let r = operand_register s v first in
+            made.after (operand_lines s v first) (put_lines (element_at e n) r) (operand_made v k first) (put_made (element_at e n) r)
+
+    pub result_made : (v : Tree) → Fs v → P (result_lines s v)
+    result_made v h = into_made v h 10 first
 
     -- ---- branches by a tree
 
-    either_made : (d : Bool) (ls ks : List Line) → P ls → P ks → P (cond d ls ks)
-    either_made true ls ks h k = h
-    either_made false ls ks h k = k
-
-    word_made : (t : Tree) → Fs t → (sense : Bool) (r label : ℕ) → J label → P (word_lines place t sense r label)
+    word_made : (t : Tree) → Fs t → (sense : Bool) (r label : ℕ) → J label → P (word_lines s t sense r label)
     word_made t h sense r label j =
-        let q = operand_register t r in
-        made.after (operand_lines place t r) (word_branch sense q label) (operand_made t h r) (made.branch (cond sense 1 0) q 0 label j)
+        let q = operand_register s t r in
+        made.after (operand_lines s t r) (word_branch sense q label) (operand_made t h r) (made.branch (cond sense 1 0) q 0 label j)
 
-    compared_made : (f : Option ℕ) (a b : Tree) → Fs a → Fs b → (r label : ℕ) → J label → (word : List Line) → P word → P (compared_or place f a b r label word)
+    compared_made : (f : Option ℕ) (a b : Tree) → Fs a → Fs b → (r label : ℕ) → J label → (word : List Line) → P word → P (compared_or s f a b r label word)
     compared_made None a b h k r label j word w = w
     compared_made (Some f) a b h k r label j word w =
-        let end = Branch f (operand_register a r) (operand_register b (r + 1)) label ∷ [] in
-        made.after (operand_lines place a r) (operand_lines place b (r + 1) ++ end) (operand_made a h r)
-        (made.after (operand_lines place b (r + 1)) end (operand_made b k (r + 1)) (made.branch f (operand_register a r) (operand_register b (r + 1)) label j))
+        let end = Branch f (operand_register s a r) (operand_register s b (r + 1)) label ∷ [] in
+        made.after (operand_lines s a r) (operand_lines s b (r + 1) ++ end) (operand_made a h r)
+        (made.after (operand_lines s b (r + 1)) end (operand_made b k (r + 1)) (made.branch f (operand_register s a r) (operand_register s b (r + 1)) label j))
 
     abbrev BranchIsMade : Tree → Type 0
-    BranchIsMade t = Fs t → (sense : Bool) (r label : ℕ) → J label → P (branch_lines place t sense r label)
+    BranchIsMade t = Fs t → (sense : Bool) (r label : ℕ) → J label → P (branch_lines s t sense r label)
 
-    branch_layer : (x : Tree-F Tree) → TreeChildren BranchIsMade x → Fs (roll-Tree x) → (sense : Bool) (r label : ℕ) → J label → (word : List Line) → P word → P (branch_tree place x sense r label word)
+    branch_layer : (x : Tree-F Tree) → TreeChildren BranchIsMade x → Fs (roll-Tree x) → (sense : Bool) (r label : ℕ) → J label → (word : List Line) → P word → P (branch_tree s x sense r label word)
     branch_layer (tree.Number n) h fs sense r label j word w = either_made (is_taken sense n) (Jump 0 label ∷ []) [] (made.jump label j) made.none
     branch_layer (tree.Unary o a) h fs sense r label j word w =
-        either_made (eqb o 2) (branch_lines place a (not sense) r label) word (h (functions_inside Q (tree.Unary o a) fs) (not sense) r label j) w
+        either_made (eqb o 2) (branch_lines s a (not sense) r label) word (h (functions_inside Q (tree.Unary o a) fs) (not sense) r label j) w
     branch_layer (tree.Binary o a b) h fs sense r label j word w =
         let inside = functions_inside Q (tree.Binary o a b) fs in
         compared_made (comparison sense o) a b inside.0 inside.1 r label j word w
     branch_layer _ h fs sense r label j word w = w
 
-    pub branch_made : (t : Tree) → Fs t → (sense : Bool) (r label : ℕ) → J label → P (branch_lines place t sense r label)
+    pub branch_made : (t : Tree) → Fs t → (sense : Bool) (r label : ℕ) → J label → P (branch_lines s t sense r label)
     branch_made =
         tree_ind BranchIsMade
-        (λ x h fs sense r label j. subst P (sym (branch_roll place x sense r label)) (branch_layer x h fs sense r label j (word_lines place (roll-Tree x) sense r label) (word_made (roll-Tree x) fs sense r label j)))
+        (λ x h fs sense r label j. subst P (sym (branch_roll s x sense r label)) (branch_layer x h fs sense r label j (word_lines s (roll-Tree x) sense r label) (word_made (roll-Tree x) fs sense r label j)))
 
     -- ---- where control goes behind code
 

@@ -1,5 +1,5 @@
 -- The code of statements does what they mean, at each bound, by induction over the statements.
-use Rattle.std.proofs.Common.{◌≡◌, ℕ, ◌+◌, ◌<◌, ◌≤◌, Bool, true, false, cond, ltb, ◌&&◌, eqb, List, [], ◌∷◌, ◌++◌, ◌*◌, length, map, Option, Some, None, slice_index, slice_set, refl, sym, ap, ◌∙◌, subst, arith}
+use Rattle.std.proofs.Common.{◌≡◌, ℕ, ◌+◌, ◌<◌, ◌≤◌, Bool, true, false, cond, ltb, ◌&&◌, eqb, List, [], ◌∷◌, ◌++◌, ◌*◌, length, map, Option, Some, None, IfSome, slice_index, slice_set, refl, sym, ap, ◌∙◌, subst, arith}
 use Rattle.std.proofs.lemmas.Bool.{ltb-true}
 use Rattle.mv_ast.specs.declared.program.Known.{Known}
 use Rattle.mv_isa.specs.declared.labelled.Line.{Line}
@@ -12,10 +12,10 @@ use Rattle.mv_ir.specs.declared.stm.Stm.{Stm}
 use Rattle.mv_ir.specs.declared.stm.Stm.TheOpen.{Stm-F}
 use Rattle.mv_ir.specs.declared.stm.Stm.TheOpen as stm
 use Rattle.mv_ir.specs.declared.stm.Stm.TheViews.{roll-Stm}
-use Rattle.mv_ir.specs.declared.stm.Stm.TheFolds.{fold-roll-Stm, map-Stm}
+use Rattle.mv_ir.specs.declared.stm.Stm.TheFolds.{map-Stm}
 use Rattle.mv_ir.specs.World as ir
 use Rattle.mv_bindings.specs.Traps as trap
-use Rattle.mv_ir.specs.Outcome.{State, End, Returned, Trapped, More, Stuck, Outcome, Next, Leaves, Restarts, Ends, Run, Calls, Bound, Meaning, spend, now, goes_on, in_order}
+use Rattle.mv_ir.specs.Outcome.{State, End, Returned, Trapped, More, Stuck, Outcome, Next, Leaves, Restarts, Ends, Run, Calls, Bound, Meaning, spend, now, goes_on, then_do, in_order}
 use Rattle.mv_ir.specs.Meaning.{Goal, Nowhere, Null, At, of_tree, elements, with_temp, with_elements, traps, call_end, within, made_call, call_to, goal, statement, meaning}
 use Rattle.mv_ir.specs.Trees.{nodes, divide}
 use Rattle.mv_ir.proofs.Induction.{Each, StmChildren, stm_ind, stms_ind}
@@ -30,27 +30,19 @@ use Rattle.mv_select_code.specs.declared.control.enclosing.Enclosing.{Enclosing}
 use Rattle.mv_select_code.specs.declared.control.enclosing.Leading.{Leading}
 use Rattle.mv_select_code.specs.declared.control.enclosing.Leading.TheVariants as lead
 use Rattle.mv_select_code.specs.declared.control.enclosing.Way.{Way}
-use Rattle.mv_select_code.specs.Control.FlowCode.{Uses, CallLines, Plan, Emitted, fall_to, jump_to, leads_to, plain, if_leads, in_turn, loop_at, block_at, zero_lines, code_layer, statement_code, may_read, may_write, fine_layer, is_fine_statement}
+use Rattle.mv_select_code.specs.Control.FlowCode.{CallLines, Plan, Tested, Emitted, fall_to, jump_to, leads_to, plain, if_leads, if_code, in_turn, loop_at, block_at, straight_loop, turned_loop, loop_by, zero_lines, code_layer, statement_code, loop_of, may_read, may_write, fine_layer, is_fine_statement}
 use Rattle.mv_select_code.specs.Control.Runs.{Machine, IsRun}
 use Rattle.mv_select_code.specs.Control.Flow.{IsWithin}
 use Rattle.mv_select_code.specs.Control.Laws.{plan_of, uses_of, LinesDo, CallsDo, CodeDoes}
 use Rattle.mv_select_code.proofs.OfControl.Composition.{Gets, rest, arrived, within_within, both_get, last_gets}
-use Rattle.mv_select_code.proofs.OfControl.Control.{Falls, IsAhead, led, nothing_gets, break_gets, back_gets, plain_gets, return_gets, block_stands, loop_stands, branch_gets, either_gets, gets_same}
+use Rattle.mv_select_code.proofs.OfControl.Control.{Falls, IsAhead, led, nothing_gets, break_gets, back_gets, plain_gets, return_gets, block_stands, loop_stands, branch_gets, either_gets, IsTested, turned_stands, gets_same}
+use Rattle.mv_select_code.proofs.OfControl.Equations.{code_roll, fine_roll, if_alone, if_stays, loop_alone, loop_stays}
 use Rattle.mv_select_code.specs.Statements.Laws as statements
 use Rattle.mv_select_code.proofs.OfControl.Leaves.{SameOutside, same_either, same_elements, leaf_does}
 use Rattle.mv_select_code.proofs.OfControl.Walk.{placed_split}
 use Rattle.mv_select_code.proofs.OfControl.Zeroing.{zero_stands}
 use Rattle.mv_select_code.proofs.OfControl.Course.{course}
 use Rattle.mv_num.proofs.Booleans.{and_right, and_left}
-
-pub code_roll : (plan : Plan) (x : Stm-F Stm) → statement_code plan (roll-Stm x) ≡ code_layer plan (map-Stm Stm Emitted (statement_code plan) x)
-unfolding statement_code
-code_roll plan x = fold-roll-Stm Emitted (code_layer plan) x
-
-pub fine_roll : (is_fine : Tree → Bool) (may_ask : Known → Bool) (temps : ℕ) (uses : Uses) (x : Stm-F Stm)
-    → is_fine_statement is_fine may_ask temps uses (roll-Stm x) ≡ fine_layer is_fine may_ask temps uses (map-Stm Stm Bool (is_fine_statement is_fine may_ask temps uses) x)
-unfolding is_fine_statement
-fine_roll is_fine may_ask temps uses x = fold-roll-Stm Bool (fine_layer is_fine may_ask temps uses) x
 
 -- ---- what leaves nothing behind
 
@@ -84,14 +76,6 @@ goal_ahead (At f) depth live r args bound s = by (ltb depth trap.depth_limit)
 
 -- ---- code that only leads somewhere
 
-pub if_alone : (place : ℕ → ℕ) (end : ℕ) (t : Tree) (x y : Option Leading) (a b : Emitted) → (if_leads place end t x y a b).alone ≡ None
-if_alone place end t None None a b = refl
-if_alone place end t None (Some l) a b = refl
-if_alone place end t (Some l) None a b = refl
-if_alone place end t (Some l) (Some lead.On) a b = refl
-if_alone place end t (Some l) (Some (lead.Out n)) a b = refl
-if_alone place end t (Some l) (Some (lead.Back n)) a b = refl
-
 last_outcome : (o : Outcome) → (goes_on o (λ l. now (Next l))).outcome ≡ o
 last_outcome (Next l) = refl
 last_outcome (Leaves n l) = refl
@@ -107,7 +91,8 @@ module _ (plan : Plan) (setting : ir.Setting) (frame : ir.Frame) where
   alone_layer (stm.If t a b) l e bound x =
       let one = in_turn (map (statement_code plan) a) in
       let other = in_turn (map (statement_code plan) b) in
-      absurd (let none = if_alone plan.place plan.end t one.alone other.alone one other in cc)
+      absurd (let none = if_alone plan.seats plan.end t one.alone other.alone one other in cc)
+  alone_layer (stm.Loop b) l e bound x = absurd (let none = loop_alone plan.seats (map (statement_code plan) b) in cc)
   alone_layer (stm.Break n) l e bound x = let same : lead.Out n ≡ l = cc in ap (λ l. led l x) same
   alone_layer (stm.Back n) l e bound x = let same : lead.Back n ≡ l = cc in ap (λ l. led l x) same
   alone_layer _ l e bound x = absurd cc
@@ -144,22 +129,45 @@ module _ {M : Type 0} (access : Access M) (s : Site) (setting : ir.Setting) (fra
   G = Gets access s machine place end budget far
 
   -- code does what something means, at each bound up to the greatest
-  abbrev Performs : Emitted → Meaning → Type 0
-  Performs code m =
-      (bar spare label : ℕ) → bar ≤ label → (around : List Enclosing) (way : Way) (pc stop : ℕ) (bound : Bound) → IsWithin bound top → P (code.lines around label way) pc stop → Falls place way stop
+  abbrev PerformsBy : (List Enclosing → ℕ → Way → List Line) → Meaning → Type 0
+  PerformsBy lines m =
+      (bar spare label : ℕ) → bar ≤ label → (around : List Enclosing) (way : Way) (pc stop : ℕ) (bound : Bound) → IsWithin bound top → P (lines around label way) pc stop → Falls place way stop
       → G bar spare (length bound) around way pc (m bound)
 
+  abbrev Performs : Emitted → Meaning → Type 0
+  Performs code m = PerformsBy code.lines m
+
+  abbrev V : Tree → State → ℕ
+  V = of_tree setting frame
+
+  -- What a test leads to which else leaves what encloses it: by the test the statement does that, or it leaves.
+  pub record Stays (m : Meaning) (a : Tested) : Type 0 where
+    pub fine : IsFine s setting frame a.test
+    pub inner : Meaning
+    pub does : PerformsBy a.lines inner
+    pub on : (b : Bound) (x : State) → is_taken a.sense (V a.test x) ≡ true → m b x ≡ spend (8 + 3 * nodes a.test) (inner b x)
+    pub leaves : (b : Bound) (x : State) → is_taken a.sense (V a.test x) ≡ false → (r : Run) × (m b x ≡ spend (8 + 3 * nodes a.test) r) × (r.outcome ≡ Leaves 0 x)
+
+  abbrev BothDo : Emitted → Meaning → Type 0
+  BothDo code m = Performs code m × IfSome code.stays (Stays m)
+
   abbrev StmDoes : Stm → Type 0
-  StmDoes t = Fine t ≡ true → Performs (Code t) (Mean t)
+  StmDoes t = Fine t ≡ true → BothDo (Code t) (Mean t)
+
+  abbrev fine_statement : Stm-F Stm → Bool
+  fine_statement x = fine_layer is_fine s.may_ask s.temps (uses_of s) (map-Stm Stm Bool Fine x)
 
   abbrev LayerDoes : Stm-F Stm → Type 0
-  LayerDoes x = fine_layer is_fine s.may_ask s.temps (uses_of s) (map-Stm Stm Bool Fine x) ≡ true
-      → Performs (code_layer (plan_of s end calls) (map-Stm Stm Emitted Code x)) (statement setting frame (map-Stm Stm Meaning Mean x))
+  LayerDoes x = fine_statement x ≡ true → Performs (code_layer (plan_of s end calls) (map-Stm Stm Emitted Code x)) (statement setting frame (map-Stm Stm Meaning Mean x))
 
-  from_layer : (x : Stm-F Stm) → LayerDoes x → StmDoes (roll-Stm x)
-  from_layer x h fine =
-      subst (Performs (Code (roll-Stm x))) (sym (meaning_roll setting frame x))
-      (subst (λ c. Performs c (statement setting frame (map-Stm Stm Meaning Mean x))) (sym (code_roll (plan_of s end calls) x)) (h (sym (fine_roll is_fine s.may_ask s.temps (uses_of s) x) ∙ fine)))
+  abbrev LayerStays : Stm-F Stm → Type 0
+  LayerStays x = fine_statement x ≡ true → IfSome (code_layer (plan_of s end calls) (map-Stm Stm Emitted Code x)).stays (Stays (statement setting frame (map-Stm Stm Meaning Mean x)))
+
+  from_layer : (x : Stm-F Stm) → LayerDoes x → LayerStays x → StmDoes (roll-Stm x)
+  from_layer x h k fine =
+      let fine_too = sym (fine_roll is_fine s.may_ask s.temps (uses_of s) x) ∙ fine in
+      subst (BothDo (Code (roll-Stm x))) (sym (meaning_roll setting frame x))
+      (subst (λ c. BothDo c (statement setting frame (map-Stm Stm Meaning Mean x))) (sym (code_roll (plan_of s end calls) x)) (h fine_too, k fine_too))
 
   -- a statement before others
   before_does : (t : Stm) → Performs (Code t) (Mean t) → (code : List Stm) → Performs (in_turn (map Code code)) (in_order (map Mean code)) → Performs (in_turn (map Code (t ∷ code))) (in_order (map Mean (t ∷ code)))
@@ -179,7 +187,7 @@ module _ {M : Type 0} (access : Access M) (s : Site) (setting : ir.Setting) (fra
       (λ bar spare label le around way pc stop bound under p falls.
       nothing_gets access s setting frame fit machine ok place end budget far bar spare (length bound) pc stop around way p falls)
   code_does (t ∷ code) h fine =
-      before_does t (h.0 (and_left (Fine t) (all_true (map Fine code)) fine)) code (code_does code h.1 (and_right (Fine t) (all_true (map Fine code)) fine))
+      before_does t (h.0 (and_left (Fine t) (all_true (map Fine code)) fine)).0 code (code_does code h.1 (and_right (Fine t) (all_true (map Fine code)) fine))
 
   -- lines without control
   plain_does : (lines : List Line) (x : Stm-F Meaning) → ((bound : Bound) (l : State) → IsAhead (statement setting frame x bound l).outcome) → Lines lines x → Performs (plain lines) (statement setting frame x)
@@ -190,9 +198,6 @@ module _ {M : Type 0} (access : Access M) (s : Site) (setting : ir.Setting) (fra
   leaf : (lines : List Line) (x : Stm-F Meaning) → statements.Does access s setting frame lines x → ((bound : Bound) (l : State) → SameOutside l.world (statement setting frame x bound l).outcome)
       → ((bound : Bound) (l : State) → IsAhead (statement setting frame x bound l).outcome) → Performs (plain lines) (statement setting frame x)
   leaf lines x done same ahead = plain_does lines x ahead (leaf_does access s setting frame machine ok place end budget far is_fine top lines x done same)
-
-  abbrev V : Tree → State → ℕ
-  V = of_tree setting frame
 
   below : (t : ℕ) (b : Bool) → (ltb t s.temps && b) ≡ true → t < s.temps
   below t b e = ltb-true t s.temps (and_left (ltb t s.temps) b e)
@@ -208,7 +213,7 @@ module _ {M : Type 0} (access : Access M) (s : Site) (setting : ir.Setting) (fra
   -- a branch, by where its lists lead that do nothing else
   if_does : (t : Tree) (a b : List Stm) → IsFine s setting frame t → Performs (in_turn (map Code a)) (in_order (map Mean a)) → Performs (in_turn (map Code b)) (in_order (map Mean b))
       → (x y : Option Leading) → (in_turn (map Code a)).alone ≡ x → (in_turn (map Code b)).alone ≡ y
-      → Performs (if_leads s.place end t x y (in_turn (map Code a)) (in_turn (map Code b))) (statement setting frame (stm.If t (map Mean a) (map Mean b)))
+      → Performs (if_leads s.seats end t x y (in_turn (map Code a)) (in_turn (map Code b))) (statement setting frame (stm.If t (map Mean a) (map Mean b)))
   if_does t a b fine da db x y ex ey bar spare label le around way pc stop bound under p falls = go x y ex ey p
     where
       one : Emitted
@@ -237,21 +242,21 @@ module _ {M : Type 0} (access : Access M) (s : Site) (setting : ir.Setting) (fra
       keep true x y = refl
       keep false x y = refl
 
-      to_first : (l : Leading) → one.alone ≡ Some l → P (branch_lines s.place t true first (leads_to end around way l) ++ other.lines around label way) pc stop
+      to_first : (l : Leading) → one.alone ≡ Some l → P (branch_lines s.seats t true first (leads_to end around way l) ++ other.lines around label way) pc stop
           → Goal-is (statement setting frame (stm.If t (map Mean a) (map Mean b)) bound)
       to_first l e p =
           same (λ x. spend (8 + 3 * nodes t) (cond (is_taken true (V t x)) (A x) (B x))) (λ x. ap (spend (8 + 3 * nodes t)) (turn (eqb (V t x) 0) (A x) (B x)))
           (branch_gets access s setting frame fit machine ok place end budget far bar spare (length bound) pc stop around way t true l (other.lines around label way) A B fine p
           (λ x. list_alone (plan_of s end calls) setting frame a l e bound x) (λ mid q. db bar spare label le around way mid stop bound under q falls))
 
-      to_second : (l : Leading) → other.alone ≡ Some l → P (branch_lines s.place t false first (leads_to end around way l) ++ one.lines around label way) pc stop
+      to_second : (l : Leading) → other.alone ≡ Some l → P (branch_lines s.seats t false first (leads_to end around way l) ++ one.lines around label way) pc stop
           → Goal-is (statement setting frame (stm.If t (map Mean a) (map Mean b)) bound)
       to_second l e p =
           same (λ x. spend (8 + 3 * nodes t) (cond (is_taken false (V t x)) (B x) (A x))) (λ x. ap (spend (8 + 3 * nodes t)) (keep (eqb (V t x) 0) (A x) (B x)))
           (branch_gets access s setting frame fit machine ok place end budget far bar spare (length bound) pc stop around way t false l (one.lines around label way) B A fine p
           (λ x. list_alone (plan_of s end calls) setting frame b l e bound x) (λ mid q. da bar spare label le around way mid stop bound under q falls))
 
-      go : (x y : Option Leading) → one.alone ≡ x → other.alone ≡ y → P ((if_leads s.place end t x y one other).lines around label way) pc stop
+      go : (x y : Option Leading) → one.alone ≡ x → other.alone ≡ y → P ((if_leads s.seats end t x y one other).lines around label way) pc stop
           → Goal-is (statement setting frame (stm.If t (map Mean a) (map Mean b)) bound)
       go None None ex ey p =
           same (λ x. spend (8 + 3 * nodes t) (cond (is_taken false (V t x)) (B x) (A x))) (λ x. ap (spend (8 + 3 * nodes t)) (keep (eqb (V t x) 0) (A x) (B x)))
@@ -263,6 +268,89 @@ module _ {M : Type 0} (access : Access M) (s : Site) (setting : ir.Setting) (fra
       go None (Some l) ex ey p = to_second l ey p
       go (Some l) (Some (lead.Out n)) ex ey p = to_second (lead.Out n) ey p
       go (Some l) (Some (lead.Back n)) ex ey p = to_second (lead.Back n) ey p
+
+  -- what a branch stays for
+  if_stays_for : (t : Tree) (a b : List Stm) → IsFine s setting frame t → Performs (in_turn (map Code a)) (in_order (map Mean a)) → Performs (in_turn (map Code b)) (in_order (map Mean b))
+      → IfSome (if_code s.seats end t (in_turn (map Code a)) (in_turn (map Code b))).stays (Stays (statement setting frame (stm.If t (map Mean a) (map Mean b))))
+  if_stays_for t a b fine da db =
+      let one = in_turn (map Code a) in
+      let other = in_turn (map Code b) in
+      if_stays (Stays (statement setting frame (stm.If t (map Mean a) (map Mean b)))) s.seats end t one.alone other.alone one other
+      (λ e. record {
+        fine = fine;
+        inner = in_order (map Mean a);
+        does = da;
+        on = λ u x is. taken_first (eqb (V t x) 0) (in_order (map Mean b) u x) (in_order (map Mean a) u x) is;
+        leaves = λ u x is. (in_order (map Mean b) u x, passed_first (eqb (V t x) 0) (in_order (map Mean b) u x) (in_order (map Mean a) u x) is, list_alone (plan_of s end calls) setting frame b (lead.Out 0) e u x);
+      })
+      (λ e. record {
+        fine = fine;
+        inner = in_order (map Mean b);
+        does = db;
+        on = λ u x is. taken_second (eqb (V t x) 0) (in_order (map Mean b) u x) (in_order (map Mean a) u x) is;
+        leaves = λ u x is. (in_order (map Mean a) u x, passed_second (eqb (V t x) 0) (in_order (map Mean b) u x) (in_order (map Mean a) u x) is, list_alone (plan_of s end calls) setting frame a (lead.Out 0) e u x);
+      })
+    where
+      c : ℕ
+      c = 8 + 3 * nodes t
+
+      taken_first : (d : Bool) (x y : Run) → cond d false true ≡ true → spend c (cond d x y) ≡ spend c y
+      taken_first true x y e = absurd cc
+      taken_first false x y e = refl
+
+      passed_first : (d : Bool) (x y : Run) → cond d false true ≡ false → spend c (cond d x y) ≡ spend c x
+      passed_first true x y e = refl
+      passed_first false x y e = absurd cc
+
+      taken_second : (d : Bool) (x y : Run) → cond d true false ≡ true → spend c (cond d x y) ≡ spend c x
+      taken_second true x y e = refl
+      taken_second false x y e = absurd cc
+
+      passed_second : (d : Bool) (x y : Run) → cond d true false ≡ false → spend c (cond d x y) ≡ spend c y
+      passed_second true x y e = absurd cc
+      passed_second false x y e = refl
+
+  -- ---- loops
+
+  straight_does : (code : List Stm) → Each StmDoes code → all_true (map Fine code) ≡ true → Performs (straight_loop (in_turn (map Code code))) (statement setting frame (stm.Loop (map Mean code)))
+  straight_does code h fine bar spare label le around way pc stop bound under p falls =
+      loop_stands access s setting frame fit machine ok place end budget far bar label spare pc stop around way bound (map Mean code) ((in_turn (map Code code)).lines (loop_at label way ∷ around) (label + 1) (jump_to label)) le p
+      (λ spare below start le' q. code_does code h fine (label + 1) spare (label + 1) (omega arith) (loop_at label way ∷ around) (jump_to label) start stop below (within_within below bound top le' under) q (λ e. absurd cc))
+
+  -- a turn that begins with such a test
+  turn_is : (m : Meaning) (a : Tested) (st : Stays m a) (others : List Meaning)
+      → IsTested access s setting frame fit machine ok place end budget far a.test a.sense (in_order (m ∷ others)) (λ b x. then_do (st.inner b x) (in_order others b))
+  turn_is m a st others = record {
+    stays = λ b x is.
+        let same = st.on b x is in
+        (ap (λ (r : Run). (then_do r (in_order others b)).outcome) same, cost (8 + 3 * nodes a.test) (m b x) (st.inner b x) (in_order others b) same);
+    leaves = λ b x is.
+        let r = st.leaves b x is in
+        let same = ap (λ (r : Run). r.outcome) r.1 ∙ r.2 in
+        (ap (λ o. (goes_on o (in_order others b)).outcome) same, left (8 + 3 * nodes a.test) (m b x) r.0 (in_order others b) r.1);
+  }
+    where
+      cost : (c : ℕ) (r q : Run) (f : State → Run) → r ≡ spend c q → c + (then_do q f).cost ≤ (then_do r f).cost
+      cost c r q f same = subst (λ z. c + (then_do q f).cost ≤ (then_do z f).cost) (sym same) (omega arith)
+
+      left : (c : ℕ) (r q : Run) (f : State → Run) → r ≡ spend c q → c ≤ (then_do r f).cost
+      left c r q f same = subst (λ z. c ≤ (then_do z f).cost) (sym same) (omega arith)
+
+  turned_does : (m : Meaning) (a : Tested) → Stays m a → (rest : Emitted) (others : List Meaning) → Performs rest (in_order others) → Performs (turned_loop s.seats a rest) (statement setting frame (stm.Loop (m ∷ others)))
+  turned_does m a st rest others does bar spare label le around way pc stop bound under p falls =
+      let inside = loop_at (label + 1) way ∷ around in
+      turned_stands access s setting frame fit machine ok place end budget far a.test a.sense st.fine (in_order (m ∷ others)) st.inner (in_order others) (turn_is m a st others) bar label spare pc stop around way bound
+      (a.lines inside (label + 3) (fall_to (label + 2))) (rest.lines inside (label + 3 + a.labels) (fall_to (label + 1))) le p falls
+      (λ spare b at next w q e. st.does bar spare (label + 3) (omega (arith, le)) inside (fall_to (label + 2)) at next b (within_within b bound top w under) q (λ f. e))
+      (λ spare b at next w q e. does bar spare (label + 3 + a.labels) (omega (arith, le)) inside (fall_to (label + 1)) at next b (within_within b bound top w under) q (λ f. e))
+
+  loop_does : (code : List Stm) → Each StmDoes code → all_true (map Fine code) ≡ true → Performs (loop_of (plan_of s end calls) code) (statement setting frame (stm.Loop (map Mean code)))
+  loop_does [] h fine = straight_does [] h fine
+  loop_does (t ∷ code) h fine = by (Code t).stays (h.0 (and_left (Fine t) (all_true (map Fine code)) fine)).1
+    where
+      by : (x : Option Tested) → IfSome x (Stays (Mean t)) → Performs (loop_by s.seats x (Code t) (map Code code)) (statement setting frame (stm.Loop (map Mean (t ∷ code))))
+      by None st = straight_does (t ∷ code) h fine
+      by (Some a) st = turned_does (Mean t) a st (in_turn (map Code code)) (map Mean code) (code_does code h.1 (and_right (Fine t) (all_true (map Fine code)) fine))
 
   layer : (x : Stm-F Stm) → StmChildren StmDoes x → LayerDoes x
   layer (stm.Set t v) h fine =
@@ -317,17 +405,22 @@ module _ {M : Type 0} (access : Access M) (s : Site) (setting : ir.Setting) (fra
       let parts = and_right (is_fine t) (all_true (map Fine a) && all_true (map Fine b)) fine in
       if_does t a b (fine_trees t (and_left (is_fine t) (all_true (map Fine a) && all_true (map Fine b)) fine)) (code_does a h.0 (and_left (all_true (map Fine a)) (all_true (map Fine b)) parts))
       (code_does b h.1 (and_right (all_true (map Fine a)) (all_true (map Fine b)) parts)) (in_turn (map Code a)).alone (in_turn (map Code b)).alone refl refl
-  layer (stm.Loop b) h fine =
-      (λ bar spare label le around way pc stop bound under p falls.
-      loop_stands access s setting frame fit machine ok place end budget far bar label spare pc stop around way bound (map Mean b) ((in_turn (map Code b)).lines (loop_at label way ∷ around) (label + 1) (jump_to label)) le p
-      (λ spare below start le' q. code_does b h fine (label + 1) spare (label + 1) (omega arith) (loop_at label way ∷ around) (jump_to label) start stop below (within_within below bound top le' under) q (λ e. absurd cc)))
+  layer (stm.Loop b) h fine = loop_does b h fine
   layer (stm.Block b) h fine =
       (λ bar spare label le around way pc stop bound under p falls.
       block_stands access s setting frame fit machine ok place end budget far bar spare (length bound) pc around way bound (map Mean b) (code_does b h fine bar spare label le (block_at way ∷ around) way pc stop bound under p falls))
 
+  stays_layer : (x : Stm-F Stm) → StmChildren StmDoes x → LayerStays x
+  stays_layer (stm.If t a b) h fine =
+      let parts = and_right (is_fine t) (all_true (map Fine a) && all_true (map Fine b)) fine in
+      if_stays_for t a b (fine_trees t (and_left (is_fine t) (all_true (map Fine a) && all_true (map Fine b)) fine)) (code_does a h.0 (and_left (all_true (map Fine a)) (all_true (map Fine b)) parts))
+      (code_does b h.1 (and_right (all_true (map Fine a)) (all_true (map Fine b)) parts))
+  stays_layer (stm.Loop b) h fine = loop_stays (Stays (statement setting frame (stm.Loop (map Mean b)))) s.seats (map Code b)
+  stays_layer _ h fine = tt
+
   -- the code of each statement does what it means
   statement_does : (t : Stm) → StmDoes t
-  statement_does = stm_ind StmDoes (λ x h. from_layer x (layer x h))
+  statement_does = stm_ind StmDoes (λ x h. from_layer x (layer x h) (stays_layer x h))
 
   -- what is certain is let go
   with_jumps : (after spare k pc : ℕ) (falls : Bool) (around : List Enclosing) (m : State → Run) → G 0 spare k around (record { after = after; falls = falls }) pc m

@@ -5,7 +5,7 @@ use Rattle.mv_isa.specs.declared.labelled.Line.{Line}
 use Rattle.mv_isa.specs.declared.labelled.Line.TheVariants.{Word, Label, Jump, Branch, Entry, Slot, Point}
 use Rattle.mv_isa.specs.Code.{StandsOnce, TargetStands}
 use Rattle.mv_isa.specs.Labels.{check_label}
-use Rattle.mv_select_code.specs.Control.Labels.{Names, TargetsStand}
+use Rattle.mv_select_code.specs.Control.Labels.{Names, call_label, TargetsStand}
 use Rattle.mv_select_code.proofs.OfControl.StatementsAreMade.{LineByLine}
 use Rattle.mv_select_code.proofs.OfControl.CodeIsMade.{code_made}
 
@@ -38,5 +38,5 @@ module _ (whole : List Line) where
 
 pub targets_stand : TargetsStand
 targets_stand whole plan calls code around label way h =
-    code_made (stand_made whole) plan (λ g. StandsOnce whole check_label) (λ r f args names points. named whole _ (calls.call r f args names points)) (λ r k args names. named whole _ (calls.known r k args names)) h.end h.division h.index code around h.starts h.ends way h.behind label
-    (λ l p q. (tt, h.own l p q)) h.functions h.check
+    code_made (stand_made whole) plan (λ f. StandsOnce whole (call_label f)) (λ g. StandsOnce whole check_label) (λ r f args names called points. named whole _ (calls.call r f args names called points))
+    (λ r k args names. named whole _ (calls.known r k args names)) h.end h.division h.index code around h.starts h.ends way h.behind label (λ l p q. (tt, h.own l p q)) h.functions h.entries h.check

@@ -1,65 +1,46 @@
 -- The code of the statements that test an index, read and write.
-use Rattle.std.proofs.Common.{◌≡◌, ◌≢◌, ◌⊎◌, inl, inr, ℕ, ◌+◌, ◌*◌, ◌%◌, ◌^◌, ◌<◌, ◌≤◌, Bool, true, false, not, cond, ltb, List, [], ◌∷◌, ◌++◌, length, slice_index, slice_set, pos, sum_by, refl, sym, ap, ◌∙◌, subst, arith, append_assoc}
+use Rattle.std.proofs.Common.{◌≡◌, ◌≢◌, ◌⊎◌, inl, inr, ℕ, ◌+◌, ◌*◌, ◌<◌, ◌≤◌, Bool, true, false, not, cond, ltb, List, [], ◌∷◌, ◌++◌, length, slice_index, slice_set, Option, Some, None, sum_by, refl, sym, ap, ◌∙◌, subst, arith, append_assoc}
 use Rattle.std.proofs.lemmas.Bool.{cases_lt, ltb-true, ltb-false, lt-ltb, le-ltb}
-use Rattle.mv_num.specs.Words.{word_of, add, shl, lt_u}
+use Rattle.mv_num.specs.Words.{lt_u}
 use Rattle.mv_isa.specs.declared.instr.Instr.TheVariants.{Lw, Sw}
 use Rattle.mv_isa.specs.declared.labelled.Line.{Line}
 use Rattle.mv_isa.specs.declared.labelled.Line.TheVariants.{Word, Branch}
 use Rattle.mv_isa.specs.Code.{greatest_words}
-use Rattle.mv_isa.specs.Execution.{Access, reg, put, upper}
+use Rattle.mv_isa.specs.Execution.{Access, reg, put}
 use Rattle.mv_ir.specs.declared.tree.Tree.{Tree}
 use Rattle.mv_ir.specs.declared.stm.Array.{Array}
-use Rattle.mv_ir.specs.declared.stm.Array.TheVariants as array
 use Rattle.mv_ir.specs.declared.stm.Stm.TheOpen as stm
 use Rattle.mv_ir.specs.World as ir
 use Rattle.mv_ir.specs.Outcome.{State, Next}
 use Rattle.mv_ir.specs.Trees.{nodes}
 use Rattle.mv_ir.specs.Meaning.{of_tree, elements, with_temp, with_elements, traps}
-use Rattle.mv_select_code.specs.Trees.TreeCode.{upper_bits, lower_bits, one, number_lines, operand_lines, operand_register}
+use Rattle.mv_select_code.specs.Trees.TreeCode.{Seats, one, number_lines, literal, operand_lines, operand_register}
 use Rattle.mv_select_code.specs.Trees.Straight.{Straight}
-use Rattle.mv_select_code.specs.Trees.View.{Changes}
+use Rattle.mv_select_code.specs.Trees.View.{AreSeats, Changes}
 use Rattle.mv_select_code.proofs.OfTrees.Gives.{number_gives}
-use Rattle.mv_select_code.proofs.OfTrees.Instructions.{lui_sets, lw_sets, slli_sets, add_sets}
-use Rattle.mv_select_code.proofs.OfTrees.Operands.{operand_outside}
-use Rattle.mv_select_code.proofs.OfTrees.Registers.{put_same, put_other, put_registers, changes_put, changes_both}
+use Rattle.mv_select_code.proofs.OfTrees.Instructions.{lw_sets}
+use Rattle.mv_select_code.proofs.OfTrees.Registers.{free_above, put_same, put_other, put_registers}
 use Rattle.mv_select_code.proofs.OfTrees.TreesAreShort.{number_size}
-use Rattle.mv_select_code.proofs.OfTrees.Words.{add_word, add_below, parts_add, upper_below}
-use Rattle.mv_select_code.specs.Statements.StatementCode.{first, second, third, trap_label, target, keep_lines, element_offset, element_lines, test_lines, check_lines, read_lines, write_lines}
+use Rattle.mv_select_code.specs.Statements.StatementCode.{first, second, third, trap_label, target, keep_lines, element_offset, element_lines, fixed, element_at, fetch_lines, put_lines, test_lines, check_by, check_lines, read_by, read_lines, write_by, write_lines}
 use Rattle.mv_select_code.specs.Statements.Leads.{Exit, Past, To, limited, Leads}
 use Rattle.mv_select_code.specs.Statements.Frames.{Site, Element, IsRead, IsWritten, home_of, size_of, address, IsFine, IsFit, Shows}
 use Rattle.mv_select_code.specs.Statements.Laws.{Follows, Does}
+use Rattle.mv_select_code.proofs.OfStatements.ElementPlaces.{fixed_is, element_placed, element_size, element_fetched, fetch_size}
 use Rattle.mv_select_code.proofs.OfStatements.FrameChanges.{updates_element, frame_scratch}
 use Rattle.mv_select_code.proofs.OfStatements.ScalarStatements.{at_first, at_second, after_operand}
-use Rattle.mv_select_code.proofs.OfStatements.TreesFirst.{operand_beside, cell_loaded, HasOperand, operand_first, cell_written}
-use Rattle.mv_select_code.proofs.OfStatements.TempsKept.{target_range, temp_kept}
+use Rattle.mv_select_code.proofs.OfStatements.Stores.{element_put}
+use Rattle.mv_select_code.proofs.OfStatements.TempsKept.{target_free, temp_kept}
+use Rattle.mv_select_code.proofs.OfStatements.TreesFirst.{operand_aside, operand_beside, cell_loaded, HasOperand, operand_first, cell_written}
 use Rattle.mv_select_code.proofs.OfStatements.Walks.{leads_more, leads_straight, leads_one, leads_next}
-use Rattle.mv_num.proofs.Numbers.{word_of_pos}
-
--- ---- places of elements
-
-shl_two : (k : ℕ) → 4 * k < 2 ^ 32 → shl k 2 ≡ 4 * k
-unfolding shl
-shl_two k h = omega arith
-
--- an address in two parts, with an offset put in between
-sum_of_parts : (k up low a : ℕ) → (up + low) % 2 ^ 32 ≡ a → a + 4 * k < 2 ^ 32 → ((4 * k + up) % 2 ^ 32 + low) % 2 ^ 32 ≡ a + 4 * k
-sum_of_parts k up low a e h = omega arith
-
-data_address : (k up low a : ℕ) → add up low ≡ a → a + 4 * k < 2 ^ 32 → add (add (4 * k) up) low ≡ a + 4 * k
-unfolding add
-data_address k up low a e h = sum_of_parts k up low a e h
-
-frame_address : (k sp at : ℕ) → sp + at + 4 * k < 2 ^ 32 → add (add (4 * k) sp) at ≡ sp + at + 4 * k
-unfolding add
-frame_address k sp at h = omega arith
+use Rattle.mv_select_code.proofs.OfStatements.Written.{written_value}
 
 -- an operand's register isn't that of a size
-size_beside : (t : Tree) (r : ℕ) → r < third → (operand_register t r < 12) ⊎ (13 ≤ operand_register t r)
-size_beside t r lt = apart (operand_register t r) (operand_beside t r third (λ e. omega arith) (omega arith) (omega arith)) (cases_lt (operand_register t r) 12)
-  where
-    apart : (q : ℕ) → q ≢ third → (q < 12) ⊎ (12 ≤ q) → (q < 12) ⊎ (13 ≤ q)
-    apart q ne (inl h) = inl h
-    apart q ne (inr h) = inr (grind (arith, ne))
+size_beside : (s : Seats) → AreSeats s → (t : Tree) (r : ℕ) → r < third → (operand_register s t r < third) ⊎ (third + 1 ≤ operand_register s t r)
+size_beside s seats t r lt = operand_aside s seats t r third (third + 1) (inr (omega arith, omega arith)) (inl lt)
+
+apart : (z d : ℕ) → z ≢ d → (z < d) ⊎ (d ≤ z) → (z < d) ⊎ (d + 1 ≤ z)
+apart z d ne (inl l) = inl l
+apart z d ne (inr u) = inr (grind (arith, ne))
 
 less_is : (a b : ℕ) → a < b → not (lt_u a b) ≡ false
 unfolding lt_u
@@ -76,76 +57,20 @@ module _ {M : Type 0} (access : Access M) (s : Site) (setting : ir.Setting) (fra
   abbrev V : Tree → State → ℕ
   V = of_tree setting frame
 
-  -- what is added to the first register gives the place of the element
-  record IsPlaced (a : Array) (q k : ℕ) (l : State) (regs : List ℕ) (m : M) : Type 0 where
-    after : List ℕ
-    runs : Straight (limited access s) m s.entry (element_lines (home_of s a) q) regs after
-    to : add (reg after first) (word_of (element_offset (home_of s a))) ≡ address s (Element a k)
-    beside : (w : ℕ) → w ≢ first → w ≢ third → reg after w ≡ reg regs w
-    shown : Shows s access l after m
-
-  element_placed : (a : Array) (q k : ℕ) (l : State) (regs : List ℕ) (m : M) → k < size_of s a → reg regs q ≡ k → Shows s access l regs m → IsPlaced a q k l regs m
-  element_placed (array.Global g) q k l regs m lt index f =
-      let at = s.place g in
-      let small = fit.addresses (Element (array.Global g) k) lt in
-      let up = upper (pos (upper_bits at)) in
-      let mix = add (4 * k) up in
-      let r1 = put regs first (4 * k) in
-      let r2 = put r1 third up in
-      let r3 = put r2 first mix in
-      let c1 = changes_put 10 13 first (4 * k) regs f.are (omega arith) (omega arith) (omega arith) (omega arith) (omega arith) in
-      let c2 = changes_put 10 13 third up r1 c1.are (omega arith) (omega arith) (omega arith) (omega arith) (upper_below at) in
-      let c3 = changes_put 10 13 first mix r2 c2.are (omega arith) (omega arith) (omega arith) (omega arith) (add_below (4 * k) up) in
-      let held : reg r2 first ≡ 4 * k = put_other r1 third first up (omega arith) (λ e. omega arith) ∙ put_same regs first (4 * k) (omega arith) (omega (arith, f.are.count)) in
-      let high : reg r2 third ≡ up = put_same r1 third up (omega arith) (omega (arith, c1.are.count)) in
-      let s1 = slli_sets (limited access s) m first q (pos 2) regs k 2 (4 * k) index (word_of_pos 2 (omega arith)) (shl_two k (omega arith)) in
-      let s2 = lui_sets (limited access s) m third (pos (upper_bits at)) r1 up refl in
-      let s3 = add_sets (limited access s) m first first third r2 (4 * k) up mix held high refl in
-      record {
-        after = r3;
-        runs = (r1, s1, (r2, s2, (r3, s3, refl)));
-        to = ap (λ z. add z (word_of (lower_bits at))) (put_same r2 first mix (omega arith) (omega (arith, c2.are.count))) ∙ data_address k up (word_of (lower_bits at)) at (parts_add at (omega arith)) small;
-        beside = λ w ne other. put_other r2 first w mix (omega arith) ne ∙ put_other r1 third w up (omega arith) other ∙ put_other regs first w (4 * k) (omega arith) ne;
-        shown = frame_scratch s access 10 13 l regs r3 m (inl (omega arith, omega arith)) (changes_both 10 13 regs r2 r3 (changes_both 10 13 regs r1 r2 c1 c2) c3) f;
-      }
-  element_placed (array.Local a) q k l regs m lt index f =
-      let at = s.array_at a in
-      let sp = s.register 2 in
-      let small = fit.addresses (Element (array.Local a) k) lt in
-      let mix = add (4 * k) sp in
-      let r1 = put regs first (4 * k) in
-      let r2 = put r1 first mix in
-      let c1 = changes_put 10 13 first (4 * k) regs f.are (omega arith) (omega arith) (omega arith) (omega arith) (omega arith) in
-      let c2 = changes_put 10 13 first mix r1 c1.are (omega arith) (omega arith) (omega arith) (omega arith) (add_below (4 * k) sp) in
-      let stack : reg r1 2 ≡ sp = put_other regs first 2 (4 * k) (omega arith) (λ e. omega arith) ∙ f.left 2 (inl (omega arith)) in
-      let s1 = slli_sets (limited access s) m first q (pos 2) regs k 2 (4 * k) index (word_of_pos 2 (omega arith)) (shl_two k (omega arith)) in
-      let s2 = add_sets (limited access s) m first first 2 r1 (4 * k) sp mix (put_same regs first (4 * k) (omega arith) (omega (arith, f.are.count))) stack refl in
-      record {
-        after = r2;
-        runs = (r1, s1, (r2, s2, refl));
-        to = ap (λ z. add z (word_of (pos at))) (put_same r1 first mix (omega arith) (omega (arith, c1.are.count))) ∙ add_word mix at ∙ frame_address k sp at small;
-        beside = λ w ne other. put_other r1 first w mix (omega arith) ne ∙ put_other regs first w (4 * k) (omega arith) ne;
-        shown = frame_scratch s access 10 13 l regs r2 m (inl (omega arith, omega arith)) (changes_both 10 13 regs r1 r2 c1 c2) f;
-      }
-
-  element_size : (a : Array) (q : ℕ) → sum_by greatest_words (element_lines (home_of s a) q) ≤ 3
-  element_size (array.Global g) q = omega arith
-  element_size (array.Local a) q = omega arith
-
   -- ---- the test of an index
 
   -- the number of elements stands in the third register
   record IsSized (size : ℕ) (l : State) (regs : List ℕ) (m : M) : Type 0 where
     after : List ℕ
     runs : Straight (limited access s) m s.entry (number_lines size third) regs after
-    changes : Changes 12 13 regs after
+    changes : Changes third (third + 1) regs after
     holds : reg after third ≡ size
     shown : Shows s access l after m
 
   sized : (a : Array) (l : State) (regs : List ℕ) (m : M) → Shows s access l regs m → IsSized (size_of s a) l regs m
   sized a l regs m f =
-      let g = number_gives (limited access s) m s.entry 12 13 third (size_of s a) regs f.are (record { low = omega arith; from = omega arith; below = omega arith; high = omega arith }) (fit.sizes a) in
-      record { after = g.after; runs = g.runs; changes = g.changes; holds = g.holds; shown = frame_scratch s access 12 13 l regs g.after m (inl (omega arith, omega arith)) g.changes f }
+      let g = number_gives (limited access s) m s.entry third (third + 1) third (size_of s a) regs f.are (record { from = omega arith; below = omega arith; free = free_above third (omega arith) (omega arith) }) (fit.sizes a) in
+      record { after = g.after; runs = g.runs; changes = g.changes; holds = g.holds; shown = frame_scratch s access fit.left fit.seats third (third + 1) l regs g.after m (inr (omega arith, omega arith)) g.changes f }
 
   abbrev branch : ℕ → Line
   branch q = Branch 7 q third (trap_label 2)
@@ -170,11 +95,27 @@ module _ {M : Type 0} (access : Access M) (s : Site) (setting : ir.Setting) (fra
   passed : (a : Array) (q k n : ℕ) (ks : List Line) (l : State) (regs : List ℕ) (m : M) (regs' : List ℕ) (m' : M) (z : IsSized (size_of s a) l regs m) → reg z.after q ≡ k → k < size_of s a → L ks n z.after m Past regs' m' → L (branch q ∷ ks) (n + 1) z.after m Past regs' m'
   passed a q k n ks l regs m regs' m' z index lt h = inr (less_is (reg z.after q) (reg z.after third) (omega (arith, index, z.holds, lt)), n, omega arith, h)
 
-  pub check_done : (a : Array) (i : Tree) → IsFine s setting frame i → Does access s setting frame (check_lines s.place (size_of s a) i) (stm.Check a i)
-  check_done a i fine bound l regs m f = by_index (ltb (V i l) (length (elements a l))) refl
+  -- ---- an index that is known
+
+  known : (a : Array) (i : Tree) (n : ℕ) (l : State) (regs : List ℕ) (m : M) → fixed (size_of s a) (literal i) ≡ Some n → Shows s access l regs m → (V i l ≡ n) × (n < size_of s a) × (ltb n (length (elements a l)) ≡ true)
+  known a i n l regs m is f =
+      let h = fixed_is (size_of s a) n (literal i) is in
+      let lt = h.1 in
+      (written_value setting.numbers frame.bound l.temps l.world.globals i n h.0, lt, lt-ltb n (length (elements a l)) (omega (arith, f.sizes a)))
+
+  -- what a statement does there, of what it does where the index is below the length
+  at_known : (ls : List Line) (c : ℕ) (regs : List ℕ) (m : M) (a : Array) (i : Tree) (n : ℕ) (l : State) (next : ℕ → State) → fixed (size_of s a) (literal i) ≡ Some n → Shows s access l regs m
+      → Follows access s setting frame ls c regs m (Next (next n)) → Follows access s setting frame ls c regs m (cond (ltb (V i l) (length (elements a l))) (Next (next (V i l))) (traps 2 l))
+  at_known ls c regs m a i n l next is f h =
+      let k = known a i n l regs m is f in
+      subst (λ v. Follows access s setting frame ls c regs m (cond (ltb v (length (elements a l))) (Next (next v)) (traps 2 l))) (sym k.0)
+      (subst (λ d. Follows access s setting frame ls c regs m (cond d (Next (next n)) (traps 2 l))) (sym k.2) h)
+
+  pub check_done : (a : Array) (i : Tree) → IsFine s setting frame i → Does access s setting frame (check_lines s.seats (size_of s a) i) (stm.Check a i)
+  check_done a i fine bound l regs m f = by_fixed (fixed (size_of s a) (literal i)) refl
     where
       q : ℕ
-      q = operand_register i first
+      q = operand_register s.seats i first
 
       x : HasOperand access s setting frame fit first i l regs m
       x = operand_first access s setting frame fit first i l regs m at_first fine f
@@ -183,9 +124,9 @@ module _ {M : Type 0} (access : Access M) (s : Site) (setting : ir.Setting) (fra
       z = sized a l x.after m x.shown
 
       index : reg z.after q ≡ V i l
-      index = z.changes.others q (size_beside i first (omega arith)) ∙ x.holds
+      index = z.changes.others q (size_beside s.seats fit.seats i first (omega arith)) ∙ x.holds
 
-      by_index : (d : Bool) → ltb (V i l) (length (elements a l)) ≡ d → Follows access s setting frame (check_lines s.place (size_of s a) i) (8 + 3 * nodes i) regs m (cond d (Next l) (traps 2 l))
+      by_index : (d : Bool) → ltb (V i l) (length (elements a l)) ≡ d → Follows access s setting frame (check_by s.seats None (size_of s a) i) (8 + 3 * nodes i) regs m (cond d (Next l) (traps 2 l))
       by_index true is =
           let below : V i l < size_of s a = omega (arith, ltb-true (V i l) (length (elements a l)) is, f.sizes a) in (
             z.after,
@@ -207,14 +148,19 @@ module _ {M : Type 0} (access : Access M) (s : Site) (setting : ir.Setting) (fra
             ),
           )
 
-  pub read_done : (t : ℕ) (a : Array) (i : Tree) → t < s.temps → IsRead s a → IsFine s setting frame i → Does access s setting frame (read_lines s.place t (home_of s a) (size_of s a) i) (stm.Read t a i)
-  read_done t a i lt may fine bound l regs m f = by_index (ltb (V i l) (length (elements a l))) refl
+      by_fixed : (index : Option ℕ) → fixed (size_of s a) (literal i) ≡ index
+          → Follows access s setting frame (check_by s.seats index (size_of s a) i) (8 + 3 * nodes i) regs m (cond (ltb (V i l) (length (elements a l))) (Next l) (traps 2 l))
+      by_fixed None is = by_index (ltb (V i l) (length (elements a l))) refl
+      by_fixed (Some n) is = at_known [] (8 + 3 * nodes i) regs m a i n l (λ k. l) is f (regs, m, (refl, (refl, refl)), f)
+
+  pub read_done : (t : ℕ) (a : Array) (i : Tree) → t < s.temps → IsRead s a → IsFine s setting frame i → Does access s setting frame (read_lines s.seats t (home_of s a) (size_of s a) i) (stm.Read t a i)
+  read_done t a i lt may fine bound l regs m f = by_fixed (fixed (size_of s a) (literal i)) refl
     where
       q : ℕ
-      q = operand_register i first
+      q = operand_register s.seats i first
 
       load : List Line
-      load = Word (Lw (target t) first (element_offset (home_of s a))) ∷ keep_lines t
+      load = Word (Lw (target s.seats t) first (element_offset (home_of s a))) ∷ keep_lines s.seats t
 
       ks : List Line
       ks = element_lines (home_of s a) q ++ load
@@ -226,28 +172,28 @@ module _ {M : Type 0} (access : Access M) (s : Site) (setting : ir.Setting) (fra
       z = sized a l x.after m x.shown
 
       index : reg z.after q ≡ V i l
-      index = z.changes.others q (size_beside i first (omega arith)) ∙ x.holds
+      index = z.changes.others q (size_beside s.seats fit.seats i first (omega arith)) ∙ x.holds
 
       by_index : (d : Bool) → ltb (V i l) (length (elements a l)) ≡ d
-          → Follows access s setting frame (read_lines s.place t (home_of s a) (size_of s a) i) (8 + 3 * nodes i) regs m (cond d (Next (with_temp l t (slice_index (elements a l) (V i l)))) (traps 2 l))
+          → Follows access s setting frame (read_by s.seats None t (home_of s a) (size_of s a) i) (8 + 3 * nodes i) regs m (cond d (Next (with_temp l t (slice_index (elements a l) (V i l)))) (traps 2 l))
       by_index true is =
           let below : V i l < size_of s a = omega (arith, ltb-true (V i l) (length (elements a l)) is, f.sizes a) in
-          let p = element_placed a q (V i l) l z.after m below index z.shown in
+          let p = element_placed access s setting frame fit a q (V i l) l z.after m below index z.shown in
           let w = slice_index (elements a l) (V i l) in
           let word = p.shown.words (Element a (V i l)) below in
-          let d = target t in
-          let range = target_range t in
+          let d = target s.seats t in
+          let free = target_free s.seats fit.seats t in
           let mid = put p.after d w in
-          let are = put_registers p.after d w p.shown.are range.0 range.1 word in
-          let g = temp_kept access s setting frame fit t w l p.after mid m lt word are (λ z o ne. put_other p.after d z w range.0 ne) (put_same p.after d w range.0 (omega (arith, p.shown.are.count, range.1))) p.shown in
+          let are = put_registers p.after d w p.shown.are free word in
+          let g = temp_kept access s setting frame fit t w l p.after mid m lt word are (λ z o ne. put_other p.after d z w free.above ne) (put_same p.after d w free.above (omega (arith, p.shown.are.count, free.below))) p.shown in
           let lw = Lw d first (element_offset (home_of s a)) in
-          let loads = leads_next access s lw (keep_lines t) 1 p.after m mid m Past g.after g.memory (
+          let loads = leads_next access s lw (keep_lines s.seats t) 1 p.after m mid m Past g.after g.memory (
             lw_sets (limited access s) m d first (element_offset (home_of s a)) p.after (address s (Element a (V i l))) w p.to
                 (cell_loaded access s setting frame fit m (Element a (V i l)) w below may (p.shown.in_memory (Element a (V i l)) below)),
             inl refl,
           )
           g.leads in
-          let placed = leads_more access s ks (sum_by greatest_words (element_lines (home_of s a) q) + 2) 5 z.after m Past g.after g.memory (omega (arith, element_size a q))
+          let placed = leads_more access s ks (sum_by greatest_words (element_lines (home_of s a) q) + 2) 5 z.after m Past g.after g.memory (omega (arith, element_size access s setting frame fit a q))
           (leads_straight access s (element_lines (home_of s a) q) load 2 z.after p.after m Past g.after g.memory p.runs loads) in (
             g.after,
             g.memory,
@@ -268,14 +214,38 @@ module _ {M : Type 0} (access : Access M) (s : Site) (setting : ir.Setting) (fra
             ),
           )
 
-  pub write_done : (a : Array) (i v : Tree) → IsWritten s a → IsFine s setting frame i → IsFine s setting frame v → Does access s setting frame (write_lines s.place (home_of s a) (size_of s a) i v) (stm.Write a i v)
-  write_done a i v may fi fv bound l regs m f = by_index (ltb (V i l) (length (elements a l))) refl
+      read : ℕ → State
+      read k = with_temp l t (slice_index (elements a l) k)
+
+      fetched : (n : ℕ) → n < size_of s a → Follows access s setting frame (read_by s.seats (Some n) t (home_of s a) (size_of s a) i) (8 + 3 * nodes i) regs m (Next (read n))
+      fetched n below =
+          let d = target s.seats t in
+          let w = slice_index (elements a l) n in
+          let free = target_free s.seats fit.seats t in
+          let p = element_fetched access s setting frame fit a n d l regs m may below free f in
+          let g = temp_kept access s setting frame fit t w l regs p.after m lt (f.words (Element a n) below) p.changes.are (λ z o ne. p.changes.others z (apart z d ne (cases_lt z d))) p.holds f in
+          let ls = fetch_lines (element_at (home_of s a) n) d in
+          let ks = keep_lines s.seats t in (
+            g.after,
+            g.memory,
+            leads_more access s (ls ++ ks) (sum_by greatest_words ls + 1) (8 + 3 * nodes i) regs m Past g.after g.memory (omega (arith, fetch_size access s setting frame fit a n d))
+                (leads_straight access s ls ks 1 regs p.after m Past g.after g.memory p.runs g.leads),
+            g.shown,
+          )
+
+      by_fixed : (index : Option ℕ) → fixed (size_of s a) (literal i) ≡ index
+          → Follows access s setting frame (read_by s.seats index t (home_of s a) (size_of s a) i) (8 + 3 * nodes i) regs m (cond (ltb (V i l) (length (elements a l))) (Next (read (V i l))) (traps 2 l))
+      by_fixed None is = by_index (ltb (V i l) (length (elements a l))) refl
+      by_fixed (Some n) is = let k = known a i n l regs m is f in at_known (read_by s.seats (Some n) t (home_of s a) (size_of s a) i) (8 + 3 * nodes i) regs m a i n l read is f (fetched n k.1)
+
+  pub write_done : (a : Array) (i v : Tree) → IsWritten s a → IsFine s setting frame i → IsFine s setting frame v → Does access s setting frame (write_lines s.seats (home_of s a) (size_of s a) i v) (stm.Write a i v)
+  write_done a i v may fi fv bound l regs m f = by_fixed (fixed (size_of s a) (literal i)) refl
     where
       q : ℕ
-      q = operand_register i first
+      q = operand_register s.seats i first
 
       w : ℕ
-      w = operand_register v second
+      w = operand_register s.seats v second
 
       store : List Line
       store = one (Sw first w (element_offset (home_of s a)))
@@ -293,27 +263,45 @@ module _ {M : Type 0} (access : Access M) (s : Site) (setting : ir.Setting) (fra
       z = sized a l y.after m y.shown
 
       index : reg z.after q ≡ V i l
-      index = z.changes.others q (size_beside i first (omega arith)) ∙ y.changes.others q (operand_outside i first (second + 4) at_second) ∙ x.holds
+      index = z.changes.others q (size_beside s.seats fit.seats i first (omega arith)) ∙ y.changes.others q (operand_aside s.seats fit.seats i first second (second + 4) at_second (inr (omega arith))) ∙ x.holds
 
       both : (n : ℕ) (exit : Exit) (regs' : List ℕ) (m' : M) → n ≤ 8 → L (test_lines (size_of s a) q ++ ks) n y.after m exit regs' m'
-          → L (write_lines s.place (home_of s a) (size_of s a) i v) (8 + 3 * (nodes i + nodes v)) regs m exit regs' m'
+          → L (write_by s.seats None (home_of s a) (size_of s a) i v) (8 + 3 * (nodes i + nodes v)) regs m exit regs' m'
       both n exit regs' m' le h =
-          after_operand access s setting frame fit first i (operand_lines s.place v second ++ (test_lines (size_of s a) q ++ ks)) (8 + 2 * nodes v) (8 + 3 * (nodes i + nodes v)) l regs m exit regs' m' (omega arith) x
+          after_operand access s setting frame fit first i (operand_lines s.seats v second ++ (test_lines (size_of s a) q ++ ks)) (8 + 2 * nodes v) (8 + 3 * (nodes i + nodes v)) l regs m exit regs' m' (omega arith) x
           (after_operand access s setting frame fit second v (test_lines (size_of s a) q ++ ks) n (8 + 2 * nodes v) l x.after m exit regs' m' (omega arith) y h)
 
       by_index : (d : Bool) → ltb (V i l) (length (elements a l)) ≡ d
-          → Follows access s setting frame (write_lines s.place (home_of s a) (size_of s a) i v) (8 + 3 * (nodes i + nodes v)) regs m (cond d (Next (with_elements a l (slice_set (elements a l) (V i l) (V v l)))) (traps 2 l))
+          → Follows access s setting frame (write_by s.seats None (home_of s a) (size_of s a) i v) (8 + 3 * (nodes i + nodes v)) regs m (cond d (Next (with_elements a l (slice_set (elements a l) (V i l) (V v l)))) (traps 2 l))
       by_index true is =
           let many = ltb-true (V i l) (length (elements a l)) is in
           let below : V i l < size_of s a = omega (arith, many, f.sizes a) in
-          let p = element_placed a q (V i l) l z.after m below index z.shown in
-          let value : reg p.after w ≡ V v l = p.beside w (operand_beside v second first (λ e. omega arith) (omega arith) (omega arith)) (operand_beside v second third (λ e. omega arith) (omega arith) (omega arith))
-          ∙ z.changes.others w (size_beside v second (omega arith)) ∙ y.holds in
+          let p = element_placed access s setting frame fit a q (V i l) l z.after m below index z.shown in
+          let value : reg p.after w ≡ V v l = p.beside w (operand_beside s.seats fit.seats v second first (inr (omega arith, omega arith)) (inl (omega arith))) (operand_beside s.seats fit.seats v second third (inr (omega arith, omega arith)) (inl (omega arith)))
+          ∙ z.changes.others w (size_beside s.seats fit.seats v second (omega arith)) ∙ y.holds in
           let l' = with_elements a l (slice_set (elements a l) (V i l) (V v l)) in
           let g = cell_written access s setting frame fit first w (element_offset (home_of s a)) (Element a (V i l)) (V v l) l l' p.after m p.to value y.below may below (updates_element s l a (V i l) (V v l) many) p.shown in
-          let placed = leads_more access s ks (sum_by greatest_words (element_lines (home_of s a) q) + 1) 4 z.after m Past g.after g.memory (omega (arith, element_size a q))
+          let placed = leads_more access s ks (sum_by greatest_words (element_lines (home_of s a) q) + 1) 4 z.after m Past g.after g.memory (omega (arith, element_size access s setting frame fit a q))
           (leads_straight access s (element_lines (home_of s a) q) store 1 z.after p.after m Past g.after g.memory p.runs (leads_one access s (Sw first w (element_offset (home_of s a))) p.after m g.after g.memory g.moves)) in
           (g.after, g.memory, both (4 + 1 + 2) Past g.after g.memory (omega arith) (after_test a q ks (4 + 1) l y.after m Past g.after g.memory z (passed a q (V i l) 4 ks l y.after m g.after g.memory z index below placed)), g.shown)
       by_index false is =
           let above : size_of s a ≤ V i l = omega (arith, ltb-false (V i l) (length (elements a l)) is, f.sizes a) in
           (l, refl, (z.after, m, both (2 + 2) (To (trap_label 2)) z.after m (omega arith) (after_test a q ks 2 l y.after m (To (trap_label 2)) z.after m z (failed a q (V i l) ks l y.after m z index above)), z.shown))
+
+      written : ℕ → State
+      written k = with_elements a l (slice_set (elements a l) k (V v l))
+
+      stored : (n : ℕ) → n < size_of s a → ltb n (length (elements a l)) ≡ true
+          → Follows access s setting frame (write_by s.seats (Some n) (home_of s a) (size_of s a) i v) (8 + 3 * (nodes i + nodes v)) regs m (Next (written n))
+      stored n below is =
+          let u = operand_register s.seats v first in
+          let o = operand_first access s setting frame fit first v l regs m at_first fv f in
+          let beside = operand_beside s.seats fit.seats v first second (inl (omega arith, omega arith)) (inr (omega arith)) in
+          let g = element_put access s setting frame fit a n (V v l) l (written n) u o.after m o.below may below (updates_element s l a n (V v l) (ltb-true n (length (elements a l)) is)) beside o.holds o.shown in
+          let ks = put_lines (element_at (home_of s a) n) u in
+          (g.after, g.memory, after_operand access s setting frame fit first v ks 2 (8 + 3 * (nodes i + nodes v)) l regs m Past g.after g.memory (omega arith) o g.leads, g.shown)
+
+      by_fixed : (index : Option ℕ) → fixed (size_of s a) (literal i) ≡ index
+          → Follows access s setting frame (write_by s.seats index (home_of s a) (size_of s a) i v) (8 + 3 * (nodes i + nodes v)) regs m (cond (ltb (V i l) (length (elements a l))) (Next (written (V i l))) (traps 2 l))
+      by_fixed None is = by_index (ltb (V i l) (length (elements a l))) refl
+      by_fixed (Some n) is = let k = known a i n l regs m is f in at_known (write_by s.seats (Some n) (home_of s a) (size_of s a) i v) (8 + 3 * (nodes i + nodes v)) regs m a i n l written is f (stored n k.1 k.2)

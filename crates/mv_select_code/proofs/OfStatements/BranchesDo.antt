@@ -1,5 +1,5 @@
 -- The code of a branch goes to its label exactly where its tree says so.
-use Rattle.std.proofs.Common.{◌≡◌, inl, inr, ℕ, ◌+◌, ◌*◌, ◌≤◌, Bool, true, false, not, ◌&&◌, cond, eqb, List, [], ◌∷◌, ◌++◌, length, Option, Some, None, refl, sym, ap, ◌∙◌, subst, arith}
+use Rattle.std.proofs.Common.{◌≡◌, ◌⊎◌, inl, inr, ⊎_elim, ℕ, ◌+◌, ◌*◌, ◌<◌, ◌≤◌, Bool, true, false, not, ◌&&◌, cond, eqb, List, [], ◌∷◌, ◌++◌, length, Option, Some, None, refl, sym, ap, ◌∙◌, subst, arith}
 use Rattle.std.proofs.lemmas.Bool.{eqb-true}
 use Rattle.mv_num.specs.Words.{as_word, lt_s, lt_u}
 use Rattle.mv_isa.specs.declared.labelled.Line.{Line}
@@ -13,22 +13,22 @@ use Rattle.mv_ir.specs.declared.tree.Tree.TheViews.{roll-Tree}
 use Rattle.mv_ir.specs.declared.tree.Tree.TheFolds.{map-Tree}
 use Rattle.mv_ir.specs.World as ir
 use Rattle.mv_ir.specs.Outcome.{State}
-use Rattle.mv_ir.specs.Trees.{nodes, unary, binary, Value, tree_value, value}
+use Rattle.mv_ir.specs.Trees.{nodes, depth, unary, binary, Value, tree_value, value}
 use Rattle.mv_ir.specs.Meaning.{of_tree}
 use Rattle.mv_ir.proofs.Induction.{TreeChildren, tree_ind}
 use Rattle.mv_ir.proofs.Rolls.{value_roll, nodes_roll, depth_roll}
 use Rattle.mv_select_code.specs.Trees.TreeCode.{is_taken, word_branch, number_branch, comparison, operand_lines, operand_register, branch_lines}
 use Rattle.mv_select_code.specs.Trees.View.{is_in_view}
 use Rattle.mv_select_code.proofs.OfTrees.Branches.{comparison_cases}
-use Rattle.mv_select_code.proofs.OfTrees.Operands.{operand_outside}
+use Rattle.mv_select_code.proofs.OfTrees.Operands.{operand_below, operand_outside}
 use Rattle.mv_select_code.proofs.OfTrees.Registers.{reg_zero}
 use Rattle.mv_select_code.proofs.OfTrees.Rolls.{in_view_roll, word_lines, compared_or, branch_tree, branch_roll}
-use Rattle.mv_select_code.specs.Statements.StatementCode.{first, second}
+use Rattle.mv_select_code.specs.Statements.StatementCode.{first}
 use Rattle.mv_select_code.specs.Statements.Leads.{Exit, exit_by, Leads}
 use Rattle.mv_select_code.specs.Statements.Frames.{Site, view_of, IsFine, IsFit, Shows}
 use Rattle.mv_select_code.specs.Statements.Laws.{LeadsTo}
-use Rattle.mv_select_code.proofs.OfStatements.ScalarStatements.{at_first, at_second, after_operand}
-use Rattle.mv_select_code.proofs.OfStatements.TreesFirst.{operand_first}
+use Rattle.mv_select_code.proofs.OfStatements.ScalarStatements.{at_first, after_operand}
+use Rattle.mv_select_code.proofs.OfStatements.TreesFirst.{operand_within, operand_first}
 use Rattle.mv_select_code.proofs.OfStatements.Walks.{leads_more}
 use Rattle.mv_num.proofs.Booleans.{and_left, and_right}
 
@@ -114,9 +114,9 @@ module _ {M : Type 0} (access : Access M) (s : Site) (setting : ir.Setting) (fra
 
   -- by the word of the tree
   word_done : (v : Tree) → Fine v → (sense : Bool) (label : ℕ) (l : State) (regs : List ℕ) (m : M) → Shows s access l regs m
-      → To (word_lines s.place v sense first label) (2 * nodes v + 2) regs m (exit_by (is_taken sense (V v l)) label) l
+      → To (word_lines s.seats v sense first label) (2 * nodes v + 2) regs m (exit_by (is_taken sense (V v l)) label) l
   word_done v fine sense label l regs m f =
-      let q = operand_register v first in
+      let q = operand_register s.seats v first in
       let x = operand_first access s setting frame fit first v l regs m at_first fine f in
       let d = is_taken sense (V v l) in
       let holds = word_holds sense (reg x.after q) (reg x.after 0) (V v l) x.holds (reg_zero x.after) in (
@@ -128,22 +128,24 @@ module _ {M : Type 0} (access : Access M) (s : Site) (setting : ir.Setting) (fra
       )
 
   -- by a comparison
-  compared_done : (f o : ℕ) (a b : Tree) → Fine a → Fine b → (sense : Bool) (label : ℕ) (l : State) (regs : List ℕ) (m : M) → Shows s access l regs m
+  compared_done : (f o : ℕ) (a b : Tree) → Fine a → Fine b → depth b ≤ 3 → (sense : Bool) (label : ℕ) (l : State) (regs : List ℕ) (m : M) → Shows s access l regs m
       → Compares sense (V a l) (V b l) o (Some f)
-      → To (compared_or s.place (Some f) a b first label []) (2 * nodes a + (2 * nodes b + 2)) regs m (exit_by (is_taken sense (binary o (V a l) (V b l))) label) l
-  compared_done f o a b fa fb sense label l regs m h c =
-      let p = operand_register a first in
-      let q = operand_register b second in
+      → To (compared_or s.seats (Some f) a b first label []) (2 * nodes a + (2 * nodes b + 2)) regs m (exit_by (is_taken sense (binary o (V a l) (V b l))) label) l
+  compared_done f o a b fa fb low sense label l regs m h c =
+      let beside = first + 1 in
+      let p = operand_register s.seats a first in
+      let q = operand_register s.seats b beside in
       let end = Branch f p q label ∷ [] in
       let x = operand_first access s setting frame fit first a l regs m at_first fa h in
-      let y = operand_first access s setting frame fit second b l x.after m at_second fb x.shown in
+      let y = operand_within access s setting frame fit beside b l x.after m (inr (omega arith, omega arith)) fb x.shown in
       let d = is_taken sense (binary o (V a l) (V b l)) in
-      let left : reg y.after p ≡ V a l = y.changes.others p (operand_outside a first (second + 4) at_second) ∙ x.holds in
+      let outside : (p < beside) ⊎ (beside + 4 ≤ p) = ⊎_elim (λ (k : p < beside). inl k) (λ (k : 32 ≤ p). absurd (omega (arith, operand_below s.seats fit.seats a first (omega arith)))) (operand_outside s.seats fit.seats a first 32 (inr (omega arith, omega arith))) in
+      let left : reg y.after p ≡ V a l = y.changes.others p outside ∙ x.holds in
       let holds : branch_holds f (reg y.after p) (reg y.after q) ≡ d = ap (λ z. branch_holds f z (reg y.after q)) left ∙ ap (branch_holds f (V a l)) y.holds ∙ c in (
         y.after,
         m,
-        after_operand access s setting frame fit first a (operand_lines s.place b second ++ end) (2 * nodes b + 2) (2 * nodes a + (2 * nodes b + 2)) l regs m (exit_by d label) y.after m (omega arith) x
-            (after_operand access s setting frame fit second b end 2 (2 * nodes b + 2) l x.after m (exit_by d label) y.after m (omega arith) y (branch_leads f p q label d y.after m holds)),
+        after_operand access s setting frame fit first a (operand_lines s.seats b beside ++ end) (2 * nodes b + 2) (2 * nodes a + (2 * nodes b + 2)) l regs m (exit_by d label) y.after m (omega arith) x
+            (after_operand access s setting frame fit beside b end 2 (2 * nodes b + 2) l x.after m (exit_by d label) y.after m (omega arith) y (branch_leads f p q label d y.after m holds)),
         y.shown,
       )
 
@@ -151,7 +153,7 @@ module _ {M : Type 0} (access : Access M) (s : Site) (setting : ir.Setting) (fra
 
   abbrev TreeBranches : Tree → Type 0
   TreeBranches v = Fine v → (sense : Bool) (label : ℕ) (l : State) (regs : List ℕ) (m : M) → Shows s access l regs m
-      → To (branch_lines s.place v sense first label) (2 * nodes v + 2) regs m (exit_by (is_taken sense (V v l)) label) l
+      → To (branch_lines s.seats v sense first label) (2 * nodes v + 2) regs m (exit_by (is_taken sense (V v l)) label) l
 
   value_is : (x : Tree-F Tree) (l : State) → V (roll-Tree x) l ≡ tree_value setting.numbers frame.bound (map-Tree Tree Value (value setting.numbers frame.bound) x) l.temps l.world.globals
   value_is x l = ap (λ (w : Value). w l.temps l.world.globals) (value_roll setting.numbers frame.bound x)
@@ -182,7 +184,7 @@ module _ {M : Type 0} (access : Access M) (s : Site) (setting : ir.Setting) (fra
 
   layer : (x : Tree-F Tree) → TreeChildren TreeBranches x → Fine (roll-Tree x) → (sense : Bool) (label : ℕ) (l : State) (regs : List ℕ) (m : M) → Shows s access l regs m
       → (word : List Line) → To word (2 * nodes (roll-Tree x) + 2) regs m (exit_by (is_taken sense (V (roll-Tree x) l)) label) l
-      → To (branch_tree s.place x sense first label word) (2 * nodes (roll-Tree x) + 2) regs m (exit_by (is_taken sense (V (roll-Tree x) l)) label) l
+      → To (branch_tree s.seats x sense first label word) (2 * nodes (roll-Tree x) + 2) regs m (exit_by (is_taken sense (V (roll-Tree x) l)) label) l
   layer (tree.Number n) h fine sense label l regs m f word w =
       let d = is_taken sense n in
       at_value (number_branch sense n label) 1 (2 * nodes (roll-Tree (tree.Number n)) + 2) regs m d (is_taken sense (V (roll-Tree (tree.Number n)) l)) label l (ap (is_taken sense) (sym (value_is (tree.Number n) l))) (omega arith) (by d)
@@ -195,9 +197,9 @@ module _ {M : Type 0} (access : Access M) (s : Site) (setting : ir.Setting) (fra
       t : Tree
       t = roll-Tree (tree.Unary o a)
 
-      by : (d : Bool) → eqb o 2 ≡ d → To (cond d (branch_lines s.place a (not sense) first label) word) (2 * nodes t + 2) regs m (exit_by (is_taken sense (V t l)) label) l
+      by : (d : Bool) → eqb o 2 ≡ d → To (cond d (branch_lines s.seats a (not sense) first label) word) (2 * nodes t + 2) regs m (exit_by (is_taken sense (V t l)) label) l
       by true is =
-          at_value (branch_lines s.place a (not sense) first label) (2 * nodes a + 2) (2 * nodes t + 2) regs m (is_taken (not sense) (V a l)) (is_taken sense (V t l)) label l
+          at_value (branch_lines s.seats a (not sense) first label) (2 * nodes a + 2) (2 * nodes t + 2) regs m (is_taken (not sense) (V a l)) (is_taken sense (V t l)) label l
           (turned sense (V a l) ∙ ap (is_taken sense) (sym (value_is (tree.Unary o a) l ∙ ap (λ k. unary k (V a l)) (eqb-true o 2 is) ∙ not_word (V a l)))) (omega (arith, nodes_roll (tree.Unary o a)))
           (h (fine_unary o a fine) (not sense) label l regs m f)
       by false is = w
@@ -206,17 +208,18 @@ module _ {M : Type 0} (access : Access M) (s : Site) (setting : ir.Setting) (fra
       t : Tree
       t = roll-Tree (tree.Binary o a b)
 
-      by : (c : Option ℕ) → Compares sense (V a l) (V b l) o c → To (compared_or s.place c a b first label word) (2 * nodes t + 2) regs m (exit_by (is_taken sense (V t l)) label) l
+      by : (c : Option ℕ) → Compares sense (V a l) (V b l) o c → To (compared_or s.seats c a b first label word) (2 * nodes t + 2) regs m (exit_by (is_taken sense (V t l)) label) l
       by None c = w
       by (Some funct3) c =
           let parts = fine_binary o a b fine in
-          at_value (compared_or s.place (Some funct3) a b first label []) (2 * nodes a + (2 * nodes b + 2)) (2 * nodes t + 2) regs m (is_taken sense (binary o (V a l) (V b l))) (is_taken sense (V t l)) label l
-          (ap (is_taken sense) (sym (value_is (tree.Binary o a b) l))) (omega (arith, nodes_roll (tree.Binary o a b))) (compared_done funct3 o a b parts.0 parts.1 sense label l regs m f c)
+          let low = fine.shallow in
+          at_value (compared_or s.seats (Some funct3) a b first label []) (2 * nodes a + (2 * nodes b + 2)) (2 * nodes t + 2) regs m (is_taken sense (binary o (V a l) (V b l))) (is_taken sense (V t l)) label l
+          (ap (is_taken sense) (sym (value_is (tree.Binary o a b) l))) (omega (arith, nodes_roll (tree.Binary o a b))) (compared_done funct3 o a b parts.0 parts.1 (omega (arith, low, depth_roll (tree.Binary o a b))) sense label l regs m f c)
   layer _ h fine sense label l regs m f word w = w
 
   pub branch_done : (sense : Bool) (label : ℕ) (v : Tree) → Fine v → (l : State) (regs : List ℕ) (m : M) → Shows s access l regs m
-      → To (branch_lines s.place v sense first label) (2 * nodes v + 2) regs m (exit_by (is_taken sense (V v l)) label) l
+      → To (branch_lines s.seats v sense first label) (2 * nodes v + 2) regs m (exit_by (is_taken sense (V v l)) label) l
   branch_done sense label v fine =
       tree_ind TreeBranches
-      (λ x h fine sense label l regs m f. subst (λ ls. To ls (2 * nodes (roll-Tree x) + 2) regs m (exit_by (is_taken sense (V (roll-Tree x) l)) label) l) (sym (branch_roll s.place x sense first label))
-      (layer x h fine sense label l regs m f (word_lines s.place (roll-Tree x) sense first label) (word_done (roll-Tree x) fine sense label l regs m f))) v fine sense label
+      (λ x h fine sense label l regs m f. subst (λ ls. To ls (2 * nodes (roll-Tree x) + 2) regs m (exit_by (is_taken sense (V (roll-Tree x) l)) label) l) (sym (branch_roll s.seats x sense first label))
+      (layer x h fine sense label l regs m f (word_lines s.seats (roll-Tree x) sense first label) (word_done (roll-Tree x) fine sense label l regs m f))) v fine sense label

@@ -1,5 +1,6 @@
 -- What the code of statements is, one part at a time.
-use Rattle.std.proofs.Common.{◌≡◌, ◌≢◌, ℕ, zero, suc, pos, refl}
+use Rattle.std.proofs.Common.{◌≡◌, ◌≢◌, ℕ, zero, suc, ◌+◌, ◌*◌, ◌%◌, pos, refl, arith}
+use Rattle.mv_num.specs.Words.{add}
 use Rattle.mv_isa.specs.declared.instr.Instr.TheVariants.{Addi, Div, Divu, Rem, Remu}
 use Rattle.mv_select_code.specs.Statements.StatementCode.{division}
 
@@ -28,3 +29,8 @@ division_other (suc (suc (suc zero))) d a b p q r s = absurd (s refl)
 division_other (suc (suc (suc (suc o)))) d a b p q r s = refl
 
 pub ruleset divisions = (division_0, division_1, division_2, division_3, division_other)
+
+-- the place of an element, as it is computed with words
+pub element_sum : (at n : ℕ) → (at + n * 4 % 4294967296) % 4294967296 ≡ add at (4 * n)
+unfolding add
+element_sum at n = omega arith

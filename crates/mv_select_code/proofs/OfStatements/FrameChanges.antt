@@ -1,49 +1,18 @@
 -- What each kind of change leaves of a frame: scratch registers, a temporary in its register, a cell of memory.
-use Rattle.std.proofs.Common.{◌≡◌, ◌≢◌, ◌⊎◌, inl, inr, ⊎_elim, ℕ, zero, suc, ◌+◌, ◌<◌, ◌≤◌, ◌^◌, cond, List, [], ◌∷◌, length, get_or, length-set, slice_index, slice_set, Some, refl, sym, ap, ◌∙◌, arith}
+use Rattle.std.proofs.Common.{◌≡◌, ◌≢◌, ◌⊎◌, inl, inr, ⊎_elim, ℕ, zero, suc, ◌+◌, ◌<◌, ◌≤◌, ◌^◌, true, List, [], ◌∷◌, length, get_or, length-set, slice_index, slice_set, Option, Some, None, refl, sym, ap, ◌∙◌, subst, arith}
 use Rattle.std.proofs.lemmas.List.{get_or-set_same, get_or-set_other}
-use Rattle.std.proofs.lemmas.Bool.{cases_eq, ne_eqb}
+use Rattle.std.proofs.lemmas.Bool.{cases_eq, cases_lt}
+use Rattle.std.proofs.lemmas.Option.{none-some}
 use Rattle.mv_isa.specs.Execution.{Access, reg, put}
 use Rattle.mv_ir.specs.declared.stm.Array.{Array}
 use Rattle.mv_ir.specs.declared.stm.Array.TheVariants as array
 use Rattle.mv_ir.specs.World as ir
 use Rattle.mv_ir.specs.Outcome.{State}
 use Rattle.mv_ir.specs.Meaning.{elements, with_temp, with_elements}
-use Rattle.mv_select_code.specs.Trees.TreeCode.{temp_register, temp_offset}
-use Rattle.mv_select_code.specs.Trees.View.{AreScratch, Changes}
-use Rattle.mv_select_code.proofs.OfTrees.Registers.{put_same, put_other, put_registers, frame_outside, temp_in_frame}
-use Rattle.mv_select_code.specs.Statements.Frames.{Site, Cell, TempCell, Element, Kept, IsLeft, address, IsThere, content, Stored, IsFit, Shows}
-
--- ---- registers of temporaries
-
-pub register_is : (t : ℕ) → 0 < t → temp_register t ≡ 17 + t
-unfolding temp_register
-register_is t h = ap (λ b. cond b 9 (17 + t)) (ne_eqb t 0 (λ e. omega arith))
-
-pub register_zero : temp_register 0 ≡ 9
-unfolding temp_register
-register_zero = refl
-
-pub one_register : (t u : ℕ) → t ≢ u → temp_register t ≡ temp_register u → ⊥
-one_register zero zero ne e = ne refl
-one_register zero (suc u) ne e = omega (arith, register_zero, register_is (suc u) (omega arith), e)
-one_register (suc t) zero ne e = omega (arith, register_zero, register_is (suc t) (omega arith), e)
-one_register (suc t) (suc u) ne e = ne (omega (arith, register_is (suc t) (omega arith), register_is (suc u) (omega arith), e))
-
-pub register_low : (t : ℕ) → 9 ≤ temp_register t
-register_low zero = omega (arith, register_zero)
-register_low (suc t) = omega (arith, register_is (suc t) (omega arith))
-
-pub register_high : (t : ℕ) → t < 9 → temp_register t < 26
-register_high zero h = omega (arith, register_zero)
-register_high (suc t) h = omega (arith, register_is (suc t) (omega arith), h)
-
-left_in_frame : (q : ℕ) → IsLeft q → (q < 10) ⊎ ((18 ≤ q) × (q < 28))
-left_in_frame q (inl h) = inl (omega arith)
-left_in_frame q (inr h) = let a = h.0 in inr (omega arith, h.1)
-
-left_is_other : (q t : ℕ) → t < 9 → IsLeft q → q ≢ temp_register t
-left_is_other q t lt (inl h) e = omega (arith, h, e, register_low t)
-left_is_other q t lt (inr h) e = omega (arith, h.0, e, register_high t lt)
+use Rattle.mv_select_code.specs.Trees.TreeCode.{Seats, temp_offset}
+use Rattle.mv_select_code.specs.Trees.View.{AreRegisters, AreScratch, AreSeats, Changes}
+use Rattle.mv_select_code.proofs.OfTrees.Registers.{put_same, put_other, put_registers, scratch_part, seat_free, seat_apart}
+use Rattle.mv_select_code.specs.Statements.Frames.{Site, Cell, TempCell, Element, Kept, LeavesAlone, IsThere, address, content, Stored, IsFit, Shows}
 
 -- ---- arrays
 
@@ -72,20 +41,42 @@ temps_elements : (a : Array) (l : State) (xs : List ℕ) → (with_elements a l 
 temps_elements (array.Global g) l xs = refl
 temps_elements (array.Local a) l xs = refl
 
+-- ---- registers
+
+-- no scratch register
+abbrev pub IsAside : ℕ → Type 0
+IsAside q = AreScratch q (q + 1) → ⊥
+
+pub aside_outside : (lo hi q : ℕ) → AreScratch lo hi → IsAside q → (q < lo) ⊎ (hi ≤ q)
+aside_outside lo hi q scratch h = ⊎_elim (λ (l : q < lo). inl l) above (cases_lt q lo)
+  where
+    above : lo ≤ q → (q < lo) ⊎ (hi ≤ q)
+    above low = ⊎_elim (λ (u : q < hi). absurd (h (scratch_part lo hi q (q + 1) low (omega arith) scratch))) (λ (u : hi ≤ q). inr u) (cases_lt q hi)
+
+pub seat_aside : (s : Seats) → AreSeats s → (t q : ℕ) → s.register t ≡ Some q → IsAside q
+seat_aside s seats t q h scratch = seat_apart s seats t q h q (q + 1) q scratch (omega arith) (omega arith) refl
+
+-- a temporary that has a register is another than one that has none
+two_places : (register : ℕ → Option ℕ) (t u q : ℕ) → register t ≡ None → register u ≡ Some q → u ≢ t
+two_places register t u q h k e = none-some q (sym h ∙ ap register (sym e) ∙ k)
+
+one_register : (register : ℕ → Option ℕ) (t u q r : ℕ) → register t ≡ Some r → register u ≡ Some q → u ≡ t → q ≡ r
+one_register register t u q r h k e = let same : Some q ≡ Some r = sym k ∙ ap register e ∙ h in cc
+
 module _ (s : Site) where
   -- a state that differs from another in one cell
   pub record Updates (l l' : State) (x : Cell) (v : ℕ) : Type 0 where
     pub count : length l'.temps ≡ length l.temps
     pub sizes : (a : Array) → length (elements a l') ≡ length (elements a l)
-    pub low : (t : ℕ) → t < 9 → slice_index l'.temps t ≡ slice_index l.temps t
+    pub seated : (t q : ℕ) → s.seats.register t ≡ Some q → slice_index l'.temps t ≡ slice_index l.temps t
     pub same : content s l' x ≡ v
     pub others : (y : Cell) → IsThere s y → address s y ≢ address s x → content s l' y ≡ content s l y
 
-  pub updates_temp : (l : State) (t v : ℕ) → t < length l.temps → 9 ≤ t → Updates l (with_temp l t v) (TempCell t) v
-  updates_temp l t v lt big = record {
+  pub updates_temp : (l : State) (t v : ℕ) → t < length l.temps → s.seats.register t ≡ None → Updates l (with_temp l t v) (TempCell t) v
+  updates_temp l t v lt none = record {
     count = length-set l.temps t v;
     sizes = λ a. ap length (elements_temp a l t v);
-    low = λ u small. get_or-set_other l.temps t u v 0 (λ e. omega (arith, e, small, big));
+    seated = λ u q h. get_or-set_other l.temps t u v 0 (two_places s.seats.register t u q none h);
     same = get_or-set_same l.temps t v 0 lt;
     others = others;
   }
@@ -99,7 +90,7 @@ module _ (s : Site) where
   updates_element l a i v lt = record {
     count = ap length (temps_elements a l xs);
     sizes = sizes;
-    low = λ t small. ap (λ ts. slice_index ts t) (temps_elements a l xs);
+    seated = λ t q h. ap (λ ts. slice_index ts t) (temps_elements a l xs);
     same = ap (λ ys. slice_index ys i) (elements_same a l xs i lt) ∙ get_or-set_same (elements a l) i v 0 lt;
     others = others;
   }
@@ -130,50 +121,59 @@ module _ (s : Site) where
           other k = ap (λ ys. slice_index ys j) (k l (slice_set (elements a l) i v))
 
   module _ {M : Type 0} (access : Access M) where
-    pub frame_scratch : (lo hi : ℕ) (l : State) (a b : List ℕ) (m : M) → AreScratch lo hi → Changes lo hi a b → Shows s access l a m → Shows s access l b m
-    frame_scratch lo hi l a b m scratch h f = record {
-      are = h.are;
-      left = λ q k. h.others q (frame_outside lo hi q scratch (left_in_frame q k)) ∙ f.left q k;
+    -- registers that a frame doesn't count on may change
+    pub frame_same : (l : State) (a b : List ℕ) (m : M) → AreRegisters b → ((q : ℕ) → s.is_left q ≡ true → reg b q ≡ reg a q)
+        → ((t q : ℕ) → t < s.temps → s.seats.register t ≡ Some q → reg b q ≡ reg a q) → Shows s access l a m → Shows s access l b m
+    frame_same l a b m are left seated f = record {
+      are = are;
+      left = λ q k. left q k ∙ f.left q k;
       count = f.count;
       sizes = f.sizes;
-      low_words = f.low_words;
-      in_register = λ t p q. h.others (temp_register t) (frame_outside lo hi (temp_register t) scratch (temp_in_frame t q)) ∙ f.in_register t p q;
-      unused = λ t p q. h.others (temp_register t) (frame_outside lo hi (temp_register t) scratch (temp_in_frame t q)) ∙ f.unused t p q;
+      temp_words = f.temp_words;
+      in_register = λ t q p k. seated t q p k ∙ f.in_register t q p k;
       words = f.words;
       in_memory = f.in_memory;
     }
 
+    pub frame_aside : LeavesAlone s → AreSeats s.seats → (l : State) (a b : List ℕ) (m : M) → AreRegisters b → ((q : ℕ) → IsAside q → reg b q ≡ reg a q) → Shows s access l a m → Shows s access l b m
+    frame_aside alone seats l a b m are same = frame_same l a b m are (λ q k. same q (alone.scratch q k)) (λ t q p k. same q (seat_aside s.seats seats t q k))
+
+    pub frame_scratch : LeavesAlone s → AreSeats s.seats → (lo hi : ℕ) (l : State) (a b : List ℕ) (m : M) → AreScratch lo hi → Changes lo hi a b → Shows s access l a m → Shows s access l b m
+    frame_scratch alone seats lo hi l a b m scratch h = frame_aside alone seats l a b m h.are (λ q k. h.others q (aside_outside lo hi q scratch k))
+
     -- a temporary in its register
-    pub frame_register : (l : State) (regs : List ℕ) (m : M) (t v : ℕ) → t < s.temps → t < 9 → v < 2 ^ 32 → Shows s access l regs m → Shows s access (with_temp l t v) (put regs (temp_register t) v) m
-    frame_register l regs m t v lt small b f = record {
-      are = put_registers regs r v f.are above (omega (arith, register_high t small)) b;
-      left = λ q k. put_other regs r q v above (left_is_other q t small k) ∙ f.left q k;
+    pub frame_register : LeavesAlone s → AreSeats s.seats → (l : State) (regs : List ℕ) (m : M) (t r v : ℕ) → t < s.temps → s.seats.register t ≡ Some r → v < 2 ^ 32
+        → Shows s access l regs m → Shows s access (with_temp l t v) (put regs r v) m
+    frame_register alone seats l regs m t r v lt is b f = record {
+      are = put_registers regs r v f.are (seat_free s.seats seats t r is) b;
+      left = λ q k. put_other regs r q v above (λ (e : q ≡ r). alone.temps t r lt is (subst (λ n. s.is_left n ≡ true) e k)) ∙ f.left q k;
       count = length-set l.temps t v ∙ f.count;
       sizes = λ a. ap length (elements_temp a l t v) ∙ f.sizes a;
-      low_words = λ u p q. ⊎_elim (λ (e : u ≡ t). rw e (rw (now) b)) (λ (ne : u ≡ t → ⊥). rw (get_or-set_other l.temps t u v 0 ne) (f.low_words u p q)) (cases_eq u t);
-      in_register = λ u p q. ⊎_elim (same u) (other u p q) (cases_eq u t);
-      unused = λ u p q. put_other regs r (temp_register u) v above (one_register u t (λ e. omega (arith, e, lt, p))) ∙ f.unused u p q;
+      temp_words = λ u q p h. ⊎_elim (λ (e : u ≡ t). rw e (rw (now) b)) (λ (ne : u ≡ t → ⊥). rw (get_or-set_other l.temps t u v 0 ne) (f.temp_words u q p h)) (cases_eq u t);
+      in_register = λ u q p h. ⊎_elim (same u q h) (other u q p h) (cases_eq u t);
       words = λ x h. rw (unchanged x h) (f.words x h);
       in_memory = λ x h. f.in_memory x h ∙ ap Some (sym (unchanged x h));
     }
       where
-        r : ℕ
-        r = temp_register t
+        above : 0 < r
+        above = (seat_free s.seats seats t r is).above
 
-        above : 0 < temp_register t
-        above = omega (arith, register_low t)
+        below : r < length regs
+        below = omega (arith, f.are.count, (seat_free s.seats seats t r is).below)
 
         now : slice_index (slice_set l.temps t v) t ≡ v
         now = get_or-set_same l.temps t v 0 (omega (arith, lt, f.count))
 
-        same : (u : ℕ) → u ≡ t → reg (put regs (temp_register t) v) (temp_register u) ≡ slice_index (slice_set l.temps t v) u
-        same u e = ap (λ n. reg (put regs (temp_register t) v) (temp_register n)) e ∙ put_same regs (temp_register t) v above (omega (arith, f.are.count, register_high t small)) ∙ sym now ∙ ap (slice_index (slice_set l.temps t v)) (sym e)
+        same : (u q : ℕ) → s.seats.register u ≡ Some q → u ≡ t → reg (put regs r v) q ≡ slice_index (slice_set l.temps t v) u
+        same u q h e = ap (reg (put regs r v)) (one_register s.seats.register t u q r is h e) ∙ put_same regs r v above below ∙ sym now ∙ ap (slice_index (slice_set l.temps t v)) (sym e)
 
-        other : (u : ℕ) → u < s.temps → u < 9 → (u ≡ t → ⊥) → reg (put regs (temp_register t) v) (temp_register u) ≡ slice_index (slice_set l.temps t v) u
-        other u p q ne = put_other regs (temp_register t) (temp_register u) v above (one_register u t ne) ∙ f.in_register u p q ∙ sym (get_or-set_other l.temps t u v 0 ne)
+        other : (u q : ℕ) → u < s.temps → s.seats.register u ≡ Some q → (u ≡ t → ⊥) → reg (put regs r v) q ≡ slice_index (slice_set l.temps t v) u
+        other u q p h ne =
+            let apart : q ≢ r = λ e. ne (seats.apart u t q h (is ∙ ap Some (sym e))) in
+            put_other regs r q v above apart ∙ f.in_register u q p h ∙ sym (get_or-set_other l.temps t u v 0 ne)
 
         unchanged : (x : Cell) → IsThere s x → content s (with_temp l t v) x ≡ content s l x
-        unchanged (TempCell u) h = get_or-set_other l.temps t u v 0 (λ (e : u ≡ t). omega (arith, h.0, e, small))
+        unchanged (TempCell u) h = get_or-set_other l.temps t u v 0 (λ (e : u ≡ t). two_places s.seats.register u t r h.0 is (sym e))
         unchanged (Element a i) h = ap (λ xs. slice_index xs i) (elements_temp a l t v)
         unchanged (Kept b) h = refl
 
@@ -185,9 +185,8 @@ module _ (s : Site) where
       left = f.left;
       count = u.count ∙ f.count;
       sizes = λ a. u.sizes a ∙ f.sizes a;
-      low_words = λ t p q. rw (u.low t q) (f.low_words t p q);
-      in_register = λ t p q. f.in_register t p q ∙ sym (u.low t q);
-      unused = f.unused;
+      temp_words = λ t q p h. rw (u.seated t q h) (f.temp_words t q p h);
+      in_register = λ t q p h. f.in_register t q p h ∙ sym (u.seated t q h);
       words = words;
       in_memory = in_memory;
     }

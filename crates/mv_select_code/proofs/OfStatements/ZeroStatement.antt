@@ -1,5 +1,5 @@
 -- The code that makes an array of the frame 0: what comes before its loop, and one turn of it.
-use Rattle.std.proofs.Common.{◌≡◌, inl, inr, ℕ, zero, suc, ◌+◌, ◌*◌, ◌%◌, ◌<◌, ◌≤◌, ◌^◌, List, [], ◌∷◌, length, get_or, set, map, slice_set, pos, refl, sym, ap, ◌∙◌, subst, arith}
+use Rattle.std.proofs.Common.{◌≡◌, inl, inr, ℕ, zero, suc, ◌+◌, ◌*◌, ◌%◌, ◌<◌, ◌^◌, List, [], ◌∷◌, length, get_or, set, map, slice_set, pos, refl, sym, ap, ◌∙◌, subst, arith}
 use Rattle.std.proofs.lemmas.List.{set-set}
 use Rattle.mv_num.specs.Words.{word_of, add}
 use Rattle.mv_isa.specs.declared.instr.Instr.TheVariants.{Sw, Addi}
@@ -9,8 +9,9 @@ use Rattle.mv_ir.specs.World as ir
 use Rattle.mv_ir.specs.Outcome.{State}
 use Rattle.mv_ir.specs.Meaning.{elements, with_elements}
 use Rattle.mv_select_code.specs.Trees.TreeCode.{one}
+use Rattle.mv_select_code.specs.Trees.View.{AreScratch}
 use Rattle.mv_select_code.proofs.OfTrees.Instructions.{addi_sets}
-use Rattle.mv_select_code.proofs.OfTrees.Registers.{reg_zero, put_same, put_other, changes_put}
+use Rattle.mv_select_code.proofs.OfTrees.Registers.{reg_zero, put_same, put_other, changes_put, scratch_free}
 use Rattle.mv_select_code.proofs.OfTrees.Words.{add_below, add_word, zero_add}
 use Rattle.mv_select_code.specs.Statements.StatementCode.{first, second, bounds_lines, clear_lines}
 use Rattle.mv_select_code.specs.Statements.Leads.{limited, Past}
@@ -48,10 +49,10 @@ add_next r at n h = let e : r + (at + 4 * n) + 4 ≡ r + (at + 4 * suc n) = omeg
 
 module _ {M : Type 0} (access : Access M) (s : Site) (setting : ir.Setting) (frame : ir.Frame) (fit : IsFit s access setting frame) where
   -- a scratch register gets a number above another
-  adds_to : (rd rs n v : ℕ) (l : State) (regs : List ℕ) (m : M) → 10 ≤ rd → rd < 12 → add (reg regs rs) n ≡ v → Shows s access l regs m → Shows s access l (put regs rd v) m
-  adds_to rd rs n v l regs m low high e f =
-      frame_scratch s access rd (rd + 1) l regs (put regs rd v) m (inl (low, omega arith))
-      (changes_put rd (rd + 1) rd v regs f.are (omega arith) (omega arith) (omega arith) (omega arith) (subst (λ z. z < 2 ^ 32) e (add_below (reg regs rs) n))) f
+  adds_to : (rd rs n v : ℕ) (l : State) (regs : List ℕ) (m : M) → AreScratch rd (rd + 1) → add (reg regs rs) n ≡ v → Shows s access l regs m → Shows s access l (put regs rd v) m
+  adds_to rd rs n v l regs m scratch e f =
+      frame_scratch s access fit.left fit.seats rd (rd + 1) l regs (put regs rd v) m scratch
+      (changes_put rd (rd + 1) rd v regs f.are (omega arith) (omega arith) (scratch_free rd (rd + 1) rd scratch (omega arith) (omega arith)) (subst (λ z. z < 2 ^ 32) e (add_below (reg regs rs) n))) f
 
   module _ (a : ℕ) (l : State) where
     abbrev xs : List ℕ
@@ -75,14 +76,14 @@ module _ {M : Type 0} (access : Access M) (s : Site) (setting : ir.Setting) (fra
         let stop = at + 4 * s.array_size a in
         let x = add (s.register 2) at in
         let y = add (s.register 2) stop in
-        let sp = f.left 2 (inl (omega arith)) in
+        let sp = f.left 2 fit.left.stack in
         let mid = put regs first x in
         let after = put mid second y in
         let low : add (reg regs 2) at ≡ x = ap (λ r. add r at) sp in
-        let shown = adds_to first 2 at x l regs m (omega arith) (omega arith) low f in
-        let sp' = shown.left 2 (inl (omega arith)) in
+        let shown = adds_to first 2 at x l regs m (inr (omega arith, omega arith)) low f in
+        let sp' = shown.left 2 fit.left.stack in
         let high : add (reg mid 2) stop ≡ y = ap (λ r. add r stop) sp' in
-        let shown' = adds_to second 2 stop y l mid m (omega arith) (omega arith) high shown in
+        let shown' = adds_to second 2 stop y l mid m (inl (omega arith, omega arith)) high shown in
         let i = Addi first 2 (pos at) in
         let j = Addi second 2 (pos stop) in (
           after,
@@ -119,7 +120,7 @@ module _ {M : Type 0} (access : Access M) (s : Site) (setting : ir.Setting) (fra
         let v = add next 4 in
         let after = put regs first v in
         let moves = addi_sets (limited access s) st.after first first (pos 4) regs next 4 v here (word_of_pos 4 (omega arith)) refl in
-        let shown = adds_to first first 4 v l' regs st.after (omega arith) (omega arith) (ap (λ r. add r 4) here) stored in
+        let shown = adds_to first first 4 v l' regs st.after (inr (omega arith, omega arith)) (ap (λ r. add r 4) here) stored in
         let suc_is : suc n ≡ n + 1 = omega arith in (
           after,
           st.after,

@@ -7,42 +7,42 @@ use Rattle.mv_ir.specs.declared.tree.Tree.{Tree}
 use Rattle.mv_ir.specs.declared.tree.Tree as tr
 use Rattle.mv_ir.specs.declared.tree.Tree.TheOpen as tree
 use Rattle.mv_ir.specs.declared.tree.Tree.TheVariants.{rolls-Number, rolls-Temp, rolls-Global, rolls-Function, rolls-Unary, rolls-Binary, rolls-Narrow}
-use Rattle.mv_select_code.specs.Trees.TreeCode.{is_taken, number_branch, comparison, operand_lines, operand_register, branch_lines}
+use Rattle.mv_select_code.specs.Trees.TreeCode.{Seats, is_taken, number_branch, comparison, operand_lines, operand_register, branch_lines}
 use Rattle.mv_select_code.proofs.OfTrees.Equations.{temps_unary, temps_binary}
 use Rattle.mv_ir.proofs.Common.{depth_unary, depth_binary}
 use Rattle.mv_select_code.proofs.OfTrees.Rolls.{word_lines, compared_or, branch_roll}
 
-module _ (place : ℕ → ℕ) (sense : Bool) (r label : ℕ) where
+module _ (seats : Seats) (sense : Bool) (r label : ℕ) where
   abbrev B : Tree → List Line
-  B t = branch_lines place t sense r label
+  B t = branch_lines seats t sense r label
 
   abbrev W : Tree → List Line
-  W t = word_lines place t sense r label
+  W t = word_lines seats t sense r label
 
   pub branch_number : (n : ℕ) → B (tr.Number n) ≡ number_branch sense n label
-  branch_number n = ap B (sym (rolls-Number n)) ∙ branch_roll place (tree.Number n) sense r label
+  branch_number n = ap B (sym (rolls-Number n)) ∙ branch_roll seats (tree.Number n) sense r label
 
   pub branch_temp : (t : ℕ) → B (tr.Temp t) ≡ W (tr.Temp t)
-  branch_temp t = ap B (sym (rolls-Temp t)) ∙ branch_roll place (tree.Temp t) sense r label ∙ ap W (rolls-Temp t)
+  branch_temp t = ap B (sym (rolls-Temp t)) ∙ branch_roll seats (tree.Temp t) sense r label ∙ ap W (rolls-Temp t)
 
   pub branch_global : (g : ℕ) → B (tr.Global g) ≡ W (tr.Global g)
-  branch_global g = ap B (sym (rolls-Global g)) ∙ branch_roll place (tree.Global g) sense r label ∙ ap W (rolls-Global g)
+  branch_global g = ap B (sym (rolls-Global g)) ∙ branch_roll seats (tree.Global g) sense r label ∙ ap W (rolls-Global g)
 
   pub branch_function : (f : ℕ) → B (tr.Function f) ≡ W (tr.Function f)
-  branch_function f = ap B (sym (rolls-Function f)) ∙ branch_roll place (tree.Function f) sense r label ∙ ap W (rolls-Function f)
+  branch_function f = ap B (sym (rolls-Function f)) ∙ branch_roll seats (tree.Function f) sense r label ∙ ap W (rolls-Function f)
 
   pub branch_narrow : (k : Kind) (a : Tree) → B (tr.Narrow k a) ≡ W (tr.Narrow k a)
-  branch_narrow k a = ap B (sym (rolls-Narrow k a)) ∙ branch_roll place (tree.Narrow k a) sense r label ∙ ap W (rolls-Narrow k a)
+  branch_narrow k a = ap B (sym (rolls-Narrow k a)) ∙ branch_roll seats (tree.Narrow k a) sense r label ∙ ap W (rolls-Narrow k a)
 
-  pub branch_unary : (o : ℕ) (a : Tree) → B (tr.Unary o a) ≡ cond (eqb o 2) (branch_lines place a (not sense) r label) (W (tr.Unary o a))
+  pub branch_unary : (o : ℕ) (a : Tree) → B (tr.Unary o a) ≡ cond (eqb o 2) (branch_lines seats a (not sense) r label) (W (tr.Unary o a))
   branch_unary o a =
-      ap B (sym (rolls-Unary o a)) ∙ branch_roll place (tree.Unary o a) sense r label
-      ∙ ap (λ t. cond (eqb o 2) (branch_lines place a (not sense) r label) (W t)) (rolls-Unary o a)
+      ap B (sym (rolls-Unary o a)) ∙ branch_roll seats (tree.Unary o a) sense r label
+      ∙ ap (λ t. cond (eqb o 2) (branch_lines seats a (not sense) r label) (W t)) (rolls-Unary o a)
 
-  pub branch_binary : (o : ℕ) (a b : Tree) → B (tr.Binary o a b) ≡ compared_or place (comparison sense o) a b r label (W (tr.Binary o a b))
+  pub branch_binary : (o : ℕ) (a b : Tree) → B (tr.Binary o a b) ≡ compared_or seats (comparison sense o) a b r label (W (tr.Binary o a b))
   branch_binary o a b =
-      ap B (sym (rolls-Binary o a b)) ∙ branch_roll place (tree.Binary o a b) sense r label
-      ∙ ap (λ t. compared_or place (comparison sense o) a b r label (W t)) (rolls-Binary o a b)
+      ap B (sym (rolls-Binary o a b)) ∙ branch_roll seats (tree.Binary o a b) sense r label
+      ∙ ap (λ t. compared_or seats (comparison sense o) a b r label (W t)) (rolls-Binary o a b)
 
   -- ---- as the code goes
 
@@ -50,8 +50,8 @@ module _ (place : ℕ → ℕ) (sense : Bool) (r label : ℕ) where
   passed_number n t is h = ap B is ∙ branch_number n ∙ ap (λ b. cond b (Jump 0 label ∷ []) []) h
 
   pub compared : (o f : ℕ) (a b t : Tree) → t ≡ tr.Binary o a b → comparison sense o ≡ Some f
-      → B t ≡ operand_lines place a r ++ (operand_lines place b (r + 1) ++ (Branch f (operand_register a r) (operand_register b (r + 1)) label ∷ []))
-  compared o f a b t is h = ap B is ∙ branch_binary o a b ∙ ap (λ c. compared_or place c a b r label (W (tr.Binary o a b))) h
+      → B t ≡ operand_lines seats a r ++ (operand_lines seats b (r + 1) ++ (Branch f (operand_register seats a r) (operand_register seats b (r + 1)) label ∷ []))
+  compared o f a b t is h = ap B is ∙ branch_binary o a b ∙ ap (λ c. compared_or seats c a b r label (W (tr.Binary o a b))) h
 
 -- ---- comparisons
 

@@ -1,5 +1,5 @@
 -- What the code of trees is, at each variant and each operator.
-use Rattle.std.proofs.Common.{ℤ, ◌≡◌, ◌≢◌, ℕ, zero, suc, ◌+◌, max, cond, eqb, ltb, List, [], ◌∷◌, ◌++◌, Some, None, pos, refl, sym, ap, ◌∙◌, append_assoc}
+use Rattle.std.proofs.Common.{ℤ, ◌≡◌, ◌≢◌, ℕ, zero, suc, ◌+◌, max, cond, eqb, List, [], ◌∷◌, ◌++◌, Some, None, pos, refl, sym, ap, ◌∙◌, append_assoc}
 use Rattle.mv_num.specs.Words.{sub}
 use Rattle.mv_num.specs.declared.kind.Kind.{Kind}
 use Rattle.mv_isa.specs.declared.instr.Instr.TheVariants.{Addi, Slti, Sltiu, Xori, Ori, Andi, Slli, Srli, Srai, Add, Sub, Sll, Slt, Sltu, Xor, Srl, Sra, Or, And, Mul}
@@ -9,15 +9,15 @@ use Rattle.mv_ir.specs.declared.tree.Tree.{Tree}
 use Rattle.mv_ir.specs.declared.tree.Tree as tr
 use Rattle.mv_ir.specs.declared.tree.Tree.TheOpen as tree
 use Rattle.mv_ir.specs.declared.tree.Tree.TheVariants.{rolls-Number, rolls-Temp, rolls-Global, rolls-Function, rolls-Unary, rolls-Binary, rolls-Narrow}
-use Rattle.mv_select_code.specs.Trees.TreeCode.{one, two, minus_one, number_lines, load_lines, read_temp, temp_register, unary_lines, binary_lines, short_immediate, count_immediate, immediate, immediate_lines, operator_lines, literal, keeps_words, narrow_lines, own_register, tree_into, operand_lines, operand_register, immediate_of, temps_of, clear}
+use Rattle.mv_select_code.specs.Trees.TreeCode.{Seats, one, two, minus_one, number_lines, load_lines, read_temp, unary_lines, binary_lines, short_immediate, count_immediate, immediate, immediate_lines, operator_lines, literal, keeps_words, narrow_lines, own_register, tree_into, operand_lines, operand_register, immediate_of, temps_of, clear}
 use Rattle.mv_select_code.proofs.OfTrees.Rolls.{into_roll, own_roll, literal_roll, temps_roll}
 use Rattle.mv_ir.proofs.Common.{depth_number, depth_temp, depth_global, depth_function, depth_unary, depth_binary, depth_narrow}
 
-pub into_number : (place : ℕ → ℕ) (n d r : ℕ) → tree_into place (tr.Number n) d r ≡ number_lines n d
-into_number place n d r = ap (λ x. tree_into place x d r) (sym (rolls-Number n)) ∙ into_roll place (tree.Number n) d r
+pub into_number : (seats : Seats) (n d r : ℕ) → tree_into seats (tr.Number n) d r ≡ number_lines n d
+into_number seats n d r = ap (λ x. tree_into seats x d r) (sym (rolls-Number n)) ∙ into_roll seats (tree.Number n) d r
 
-pub own_number : (n : ℕ) → own_register (tr.Number n) ≡ cond (eqb n 0) (Some 0) None
-own_number n = ap own_register (sym (rolls-Number n)) ∙ own_roll (tree.Number n)
+pub own_number : (seats : Seats) (n : ℕ) → own_register seats (tr.Number n) ≡ cond (eqb n 0) (Some 0) None
+own_number seats n = ap (own_register seats) (sym (rolls-Number n)) ∙ own_roll seats (tree.Number n)
 
 pub literal_number : (n : ℕ) → literal (tr.Number n) ≡ Some n
 literal_number n = ap literal (sym (rolls-Number n)) ∙ literal_roll (tree.Number n)
@@ -25,11 +25,11 @@ literal_number n = ap literal (sym (rolls-Number n)) ∙ literal_roll (tree.Numb
 pub temps_number : (n : ℕ) → temps_of (tr.Number n) ≡ 0
 temps_number n = ap temps_of (sym (rolls-Number n)) ∙ temps_roll (tree.Number n)
 
-pub into_temp : (place : ℕ → ℕ) (t d r : ℕ) → tree_into place (tr.Temp t) d r ≡ one (read_temp t d)
-into_temp place t d r = ap (λ x. tree_into place x d r) (sym (rolls-Temp t)) ∙ into_roll place (tree.Temp t) d r
+pub into_temp : (seats : Seats) (t d r : ℕ) → tree_into seats (tr.Temp t) d r ≡ one (read_temp seats t d)
+into_temp seats t d r = ap (λ x. tree_into seats x d r) (sym (rolls-Temp t)) ∙ into_roll seats (tree.Temp t) d r
 
-pub own_temp : (t : ℕ) → own_register (tr.Temp t) ≡ cond (ltb t 9) (Some (temp_register t)) None
-own_temp t = ap own_register (sym (rolls-Temp t)) ∙ own_roll (tree.Temp t)
+pub own_temp : (seats : Seats) (t : ℕ) → own_register seats (tr.Temp t) ≡ seats.register t
+own_temp seats t = ap (own_register seats) (sym (rolls-Temp t)) ∙ own_roll seats (tree.Temp t)
 
 pub literal_temp : (t : ℕ) → literal (tr.Temp t) ≡ None
 literal_temp t = ap literal (sym (rolls-Temp t)) ∙ literal_roll (tree.Temp t)
@@ -37,11 +37,11 @@ literal_temp t = ap literal (sym (rolls-Temp t)) ∙ literal_roll (tree.Temp t)
 pub temps_temp : (t : ℕ) → temps_of (tr.Temp t) ≡ t + 1
 temps_temp t = ap temps_of (sym (rolls-Temp t)) ∙ temps_roll (tree.Temp t)
 
-pub into_global : (place : ℕ → ℕ) (g d r : ℕ) → tree_into place (tr.Global g) d r ≡ load_lines (place g) d
-into_global place g d r = ap (λ x. tree_into place x d r) (sym (rolls-Global g)) ∙ into_roll place (tree.Global g) d r
+pub into_global : (seats : Seats) (g d r : ℕ) → tree_into seats (tr.Global g) d r ≡ load_lines (seats.place g) d
+into_global seats g d r = ap (λ x. tree_into seats x d r) (sym (rolls-Global g)) ∙ into_roll seats (tree.Global g) d r
 
-pub own_global : (g : ℕ) → own_register (tr.Global g) ≡ None
-own_global g = ap own_register (sym (rolls-Global g)) ∙ own_roll (tree.Global g)
+pub own_global : (seats : Seats) (g : ℕ) → own_register seats (tr.Global g) ≡ None
+own_global seats g = ap (own_register seats) (sym (rolls-Global g)) ∙ own_roll seats (tree.Global g)
 
 pub literal_global : (g : ℕ) → literal (tr.Global g) ≡ None
 literal_global g = ap literal (sym (rolls-Global g)) ∙ literal_roll (tree.Global g)
@@ -49,11 +49,11 @@ literal_global g = ap literal (sym (rolls-Global g)) ∙ literal_roll (tree.Glob
 pub temps_global : (g : ℕ) → temps_of (tr.Global g) ≡ 0
 temps_global g = ap temps_of (sym (rolls-Global g)) ∙ temps_roll (tree.Global g)
 
-pub into_function : (place : ℕ → ℕ) (f d r : ℕ) → tree_into place (tr.Function f) d r ≡ Entry d f ∷ []
-into_function place f d r = ap (λ x. tree_into place x d r) (sym (rolls-Function f)) ∙ into_roll place (tree.Function f) d r
+pub into_function : (seats : Seats) (f d r : ℕ) → tree_into seats (tr.Function f) d r ≡ Entry d f ∷ []
+into_function seats f d r = ap (λ x. tree_into seats x d r) (sym (rolls-Function f)) ∙ into_roll seats (tree.Function f) d r
 
-pub own_function : (f : ℕ) → own_register (tr.Function f) ≡ None
-own_function f = ap own_register (sym (rolls-Function f)) ∙ own_roll (tree.Function f)
+pub own_function : (seats : Seats) (f : ℕ) → own_register seats (tr.Function f) ≡ None
+own_function seats f = ap (own_register seats) (sym (rolls-Function f)) ∙ own_roll seats (tree.Function f)
 
 pub literal_function : (f : ℕ) → literal (tr.Function f) ≡ None
 literal_function f = ap literal (sym (rolls-Function f)) ∙ literal_roll (tree.Function f)
@@ -61,11 +61,11 @@ literal_function f = ap literal (sym (rolls-Function f)) ∙ literal_roll (tree.
 pub temps_function : (f : ℕ) → temps_of (tr.Function f) ≡ 0
 temps_function f = ap temps_of (sym (rolls-Function f)) ∙ temps_roll (tree.Function f)
 
-pub into_unary : (place : ℕ → ℕ) (o : ℕ) (a : Tree) (d r : ℕ) → tree_into place (tr.Unary o a) d r ≡ operand_lines place a r ++ unary_lines o d (operand_register a r)
-into_unary place o a d r = ap (λ x. tree_into place x d r) (sym (rolls-Unary o a)) ∙ into_roll place (tree.Unary o a) d r
+pub into_unary : (seats : Seats) (o : ℕ) (a : Tree) (d r : ℕ) → tree_into seats (tr.Unary o a) d r ≡ operand_lines seats a r ++ unary_lines o d (operand_register seats a r)
+into_unary seats o a d r = ap (λ x. tree_into seats x d r) (sym (rolls-Unary o a)) ∙ into_roll seats (tree.Unary o a) d r
 
-pub own_unary : (o : ℕ) (a : Tree) → own_register (tr.Unary o a) ≡ None
-own_unary o a = ap own_register (sym (rolls-Unary o a)) ∙ own_roll (tree.Unary o a)
+pub own_unary : (seats : Seats) (o : ℕ) (a : Tree) → own_register seats (tr.Unary o a) ≡ None
+own_unary seats o a = ap (own_register seats) (sym (rolls-Unary o a)) ∙ own_roll seats (tree.Unary o a)
 
 pub literal_unary : (o : ℕ) (a : Tree) → literal (tr.Unary o a) ≡ None
 literal_unary o a = ap literal (sym (rolls-Unary o a)) ∙ literal_roll (tree.Unary o a)
@@ -73,12 +73,12 @@ literal_unary o a = ap literal (sym (rolls-Unary o a)) ∙ literal_roll (tree.Un
 pub temps_unary : (o : ℕ) (a : Tree) → temps_of (tr.Unary o a) ≡ temps_of a
 temps_unary o a = ap temps_of (sym (rolls-Unary o a)) ∙ temps_roll (tree.Unary o a)
 
-pub into_binary : (place : ℕ → ℕ) (o : ℕ) (a b : Tree) (d r : ℕ)
-    → tree_into place (tr.Binary o a b) d r ≡ operand_lines place a r ++ operator_lines (immediate_of o b) o d (operand_register a r) (operand_lines place b (r + 1)) (operand_register b (r + 1))
-into_binary place o a b d r = ap (λ x. tree_into place x d r) (sym (rolls-Binary o a b)) ∙ into_roll place (tree.Binary o a b) d r
+pub into_binary : (seats : Seats) (o : ℕ) (a b : Tree) (d r : ℕ)
+    → tree_into seats (tr.Binary o a b) d r ≡ operand_lines seats a r ++ operator_lines (immediate_of o b) o d (operand_register seats a r) (operand_lines seats b (r + 1)) (operand_register seats b (r + 1))
+into_binary seats o a b d r = ap (λ x. tree_into seats x d r) (sym (rolls-Binary o a b)) ∙ into_roll seats (tree.Binary o a b) d r
 
-pub own_binary : (o : ℕ) (a b : Tree) → own_register (tr.Binary o a b) ≡ None
-own_binary o a b = ap own_register (sym (rolls-Binary o a b)) ∙ own_roll (tree.Binary o a b)
+pub own_binary : (seats : Seats) (o : ℕ) (a b : Tree) → own_register seats (tr.Binary o a b) ≡ None
+own_binary seats o a b = ap (own_register seats) (sym (rolls-Binary o a b)) ∙ own_roll seats (tree.Binary o a b)
 
 pub literal_binary : (o : ℕ) (a b : Tree) → literal (tr.Binary o a b) ≡ None
 literal_binary o a b = ap literal (sym (rolls-Binary o a b)) ∙ literal_roll (tree.Binary o a b)
@@ -86,12 +86,12 @@ literal_binary o a b = ap literal (sym (rolls-Binary o a b)) ∙ literal_roll (t
 pub temps_binary : (o : ℕ) (a b : Tree) → temps_of (tr.Binary o a b) ≡ max (temps_of a) (temps_of b)
 temps_binary o a b = ap temps_of (sym (rolls-Binary o a b)) ∙ temps_roll (tree.Binary o a b)
 
-pub into_narrow : (place : ℕ → ℕ) (k : Kind) (a : Tree) (d r : ℕ)
-    → tree_into place (tr.Narrow k a) d r ≡ cond (keeps_words k) (tree_into place a d r) (operand_lines place a r ++ narrow_lines k d (operand_register a r))
-into_narrow place k a d r = ap (λ x. tree_into place x d r) (sym (rolls-Narrow k a)) ∙ into_roll place (tree.Narrow k a) d r
+pub into_narrow : (seats : Seats) (k : Kind) (a : Tree) (d r : ℕ)
+    → tree_into seats (tr.Narrow k a) d r ≡ cond (keeps_words k) (tree_into seats a d r) (operand_lines seats a r ++ narrow_lines k d (operand_register seats a r))
+into_narrow seats k a d r = ap (λ x. tree_into seats x d r) (sym (rolls-Narrow k a)) ∙ into_roll seats (tree.Narrow k a) d r
 
-pub own_narrow : (k : Kind) (a : Tree) → own_register (tr.Narrow k a) ≡ cond (keeps_words k) (own_register a) None
-own_narrow k a = ap own_register (sym (rolls-Narrow k a)) ∙ own_roll (tree.Narrow k a)
+pub own_narrow : (seats : Seats) (k : Kind) (a : Tree) → own_register seats (tr.Narrow k a) ≡ cond (keeps_words k) (own_register seats a) None
+own_narrow seats k a = ap (own_register seats) (sym (rolls-Narrow k a)) ∙ own_roll seats (tree.Narrow k a)
 
 pub literal_narrow : (k : Kind) (a : Tree) → literal (tr.Narrow k a) ≡ None
 literal_narrow k a = ap literal (sym (rolls-Narrow k a)) ∙ literal_roll (tree.Narrow k a)

@@ -1,5 +1,5 @@
 -- Lines that leave a value in a register, put together of instructions that do.
-use Rattle.std.proofs.Common.{◌≡◌, ◌≢◌, ◌⊎◌, inl, inr, ℕ, ◌+◌, ◌^◌, ◌<◌, ◌≤◌, List, [], ◌∷◌, ◌++◌, pos, Some, Bool, eqb, cond, ⊎_elim, refl, sym, ap, ◌∙◌, subst, arith}
+use Rattle.std.proofs.Common.{◌≡◌, ◌≢◌, ◌⊎◌, inl, inr, ℕ, ◌+◌, ◌^◌, ◌<◌, ◌≤◌, List, [], ◌∷◌, ◌++◌, pos, Option, Some, None, Bool, eqb, cond, ⊎_elim, refl, sym, ap, ◌∙◌, subst, arith}
 use Rattle.std.proofs.lemmas.Bool.{cases_eq, cases_lt, eq-eqb, ne_eqb}
 use Rattle.mv_num.specs.Words.{word_of, add}
 use Rattle.mv_isa.specs.declared.instr.Instr.{Instr}
@@ -7,29 +7,24 @@ use Rattle.mv_isa.specs.declared.instr.Instr.TheVariants.{Lui, Lw, Addi}
 use Rattle.mv_isa.specs.declared.labelled.Line.{Line}
 use Rattle.mv_isa.specs.declared.labelled.Line.TheVariants.{Entry}
 use Rattle.mv_isa.specs.Execution.{Access, reg, put, upper}
-use Rattle.mv_select_code.specs.Trees.TreeCode.{upper_bits, lower_bits, one, two, number_lines, load_lines, clear}
+use Rattle.mv_select_code.specs.Trees.TreeCode.{upper_bits, lower_bits, near, one, two, number_lines, load_by, load_lines, clear}
+use Rattle.mv_select_code.specs.declared.trees.leaves.Based.{Based}
 use Rattle.mv_select_code.specs.Trees.Straight.{Sets, Straight}
 use Rattle.mv_select_code.specs.Trees.View.{AreRegisters, Changes, Gives, Leaves}
 use Rattle.mv_select_code.proofs.OfTrees.Instructions.{lui_sets, lw_sets, addi_sets}
-use Rattle.mv_select_code.proofs.OfTrees.Registers.{reg_zero, put_same, put_registers, changes_both, changes_put}
+use Rattle.mv_select_code.proofs.OfTrees.Near.{near_adds}
+use Rattle.mv_select_code.proofs.OfTrees.Registers.{IsFree, reg_zero, put_same, put_registers, changes_both, changes_put}
 use Rattle.mv_select_code.proofs.OfTrees.Words.{parts_add, lower_add, upper_below, add_zero}
 use Rattle.mv_num.proofs.Numbers.{word_of_pos}
 
 -- a register among those that may change
 pub record Within (lo hi r : ℕ) : Type 0 where
-  pub low : 0 < lo
   pub from : lo ≤ r
   pub below : r < hi
-  pub high : hi ≤ 32
-
-pub within_above : (lo hi r : ℕ) → Within lo hi r → 0 < r
-within_above lo hi r w = omega (arith, w.low, w.from)
-
-pub within_below : (lo hi r : ℕ) → Within lo hi r → r < 32
-within_below lo hi r w = omega (arith, w.below, w.high)
+  pub free : IsFree r
 
 pub put_within : (lo hi r v : ℕ) (regs : List ℕ) → AreRegisters regs → Within lo hi r → reg (put regs r v) r ≡ v
-put_within lo hi r v regs h w = put_same regs r v (within_above lo hi r w) (omega (arith, h.count, within_below lo hi r w))
+put_within lo hi r v regs h w = put_same regs r v w.free.above (omega (arith, h.count, w.free.below))
 
 module _ {M : Type 0} (access : Access M) (m : M) (entry : ℕ → ℕ) where
   pub straight_append : (ls ks : List Line) (a b c : List ℕ) → Straight access m entry ls a b → Straight access m entry ks b c → Straight access m entry (ls ++ ks) a c
@@ -50,7 +45,7 @@ module _ {M : Type 0} (access : Access M) (m : M) (entry : ℕ → ℕ) where
     }
 
     changes_within : (r v : ℕ) (regs : List ℕ) → AreRegisters regs → Within lo hi r → v < 2 ^ 32 → Changes lo hi regs (put regs r v)
-    changes_within r v regs h w b = changes_put lo hi r v regs h w.from w.below (within_above lo hi r w) (within_below lo hi r w) b
+    changes_within r v regs h w b = changes_put lo hi r v regs h w.from w.below w.free b
 
     pub one_gives : (r v : ℕ) (i : Instr) (regs : List ℕ) → AreRegisters regs → Within lo hi r → v < 2 ^ 32 → Sets access m i regs (put regs r v) → G r v (one i) regs
     one_gives r v i regs h w b sets = record {
@@ -65,7 +60,7 @@ module _ {M : Type 0} (access : Access M) (m : M) (entry : ℕ → ℕ) where
         → Sets access m i regs (put regs q u) → Sets access m j (put regs q u) (put (put regs q u) r v) → G r v (two i j) regs
     two_gives r v q u i j regs h w b x c first second =
         gives_after r v (one i) (one j) regs (put regs q u) (put regs q u, first, refl) (changes_within q u regs h x c)
-        (one_gives r v j (put regs q u) (put_registers regs q u h (within_above lo hi q x) (within_below lo hi q x) c) w b second)
+        (one_gives r v j (put regs q u) (put_registers regs q u h x.free c) w b second)
 
     pub clear_gives : (r : ℕ) (regs : List ℕ) → AreRegisters regs → Within lo hi r → G r 0 (clear r) regs
     clear_gives r regs h w = one_gives r 0 (Addi r 0 (pos 0)) regs h w (omega arith) (addi_sets access m r 0 (pos 0) regs 0 0 0 (reg_zero regs) (word_of_pos 0 (omega arith)) (add_zero 0 (omega arith)))
@@ -99,11 +94,16 @@ module _ {M : Type 0} (access : Access M) (m : M) (entry : ℕ → ℕ) where
     }
 
     pub load_gives : (r a v : ℕ) (regs : List ℕ) → AreRegisters regs → Within lo hi r → a < 2 ^ 32 → v < 2 ^ 32 → access.load m a 4 ≡ Some v → G r v (load_lines a r) regs
-    load_gives r a v regs h w b k e =
-        let up = upper (pos (upper_bits a)) in
-        two_gives r v r up (Lui r (pos (upper_bits a))) (Lw r r (lower_bits a)) regs h w k w (upper_below a)
-        (lui_sets access m r (pos (upper_bits a)) regs up refl)
-        (lw_sets access m r r (lower_bits a) (put regs r up) a v (ap (λ z. add z (word_of (lower_bits a))) (put_within lo hi r up regs h w) ∙ parts_add a b) e)
+    unfolding load_lines
+    load_gives r a v regs h w b k e = by_base (near a) refl
+      where
+        by_base : (base : Option Based) → near a ≡ base → G r v (load_by base a r) regs
+        by_base (Some n) is = one_gives r v (Lw r n.base n.offset) regs h w k (lw_sets access m r n.base n.offset regs a v (near_adds a n is regs h) e)
+        by_base None is =
+            let up = upper (pos (upper_bits a)) in
+            two_gives r v r up (Lui r (pos (upper_bits a))) (Lw r r (lower_bits a)) regs h w k w (upper_below a)
+            (lui_sets access m r (pos (upper_bits a)) regs up refl)
+            (lw_sets access m r r (lower_bits a) (put regs r up) a v (ap (λ z. add z (word_of (lower_bits a))) (put_within lo hi r up regs h w) ∙ parts_add a b) e)
 
     -- ---- lines that change one register besides some from lo to below hi
 

@@ -1,10 +1,11 @@
 -- Registers that are read and written, and which of them some lines change.
-use Rattle.std.proofs.Common.{◌≡◌, ◌≢◌, ◌⊎◌, inl, inr, ⊎_elim, ℕ, zero, suc, ◌+◌, ◌^◌, ◌<◌, ◌≤◌, cond, List, length, get_or, set, refl, sym, ap, ◌∙◌, subst, arith, length-set}
+use Rattle.std.proofs.Common.{◌≡◌, ◌≢◌, ◌⊎◌, inl, inr, ⊎_elim, ℕ, zero, suc, ◌^◌, ◌<◌, ◌≤◌, cond, List, Some, length, get_or, set, refl, sym, ap, ◌∙◌, subst, arith, length-set}
 use Rattle.std.proofs.lemmas.List.{get_or-set_same, get_or-set_other}
 use Rattle.std.proofs.lemmas.Bool.{cases_eq, ne_eqb}
 use Rattle.mv_isa.specs.Execution.{reg, put}
-use Rattle.mv_select_code.specs.Trees.TreeCode.{temp_register}
-use Rattle.mv_select_code.specs.Trees.View.{AreRegisters, AreScratch, Changes}
+use Rattle.mv_isa.specs.Registers.{gp, tp}
+use Rattle.mv_select_code.specs.Trees.TreeCode.{Seats}
+use Rattle.mv_select_code.specs.Trees.View.{AreRegisters, AreScratch, AreSeats, Changes}
 
 -- ---- reads and writes
 
@@ -31,14 +32,33 @@ put_other regs r (suc q) v p ne =
 put_count : (regs : List ℕ) (r v : ℕ) → 0 < r → length (put regs r v) ≡ length regs
 put_count regs r v p = ap length (put_above regs r v p) ∙ length-set regs r v
 
-pub put_registers : (regs : List ℕ) (r v : ℕ) → AreRegisters regs → 0 < r → r < 32 → v < 2 ^ 32 → AreRegisters (put regs r v)
-put_registers regs r v h p q b = record { count = put_count regs r v p ∙ h.count; words = λ n. ⊎_elim (same n) (other n) (cases_eq n r) }
+-- a register that code may change
+pub record IsFree (r : ℕ) : Type 0 where
+  pub above : 0 < r
+  pub below : r < 32
+  pub global : r ≢ gp
+  pub thread : r ≢ tp
+
+pub free_above : (r : ℕ) → 4 < r → r < 32 → IsFree r
+free_above r l h = record { above = omega arith; below = h; global = λ e. omega arith; thread = λ e. omega arith }
+
+-- ra and sp
+pub free_low : (r : ℕ) → 0 < r → r < 3 → IsFree r
+free_low r l h = record { above = l; below = omega arith; global = λ e. omega arith; thread = λ e. omega arith }
+
+pub put_registers : (regs : List ℕ) (r v : ℕ) → AreRegisters regs → IsFree r → v < 2 ^ 32 → AreRegisters (put regs r v)
+put_registers regs r v h f b = record {
+  count = put_count regs r v f.above ∙ h.count;
+  words = λ n. ⊎_elim (same n) (other n) (cases_eq n r);
+  global = put_other regs r gp v f.above (λ e. f.global (sym e)) ∙ h.global;
+  thread = put_other regs r tp v f.above (λ e. f.thread (sym e)) ∙ h.thread;
+}
   where
     same : (n : ℕ) → n ≡ r → reg (put regs r v) n < 2 ^ 32
-    same n e = let s = put_same regs r v p (omega (arith, h.count)) in rw (e, s) b
+    same n e = let s = put_same regs r v f.above (omega (arith, h.count, f.below)) in rw (e, s) b
 
     other : (n : ℕ) → (n ≡ r → ⊥) → reg (put regs r v) n < 2 ^ 32
-    other n ne = rw (put_other regs r n v p ne) (h.words n)
+    other n ne = rw (put_other regs r n v f.above ne) (h.words n)
 
 -- ---- changes
 
@@ -51,10 +71,10 @@ changes_both lo hi a b c h k = record { are = k.are; others = λ q o. k.others q
 pub changes_wider : (lo hi lo' hi' : ℕ) (a b : List ℕ) → lo' ≤ lo → hi ≤ hi' → Changes lo hi a b → Changes lo' hi' a b
 changes_wider lo hi lo' hi' a b p q h = record { are = h.are; others = λ r o. h.others r (⊎_elim (λ (l : r < lo'). inl (omega arith)) (λ (l : hi' ≤ r). inr (omega arith)) o) }
 
-pub changes_put : (lo hi r v : ℕ) (regs : List ℕ) → AreRegisters regs → lo ≤ r → r < hi → 0 < r → r < 32 → v < 2 ^ 32 → Changes lo hi regs (put regs r v)
-changes_put lo hi r v regs h l u p q b = record {
-  are = put_registers regs r v h p q b;
-  others = λ n o. put_other regs r n v p (⊎_elim (λ (x : n < lo) (e : n ≡ r). omega arith) (λ (x : hi ≤ n) (e : n ≡ r). omega arith) o);
+pub changes_put : (lo hi r v : ℕ) (regs : List ℕ) → AreRegisters regs → lo ≤ r → r < hi → IsFree r → v < 2 ^ 32 → Changes lo hi regs (put regs r v)
+changes_put lo hi r v regs h l u f b = record {
+  are = put_registers regs r v h f b;
+  others = λ n o. put_other regs r n v f.above (⊎_elim (λ (x : n < lo) (e : n ≡ r). omega arith) (λ (x : hi ≤ n) (e : n ≡ r). omega arith) o);
 }
 
 -- a register below those that change holds what it did
@@ -71,7 +91,7 @@ pub scratch_part : (lo hi lo' hi' : ℕ) → lo ≤ lo' → hi' ≤ hi → AreSc
 scratch_part lo hi lo' hi' p q (inl h) = let a = h.0 in let b = h.1 in inl (omega arith, omega arith)
 scratch_part lo hi lo' hi' p q (inr h) = let a = h.0 in let b = h.1 in inr (omega arith, omega arith)
 
-pub scratch_low : (lo hi : ℕ) → AreScratch lo hi → 10 ≤ lo
+pub scratch_low : (lo hi : ℕ) → AreScratch lo hi → 5 ≤ lo
 scratch_low lo hi (inl h) = h.0
 scratch_low lo hi (inr h) = let a = h.0 in omega arith
 
@@ -79,14 +99,32 @@ pub scratch_high : (lo hi : ℕ) → AreScratch lo hi → hi ≤ 32
 scratch_high lo hi (inl h) = let a = h.1 in omega arith
 scratch_high lo hi (inr h) = h.1
 
+pub scratch_free : (lo hi r : ℕ) → AreScratch lo hi → lo ≤ r → r < hi → IsFree r
+scratch_free lo hi r s l h = free_above r (omega (arith, scratch_low lo hi s)) (omega (arith, scratch_high lo hi s))
+
+-- a register that no tree's code changes, but where it is told to
+abbrev pub InFrame : ℕ → Type 0
+InFrame q = (q < 5) ⊎ ((9 ≤ q) × (q < 28))
+
 -- a register of a frame lies outside
-pub frame_outside : (lo hi q : ℕ) → AreScratch lo hi → (q < 10) ⊎ ((18 ≤ q) × (q < 28)) → (q < lo) ⊎ (hi ≤ q)
+pub frame_outside : (lo hi q : ℕ) → AreScratch lo hi → InFrame q → (q < lo) ⊎ (hi ≤ q)
 frame_outside lo hi q (inl h) (inl k) = let a = h.0 in inl (omega arith)
 frame_outside lo hi q (inl h) (inr k) = let a = h.1 in let b = k.0 in inr (omega arith)
 frame_outside lo hi q (inr h) (inl k) = let a = h.0 in inl (omega arith)
 frame_outside lo hi q (inr h) (inr k) = let a = h.0 in let b = k.1 in inl (omega arith)
 
-pub temp_in_frame : (t : ℕ) → t < 9 → (temp_register t < 10) ⊎ ((18 ≤ temp_register t) × (temp_register t < 28))
-unfolding temp_register
-temp_in_frame zero h = inl (omega arith)
-temp_in_frame (suc t) h = inr (subst (λ b. (18 ≤ cond b 9 (17 + suc t)) × (cond b 9 (17 + suc t) < 28)) (sym (ne_eqb (suc t) 0 (λ e. omega arith))) (omega arith, omega arith))
+-- ---- the registers of temporaries
+
+module _ (s : Seats) (are : AreSeats s) (t q : ℕ) (e : s.register t ≡ Some q) where
+  pub seat_free : IsFree q
+  seat_free = let seat = are.seat t q e in let low = seat.0 in let high = seat.1 in free_above q (omega arith) (omega arith)
+
+  pub temp_in_frame : InFrame q
+  temp_in_frame = let seat = are.seat t q e in let low = seat.0 in let high = seat.1 in inr (omega arith, omega arith)
+
+  pub seat_outside : (lo hi : ℕ) → AreScratch lo hi → (q < lo) ⊎ (hi ≤ q)
+  seat_outside lo hi h = frame_outside lo hi q h temp_in_frame
+
+  -- no scratch register
+  pub seat_apart : (lo hi r : ℕ) → AreScratch lo hi → lo ≤ r → r < hi → q ≢ r
+  seat_apart lo hi r h l u same = ⊎_elim (λ (x : q < lo). omega arith) (λ (x : hi ≤ q). omega arith) (seat_outside lo hi h)

@@ -1,5 +1,5 @@
 -- What holds of single instructions, of the entries that a tree names and of lines that are put together holds of the tree's code.
-use Rattle.std.proofs.Common.{ℕ, zero, suc, ◌+◌, Bool, true, false, eqb, ltb, cond, List, [], ◌∷◌, ◌++◌, Option, Some, None, ℤ, pos, ◌≡◌, refl, sym, subst}
+use Rattle.std.proofs.Common.{ℕ, zero, suc, ◌+◌, Bool, true, false, eqb, cond, List, [], ◌∷◌, ◌++◌, Option, Some, None, ℤ, pos, ◌≡◌, refl, sym, subst}
 use Rattle.mv_num.specs.declared.kind.Kind.{Kind}
 use Rattle.mv_num.specs.declared.kind.Kind.TheVariants as kind
 use Rattle.mv_isa.specs.declared.instr.Instr.{Instr}
@@ -11,20 +11,21 @@ use Rattle.mv_ir.specs.declared.tree.Tree.TheOpen.{Tree-F}
 use Rattle.mv_ir.specs.declared.tree.Tree.TheOpen as tree
 use Rattle.mv_ir.specs.declared.tree.Tree.TheViews.{roll-Tree}
 use Rattle.mv_ir.proofs.Induction.{TreeChildren, tree_ind}
-use Rattle.mv_select_code.specs.Trees.TreeCode.{one, two, upper_bits, lower_bits, number_lines, temp_register, temp_offset, read_temp, minus_one, unary_lines, binary_lines, immediate_lines, operator_lines, keeps_words, narrow_lines, own_register, unless, tree_into, tree_lines, operand_lines, operand_register, immediate_of}
+use Rattle.mv_select_code.specs.Trees.TreeCode.{Seats, one, two, upper_bits, lower_bits, near, number_lines, load_by, load_lines, read_from, read_temp, minus_one, unary_lines, binary_lines, immediate_lines, operator_lines, keeps_words, narrow_lines, own_register, unless, tree_into, tree_lines, operand_lines, operand_register, immediate_of}
+use Rattle.mv_select_code.specs.declared.trees.leaves.Based.{Based}
 use Rattle.mv_select_code.specs.Trees.Straight.{is_link}
 use Rattle.mv_select_code.proofs.OfTrees.Rolls.{into_tree, into_roll, lines_are}
 
 abbrev IsPlain : Instr → Type 0
 IsPlain i = is_link i ≡ false
 
-temp_plain : (t r : ℕ) → IsPlain (read_temp t r)
+temp_plain : (seats : Seats) (t r : ℕ) → IsPlain (read_temp seats t r)
 unfolding read_temp
-temp_plain t r = by_place (ltb t 9)
+temp_plain seats t r = by_place (seats.register t)
   where
-    by_place : (is_low : Bool) → IsPlain (cond is_low (Addi r (temp_register t) (pos 0)) (Lw r 2 (pos (temp_offset t))))
-    by_place true = refl
-    by_place false = refl
+    by_place : (own : Option ℕ) → IsPlain (read_from own t r)
+    by_place (Some q) = refl
+    by_place None = refl
 
 -- Z holds of lines by the last of them, and P where Z does, and of none.
 module _
@@ -39,6 +40,14 @@ module _
       by_length : (is_short : Bool) → Z (cond is_short (one (Addi d 0 (lower_bits n))) (two (Lui d (pos (upper_bits n))) (Addi d d (lower_bits n))))
       by_length true = word (Addi d 0 (lower_bits n)) refl
       by_length false = words (Lui d (pos (upper_bits n))) (Addi d d (lower_bits n)) refl refl
+
+  pub load_made : (a d : ℕ) → Z (load_lines a d)
+  unfolding load_lines
+  load_made a d = by_base (near a)
+    where
+      by_base : (base : Option Based) → Z (load_by base a d)
+      by_base (Some n) = word (Lw d n.base n.offset) refl
+      by_base None = words (Lui d (pos (upper_bits a))) (Lw d d (lower_bits a)) refl refl
 
   unary_made : (o d s : ℕ) → Z (unary_lines o d s)
   unfolding unary_lines
@@ -94,46 +103,46 @@ module _
   -- F: what a tree has where its entries have Z. Its parts have it too
   module _
       (F : Tree → Type 0) (inside : (x : Tree-F Tree) → F (roll-Tree x) → TreeChildren F x) (entry : (f d : ℕ) → F (roll-Tree (tree.Function f)) → Z (Entry d f ∷ []))
-      (place : ℕ → ℕ) where
+      (seats : Seats) where
     abbrev Made : Tree → Type 0
-    Made t = F t → (d r : ℕ) → Z (tree_into place t d r)
+    Made t = F t → (d r : ℕ) → Z (tree_into seats t d r)
 
-    operand : (t : Tree) → Made t → F t → (r : ℕ) → P (operand_lines place t r)
+    operand : (t : Tree) → Made t → F t → (r : ℕ) → P (operand_lines seats t r)
     unfolding operand_lines tree_lines
-    operand t h f r = by_own (own_register t)
+    operand t h f r = by_own (own_register seats t)
       where
-        by_own : (own : Option ℕ) → P (unless own (tree_into place t r r))
-        by_own None = given (tree_into place t r r) (h f r r)
+        by_own : (own : Option ℕ) → P (unless own (tree_into seats t r r))
+        by_own None = given (tree_into seats t r r) (h f r r)
         by_own (Some q) = none
 
-    layer : (x : Tree-F Tree) → TreeChildren Made x → F (roll-Tree x) → (d r : ℕ) → Z (into_tree place x d r)
+    layer : (x : Tree-F Tree) → TreeChildren Made x → F (roll-Tree x) → (d r : ℕ) → Z (into_tree seats x d r)
     layer (tree.Number n) h f d r = number_made n d
-    layer (tree.Temp t) h f d r = word (read_temp t d) (temp_plain t d)
-    layer (tree.Global g) h f d r = words (Lui d (pos (upper_bits (place g)))) (Lw d d (lower_bits (place g))) refl refl
+    layer (tree.Temp t) h f d r = word (read_temp seats t d) (temp_plain seats t d)
+    layer (tree.Global g) h f d r = load_made (seats.place g) d
     layer (tree.Function g) h f d r = entry g d f
     layer (tree.Unary o a) h f d r =
-        after (operand_lines place a r) (unary_lines o d (operand_register a r)) (operand a h (inside (tree.Unary o a) f) r) (unary_made o d (operand_register a r))
+        after (operand_lines seats a r) (unary_lines o d (operand_register seats a r)) (operand a h (inside (tree.Unary o a) f) r) (unary_made o d (operand_register seats a r))
     layer (tree.Binary o a b) h f d r =
         let has = inside (tree.Binary o a b) f in
-        after (operand_lines place a r) (operator_lines (immediate_of o b) o d (operand_register a r) (operand_lines place b (r + 1)) (operand_register b (r + 1))) (operand a h.0 has.0 r)
+        after (operand_lines seats a r) (operator_lines (immediate_of o b) o d (operand_register seats a r) (operand_lines seats b (r + 1)) (operand_register seats b (r + 1))) (operand a h.0 has.0 r)
         (by_right has.1 (immediate_of o b))
       where
-        by_right : F b → (right : Option ℤ) → Z (operator_lines right o d (operand_register a r) (operand_lines place b (r + 1)) (operand_register b (r + 1)))
+        by_right : F b → (right : Option ℤ) → Z (operator_lines right o d (operand_register seats a r) (operand_lines seats b (r + 1)) (operand_register seats b (r + 1)))
         by_right has None =
-            after (operand_lines place b (r + 1)) (binary_lines o d (operand_register a r) (operand_register b (r + 1))) (operand b h.1 has (r + 1)) (binary_made o d (operand_register a r) (operand_register b (r + 1)))
-        by_right has (Some i) = immediate_made o d (operand_register a r) i
+            after (operand_lines seats b (r + 1)) (binary_lines o d (operand_register seats a r) (operand_register seats b (r + 1))) (operand b h.1 has (r + 1)) (binary_made o d (operand_register seats a r) (operand_register seats b (r + 1)))
+        by_right has (Some i) = immediate_made o d (operand_register seats a r) i
     layer (tree.Narrow k a) h f d r = by_kind (keeps_words k)
       where
-        by_kind : (keeps : Bool) → Z (cond keeps (tree_into place a d r) (operand_lines place a r ++ narrow_lines k d (operand_register a r)))
+        by_kind : (keeps : Bool) → Z (cond keeps (tree_into seats a d r) (operand_lines seats a r ++ narrow_lines k d (operand_register seats a r)))
         by_kind true = h (inside (tree.Narrow k a) f) d r
         by_kind false =
-            after (operand_lines place a r) (narrow_lines k d (operand_register a r)) (operand a h (inside (tree.Narrow k a) f) r) (narrow_made k d (operand_register a r))
+            after (operand_lines seats a r) (narrow_lines k d (operand_register seats a r)) (operand a h (inside (tree.Narrow k a) f) r) (narrow_made k d (operand_register seats a r))
 
-    pub into_made : (t : Tree) → F t → (d r : ℕ) → Z (tree_into place t d r)
-    into_made = tree_ind Made (λ x h f d r. subst Z (sym (into_roll place x d r)) (layer x h f d r))
+    pub into_made : (t : Tree) → F t → (d r : ℕ) → Z (tree_into seats t d r)
+    into_made = tree_ind Made (λ x h f d r. subst Z (sym (into_roll seats x d r)) (layer x h f d r))
 
-    pub lines_made : (t : Tree) → F t → (r : ℕ) → Z (tree_lines place t r)
-    lines_made t f r = subst Z (sym (lines_are place t r)) (into_made t f r r)
+    pub lines_made : (t : Tree) → F t → (r : ℕ) → Z (tree_lines seats t r)
+    lines_made t f r = subst Z (sym (lines_are seats t r)) (into_made t f r r)
 
-    pub operand_made : (t : Tree) → F t → (r : ℕ) → P (operand_lines place t r)
+    pub operand_made : (t : Tree) → F t → (r : ℕ) → P (operand_lines seats t r)
     operand_made t f r = operand t (into_made t) f r

@@ -20,8 +20,12 @@ use Rattle.mv_ir.specs.declared.tree.Tree.TheFolds.{map-Tree}
 use Rattle.mv_ir.specs.Trees.{node_depth, depth}
 use Rattle.mv_ir.proofs.Induction.{TreeChildren, tree_ind}
 use Rattle.mv_ir.proofs.Rolls.{depth_roll}
-use Rattle.mv_select_code.specs.Trees.TreeCode.{one, two, upper_bits, lower_bits, number_lines, load_lines, temp_register, temp_offset, read_temp, clear, minus_one, unary_lines, binary_lines, short_immediate, count_immediate, immediate, immediate_lines, operator_lines, literal, right_of, keeps_words, narrow_lines, own_register, unless, tree_into, tree_lines, operand_lines, operand_register, immediate_of, temps_layer, temps_of}
+use Rattle.mv_select_code.specs.Trees.TreeCode.{Seats, one, two, upper_bits, lower_bits, near, number_lines, load_by, load_lines, temp_register, temp_offset, read_from, read_temp, clear, minus_one, unary_lines, binary_lines, short_immediate, count_immediate, immediate, immediate_lines, operator_lines, literal, right_of, keeps_words, narrow_lines, own_register, unless, tree_into, tree_lines, operand_lines, operand_register, immediate_of, temps_layer, temps_of}
+use Rattle.mv_select_code.specs.Trees.View.{AreSeats}
 use Rattle.mv_select_code.specs.Trees.Laws.{TreesFit}
+use Rattle.mv_select_code.specs.declared.trees.leaves.Based.{Based}
+use Rattle.mv_select_code.proofs.OfTrees.Registers.{seat_free}
+use Rattle.mv_select_code.proofs.OfTrees.Near.{near_below, near_fits}
 use Rattle.mv_select_code.proofs.OfTrees.Rolls.{into_tree, into_roll, lines_are, immediate_is, temps_roll}
 use Rattle.mv_select_code.proofs.OfTrees.Operands.{operand_below}
 use Rattle.mv_ir.proofs.Joining.{depth_positive}
@@ -79,8 +83,13 @@ number_fits n r h = by_length (eqb (upper_bits n) 0)
     by_length true = one_fits (Addi r 0 (lower_bits n)) (h, omega arith, lower_fits n)
     by_length false = two_fit (Lui r (pos (upper_bits n))) (Addi r r (lower_bits n)) (h, upper_fits n) (h, h, lower_fits n)
 
-load_fits : (a r : ℕ) → r < 32 → AllFit (load_lines a r)
-load_fits a r h = two_fit (Lui r (pos (upper_bits a))) (Lw r r (lower_bits a)) (h, upper_fits a) (h, h, lower_fits a)
+pub load_fits : (a r : ℕ) → r < 32 → AllFit (load_lines a r)
+unfolding load_lines
+load_fits a r h = by_base (near a) refl
+  where
+    by_base : (base : Option Based) → near a ≡ base → AllFit (load_by base a r)
+    by_base (Some n) e = one_fits (Lw r n.base n.offset) (h, near_below a n e, near_fits a n e)
+    by_base None e = two_fit (Lui r (pos (upper_bits a))) (Lw r r (lower_bits a)) (h, upper_fits a) (h, h, lower_fits a)
 
 entry_fits : (r f : ℕ) → r < 32 → AllFit (Entry r f ∷ [])
 entry_fits r f h = All-cons LineFits (Entry r f) [] h (All-nil LineFits)
@@ -90,15 +99,17 @@ unfolding temp_register
 register_below zero h = omega arith
 register_below (suc t) h = rw (ne_eqb (suc t) 0 (λ e. omega arith)) (omega arith)
 
-read_fits : (t r : ℕ) → t < 507 → r < 32 → Fits (read_temp t r)
-unfolding read_temp temp_offset
-read_fits t r lt h = ⊎_elim low high (cases_lt t 9)
-  where
-    low : t < 9 → Fits (cond (ltb t 9) (Addi r (temp_register t) (pos 0)) (Lw r 2 (pos (4 * (t + 1)))))
-    low small = rw (lt-ltb t 9 small) (h, register_below t small, small_fits 0 (omega arith))
+pub offset_fits : (t : ℕ) → t < 507 → IsSigned (2 ^ 11) (pos (temp_offset t))
+unfolding temp_offset
+offset_fits t h = small_fits (4 * (t + 1)) (omega arith)
 
-    high : 9 ≤ t → Fits (cond (ltb t 9) (Addi r (temp_register t) (pos 0)) (Lw r 2 (pos (4 * (t + 1)))))
-    high big = rw (le-ltb t 9 big) (h, omega arith, small_fits (4 * (t + 1)) (omega arith))
+read_fits : (seats : Seats) → AreSeats seats → (t r : ℕ) → t < 507 → r < 32 → Fits (read_temp seats t r)
+unfolding read_temp
+read_fits seats are t r lt h = by_place (seats.register t) refl
+  where
+    by_place : (own : Option ℕ) → seats.register t ≡ own → Fits (read_from own t r)
+    by_place (Some q) e = (h, (seat_free seats are t q e).below, small_fits 0 (omega arith))
+    by_place None e = (h, omega arith, offset_fits t lt)
 
 -- ---- operators
 
@@ -204,59 +215,59 @@ immediate_signed o t i e = by_number (literal t) (immediate_is o t ∙ e)
 
 -- ---- trees
 
-module _ (place : ℕ → ℕ) where
+module _ (seats : Seats) (are : AreSeats seats) where
   abbrev CodeFits : Tree → Type 0
-  CodeFits t = (d r : ℕ) → d < 32 → r + depth t ≤ 32 → temps_of t ≤ 507 → AllFit (tree_into place t d r)
+  CodeFits t = (d r : ℕ) → d < 32 → r + depth t ≤ 32 → temps_of t ≤ 507 → AllFit (tree_into seats t d r)
 
   after : (a b : List Line) → AllFit a → AllFit b → AllFit (a ++ b)
   after = All-append LineFits
 
-  operand : (t : Tree) → CodeFits t → (r : ℕ) → r + depth t ≤ 32 → temps_of t ≤ 507 → AllFit (operand_lines place t r)
+  operand : (t : Tree) → CodeFits t → (r : ℕ) → r + depth t ≤ 32 → temps_of t ≤ 507 → AllFit (operand_lines seats t r)
   unfolding operand_lines tree_lines
-  operand t h r p q = by_own (own_register t)
+  operand t h r p q = by_own (own_register seats t)
     where
-      by_own : (own : Option ℕ) → AllFit (unless own (tree_into place t r r))
+      by_own : (own : Option ℕ) → AllFit (unless own (tree_into seats t r r))
       by_own None = h r r (omega (arith, p, depth_positive t)) p q
       by_own (Some x) = All-nil LineFits
 
-  layer : (x : Tree-F Tree) → TreeChildren CodeFits x → (d r : ℕ) → d < 32 → r + node_depth (map-Tree Tree ℕ depth x) ≤ 32 → temps_layer (map-Tree Tree ℕ temps_of x) ≤ 507 → AllFit (into_tree place x d r)
+  layer : (x : Tree-F Tree) → TreeChildren CodeFits x → (d r : ℕ) → d < 32 → r + node_depth (map-Tree Tree ℕ depth x) ≤ 32 → temps_layer (map-Tree Tree ℕ temps_of x) ≤ 507 → AllFit (into_tree seats x d r)
   layer (tree.Number n) h d r l p q = number_fits n d l
-  layer (tree.Temp t) h d r l p q = one_fits (read_temp t d) (read_fits t d (omega arith) l)
-  layer (tree.Global g) h d r l p q = load_fits (place g) d l
+  layer (tree.Temp t) h d r l p q = one_fits (read_temp seats t d) (read_fits seats are t d (omega arith) l)
+  layer (tree.Global g) h d r l p q = load_fits (seats.place g) d l
   layer (tree.Function f) h d r l p q = entry_fits d f l
   layer (tree.Unary o a) h d r l p q =
-      let s = operand_register a r in
-      after (operand_lines place a r) (unary_lines o d s) (operand a h r (omega arith) q) (unary_fits o d s l (operand_below a r (omega arith)))
+      let s = operand_register seats a r in
+      after (operand_lines seats a r) (unary_lines o d s) (operand a h r (omega arith) q) (unary_fits o d s l (operand_below seats are a r (omega arith)))
   layer (tree.Binary o a b) h d r l p q =
-      after (operand_lines place a r) (operator_lines (immediate_of o b) o d (operand_register a r) (operand_lines place b (r + 1)) (operand_register b (r + 1)))
+      after (operand_lines seats a r) (operator_lines (immediate_of o b) o d (operand_register seats a r) (operand_lines seats b (r + 1)) (operand_register seats b (r + 1)))
       (operand a h.0 r (omega arith) (omega arith)) (by_right (immediate_of o b) refl)
     where
-      left : operand_register a r < 32
-      left = let some = depth_positive b in operand_below a r (omega arith)
+      left : operand_register seats a r < 32
+      left = let some = depth_positive b in operand_below seats are a r (omega arith)
 
-      by_right : (right : Option ℤ) → immediate_of o b ≡ right → AllFit (operator_lines right o d (operand_register a r) (operand_lines place b (r + 1)) (operand_register b (r + 1)))
+      by_right : (right : Option ℤ) → immediate_of o b ≡ right → AllFit (operator_lines right o d (operand_register seats a r) (operand_lines seats b (r + 1)) (operand_register seats b (r + 1)))
       by_right None e =
-          let s = operand_register a r in let u = operand_register b (r + 1) in
+          let s = operand_register seats a r in let u = operand_register seats b (r + 1) in
           let some = depth_positive b in
-          after (operand_lines place b (r + 1)) (binary_lines o d s u) (operand b h.1 (r + 1) (omega arith) (omega arith)) (binary_fits d s u l left (operand_below b (r + 1) (omega arith)) o)
+          after (operand_lines seats b (r + 1)) (binary_lines o d s u) (operand b h.1 (r + 1) (omega arith) (omega arith)) (binary_fits d s u l left (operand_below seats are b (r + 1) (omega arith)) o)
       by_right (Some i) e = by_number (literal b) (immediate_is o b ∙ e)
         where
-          by_number : (number : Option ℕ) → right_of o number ≡ Some i → AllFit (immediate_lines o d (operand_register a r) i)
+          by_number : (number : Option ℕ) → right_of o number ≡ Some i → AllFit (immediate_lines o d (operand_register seats a r) i)
           by_number None k = absurd cc
-          by_number (Some n) k = immediate_fits o d (operand_register a r) n i l left k
+          by_number (Some n) k = immediate_fits o d (operand_register seats a r) n i l left k
   layer (tree.Narrow k a) h d r l p q = by_kind (keeps_words k)
     where
-      by_kind : (keeps : Bool) → AllFit (cond keeps (tree_into place a d r) (operand_lines place a r ++ narrow_lines k d (operand_register a r)))
+      by_kind : (keeps : Bool) → AllFit (cond keeps (tree_into seats a d r) (operand_lines seats a r ++ narrow_lines k d (operand_register seats a r)))
       by_kind true = h d r l (omega arith) q
       by_kind false =
-          let s = operand_register a r in
-          after (operand_lines place a r) (narrow_lines k d s) (operand a h r (omega arith) q) (narrow_fits k d s l (operand_below a r (omega arith)))
+          let s = operand_register seats a r in
+          after (operand_lines seats a r) (narrow_lines k d s) (operand a h r (omega arith) q) (narrow_fits k d s l (operand_below seats are a r (omega arith)))
 
   pub into_fits : (t : Tree) → CodeFits t
-  into_fits = tree_ind CodeFits (λ x h d r l p q. subst AllFit (sym (into_roll place x d r)) (layer x h d r l (subst (λ n. r + n ≤ 32) (depth_roll x) p) (subst (λ n. n ≤ 507) (temps_roll x) q)))
+  into_fits = tree_ind CodeFits (λ x h d r l p q. subst AllFit (sym (into_roll seats x d r)) (layer x h d r l (subst (λ n. r + n ≤ 32) (depth_roll x) p) (subst (λ n. n ≤ 507) (temps_roll x) q)))
 
-  pub operand_fits : (t : Tree) (r : ℕ) → r + depth t ≤ 32 → temps_of t ≤ 507 → AllFit (operand_lines place t r)
+  pub operand_fits : (t : Tree) (r : ℕ) → r + depth t ≤ 32 → temps_of t ≤ 507 → AllFit (operand_lines seats t r)
   operand_fits t r = operand t (into_fits t) r
 
 pub trees_fit : TreesFit
-trees_fit place t r p q = subst AllFit (sym (lines_are place t r)) (into_fits place t r r (omega (arith, p, depth_positive t)) p q)
+trees_fit seats are t r p q = subst AllFit (sym (lines_are seats t r)) (into_fits seats are t r r (omega (arith, p, depth_positive t)) p q)

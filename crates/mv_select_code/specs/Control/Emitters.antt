@@ -20,6 +20,9 @@ label_taken e = record e { free = e.free + 1 }
 
 -- ---- before and behind what stands within a loop, with a label at its start, or a block
 
+abbrev pub loop_entered : Emitter → ℕ → Way → Emitter
+loop_entered e label way = record e { around = loop_at label way ∷ e.around }
+
 abbrev pub loop_opened : Emitter → ℕ → Way → Emitter
 loop_opened e label way = record e { lines = e.lines ++ (Label label ∷ []); around = loop_at label way ∷ e.around }
 

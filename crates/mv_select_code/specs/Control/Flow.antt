@@ -1,9 +1,10 @@
 -- What it is for a time of a run to stand at a place with what the statements have there, and for a stretch of code to do what they mean.
 use Rattle.std.specs.Prelude.{ℕ, ◌≡◌, ◌+◌, ◌<◌, ◌≤◌, ◌⊎◌, true, List, [], ◌∷◌, Some, None}
 use Rattle.mv_isa.specs.Execution.{Access, reg}
+use Rattle.mv_isa.specs.Registers.{a0}
 use Rattle.mv_ir.specs.World.{World}
 use Rattle.mv_ir.specs.Outcome.{State, End, Returned, Trapped, More, Stuck, Outcome, Next, Leaves, Restarts, Ends, Run, Bound}
-use Rattle.mv_select_code.specs.Statements.StatementCode.{first, trap_label}
+use Rattle.mv_select_code.specs.Statements.StatementCode.{trap_label}
 use Rattle.mv_select_code.specs.Statements.Frames.{Site, Shows}
 use Rattle.mv_select_code.specs.declared.control.enclosing.Enclosing.{Enclosing}
 use Rattle.mv_select_code.specs.Control.FlowCode.{enclosing_at}
@@ -48,7 +49,7 @@ module _ {M : Type 0} (access : Access M) (s : Site) (machine : Machine M) (plac
   abbrev pub FollowsEnd : (spare k : ℕ) → End → Type 0
   FollowsEnd spare k (Returned None w) = ⊥
   FollowsEnd spare k (Returned (Some v) w) =
-      (j : ℕ) × (l : State) × (l.world ≡ w) × Here 0 spare k (place end) l j × (reg (machine.run j).regs first ≡ v)
+      (j : ℕ) × (l : State) × (l.world ≡ w) × Here 0 spare k (place end) l j × (reg (machine.run j).regs a0 ≡ v)
   FollowsEnd spare k (Trapped c w) = (j : ℕ) × AtTrap c w j
   FollowsEnd spare k (More w) = (j : ℕ) × IsCut w j
   FollowsEnd spare k Stuck = Unit {0}

@@ -1,5 +1,5 @@
 -- The code of statements within one another, by where control goes behind it. Its labels are counted on from a first free one.
-use Rattle.std.specs.Prelude.{ℕ, zero, suc, ◌+◌, ◌^◌, ◌&&◌, Bool, true, false, cond, eqb, ltb, length, List, [], ◌∷◌, ◌++◌, map, Option, Some, None}
+use Rattle.std.specs.Prelude.{ℕ, zero, suc, ◌+◌, ◌^◌, ◌&&◌, Bool, true, false, not, cond, eqb, ltb, length, List, [], ◌∷◌, ◌++◌, map, Option, Some, None}
 use Rattle.mv_ast.specs.declared.program.Known.{Known}
 use Rattle.mv_ast.specs.declared.program.Known.TheVariants as known
 use Rattle.mv_isa.specs.declared.labelled.Line.{Line}
@@ -15,7 +15,7 @@ use Rattle.mv_ir.specs.declared.stm.Stm.TheOpen.{Stm-F}
 use Rattle.mv_ir.specs.declared.stm.Stm.TheOpen as stm
 use Rattle.mv_ir.specs.declared.stm.Stm.TheFolds.{fold-Stm}
 use Rattle.mv_ir.specs.WellFormed.{all_true, known_arguments}
-use Rattle.mv_select_code.specs.Trees.TreeCode.{branch_lines}
+use Rattle.mv_select_code.specs.Trees.TreeCode.{Seats, branch_lines}
 use Rattle.mv_select_code.specs.declared.statements.elements.Home.{Home}
 use Rattle.mv_select_code.specs.declared.statements.elements.Home.TheVariants as place_at
 use Rattle.mv_select_code.specs.Statements.StatementCode.{first, second, set_lines, set_global_lines, divide_lines, check_lines, read_lines, write_lines, bounds_lines, clear_lines, result_lines}
@@ -35,10 +35,10 @@ pub record CallLines : Type 0 where
   pub call : Option ℕ → Callee → List Tree → List Line
   pub known : Option ℕ → Known → List Tree → List Line
 
--- Where things are: the address and the number of words of each global, the place above sp and the number of words of each array of the frame, the
--- label of the end of the function, and the code of calls.
+-- Where things are: the address of each global and the register of each temporary that has one, the number of words of each global, the place above sp and
+-- the number of words of each array of the frame, the label of the end of the function, and the code of calls.
 pub record Plan : Type 0 where
-  pub place : ℕ → ℕ
+  pub seats : Seats
   pub size : ℕ → ℕ
   pub array_at : ℕ → ℕ
   pub array_size : ℕ → ℕ
@@ -73,27 +73,36 @@ leads_to end around way lead.On = way.after
 leads_to end around way (lead.Out n) = (enclosing_at around n end).end
 leads_to end around way (lead.Back n) = (enclosing_at around n end).start
 
--- How many labels some code takes; where it leads, if it does nothing else; and its lines, by what encloses it, the innermost first, the first free
--- label, and where control goes behind it.
+-- Code that a test leads to: whether it does where the tree isn't 0, or where it is; how many labels the code takes, and its lines, as below.
+pub record Tested : Type 0 where
+  pub test : Tree
+  pub sense : Bool
+  pub labels : ℕ
+  pub lines : List Enclosing → ℕ → Way → List Line
+
+-- How many labels some code takes; where it leads, if it does nothing else; to what it leads by a test which else leaves the innermost loop or block, if it
+-- does nothing else; and its lines, by what encloses it, the innermost first, the first free label, and where control goes behind it.
 pub record Emitted : Type 0 where
   pub labels : ℕ
   pub alone : Option Leading
+  pub stays : Option Tested
   pub lines : List Enclosing → ℕ → Way → List Line
 
 -- lines without labels, and then on
 abbrev pub plain : List Line → Emitted
-plain lines = record { labels = 0; alone = None; lines = λ around label way. lines ++ go_on way }
+plain lines = record { labels = 0; alone = None; stays = None; lines = λ around label way. lines ++ go_on way }
 
 -- ---- lists, loops, blocks and branches
 
 abbrev pub nothing : Emitted
-nothing = record { labels = 0; alone = Some lead.On; lines = λ around label way. go_on way }
+nothing = record { labels = 0; alone = Some lead.On; stays = None; lines = λ around label way. go_on way }
 
 -- one behind the other, with a label between them; the second takes its labels behind those of the first
 abbrev pub both : Emitted → Emitted → Emitted
 both a b = record {
   labels = 1 + (a.labels + b.labels);
   alone = None;
+  stays = None;
   lines = λ around label way. a.lines around (label + 1) (fall_to label) ++ (Label label ∷ b.lines around (label + 1 + a.labels) way);
 }
 
@@ -106,21 +115,28 @@ abbrev pub in_turn : List Emitted → Emitted
 in_turn [] = nothing
 in_turn (a ∷ rest) = before a rest (in_turn rest)
 
+-- where a list only leaves, it is the other list that the test leads to
+abbrev pub staying : Tree → Bool → Leading → Emitted → Option Tested
+staying t sense (lead.Out zero) a = Some (record { test = t; sense = not sense; labels = a.labels; lines = a.lines })
+staying t sense _ a = None
+
 -- a branch to where a list leads, and else the other list
-abbrev pub branch_code : (ℕ → ℕ) → ℕ → Tree → Bool → Leading → Emitted → Emitted
-branch_code place end t sense l a = record {
+abbrev pub branch_code : Seats → ℕ → Tree → Bool → Leading → Emitted → Emitted
+branch_code seats end t sense l a = record {
   labels = a.labels;
   alone = None;
-  lines = λ around label way. branch_lines place t sense first (leads_to end around way l) ++ a.lines around label way;
+  stays = staying t sense l a;
+  lines = λ around label way. branch_lines seats t sense first (leads_to end around way l) ++ a.lines around label way;
 }
 
 -- the second list, at a label, where the tree is 0, and else the first one, with a jump at its end
-abbrev pub either_code : (ℕ → ℕ) → Tree → Emitted → Emitted → Emitted
-either_code place t a b = record {
+abbrev pub either_code : Seats → Tree → Emitted → Emitted → Emitted
+either_code seats t a b = record {
   labels = 1 + (a.labels + b.labels);
   alone = None;
+  stays = None;
   lines = λ around label way.
-      branch_lines place t false first label ++ (a.lines around (label + 1) (jump_to way.after) ++ (Label label ∷ b.lines around (label + 1 + a.labels) way));
+      branch_lines seats t false first label ++ (a.lines around (label + 1) (jump_to way.after) ++ (Label label ∷ b.lines around (label + 1 + a.labels) way));
 }
 
 -- Where a branch goes in place of a list that only leads somewhere: where the tree isn't 0, to where the first list does, or where it is, to where the
@@ -131,16 +147,16 @@ short_cut (Some l) None = Some (true, l)
 short_cut (Some l) (Some lead.On) = Some (true, l)
 short_cut x (Some l) = Some (false, l)
 
-abbrev pub if_by : (ℕ → ℕ) → ℕ → Tree → Option (Bool × Leading) → Emitted → Emitted → Emitted
-if_by place end t None a b = either_code place t a b
-if_by place end t (Some to) a b = branch_code place end t to.0 to.1 (cond to.0 b a)
+abbrev pub if_by : Seats → ℕ → Tree → Option (Bool × Leading) → Emitted → Emitted → Emitted
+if_by seats end t None a b = either_code seats t a b
+if_by seats end t (Some to) a b = branch_code seats end t to.0 to.1 (cond to.0 b a)
 
 -- by where its lists lead
-abbrev pub if_leads : (ℕ → ℕ) → ℕ → Tree → Option Leading → Option Leading → Emitted → Emitted → Emitted
-if_leads place end t x y a b = if_by place end t (short_cut x y) a b
+abbrev pub if_leads : Seats → ℕ → Tree → Option Leading → Option Leading → Emitted → Emitted → Emitted
+if_leads seats end t x y a b = if_by seats end t (short_cut x y) a b
 
-abbrev pub if_code : (ℕ → ℕ) → ℕ → Tree → Emitted → Emitted → Emitted
-if_code place end t a b = if_leads place end t a.alone b.alone a b
+abbrev pub if_code : Seats → ℕ → Tree → Emitted → Emitted → Emitted
+if_code seats end t a b = if_leads seats end t a.alone b.alone a b
 
 -- a loop has a label at its start, and both end where control goes behind them
 abbrev pub loop_at : ℕ → Way → Enclosing
@@ -149,25 +165,52 @@ loop_at label way = record { start = label; end = way.after }
 abbrev pub block_at : Way → Enclosing
 block_at way = record { start = way.after; end = way.after }
 
-abbrev pub loop_code : Emitted → Emitted
-loop_code b = record {
+-- a loop whose statements stand in order, with a jump back at their end
+abbrev pub straight_loop : Emitted → Emitted
+straight_loop b = record {
   labels = 1 + b.labels;
   alone = None;
+  stays = None;
   lines = λ around label way. Label label ∷ b.lines (loop_at label way ∷ around) (label + 1) (jump_to label);
 }
 
+-- A loop that begins with a test which leaves it: the test stands at the end, with a label of its own, to which the loop comes first, and goes back to the
+-- start where it stays. So a turn takes one branch. The labels are those of the start, of the test, and of what stands between what the test leads to and the
+-- rest.
+abbrev pub turned_loop : Seats → Tested → Emitted → Emitted
+turned_loop seats a rest = record {
+  labels = 3 + (a.labels + rest.labels);
+  alone = None;
+  stays = None;
+  lines = λ around label way.
+      let inside = loop_at (label + 1) way ∷ around in
+      Jump x0 (label + 1) ∷ Label label
+      ∷ (a.lines inside (label + 3) (fall_to (label + 2))
+      ++ (Label (label + 2) ∷ (rest.lines inside (label + 3 + a.labels) (fall_to (label + 1))
+      ++ (Label (label + 1) ∷ (branch_lines seats a.test a.sense first label ++ go_on way)))));
+}
+
+-- by what the first of its statements stays for
+abbrev pub loop_by : Seats → Option Tested → Emitted → List Emitted → Emitted
+loop_by seats None b rest = straight_loop (in_turn (b ∷ rest))
+loop_by seats (Some a) b rest = turned_loop seats a (in_turn rest)
+
+abbrev pub loop_code : Seats → List Emitted → Emitted
+loop_code seats [] = straight_loop nothing
+loop_code seats (b ∷ rest) = loop_by seats b.stays b rest
+
 abbrev pub block_code : Emitted → Emitted
-block_code b = record { labels = b.labels; alone = None; lines = λ around label way. b.lines (block_at way ∷ around) label way }
+block_code b = record { labels = b.labels; alone = None; stays = None; lines = λ around label way. b.lines (block_at way ∷ around) label way }
 
 abbrev pub break_code : ℕ → ℕ → Emitted
-break_code end n = record { labels = 0; alone = Some (lead.Out n); lines = λ around label way. go_to way (enclosing_at around n end).end }
+break_code end n = record { labels = 0; alone = Some (lead.Out n); stays = None; lines = λ around label way. go_to way (enclosing_at around n end).end }
 
 -- going back is always a jump
 abbrev pub back_code : ℕ → ℕ → Emitted
-back_code end n = record { labels = 0; alone = Some (lead.Back n); lines = λ around label way. Jump x0 (enclosing_at around n end).start ∷ [] }
+back_code end n = record { labels = 0; alone = Some (lead.Back n); stays = None; lines = λ around label way. Jump x0 (enclosing_at around n end).start ∷ [] }
 
-abbrev pub return_code : (ℕ → ℕ) → ℕ → Tree → Emitted
-return_code place end v = record { labels = 0; alone = None; lines = λ around label way. result_lines place v ++ go_to way end }
+abbrev pub return_code : Seats → ℕ → Tree → Emitted
+return_code seats end v = record { labels = 0; alone = None; stays = None; lines = λ around label way. result_lines seats v ++ go_to way end }
 
 -- Each word of an array of the frame becomes 0, the first one first. The test of the loop stands behind a turn, with a label of its own, and is come to
 -- first.
@@ -176,7 +219,7 @@ zero_lines label at n =
     bounds_lines at n ++ (Jump x0 (label + 1) ∷ Label label ∷ (clear_lines ++ (Label (label + 1) ∷ Branch 1 first second label ∷ [])))
 
 abbrev pub zero_code : ℕ → ℕ → Emitted
-zero_code at n = record { labels = 2; alone = None; lines = λ around label way. zero_lines label at n ++ go_on way }
+zero_code at n = record { labels = 2; alone = None; stays = None; lines = λ around label way. zero_lines label at n ++ go_on way }
 
 -- ---- statements
 
@@ -190,27 +233,27 @@ size_of size array_size (array.Local a) = array_size a
 
 module _ (plan : Plan) where
   abbrev pub home : Array → Home
-  home = home_of plan.place plan.array_at
+  home = home_of plan.seats.place plan.array_at
 
   abbrev pub size : Array → ℕ
   size = size_of plan.size plan.array_size
 
   abbrev pub code_layer : Stm-F Emitted → Emitted
-  code_layer (stm.Set t v) = plain (set_lines plan.place t v)
-  code_layer (stm.SetGlobal g v) = plain (set_global_lines plan.place g v)
-  code_layer (stm.Divide t o a b) = plain (divide_lines plan.place t o a b)
-  code_layer (stm.Check a i) = plain (check_lines plan.place (size a) i)
-  code_layer (stm.Read t a i) = plain (read_lines plan.place t (home a) (size a) i)
-  code_layer (stm.Write a i v) = plain (write_lines plan.place (home a) (size a) i v)
+  code_layer (stm.Set t v) = plain (set_lines plan.seats t v)
+  code_layer (stm.SetGlobal g v) = plain (set_global_lines plan.seats g v)
+  code_layer (stm.Divide t o a b) = plain (divide_lines plan.seats t o a b)
+  code_layer (stm.Check a i) = plain (check_lines plan.seats (size a) i)
+  code_layer (stm.Read t a i) = plain (read_lines plan.seats t (home a) (size a) i)
+  code_layer (stm.Write a i v) = plain (write_lines plan.seats (home a) (size a) i v)
   code_layer (stm.Zero a) = zero_code (plan.array_at a) (plan.array_size a)
-  code_layer (stm.If t a b) = if_code plan.place plan.end t (in_turn a) (in_turn b)
-  code_layer (stm.Loop b) = loop_code (in_turn b)
+  code_layer (stm.If t a b) = if_code plan.seats plan.end t (in_turn a) (in_turn b)
+  code_layer (stm.Loop b) = loop_code plan.seats b
   code_layer (stm.Block b) = block_code (in_turn b)
   code_layer (stm.Break n) = break_code plan.end n
   code_layer (stm.Back n) = back_code plan.end n
   code_layer (stm.Call r f args) = plain (plan.calls.call r f args)
   code_layer (stm.Known r k args) = plain (plan.calls.known r k args)
-  code_layer (stm.Return v) = return_code plan.place plan.end v
+  code_layer (stm.Return v) = return_code plan.seats plan.end v
 
   -- the code of a statement
   unfoldable pub statement_code : Stm → Emitted
@@ -220,13 +263,22 @@ module _ (plan : Plan) where
   abbrev pub code_of : List Stm → Emitted
   code_of statements = in_turn (map statement_code statements)
 
+  -- a loop over statements
+  abbrev pub loop_of : List Stm → Emitted
+  loop_of statements = loop_code plan.seats (map statement_code statements)
+
+  -- statements that a test leads to
+  abbrev pub tested : Tree → Bool → List Stm → Tested
+  tested t sense statements = record { test = t; sense = sense; labels = (code_of statements).labels; lines = (code_of statements).lines }
+
 -- ---- what statements name is there
 
--- which globals have a word, and of which the elements may be read and written
+-- which globals have a word, of which the elements may be read and written, and whether functions may be called
 pub record Uses : Type 0 where
   pub has_word : ℕ → Bool
   pub is_read : ℕ → Bool
   pub is_written : ℕ → Bool
+  pub may_call : Bool
 
 -- Trees are fine by a test, each temporary that is written is below a number, and each array that is read or written may be; so may a global that is written
 -- as a scalar, and it has a word. A pointer switch through which a call goes may be read. A call has at most eight arguments, and a known function its own
@@ -267,7 +319,7 @@ module _ (is_fine : Tree → Bool) (may_ask : Known → Bool) (temps : ℕ) (use
   fine_layer (stm.Block b) = all_true b
   fine_layer (stm.Break n) = true
   fine_layer (stm.Back n) = true
-  fine_layer (stm.Call r f args) = ltb (length args) 9 && (fine_target r && (fine_callee f && all_true (map is_fine args)))
+  fine_layer (stm.Call r f args) = uses.may_call && (ltb (length args) 9 && (fine_target r && (fine_callee f && all_true (map is_fine args))))
   fine_layer (stm.Known r k args) = eqb (length args) (known_arguments k) && (fine_known k && (fine_target r && all_true (map is_fine args)))
   fine_layer (stm.Return v) = is_fine v
 

@@ -1,11 +1,11 @@
 -- The labels of the code of statements: which stand in it, and which it names.
-use Rattle.std.specs.Prelude.{ℕ, ◌≡◌, ◌+◌, ◌*◌, ◌<◌, ◌≤◌, List, [], ◌∷◌, ◌++◌, All, map, Option, count_by}
+use Rattle.std.specs.Prelude.{ℕ, ◌≡◌, ◌+◌, ◌*◌, ◌%◌, ◌<◌, ◌≤◌, List, [], ◌∷◌, ◌++◌, All, map, Option, count_by}
 use Rattle.mv_ast.specs.declared.program.Known.{Known}
 use Rattle.mv_bindings.specs.Traps as traps
 use Rattle.mv_isa.specs.declared.labelled.Line.{Line}
 use Rattle.mv_isa.specs.declared.labelled.Line.TheVariants.{Word, Label, Jump, Branch, Entry, Slot, Point}
 use Rattle.mv_isa.specs.Code.{is_label, StandsOnce, TargetStands}
-use Rattle.mv_isa.specs.Labels.{check_label}
+use Rattle.mv_isa.specs.Labels.{check_label, entry_label}
 use Rattle.mv_ir.specs.declared.tree.Tree.{Tree}
 use Rattle.mv_ir.specs.declared.tree.Tree.TheOpen.{Tree-F}
 use Rattle.mv_ir.specs.declared.tree.Tree.TheOpen as tree
@@ -91,6 +91,10 @@ pointers code = joined (map stm_pointers code)
 
 -- ---- labels
 
+-- the label of the entry of a function, whose number is below 2 ^ 31
+abbrev pub call_label : ℕ → ℕ
+call_label f = entry_label (f % 2147483648)
+
 -- a line isn't a label, and one that it names is of a kind
 abbrev pub Names : (ℕ → Type 0) → Line → Type 0
 Names P (Word instr) = Unit {0}
@@ -101,10 +105,11 @@ Names P (Entry rd l) = P l
 Names P (Slot l) = P l
 Names P (Point a) = P check_label
 
--- no label stands in the code of calls, and it names what it calls and others of a kind, as the stub of calls through pointer switches where it makes one
+-- no label stands in the code of calls, and it names what it calls and others of a kind, as the entry of a function that it calls by name, and the stub of
+-- calls through pointer switches where it makes one
 pub record CallsName (P : ℕ → Type 0) (calls : CallLines) : Type 0 where
-  pub call : (r : Option ℕ) (f : Callee) (args : List Tree) → All P (callee_functions f ++ functions_of_all args) → All (λ g. P check_label) (callee_pointers f) →
-      All (Names P) (calls.call r f args)
+  pub call : (r : Option ℕ) (f : Callee) (args : List Tree) → All P (callee_functions f ++ functions_of_all args) → All (λ g. P (call_label g)) (callee_functions f) →
+      All (λ g. P check_label) (callee_pointers f) → All (Names P) (calls.call r f args)
   pub known : (r : Option ℕ) (k : Known) (args : List Tree) → All P (functions_of_all args) → All (Names P) (calls.known r k args)
 
 -- each of so many labels from a first one on stands once in some lines, and no other label does
@@ -125,7 +130,8 @@ abbrev pub LabelsAreFew : Type 0
 LabelsAreFew = (plan : Plan) (code : List Stm) → (code_of plan code).labels ≤ 3 * statements code
 
 -- Wherever code may name a label, the label stands once in all lines: where control goes behind the code, what encloses the code, the labels of the code
--- itself, the end of the function, the stubs of the traps 1 and 2, the functions, and the stub of calls through pointer switches where there is one.
+-- itself, the end of the function, the stubs of the traps 1 and 2, the functions and their entries, and the stub of calls through pointer switches where there
+-- is one.
 pub record NamedStand (whole : List Line) (plan : Plan) (around : List Enclosing) (label count after : ℕ) (named points : List ℕ) : Type 0 where
   pub behind : StandsOnce whole after
   pub own : (l : ℕ) → label ≤ l → l < label + count → StandsOnce whole l
@@ -135,6 +141,7 @@ pub record NamedStand (whole : List Line) (plan : Plan) (around : List Enclosing
   pub division : StandsOnce whole (trap_label traps.division_by_zero)
   pub index : StandsOnce whole (trap_label traps.index_outside)
   pub functions : All (StandsOnce whole) named
+  pub entries : All (λ f. StandsOnce whole (call_label f)) named
   pub check : All (λ g. StandsOnce whole check_label) points
 
 -- then so is each label that the code names

@@ -21,14 +21,14 @@ use Rattle.mv_select_code.specs.Control.Flow.{IsWithin, Does}
 
 -- what code in a frame knows
 abbrev pub plan_of : Site → ℕ → CallLines → Plan
-plan_of s end calls = record { place = s.place; size = s.size; array_at = s.array_at; array_size = s.array_size; end = end; calls = calls }
+plan_of s end calls = record { seats = s.seats; size = s.size; array_at = s.array_at; array_size = s.array_size; end = end; calls = calls }
 
 -- what code may use, where globals have so many words
-abbrev pub uses_in : (size : ℕ → ℕ) → Reach → Uses
-uses_in size reach = record { has_word = λ g. ltb 0 (size g); is_read = reach.is_read; is_written = reach.is_written }
+abbrev pub uses_in : (size : ℕ → ℕ) → Reach → (may_call : Bool) → Uses
+uses_in size reach may_call = record { has_word = λ g. ltb 0 (size g); is_read = reach.is_read; is_written = reach.is_written; may_call = may_call }
 
 abbrev pub uses_of : Site → Uses
-uses_of s = uses_in s.size s.reach
+uses_of s = uses_in s.size s.reach s.may_call
 
 -- what code costs that goes on to a label: one instruction more where the label doesn't stand right behind it
 abbrev pub with_jump : Way → Run → Run

@@ -8,8 +8,7 @@ use Rattle.mv_ir.specs.declared.stm.Callee.{Callee}
 use Rattle.mv_ir.specs.declared.stm.Stm.{Stm}
 use Rattle.mv_ir.specs.Trees.{depth}
 use Rattle.mv_ir.specs.WellFormed.{known_arguments, all_true}
-use Rattle.mv_select_code.specs.Trees.TreeCode.{temps_of}
-use Rattle.mv_select_code.specs.Trees.Rooms.{place_in}
+use Rattle.mv_select_code.specs.Trees.TreeCode.{seats_at, temps_of}
 use Rattle.mv_select_code.specs.declared.control.layout.Space.{Space}
 use Rattle.mv_select_code.specs.declared.control.layout.Layout.{Layout}
 use Rattle.mv_select_code.specs.Control.FlowCode.{Uses, CallLines, Plan, fine_target, fine_callee, fine_known, is_fine_statement, are_fine}
@@ -35,7 +34,7 @@ IsInFrame space = space.at + 4 * space.size ≤ frame_limit
 
 abbrev pub plan_in : Layout → CallLines → Plan
 plan_in layout calls = record {
-  place = place_in layout.rooms;
+  seats = seats_at layout.rooms layout.keeping;
   size = size_in layout.rooms;
   array_at = array_at_in layout.arrays;
   array_size = array_size_in layout.arrays;
@@ -48,7 +47,7 @@ abbrev pub is_small : Tree → Bool
 is_small t = leb (depth t) 4 && leb (temps_of t) temp_limit
 
 abbrev pub any_global : Uses
-any_global = record { has_word = λ g. true; is_read = λ g. true; is_written = λ g. true }
+any_global = record { has_word = λ g. true; is_read = λ g. true; is_written = λ g. true; may_call = true }
 
 abbrev pub any_known : Known → Bool
 any_known k = true

@@ -1,8 +1,8 @@
 -- How registers and memory show the state of a frame.
-use Rattle.std.specs.Prelude.{ℕ, ◌≡◌, ◌≢◌, ◌+◌, ◌*◌, ◌^◌, ◌<◌, ◌≤◌, ◌⊎◌, Bool, true, List, length, slice_index, Some, None}
+use Rattle.std.specs.Prelude.{ℕ, ◌≡◌, ◌≢◌, ◌+◌, ◌*◌, ◌^◌, ◌<◌, ◌≤◌, Bool, true, List, length, slice_index, Some, None}
 use Rattle.mv_ast.specs.declared.program.Known.{Known}
 use Rattle.mv_isa.specs.Execution.{Access, reg}
-use Rattle.mv_isa.specs.Registers.{sp, s10, t3}
+use Rattle.mv_isa.specs.Registers.{x0, sp, a0}
 use Rattle.mv_ir.specs.declared.stm.Array.{Array}
 use Rattle.mv_ir.specs.declared.stm.Array.TheVariants as array
 use Rattle.mv_ir.specs.declared.tree.Tree.{Tree}
@@ -10,8 +10,8 @@ use Rattle.mv_ir.specs.Trees.{found, depth}
 use Rattle.mv_ir.specs.World as ir
 use Rattle.mv_ir.specs.Outcome.{State}
 use Rattle.mv_ir.specs.Meaning.{elements}
-use Rattle.mv_select_code.specs.Trees.TreeCode.{temp_register, temp_offset}
-use Rattle.mv_select_code.specs.Trees.View.{View, is_in_view, AreRegisters}
+use Rattle.mv_select_code.specs.Trees.TreeCode.{Seats, temp_offset}
+use Rattle.mv_select_code.specs.Trees.View.{View, is_in_view, AreRegisters, AreScratch, AreSeats}
 use Rattle.mv_select_code.specs.declared.statements.elements.Home.{Home}
 use Rattle.mv_select_code.specs.declared.statements.elements.Home.TheVariants as home
 
@@ -21,18 +21,20 @@ pub record Reach : Type 0 where
   pub is_written : ℕ → Bool
   pub may_load : ℕ → Bool
 
--- Where a frame stands: the address of each global and function, how many words a global has, what the code may use of memory, which known functions it
--- may ask for, the number of temporaries, the place and size of each array in bytes above sp and in words, and what the code is to leave alone:
--- registers, and words of memory.
+-- Where a frame stands: the address of each global and the register of each temporary that has one, how many words a global has, what the code may use of
+-- memory, the address of each function, whether the code may call functions, and which known ones it may ask for, the number of temporaries, the place and
+-- size of each array in bytes above sp and in words, and what the code is to leave alone: registers, and words of memory.
 pub record Site : Type 0 where
-  pub place : ℕ → ℕ
+  pub seats : Seats
   pub size : ℕ → ℕ
   pub reach : Reach
   pub entry : ℕ → ℕ
+  pub may_call : Bool
   pub may_ask : Known → Bool
   pub temps : ℕ
   pub array_at : ℕ → ℕ
   pub array_size : ℕ → ℕ
+  pub is_left : ℕ → Bool
   pub register : ℕ → ℕ
   pub is_kept : ℕ → Bool
   pub kept : ℕ → ℕ
@@ -42,10 +44,6 @@ pub data Cell : Type 0 where
   TempCell : ℕ → Cell
   Element : Array → ℕ → Cell
   Kept : ℕ → Cell
-
--- sp, s10 and s11, which only calls change and set back
-abbrev pub IsLeft : ℕ → Type 0
-IsLeft q = (q ≡ sp) ⊎ ((s10 ≤ q) × (q < t3))
 
 module _ (s : Site) where
   -- the code may load elements of an array, and store to them, where it is one of the frame or a global of those that the code reads or writes
@@ -68,7 +66,7 @@ module _ (s : Site) where
   IsOwn (Kept b) = ⊥
 
   abbrev pub home_of : Array → Home
-  home_of (array.Global g) = home.Data (s.place g)
+  home_of (array.Global g) = home.Data (s.seats.place g)
   home_of (array.Local a) = home.Frame (s.array_at a)
 
   abbrev pub size_of : Array → ℕ
@@ -84,9 +82,9 @@ module _ (s : Site) where
   address (Element a i) = home_address (home_of a) + 4 * i
   address (Kept b) = b
 
-  -- the first nine temporaries stand in registers
+  -- a temporary that has a register has no cell
   abbrev pub IsThere : Cell → Type 0
-  IsThere (TempCell t) = (9 ≤ t) × (t < s.temps)
+  IsThere (TempCell t) = (s.seats.register t ≡ None) × (t < s.temps)
   IsThere (Element a i) = i < size_of a
   IsThere (Kept b) = s.is_kept b ≡ true
 
@@ -99,7 +97,7 @@ module _ (s : Site) where
   -- what the trees of a state are read against
   abbrev pub view_of : ir.Setting → ir.Frame → State → View
   view_of setting frame l = record {
-    place = s.place;
+    seats = s.seats;
     is_read = s.reach.is_read;
     globals = l.world.globals;
     bound = frame.bound;
@@ -113,6 +111,15 @@ module _ (s : Site) where
     pub named : (l : State) → length l.temps ≡ s.temps → is_in_view (view_of setting frame l) t ≡ true
     pub shallow : depth t ≤ 4
 
+  -- The registers that the code leaves alone, sp among them, are apart from x0, from those that it computes in, a0 among these, and from those of its
+  -- temporaries.
+  pub record LeavesAlone : Type 0 where
+    pub stack : s.is_left sp ≡ true
+    pub real : s.is_left x0 ≡ true → ⊥
+    pub result : s.is_left a0 ≡ true → ⊥
+    pub scratch : (q : ℕ) → s.is_left q ≡ true → AreScratch q (q + 1) → ⊥
+    pub temps : (t q : ℕ) → t < s.temps → s.seats.register t ≡ Some q → s.is_left q ≡ true → ⊥
+
   module _ {M : Type 0} (access : Access M) where
     -- after a store of a word to a cell, which works where the cell can be loaded, it is read back, and the other cells are as they were
     pub record Stored (m : M) (x : Cell) (v : ℕ) : Type 0 where
@@ -121,9 +128,11 @@ module _ (s : Site) where
       pub same : access.load after (address x) 4 ≡ Some v
       pub others : (y : Cell) → IsThere y → address y ≢ address x → access.load after (address y) 4 ≡ access.load m (address y) 4
 
-    -- Memory is fit for the frame: cells can be stored to, no two are the same word, and those that the code may load have such addresses. Globals that are read have a word and aren't read as bound
-    -- values; a function's number is its address.
+    -- Memory is fit for the frame: cells can be stored to, no two are the same word, and those that the code may load have such addresses. Temporaries stand in
+    -- registers of their own, and others are left alone. Globals that are read have a word and aren't read as bound values; a function's number is its address.
     pub record IsFit (setting : ir.Setting) (frame : ir.Frame) : Type 0 where
+      pub seats : AreSeats s.seats
+      pub left : LeavesAlone
       pub stores : (m : M) (x : Cell) (v w : ℕ) → IsThere x → v < 2 ^ 32 → access.load m (address x) 4 ≡ Some w → Stored m x v
       pub apart : (x y : Cell) → IsThere x → IsThere y → address x ≡ address y → x ≡ y
       pub addresses : (x : Cell) → IsThere x → address x < 2 ^ 32
@@ -134,14 +143,13 @@ module _ (s : Site) where
       pub entries : (f : ℕ) → f < length setting.numbers → slice_index setting.numbers f ≡ s.entry f
       pub entry_words : (f : ℕ) → f < length setting.numbers → s.entry f < 2 ^ 32
 
-    -- Registers and memory show a state. A register that would have one of the first nine temporaries and has none is left alone.
+    -- registers and memory show a state
     pub record Shows (l : State) (regs : List ℕ) (m : M) : Type 0 where
       pub are : AreRegisters regs
-      pub left : (q : ℕ) → IsLeft q → reg regs q ≡ s.register q
+      pub left : (q : ℕ) → s.is_left q ≡ true → reg regs q ≡ s.register q
       pub count : length l.temps ≡ s.temps
       pub sizes : (a : Array) → length (elements a l) ≡ size_of a
-      pub low_words : (t : ℕ) → t < s.temps → t < 9 → slice_index l.temps t < 2 ^ 32
-      pub in_register : (t : ℕ) → t < s.temps → t < 9 → reg regs (temp_register t) ≡ slice_index l.temps t
-      pub unused : (t : ℕ) → s.temps ≤ t → t < 9 → reg regs (temp_register t) ≡ s.register (temp_register t)
+      pub temp_words : (t q : ℕ) → t < s.temps → s.seats.register t ≡ Some q → slice_index l.temps t < 2 ^ 32
+      pub in_register : (t q : ℕ) → t < s.temps → s.seats.register t ≡ Some q → reg regs q ≡ slice_index l.temps t
       pub words : (x : Cell) → IsThere x → content l x < 2 ^ 32
       pub in_memory : (x : Cell) → IsThere x → access.load m (address x) 4 ≡ Some (content l x)

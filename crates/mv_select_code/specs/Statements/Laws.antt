@@ -4,7 +4,7 @@ use Rattle.std.specs.Prelude.{ℕ, suc, zero, ◌≡◌, ◌+◌, ◌*◌, ◌<�
 use Rattle.mv_num.specs.Words.{add}
 use Rattle.mv_isa.specs.declared.labelled.Line.{Line}
 use Rattle.mv_isa.specs.Execution.{Access, reg}
-use Rattle.mv_isa.specs.Registers.{sp}
+use Rattle.mv_isa.specs.Registers.{sp, a0}
 use Rattle.mv_ir.specs.declared.tree.Tree.{Tree}
 use Rattle.mv_ir.specs.declared.stm.Array.{Array}
 use Rattle.mv_ir.specs.declared.stm.Array.TheVariants as array
@@ -31,10 +31,10 @@ module _ {M : Type 0} (access : Access M) (s : Site) (setting : ir.Setting) (fra
   LeadsTo lines n regs m exit l =
       (regs' : List ℕ) × (m' : M) × Leads access s lines n regs m exit regs' m' × Shows s access l regs' m'
 
-  -- past their end, with a value as the result
-  abbrev pub Gives : List Line → ℕ → List ℕ → M → ℕ → State → Type 0
-  Gives lines n regs m value l =
-      (regs' : List ℕ) × (m' : M) × Leads access s lines n regs m Past regs' m' × Shows s access l regs' m' × (reg regs' first ≡ value)
+  -- past their end, with a value in a0 as the result, which may be the register of a temporary: so of the state the world alone is told
+  abbrev pub Gives : List Line → ℕ → List ℕ → M → ℕ → ir.World → Type 0
+  Gives lines n regs m value w =
+      (l : State) × (l.world ≡ w) × (regs' : List ℕ) × (m' : M) × Leads access s lines n regs m Past regs' m' × Shows s access l regs' m' × (reg regs' a0 ≡ value)
 
   -- Lines do what an outcome says: they go on past their end, or to the stub of a trap, with what the state has there.
   abbrev pub Follows : List Line → ℕ → List ℕ → M → Outcome → Type 0
@@ -63,18 +63,18 @@ module _ {M : Type 0} (access : Access M) (s : Site) (setting : ir.Setting) (fra
   Clears lines k regs m a n l = (regs' : List ℕ) × (m' : M) × Leads access s lines k regs m Past regs' m' × IsCleared a n l regs' m'
 
   pub record AreDone : Type 0 where
-    pub set : (t : ℕ) (v : Tree) → t < s.temps → Fine v → Does (set_lines s.place t v) (stm.Set t v)
-    pub set_global : (g : ℕ) (v : Tree) → 0 < s.size g → IsWritten s (array.Global g) → Fine v → Does (set_global_lines s.place g v) (stm.SetGlobal g v)
-    pub divide : (t o : ℕ) (a b : Tree) → t < s.temps → Fine a → Fine b → Does (divide_lines s.place t o a b) (stm.Divide t o a b)
-    pub check : (a : Array) (i : Tree) → Fine i → Does (check_lines s.place (size_of s a) i) (stm.Check a i)
-    pub read : (t : ℕ) (a : Array) (i : Tree) → t < s.temps → IsRead s a → Fine i → Does (read_lines s.place t (home_of s a) (size_of s a) i) (stm.Read t a i)
-    pub write : (a : Array) (i v : Tree) → IsWritten s a → Fine i → Fine v → Does (write_lines s.place (home_of s a) (size_of s a) i v) (stm.Write a i v)
+    pub set : (t : ℕ) (v : Tree) → t < s.temps → Fine v → Does (set_lines s.seats t v) (stm.Set t v)
+    pub set_global : (g : ℕ) (v : Tree) → 0 < s.size g → IsWritten s (array.Global g) → Fine v → Does (set_global_lines s.seats g v) (stm.SetGlobal g v)
+    pub divide : (t o : ℕ) (a b : Tree) → t < s.temps → Fine a → Fine b → Does (divide_lines s.seats t o a b) (stm.Divide t o a b)
+    pub check : (a : Array) (i : Tree) → Fine i → Does (check_lines s.seats (size_of s a) i) (stm.Check a i)
+    pub read : (t : ℕ) (a : Array) (i : Tree) → t < s.temps → IsRead s a → Fine i → Does (read_lines s.seats t (home_of s a) (size_of s a) i) (stm.Read t a i)
+    pub write : (a : Array) (i v : Tree) → IsWritten s a → Fine i → Fine v → Does (write_lines s.seats (home_of s a) (size_of s a) i v) (stm.Write a i v)
     pub bounds : (a : ℕ) (l : State) (regs : List ℕ) (m : M) → Shows s access l regs m → Clears (bounds_lines (s.array_at a) (s.array_size a)) 2 regs m a 0 l
     pub clear : (a n : ℕ) (l : State) (regs : List ℕ) (m : M) → n < s.array_size a → IsCleared a n l regs m → Clears clear_lines 2 regs m a (n + 1) l
     pub branch : (sense : Bool) (label : ℕ) (v : Tree) → Fine v → (l : State) (regs : List ℕ) (m : M) → Shows s access l regs m →
-        LeadsTo (branch_lines s.place v sense first label) (2 * nodes v + 2) regs m (exit_by (is_taken sense (of_tree setting frame v l)) label) l
+        LeadsTo (branch_lines s.seats v sense first label) (2 * nodes v + 2) regs m (exit_by (is_taken sense (of_tree setting frame v l)) label) l
     pub result : (v : Tree) → Fine v → (l : State) (regs : List ℕ) (m : M) → Shows s access l regs m →
-        Gives (result_lines s.place v) (2 * nodes v) regs m (of_tree setting frame v l) l
+        Gives (result_lines s.seats v) (2 * nodes v) regs m (of_tree setting frame v l) l.world
 
 -- Over every memory that is fit for the frame, the code of each statement without control does what the statement means, wherever it stands.
 abbrev pub StatementsAreDone : Type 0 → Type 0

@@ -1,18 +1,24 @@
 -- The code of trees: lines that leave a tree's value in a register. They go by way of a register r and those above it, as many as the tree is deep; the
 -- left operand is computed first. An operand that stands in a register already stays there.
-use Rattle.std.specs.Prelude.{ℕ, ◌+◌, ◌*◌, ◌/◌, ◌%◌, max, Bool, true, false, not, cond, eqb, ltb, List, [], ◌∷◌, ◌++◌, Option, Some, None, unwrap_or, ℤ, pos, ◌-ℤ◌, slice_index_or}
+use Rattle.std.specs.Prelude.{ℕ, ◌+◌, ◌*◌, ◌/◌, ◌%◌, max, Bool, true, false, not, ◌&&◌, cond, eqb, leb, ltb, List, [], ◌∷◌, ◌++◌, Option, Some, None, unwrap_or, ℤ, pos, ◌-ℤ◌, slice_index_or}
 use Rattle.mv_num.specs.Words.{sub}
+use Rattle.mv_num.specs.Regions.{data_start, gp_value, tp_value}
 use Rattle.mv_num.specs.declared.kind.Kind.{Kind}
 use Rattle.mv_num.specs.declared.kind.Kind.TheVariants as kind
 use Rattle.mv_isa.specs.declared.instr.Instr.{Instr}
 use Rattle.mv_isa.specs.declared.instr.Instr.TheVariants.{Lui, Lw, Addi, Slti, Sltiu, Xori, Ori, Andi, Slli, Srli, Srai, Add, Sub, Sll, Slt, Sltu, Xor, Srl, Sra, Or, And, Mul}
 use Rattle.mv_isa.specs.declared.labelled.Line.{Line}
 use Rattle.mv_isa.specs.declared.labelled.Line.TheVariants.{Word, Jump, Branch, Entry}
-use Rattle.mv_isa.specs.Registers.{x0, sp, s1, a7}
+use Rattle.mv_isa.specs.Registers.{x0, sp, gp, tp, s1, a0, a7}
 use Rattle.mv_ir.specs.declared.tree.Tree.{Tree}
 use Rattle.mv_ir.specs.declared.tree.Tree.TheOpen.{Tree-F}
 use Rattle.mv_ir.specs.declared.tree.Tree.TheOpen as tree
 use Rattle.mv_ir.specs.declared.tree.Tree.TheFolds.{fold-Tree, map-Tree}
+use Rattle.mv_ir.specs.declared.body.Room.{Room}
+use Rattle.mv_select_code.specs.Trees.Rooms.{place_in}
+use Rattle.mv_select_code.specs.declared.trees.places.Keeping.{Keeping}
+use Rattle.mv_select_code.specs.declared.trees.places.Keeping.TheVariants.{Saved, Arguments}
+use Rattle.mv_select_code.specs.declared.trees.leaves.Based.{Based}
 
 abbrev pub one : Instr → List Line
 one i = Word i ∷ []
@@ -35,22 +41,50 @@ unfoldable pub number_lines : ℕ → ℕ → List Line
 number_lines n r =
     cond (eqb (upper_bits n) 0) (one (Addi r x0 (lower_bits n))) (two (Lui r (pos (upper_bits n))) (Addi r r (lower_bits n)))
 
+-- The first 4,096 bytes of data are reached by gp, and the next 4,096 by tp: the register, and what is added to it. Other addresses aren't near.
+unfoldable pub near : ℕ → Option Based
+near a =
+    cond (leb data_start a && ltb a (data_start + 4096)) (Some (record { base = gp; offset = pos a -ℤ pos gp_value }))
+    (cond (leb (data_start + 4096) a && ltb a (data_start + 8192)) (Some (record { base = tp; offset = pos a -ℤ pos tp_value })) None)
+
+abbrev pub load_by : Option Based → ℕ → ℕ → List Line
+load_by (Some n) a r = one (Lw r n.base n.offset)
+load_by None a r = two (Lui r (pos (upper_bits a))) (Lw r r (lower_bits a))
+
 -- the word at an address into a register
-abbrev pub load_lines : ℕ → ℕ → List Line
-load_lines a r = two (Lui r (pos (upper_bits a))) (Lw r r (lower_bits a))
+unfoldable pub load_lines : ℕ → ℕ → List Line
+load_lines a r = load_by (near a) a r
 
--- ---- temporaries: the first nine stand in s1 to s9, the others in the frame, above the ten words for saved registers
+-- ---- temporaries: some stand in registers, the others in the frame, above the ten words for saved registers
 
--- the register of one of the first nine: s1, then s2 to s9, which stand behind a7
+-- the register of one of the first nine, where they are saved: s1, then s2 to s9, which stand behind a7
 unfoldable pub temp_register : ℕ → ℕ
 temp_register t = cond (eqb t 0) s1 (a7 + t)
+
+-- The register of a temporary, if it has one: the first nine have s1 to s9, which the function saves; or, in a function that calls nothing and has no more, the
+-- first eight those in which arguments come, a0 to a7.
+unfoldable pub register_of : Keeping → ℕ → Option ℕ
+register_of Saved t = cond (ltb t 9) (Some (temp_register t)) None
+register_of Arguments t = cond (ltb t 8) (Some (a0 + t)) None
+
+-- where values stand: the address of each global, and the register of each temporary that has one
+pub record Seats : Type 0 where
+  pub place : ℕ → ℕ
+  pub register : ℕ → Option ℕ
+
+abbrev pub seats_at : List Room → Keeping → Seats
+seats_at rooms keeping = record { place = place_in rooms; register = register_of keeping }
 
 -- the place of another in the frame, in bytes above sp
 unfoldable pub temp_offset : ℕ → ℕ
 temp_offset t = 4 * (t + 1)
 
-unfoldable pub read_temp : ℕ → ℕ → Instr
-read_temp t r = cond (ltb t 9) (Addi r (temp_register t) (pos 0)) (Lw r sp (pos (temp_offset t)))
+abbrev pub read_from : Option ℕ → ℕ → ℕ → Instr
+read_from (Some q) t r = Addi r q (pos 0)
+read_from None t r = Lw r sp (pos (temp_offset t))
+
+unfoldable pub read_temp : Seats → ℕ → ℕ → Instr
+read_temp s t r = read_from (s.register t) t r
 
 -- ---- operators, by their numbers; one that names no operator gives 0
 
@@ -137,18 +171,18 @@ comparison false o = slice_index_or (None ∷ None ∷ None ∷ None ∷ None �
 
 -- ---- trees
 
-abbrev pub own_layer : Tree-F (Option ℕ) → Option ℕ
-own_layer (tree.Number n) = cond (eqb n 0) (Some x0) None
-own_layer (tree.Temp t) = cond (ltb t 9) (Some (temp_register t)) None
-own_layer (tree.Global g) = None
-own_layer (tree.Function f) = None
-own_layer (tree.Unary o a) = None
-own_layer (tree.Binary o a b) = None
-own_layer (tree.Narrow k a) = cond (keeps_words k) a None
+abbrev pub own_layer : Seats → Tree-F (Option ℕ) → Option ℕ
+own_layer s (tree.Number n) = cond (eqb n 0) (Some x0) None
+own_layer s (tree.Temp t) = s.register t
+own_layer s (tree.Global g) = None
+own_layer s (tree.Function f) = None
+own_layer s (tree.Unary o a) = None
+own_layer s (tree.Binary o a b) = None
+own_layer s (tree.Narrow k a) = cond (keeps_words k) a None
 
--- the register in which a tree's value stands already: that of one of the first nine temporaries, or x0 for the number 0
-unfoldable pub own_register : Tree → Option ℕ
-own_register = fold-Tree (Option ℕ) own_layer
+-- the register in which a tree's value stands already: that of a temporary, or x0 for the number 0
+unfoldable pub own_register : Seats → Tree → Option ℕ
+own_register s = fold-Tree (Option ℕ) (own_layer s)
 
 abbrev pub literal_layer : Tree-F (Option ℕ) → Option ℕ
 literal_layer (tree.Number n) = Some n
@@ -192,14 +226,14 @@ ready a r = unless a.own (a.into r r)
 abbrev pub stands : Code → ℕ → ℕ
 stands a r = unwrap_or a.own r
 
-abbrev pub into_layer : (ℕ → ℕ) → Tree-F Code → (d r : ℕ) → List Line
-into_layer place (tree.Number n) d r = number_lines n d
-into_layer place (tree.Temp t) d r = one (read_temp t d)
-into_layer place (tree.Global g) d r = load_lines (place g) d
-into_layer place (tree.Function f) d r = Entry d f ∷ []
-into_layer place (tree.Unary o a) d r = ready a r ++ unary_lines o d (stands a r)
-into_layer place (tree.Binary o a b) d r = ready a r ++ operator_lines (right_of o b.written) o d (stands a r) (ready b (r + 1)) (stands b (r + 1))
-into_layer place (tree.Narrow k a) d r = cond (keeps_words k) (a.into d r) (ready a r ++ narrow_lines k d (stands a r))
+abbrev pub into_layer : Seats → Tree-F Code → (d r : ℕ) → List Line
+into_layer s (tree.Number n) d r = number_lines n d
+into_layer s (tree.Temp t) d r = one (read_temp s t d)
+into_layer s (tree.Global g) d r = load_lines (s.place g) d
+into_layer s (tree.Function f) d r = Entry d f ∷ []
+into_layer s (tree.Unary o a) d r = ready a r ++ unary_lines o d (stands a r)
+into_layer s (tree.Binary o a b) d r = ready a r ++ operator_lines (right_of o b.written) o d (stands a r) (ready b (r + 1)) (stands b (r + 1))
+into_layer s (tree.Narrow k a) d r = cond (keeps_words k) (a.into d r) (ready a r ++ narrow_lines k d (stands a r))
 
 -- an operator's branch compares its operands, if there is one, and else tests the word of the whole tree
 abbrev pub compare_or : Option ℕ → Code → Code → (r label : ℕ) → List Line → List Line
@@ -216,37 +250,37 @@ branch_layer (tree.Unary o a) sense r label word = cond (eqb o 2) (a.branch (not
 branch_layer (tree.Binary o a b) sense r label word = compare_or (comparison sense o) a b r label word
 branch_layer (tree.Narrow k a) sense r label word = word
 
-abbrev pub tree_layer : (ℕ → ℕ) → Tree-F Code → Code
-tree_layer place x =
-    let own = own_layer (map-Tree Code (Option ℕ) (λ a. a.own) x) in record {
+abbrev pub tree_layer : Seats → Tree-F Code → Code
+tree_layer s x =
+    let own = own_layer s (map-Tree Code (Option ℕ) (λ a. a.own) x) in record {
       own = own;
       written = literal_layer (map-Tree Code (Option ℕ) (λ a. a.written) x);
-      into = into_layer place x;
-      branch = λ sense r label. branch_layer x sense r label (unless own (into_layer place x r r) ++ word_branch sense (unwrap_or own r) label);
+      into = into_layer s x;
+      branch = λ sense r label. branch_layer x sense r label (unless own (into_layer s x r r) ++ word_branch sense (unwrap_or own r) label);
     }
 
--- given the address of each global
-unfoldable pub tree_code : (ℕ → ℕ) → Tree → Code
-tree_code place = fold-Tree Code (tree_layer place)
+-- given where values stand
+unfoldable pub tree_code : Seats → Tree → Code
+tree_code s = fold-Tree Code (tree_layer s)
 
 -- the code of a tree for d, by way of r and the registers above it
-unfoldable pub tree_into : (ℕ → ℕ) → Tree → (d r : ℕ) → List Line
-tree_into place t = (tree_code place t).into
+unfoldable pub tree_into : Seats → Tree → (d r : ℕ) → List Line
+tree_into s t = (tree_code s t).into
 
 -- the code of a tree for r
-unfoldable pub tree_lines : (ℕ → ℕ) → Tree → ℕ → List Line
-tree_lines place t r = tree_into place t r r
+unfoldable pub tree_lines : Seats → Tree → ℕ → List Line
+tree_lines s t r = tree_into s t r r
 
 -- the code of a tree that may stay in its own register, and else comes into r; and where it stands then
-unfoldable pub operand_lines : (ℕ → ℕ) → Tree → ℕ → List Line
-operand_lines place t r = unless (own_register t) (tree_lines place t r)
+unfoldable pub operand_lines : Seats → Tree → ℕ → List Line
+operand_lines s t r = unless (own_register s t) (tree_lines s t r)
 
-unfoldable pub operand_register : Tree → ℕ → ℕ
-operand_register t r = unwrap_or (own_register t) r
+unfoldable pub operand_register : Seats → Tree → ℕ → ℕ
+operand_register s t r = unwrap_or (own_register s t) r
 
 -- the code that goes to a label exactly where a tree isn't 0, or exactly where it is, and else on
-unfoldable pub branch_lines : (ℕ → ℕ) → Tree → (sense : Bool) (r label : ℕ) → List Line
-branch_lines place t = (tree_code place t).branch
+unfoldable pub branch_lines : Seats → Tree → (sense : Bool) (r label : ℕ) → List Line
+branch_lines s t = (tree_code s t).branch
 
 -- what stands for a tree at the right of an operator, if that is possible
 unfoldable pub immediate_of : ℕ → Tree → Option ℤ

@@ -3,19 +3,20 @@ use Rattle.std.specs.Prelude.{ℕ, ◌≡◌, ◌≢◌, ◌^◌, ◌<◌, ◌�
 use Rattle.mv_num.specs.Words.{add}
 use Rattle.mv_isa.specs.declared.labelled.Line.{Line}
 use Rattle.mv_isa.specs.Execution.{Access, reg}
-use Rattle.mv_isa.specs.Registers.{sp, a0, s2, t3}
+use Rattle.mv_num.specs.Regions.{gp_value, tp_value}
+use Rattle.mv_isa.specs.Registers.{sp, gp, tp, t0, s1, s10, t3}
 use Rattle.mv_ir.specs.declared.tree.Tree.{Tree}
 use Rattle.mv_ir.specs.declared.tree.Tree.TheOpen.{Tree-F}
 use Rattle.mv_ir.specs.declared.tree.Tree.TheOpen as tree
 use Rattle.mv_ir.specs.declared.tree.Tree.TheFolds.{fold-Tree}
 use Rattle.mv_ir.specs.Trees.{found, scalar, value}
-use Rattle.mv_select_code.specs.Trees.TreeCode.{temp_register, temp_offset}
+use Rattle.mv_select_code.specs.Trees.TreeCode.{Seats, temp_offset}
 use Rattle.mv_select_code.specs.Trees.Straight.{Straight}
 
--- `place` is the address of each global, and `is_read` tells which of them the code may read. `entry` is the address of each function, and `numbers`
+-- `seats` says where globals and temporaries stand, and `is_read` which globals the code may read. `entry` is the address of each function, and `numbers`
 -- the number that stands for it in the intermediate code. `bound` has the values that switches are read as.
 pub record View : Type 0 where
-  pub place : ℕ → ℕ
+  pub seats : Seats
   pub is_read : ℕ → Bool
   pub globals : List (List ℕ)
   pub bound : List (ℕ × ℕ)
@@ -44,14 +45,21 @@ is_in_view v = fold-Tree Bool (names_layer v)
 
 -- ---- registers
 
--- 32 registers, each with a word
+-- 32 registers, each with a word; gp and tp point into data
 pub record AreRegisters (regs : List ℕ) : Type 0 where
   pub count : length regs ≡ 32
   pub words : (q : ℕ) → reg regs q < 2 ^ 32
+  pub global : reg regs gp ≡ gp_value
+  pub thread : reg regs tp ≡ tp_value
 
--- registers from one to below another that no frame counts on: some of a0 to a7, or of t3 to t6
+-- registers from one to below another that no frame counts on: some of t0 to t2 and s0, or of t3 to t6
 abbrev pub AreScratch : ℕ → ℕ → Type 0
-AreScratch lo hi = ((a0 ≤ lo) × (hi ≤ s2)) ⊎ ((t3 ≤ lo) × (hi ≤ 32))
+AreScratch lo hi = ((t0 ≤ lo) × (hi ≤ s1)) ⊎ ((t3 ≤ lo) × (hi ≤ 32))
+
+-- temporaries stand in none of these, but in some of s1, a0 to a7 and s2 to s9, each in its own
+pub record AreSeats (s : Seats) : Type 0 where
+  pub seat : (t q : ℕ) → s.register t ≡ Some q → (s1 ≤ q) × (q < s10)
+  pub apart : (t u q : ℕ) → s.register t ≡ Some q → s.register u ≡ Some q → t ≡ u
 
 -- registers from lo to below hi may have changed, and no others
 pub record Changes (lo hi : ℕ) (regs regs' : List ℕ) : Type 0 where
@@ -61,17 +69,18 @@ pub record Changes (lo hi : ℕ) (regs regs' : List ℕ) : Type 0 where
 -- ---- the machine
 
 module _ {M : Type 0} (access : Access M) (m : M) where
-  -- the first nine temporaries stand in registers, the others in the frame
+  -- temporaries stand in their registers, and those that have none in the frame
   pub record HoldsTemps (v : View) (regs : List ℕ) : Type 0 where
+    pub seats : AreSeats v.seats
     pub words : (t : ℕ) → t < length v.temps → slice_index v.temps t < 2 ^ 32
-    pub in_register : (t : ℕ) → t < length v.temps → t < 9 → reg regs (temp_register t) ≡ slice_index v.temps t
-    pub in_frame : (t : ℕ) → t < length v.temps → 9 ≤ t → access.load m (add (reg regs sp) (temp_offset t)) 4 ≡ Some (slice_index v.temps t)
+    pub in_register : (t q : ℕ) → t < length v.temps → v.seats.register t ≡ Some q → reg regs q ≡ slice_index v.temps t
+    pub in_frame : (t : ℕ) → t < length v.temps → v.seats.register t ≡ None → access.load m (add (reg regs sp) (temp_offset t)) 4 ≡ Some (slice_index v.temps t)
 
   -- memory holds the globals that are read, none of which is read as a bound value; a function's number is the address of its entry
   pub record HoldsNamed (v : View) : Type 0 where
-    pub places : (g : ℕ) → v.is_read g ≡ true → v.place g < 2 ^ 32
+    pub places : (g : ℕ) → v.is_read g ≡ true → v.seats.place g < 2 ^ 32
     pub words : (g : ℕ) → v.is_read g ≡ true → scalar v.globals g < 2 ^ 32
-    pub loads : (g : ℕ) → v.is_read g ≡ true → access.load m (v.place g) 4 ≡ Some (scalar v.globals g)
+    pub loads : (g : ℕ) → v.is_read g ≡ true → access.load m (v.seats.place g) 4 ≡ Some (scalar v.globals g)
     pub free : (g : ℕ) → v.is_read g ≡ true → found v.bound g ≡ None
     pub entries : (f : ℕ) → f < length v.numbers → slice_index v.numbers f ≡ v.entry f
     pub entry_words : (f : ℕ) → f < length v.numbers → v.entry f < 2 ^ 32

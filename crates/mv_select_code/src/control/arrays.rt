@@ -3,6 +3,7 @@
 ghost use Rattle.std.specs.Prelude.{◌≡◌, ◌<◌, ◌++◌, true, All, OnOk};
 ghost use Rattle.mv_select_code.specs.Statements.StatementCode.{check_lines, read_lines, write_lines};
 ghost use Rattle.mv_select_code.specs.Trees.Rooms.{place_in};
+ghost use Rattle.mv_select_code.specs.Trees.TreeCode.{seats_at};
 ghost use Rattle.mv_select_code.specs.Control.FlowCode.{home_of, size_of};
 ghost use Rattle.mv_select_code.specs.Control.Layouts.{size_in, array_at_in, array_size_in, IsInFrame, is_small};
 
@@ -23,12 +24,12 @@ pub fn push_check_of(
 ) -> Result<(), AllocError>
     requires arrays { All IsInFrame layout.now.arrays }
     requires index { is_small index.now ≡ true }
-    ensures { OnOk result (code.new ≡ code.old ++ check_lines (place_in layout.now.rooms)
+    ensures { OnOk result (code.new ≡ code.old ++ check_lines (seats_at layout.now.rooms layout.now.keeping)
         (size_of (size_in layout.now.rooms) (array_size_in layout.now.arrays) array) index.now) }
 {
     let rooms = layout.rooms.as_slice();
     let size = size_of(rooms, layout.arrays.as_slice(), array);
-    push_check(code, rooms, size, index)
+    push_check(code, layout.places(), size, index)
 }
 
 /// Puts an element into a temporary.
@@ -42,7 +43,7 @@ pub fn push_read_of(
     requires arrays { All IsInFrame layout.now.arrays }
     requires temp { temp < 507 }
     requires index { is_small index.now ≡ true }
-    ensures { OnOk result (code.new ≡ code.old ++ read_lines (place_in layout.now.rooms) temp
+    ensures { OnOk result (code.new ≡ code.old ++ read_lines (seats_at layout.now.rooms layout.now.keeping) temp
         (home_of (place_in layout.now.rooms) (array_at_in layout.now.arrays) array)
         (size_of (size_in layout.now.rooms) (array_size_in layout.now.arrays) array) index.now) }
 {
@@ -51,7 +52,7 @@ pub fn push_read_of(
     let home = home_of(rooms, arrays, array);
     push_read(
         code,
-        rooms,
+        layout.places(),
         temp,
         home,
         size_of(rooms, arrays, array),
@@ -70,7 +71,7 @@ pub fn push_write_of(
     requires arrays { All IsInFrame layout.now.arrays }
     requires index { is_small index.now ≡ true }
     requires value { is_small value.now ≡ true }
-    ensures { OnOk result (code.new ≡ code.old ++ write_lines (place_in layout.now.rooms)
+    ensures { OnOk result (code.new ≡ code.old ++ write_lines (seats_at layout.now.rooms layout.now.keeping)
         (home_of (place_in layout.now.rooms) (array_at_in layout.now.arrays) array)
         (size_of (size_in layout.now.rooms) (array_size_in layout.now.arrays) array) index.now value.now) }
 {
@@ -79,7 +80,7 @@ pub fn push_write_of(
     let home = home_of(rooms, arrays, array);
     push_write(
         code,
-        rooms,
+        layout.places(),
         home,
         size_of(rooms, arrays, array),
         index,

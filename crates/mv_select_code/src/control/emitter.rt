@@ -2,29 +2,28 @@
 
 ghost use Rattle.std.specs.Prelude.{◌≡◌, ◌+◌, ◌^◌, ◌<◌, ◌++◌, [], ◌∷◌, true, OnOk};
 ghost use Rattle.mv_isa.specs.declared.labelled.Line.TheVariants.{Label, Jump};
-ghost use Rattle.mv_select_code.specs.Trees.TreeCode.{branch_lines};
-ghost use Rattle.mv_select_code.specs.Trees.Rooms.{place_in};
+ghost use Rattle.mv_select_code.specs.Trees.TreeCode.{seats_at, branch_lines};
 ghost use Rattle.mv_select_code.specs.Statements.StatementCode.{first};
 ghost use Rattle.mv_select_code.specs.Control.FlowCode.{enclosing_at, go_to, go_on, leads_to, return_code, zero_lines};
-ghost use Rattle.mv_select_code.specs.Control.Emitters.{with_lines, emitted, label_taken, loop_opened, block_opened, closed};
+ghost use Rattle.mv_select_code.specs.Control.Emitters.{with_lines, emitted, label_taken, loop_entered, loop_opened, block_opened, closed};
 ghost use Rattle.mv_select_code.specs.Control.Layouts.{IsInFrame, is_small};
 
 use crate::control::enclosing::{Around, Enclosing, Leading, Way};
 use crate::control::layout::Space;
 use crate::statements::elements::{push_bounds, push_clear};
 use crate::statements::values::push_result;
+use crate::trees::places::Places;
 use crate::trees::push_branch;
-use mv_ir::body::Room;
 use mv_ir::tree::Tree;
 use mv_isa::labelled::Line;
 use mv_num::list::List;
 use std::alloc::{AllocError, Global};
 
-// a0, which has the tree of a branch, if that stands in no register yet, and the address of a word.
-const FIRST: u8 = 10;
+// t3, which has the tree of a branch, if that stands in no register yet, and the address of a word.
+const FIRST: u8 = 28;
 
-// a1, which has the address of an array's end.
-const SECOND: u8 = 11;
+// t0, which has the address of an array's end.
+const SECOND: u8 = 5;
 
 /// Code as far as it is written. Where memory lacks, some of what was to be written may be missing.
 #[derive(Drop)]
@@ -108,15 +107,15 @@ impl Emitter {
     /// Leaves a value as the result of the function, and goes to its end.
     pub(crate) fn push_return(
         &mut self,
-        rooms: &[Room],
+        places: Places<'_>,
         value: &Tree,
         end: u32,
         way: Way,
     ) -> Result<(), AllocError>
         requires value { is_small value.now ≡ true }
-        ensures { OnOk result (self.new ≡ emitted self.old (return_code (place_in rooms.now) end value.now) way) }
+        ensures { OnOk result (self.new ≡ emitted self.old (return_code (seats_at places.entry.rooms.now places.entry.keeping) end value.now) way) }
     {
-        push_result(&mut self.lines, rooms, value)?;
+        push_result(&mut self.lines, places, value)?;
         self.go_to(way, end)
     }
 
@@ -139,13 +138,20 @@ impl Emitter {
         Ok(())
     }
 
+    /// What stands in a loop whose turns start at a label.
+    pub(crate) fn enter_loop(&mut self, start: u32, way: Way) -> Result<(), AllocError>
+        ensures { OnOk result (self.new ≡ loop_entered self.old start way) }
+    {
+        let end = way.after;
+        self.around.enter(Enclosing { start, end })
+    }
+
     /// The start of a loop, at a label.
     pub(crate) fn open_loop(&mut self, start: u32, way: Way) -> Result<(), AllocError>
         ensures { OnOk result (self.new ≡ loop_opened self.old start way) }
     {
         self.push_label(start)?;
-        let end = way.after;
-        self.around.enter(Enclosing { start, end })
+        self.enter_loop(start, way)
     }
 
     /// The start of a block, which needs no line.
@@ -166,18 +172,18 @@ impl Emitter {
     /// Goes to a label exactly where a tree's value isn't 0, or exactly where it is, as `sense` says, and else on.
     pub(crate) fn push_branch(
         &mut self,
-        rooms: &[Room],
+        places: Places<'_>,
         test: &Tree,
         sense: bool,
         label: u32,
     ) -> Result<(), AllocError>
         requires test { is_small test.now ≡ true }
-        ensures { OnOk result (self.new ≡ with_lines self.old (branch_lines (place_in rooms.now) test.now sense first label)) }
+        ensures { OnOk result (self.new ≡ with_lines self.old (branch_lines (seats_at places.entry.rooms.now places.entry.keeping) test.now sense first label)) }
     {
-        push_branch(&mut self.lines, rooms, test, sense, FIRST, label)
+        push_branch(&mut self.lines, places, test, sense, FIRST, label)
     }
 
-    /// Makes the words of an array of the frame 0, in a loop that takes two labels. It changes a0 and a1.
+    /// Makes the words of an array of the frame 0, in a loop that takes two labels. It changes t3 and t0.
     pub(crate) fn push_zero(&mut self, array: Space) -> Result<(), AllocError>
         requires within { IsInFrame array }
         requires label { self.old.free + 2 < 2 ^ 32 }

@@ -2,12 +2,13 @@
 
 ghost use Rattle.std.specs.Prelude.{◌≡◌, All};
 ghost use Rattle.mv_select_code.specs.Trees.Rooms.{place_in};
-ghost use Rattle.mv_select_code.specs.Statements.StatementCode.{home_below};
+ghost use Rattle.mv_select_code.specs.Statements.StatementCode.{home_within};
 ghost use Rattle.mv_select_code.specs.Control.FlowCode.{home_of, size_of};
 ghost use Rattle.mv_select_code.specs.Control.Layouts.{size_in, space_in, array_at_in, array_size_in, IsInFrame};
 
 use crate::statements::elements::Home;
 use crate::trees::place_of;
+use crate::trees::places::{Keeping, Places};
 use mv_ir::body::Room;
 use mv_ir::stm::Array;
 use mv_num::list::List;
@@ -23,9 +24,24 @@ pub struct Space {
 #[derive(Debug, Drop)]
 pub struct Layout {
     pub rooms: List<Room>,
+    /// The registers of the temporaries.
+    pub keeping: Keeping,
     /// By the arrays' numbers.
     pub arrays: List<Space>,
     pub end: u32,
+}
+
+impl Layout {
+    /// Where the globals and the temporaries stand.
+    pub(crate) fn places(&self) -> Places<'_>
+        ensures rooms { result.rooms.now ≡ self.now.rooms }
+        ensures keeping { result.keeping ≡ self.now.keeping }
+    {
+        Places {
+            rooms: self.rooms.as_slice(),
+            keeping: self.keeping,
+        }
+    }
 }
 
 // How many words a global has, and 0 where it has no room.
@@ -56,7 +72,7 @@ pub(crate) fn space_of(arrays: &[Space], array: u32) -> Space
 pub(crate) fn home_of(rooms: &[Room], arrays: &[Space], array: Array) -> Home
     requires { All IsInFrame arrays.now }
     ensures value { result ≡ home_of (place_in rooms.now) (array_at_in arrays.now) array }
-    ensures within { home_below result 2032 }
+    ensures within { home_within result (size_of (size_in rooms.now) (array_size_in arrays.now) array) 2032 }
 {
     match array {
         Array::Global(global) => Home::Data(place_of(rooms, global)),

@@ -1,17 +1,17 @@
 //! The statements on elements of arrays.
 
-ghost use Rattle.std.specs.Prelude.{◌≡◌, ◌+◌, ◌*◌, ◌<◌, ◌≤◌, ◌++◌, OnOk};
+ghost use Rattle.std.specs.Prelude.{◌≡◌, ◌+◌, ◌*◌, ◌<◌, ◌≤◌, ◌++◌, OnOk, None};
 ghost use Rattle.mv_ir.specs.Trees.{depth};
-ghost use Rattle.mv_select_code.specs.Trees.TreeCode.{temps_of};
-ghost use Rattle.mv_select_code.specs.Trees.Rooms.{place_in};
-ghost use Rattle.mv_select_code.specs.Statements.StatementCode.{home_below, element_offset, element_lines, test_lines, check_lines, read_lines, write_lines, bounds_lines, clear_lines};
+ghost use Rattle.mv_select_code.specs.Trees.TreeCode.{near, seats_at, temps_of, literal};
+ghost use Rattle.mv_select_code.specs.Statements.StatementCode.{home_within, element_offset, base_by, element_lines, fixed, element_at, fetch_lines, store_lines, put_lines, test_lines, check_lines, read_by, read_lines, write_by, write_lines, bounds_lines, clear_lines};
 
 use crate::statements::instructions::{FIRST, SECOND, THIRD, push_keep, target};
+use crate::trees::places::Places;
 use crate::trees::{
-    lower_bits, operand_register, push_number, push_one, push_operand, push_two, upper_bits,
+    literal, lower_bits, near, operand_register, push_load, push_number, push_one, push_operand,
+    push_two, upper_bits,
 };
 use mv_bindings::traps::INDEX_OUTSIDE;
-use mv_ir::body::Room;
 use mv_ir::tree::Tree;
 use mv_isa::Instr;
 use mv_isa::labelled::Line;
@@ -29,12 +29,15 @@ pub enum Home {
 }
 
 // The lower part of the place of an element.
-fn element_offset(home: Home) -> i32
-    requires { home_below home 2032 }
+fn element_offset(home: Home, size: u32) -> i32
+    requires { home_within home size 2032 }
     ensures { result ≡ element_offset home }
 {
     match home {
-        Home::Data(at) => lower_bits(at),
+        Home::Data(at) => match near(at) {
+            Some(near) => near.offset,
+            None => lower_bits(at),
+        },
         Home::Frame(at) => at as i32,
     }
 }
@@ -52,7 +55,27 @@ fn push_element(code: &mut List<Line>, home: Home, index: u8) -> Result<(), Allo
     };
     push_one(code, scaled)?;
     match home {
-        Home::Data(at) => push_two(
+        Home::Data(at) => push_base(code, at),
+        Home::Frame(_) => push_one(code, Instr::Add { rd, rs1, rs2: 2 }),
+    }
+}
+
+// Adds to the first register what reaches an array's first element with the lower part of its place.
+fn push_base(code: &mut List<Line>, at: u32) -> Result<(), AllocError>
+    ensures { OnOk result (code.new ≡ code.old ++ base_by (near at) at) }
+{
+    let rd = FIRST;
+    let rs1 = FIRST;
+    match near(at) {
+        Some(near) => push_one(
+            code,
+            Instr::Add {
+                rd,
+                rs1,
+                rs2: near.base,
+            },
+        ),
+        None => push_two(
             code,
             Instr::Lui {
                 rd: THIRD,
@@ -64,7 +87,95 @@ fn push_element(code: &mut List<Line>, home: Home, index: u8) -> Result<(), Allo
                 rs2: THIRD,
             },
         ),
-        Home::Frame(_) => push_one(code, Instr::Add { rd, rs1, rs2: 2 }),
+    }
+}
+
+// The number that an index is written as, where it is below the number of elements.
+#[tactic(auto, unfolding(crate::specs::Statements::StatementCode::fixed))]
+fn fixed(size: u32, index: &Tree) -> Option<u32>
+    ensures { result ≡ fixed size (literal index.now) }
+{
+    match literal(index) {
+        Some(n) if n < size => Some(n),
+        _ => None,
+    }
+}
+
+// Where the element of such an index stands.
+fn element_at(home: Home, size: u32, index: u32) -> Home
+    requires within { home_within home size 2032 }
+    requires below { index < size }
+    ensures value { result ≡ element_at home index }
+    ensures within { home_within result 1 2032 }
+{
+    match home {
+        Home::Data(at) => Home::Data(at.wrapping_add(index.wrapping_mul(4))),
+        Home::Frame(at) => Home::Frame(at + 4 * index),
+    }
+}
+
+// Puts the word that stands somewhere into a register.
+fn push_fetch(code: &mut List<Line>, home: Home, rd: u8) -> Result<(), AllocError>
+    requires { home_within home 1 2032 }
+    ensures { OnOk result (code.new ≡ code.old ++ fetch_lines home rd) }
+{
+    match home {
+        Home::Data(at) => push_load(code, at, rd),
+        Home::Frame(at) => push_one(
+            code,
+            Instr::Lw {
+                rd,
+                rs1: 2,
+                imm: at as i32,
+            },
+        ),
+    }
+}
+
+/// Puts a register to an address, by way of the second register.
+#[tactic(auto, unfolding(crate::specs::Statements::StatementCode::store_lines))]
+pub(crate) fn push_store(code: &mut List<Line>, at: u32, register: u8) -> Result<(), AllocError>
+    ensures { OnOk result (code.new ≡ code.old ++ store_lines at register) }
+{
+    match near(at) {
+        Some(near) => push_one(
+            code,
+            Instr::Sw {
+                rs1: near.base,
+                rs2: register,
+                imm: near.offset,
+            },
+        ),
+        None => push_two(
+            code,
+            Instr::Lui {
+                rd: SECOND,
+                imm: upper_bits(at),
+            },
+            Instr::Sw {
+                rs1: SECOND,
+                rs2: register,
+                imm: lower_bits(at),
+            },
+        ),
+    }
+}
+
+// Puts a register to where an element stands.
+fn push_put(code: &mut List<Line>, home: Home, register: u8) -> Result<(), AllocError>
+    requires { home_within home 1 2032 }
+    ensures { OnOk result (code.new ≡ code.old ++ put_lines home register) }
+{
+    match home {
+        Home::Data(at) => push_store(code, at, register),
+        Home::Frame(at) => push_one(
+            code,
+            Instr::Sw {
+                rs1: 2,
+                rs2: register,
+                imm: at as i32,
+            },
+        ),
     }
 }
 
@@ -80,75 +191,128 @@ fn push_test(code: &mut List<Line>, size: u32, index: u8) -> Result<(), AllocErr
 /// Tests an index. One that isn't below the array's length is trap 2.
 pub fn push_check(
     code: &mut List<Line>,
-    rooms: &[Room],
+    places: Places<'_>,
     size: u32,
     index: &Tree,
 ) -> Result<(), AllocError>
     requires depth { depth index.now ≤ 4 }
     requires temps { temps_of index.now ≤ 507 }
-    ensures { OnOk result (code.new ≡ code.old ++ check_lines (place_in rooms.now) size index.now) }
+    ensures { OnOk result (code.new ≡ code.old ++ check_lines (seats_at places.entry.rooms.now places.entry.keeping) size index.now) }
 {
-    push_operand(code, rooms, index, FIRST)?;
-    push_test(code, size, operand_register(index, FIRST))
+    if fixed(size, index).is_some() {
+        return Ok(());
+    }
+    push_operand(code, places, index, FIRST)?;
+    push_test(code, size, operand_register(places, index, FIRST))
 }
 
-/// Puts an element into a temporary, with trap 2 as for `push_check`.
-pub fn push_read(
+// An element at an index that is computed, with a test.
+fn push_computed_read(
     code: &mut List<Line>,
-    rooms: &[Room],
+    places: Places<'_>,
     temp: u32,
     home: Home,
     size: u32,
     index: &Tree,
 ) -> Result<(), AllocError>
     requires temp { temp < 507 }
-    requires home { home_below home 2032 }
+    requires home { home_within home size 2032 }
     requires depth { depth index.now ≤ 4 }
     requires temps { temps_of index.now ≤ 507 }
-    ensures { OnOk result (code.new ≡ code.old ++ read_lines (place_in rooms.now) temp home size index.now) }
+    ensures { OnOk result (code.new ≡ code.old ++ read_by (seats_at places.entry.rooms.now places.entry.keeping) None temp home size index.now) }
 {
-    push_operand(code, rooms, index, FIRST)?;
-    let place = operand_register(index, FIRST);
+    push_operand(code, places, index, FIRST)?;
+    let place = operand_register(places, index, FIRST);
     push_test(code, size, place)?;
     push_element(code, home, place)?;
     let load = Instr::Lw {
-        rd: target(temp),
+        rd: target(places, temp),
         rs1: FIRST,
-        imm: element_offset(home),
+        imm: element_offset(home, size),
     };
     push_one(code, load)?;
-    push_keep(code, temp)
+    push_keep(code, places, temp)
 }
 
-/// Puts a value into an element, with trap 2 as for `push_check`. The index is computed before the value.
-pub fn push_write(
+/// Puts an element into a temporary, with trap 2 as for `push_check`.
+pub fn push_read(
     code: &mut List<Line>,
-    rooms: &[Room],
+    places: Places<'_>,
+    temp: u32,
+    home: Home,
+    size: u32,
+    index: &Tree,
+) -> Result<(), AllocError>
+    requires temp { temp < 507 }
+    requires home { home_within home size 2032 }
+    requires depth { depth index.now ≤ 4 }
+    requires temps { temps_of index.now ≤ 507 }
+    ensures { OnOk result (code.new ≡ code.old ++ read_lines (seats_at places.entry.rooms.now places.entry.keeping) temp home size index.now) }
+{
+    match fixed(size, index) {
+        Some(n) => {
+            push_fetch(code, element_at(home, size, n), target(places, temp))?;
+            push_keep(code, places, temp)
+        }
+        None => push_computed_read(code, places, temp, home, size, index),
+    }
+}
+
+// An element at an index that is computed, with a test.
+fn push_computed_write(
+    code: &mut List<Line>,
+    places: Places<'_>,
     home: Home,
     size: u32,
     index: &Tree,
     value: &Tree,
 ) -> Result<(), AllocError>
-    requires home { home_below home 2032 }
+    requires home { home_within home size 2032 }
     requires index_depth { depth index.now ≤ 4 }
     requires index_temps { temps_of index.now ≤ 507 }
     requires value_depth { depth value.now ≤ 4 }
     requires value_temps { temps_of value.now ≤ 507 }
-    ensures { OnOk result (code.new ≡ code.old ++ write_lines (place_in rooms.now) home size index.now value.now) }
+    ensures { OnOk result (code.new ≡ code.old ++ write_by (seats_at places.entry.rooms.now places.entry.keeping) None home size index.now value.now) }
 {
-    push_operand(code, rooms, index, FIRST)?;
-    push_operand(code, rooms, value, SECOND)?;
-    let place = operand_register(index, FIRST);
+    push_operand(code, places, index, FIRST)?;
+    push_operand(code, places, value, SECOND)?;
+    let place = operand_register(places, index, FIRST);
     push_test(code, size, place)?;
     push_element(code, home, place)?;
     push_one(
         code,
         Instr::Sw {
             rs1: FIRST,
-            rs2: operand_register(value, SECOND),
-            imm: element_offset(home),
+            rs2: operand_register(places, value, SECOND),
+            imm: element_offset(home, size),
         },
     )
+}
+
+/// Puts a value into an element, with trap 2 as for `push_check`. The index is computed before the value.
+pub fn push_write(
+    code: &mut List<Line>,
+    places: Places<'_>,
+    home: Home,
+    size: u32,
+    index: &Tree,
+    value: &Tree,
+) -> Result<(), AllocError>
+    requires home { home_within home size 2032 }
+    requires index_depth { depth index.now ≤ 4 }
+    requires index_temps { temps_of index.now ≤ 507 }
+    requires value_depth { depth value.now ≤ 4 }
+    requires value_temps { temps_of value.now ≤ 507 }
+    ensures { OnOk result (code.new ≡ code.old ++ write_lines (seats_at places.entry.rooms.now places.entry.keeping) home size index.now value.now) }
+{
+    match fixed(size, index) {
+        Some(n) => {
+            push_operand(code, places, value, FIRST)?;
+            let register = operand_register(places, value, FIRST);
+            push_put(code, element_at(home, size, n), register)
+        }
+        None => push_computed_write(code, places, home, size, index, value),
+    }
 }
 
 /// Puts the addresses of the first of so many words of the frame, from a place on, and of their end into the first two registers.

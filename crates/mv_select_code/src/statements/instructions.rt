@@ -1,56 +1,61 @@
 // Single instructions of statements.
 ghost use Rattle.std.specs.Prelude.{◌≡◌, ◌<◌, ◌++◌, OnOk};
+ghost use Rattle.mv_select_code.specs.Trees.TreeCode.{seats_at};
 ghost use Rattle.mv_select_code.specs.Statements.StatementCode.{write_temp, target, keep_lines, division};
 
-use crate::trees::{push_one, temp_offset, temp_register};
+use crate::trees::places::Places;
+use crate::trees::{push_one, temp_offset};
 use mv_isa::Instr;
 use mv_isa::labelled::Line;
 use mv_num::list::List;
 use std::alloc::AllocError;
 
-/// The register of a statement's first tree, a0, which is also that of its result.
-pub(crate) const FIRST: u8 = 10;
-/// That of its second tree, a1.
-pub(crate) const SECOND: u8 = 11;
-/// One more for addresses and sizes, a2.
-pub(crate) const THIRD: u8 = 12;
+/// The register of a statement's first tree, t3.
+pub(crate) const FIRST: u8 = 28;
+/// That of its second tree, t0.
+pub(crate) const SECOND: u8 = 5;
+/// One more for addresses and sizes, t4.
+pub(crate) const THIRD: u8 = 29;
 
 /// The instruction that puts a register into a temporary.
 #[tactic(auto, unfolding(crate::specs::Statements::StatementCode::write_temp))]
-pub fn write_temp(temp: u32, register: u8) -> Instr
+pub fn write_temp(places: Places<'_>, temp: u32, register: u8) -> Instr
     requires { temp < 507 }
-    ensures { result ≡ write_temp temp register }
+    ensures { result ≡ write_temp (seats_at places.entry.rooms.now places.entry.keeping) temp register }
 {
-    if temp < 9 {
-        Instr::Addi {
-            rd: temp_register(temp),
+    match places.keeping.register(temp) {
+        Some(rd) => Instr::Addi {
+            rd,
             rs1: register,
             imm: 0,
-        }
-    } else {
-        Instr::Sw {
+        },
+        None => Instr::Sw {
             rs1: 2,
             rs2: register,
             imm: temp_offset(temp),
-        }
+        },
     }
 }
 
 /// The register in which the new value of a temporary is computed: its own, and the first one for a temporary of the frame.
 #[tactic(auto, unfolding(crate::specs::Statements::StatementCode::target))]
-pub(crate) fn target(temp: u32) -> u8
-    ensures { result ≡ target temp }
+pub(crate) fn target(places: Places<'_>, temp: u32) -> u8
+    ensures { result ≡ target (seats_at places.entry.rooms.now places.entry.keeping) temp }
 {
-    if temp < 9 { temp_register(temp) } else { FIRST }
+    places.keeping.register(temp).unwrap_or(FIRST)
 }
 
 /// Puts the value from there into the frame, if the temporary stands there.
 #[tactic(auto, unfolding(crate::specs::Statements::StatementCode::keep_lines))]
-pub(crate) fn push_keep(code: &mut List<Line>, temp: u32) -> Result<(), AllocError>
+pub(crate) fn push_keep(
+    code: &mut List<Line>,
+    places: Places<'_>,
+    temp: u32,
+) -> Result<(), AllocError>
     requires { temp < 507 }
-    ensures { OnOk result (code.new ≡ code.old ++ keep_lines temp) }
+    ensures { OnOk result (code.new ≡ code.old ++ keep_lines (seats_at places.entry.rooms.now places.entry.keeping) temp) }
 {
-    if temp < 9 {
+    if places.keeping.register(temp).is_some() {
         return Ok(());
     }
     push_one(

@@ -2,17 +2,14 @@
 
 ghost use Rattle.std.specs.Prelude.{◌≡◌, ◌<◌, ◌≤◌, ◌++◌, OnOk};
 ghost use Rattle.mv_ir.specs.Trees.{depth};
-ghost use Rattle.mv_select_code.specs.Trees.TreeCode.{temps_of};
-ghost use Rattle.mv_select_code.specs.Trees.Rooms.{place_in};
-ghost use Rattle.mv_select_code.specs.Statements.StatementCode.{set_lines, set_global_lines, divide_lines, result_lines};
+ghost use Rattle.mv_select_code.specs.Trees.TreeCode.{seats_at, temps_of, literal};
+ghost use Rattle.mv_select_code.specs.Statements.StatementCode.{set_lines, set_global_lines, divisor_lines, divide_lines, result_lines};
 
+use crate::statements::elements::push_store;
 use crate::statements::instructions::{FIRST, SECOND, division, push_keep, target};
-use crate::trees::{
-    lower_bits, operand_register, place_of, push_into, push_one, push_operand, push_tree, push_two,
-    upper_bits,
-};
+use crate::trees::places::Places;
+use crate::trees::{literal, operand_register, place_of, push_into, push_one, push_operand};
 use mv_bindings::traps::DIVISION_BY_ZERO;
-use mv_ir::body::Room;
 use mv_ir::tree::Tree;
 use mv_isa::Instr;
 use mv_isa::labelled::Line;
@@ -20,51 +17,58 @@ use mv_isa::labels::TRAPS;
 use mv_num::list::List;
 use std::alloc::AllocError;
 
+/// The register of a function's result, a0.
+const RESULT: u8 = 10;
+
 /// Puts a value into a temporary.
 pub fn push_set(
     code: &mut List<Line>,
-    rooms: &[Room],
+    places: Places<'_>,
     temp: u32,
     value: &Tree,
 ) -> Result<(), AllocError>
     requires temp { temp < 507 }
     requires depth { depth value.now ≤ 4 }
     requires temps { temps_of value.now ≤ 507 }
-    ensures { OnOk result (code.new ≡ code.old ++ set_lines (place_in rooms.now) temp value.now) }
+    ensures { OnOk result (code.new ≡ code.old ++ set_lines (seats_at places.entry.rooms.now places.entry.keeping) temp value.now) }
 {
-    push_into(code, rooms, value, target(temp), FIRST)?;
-    push_keep(code, temp)
+    push_into(code, places, value, target(places, temp), FIRST)?;
+    push_keep(code, places, temp)
 }
 
 /// Puts a value into a global.
 pub fn push_set_global(
     code: &mut List<Line>,
-    rooms: &[Room],
+    places: Places<'_>,
     global: u32,
     value: &Tree,
 ) -> Result<(), AllocError>
     requires depth { depth value.now ≤ 4 }
     requires temps { temps_of value.now ≤ 507 }
-    ensures { OnOk result (code.new ≡ code.old ++ set_global_lines (place_in rooms.now) global value.now) }
+    ensures { OnOk result (code.new ≡ code.old ++ set_global_lines (seats_at places.entry.rooms.now places.entry.keeping) global value.now) }
 {
-    push_operand(code, rooms, value, FIRST)?;
-    let at = place_of(rooms, global);
-    let high = Instr::Lui {
-        rd: SECOND,
-        imm: upper_bits(at),
-    };
-    let store = Instr::Sw {
-        rs1: SECOND,
-        rs2: operand_register(value, FIRST),
-        imm: lower_bits(at),
-    };
-    push_two(code, high, store)
+    push_operand(code, places, value, FIRST)?;
+    let register = operand_register(places, value, FIRST);
+    push_store(code, place_of(places.rooms, global), register)
+}
+
+// A test of a divisor in a register: trap 1 where it is 0. A number that is written needs none where it is another.
+fn push_divisor(code: &mut List<Line>, divisor: &Tree, register: u8) -> Result<(), AllocError>
+    ensures { OnOk result (code.new ≡ code.old ++ divisor_lines (literal divisor.now) register) }
+{
+    match literal(divisor) {
+        Some(n) if n != 0 => Ok(()),
+        _ => {
+            code.push(Line::Branch(0, register, 0, TRAPS + u32::from(DIVISION_BY_ZERO)))?;
+            Ok(())
+        }
+    }
 }
 
 /// Puts a quotient or a remainder into a temporary. A divisor of 0 is trap 1.
 pub fn push_divide(
     code: &mut List<Line>,
-    rooms: &[Room],
+    places: Places<'_>,
     temp: u32,
     operator: u8,
     dividend: &Tree,
@@ -75,22 +79,26 @@ pub fn push_divide(
     requires dividend_temps { temps_of dividend.now ≤ 507 }
     requires divisor_depth { depth divisor.now ≤ 4 }
     requires divisor_temps { temps_of divisor.now ≤ 507 }
-    ensures { OnOk result (code.new ≡ code.old ++ divide_lines (place_in rooms.now) temp operator dividend.now divisor.now) }
+    ensures { OnOk result (code.new ≡ code.old ++ divide_lines (seats_at places.entry.rooms.now places.entry.keeping) temp operator dividend.now divisor.now) }
 {
-    push_operand(code, rooms, dividend, FIRST)?;
-    push_operand(code, rooms, divisor, SECOND)?;
-    let left = operand_register(dividend, FIRST);
-    let right = operand_register(divisor, SECOND);
-    code.push(Line::Branch(0, right, 0, TRAPS + u32::from(DIVISION_BY_ZERO)))?;
-    push_one(code, division(operator, target(temp), left, right))?;
-    push_keep(code, temp)
+    push_operand(code, places, dividend, FIRST)?;
+    push_operand(code, places, divisor, SECOND)?;
+    let left = operand_register(places, dividend, FIRST);
+    let right = operand_register(places, divisor, SECOND);
+    push_divisor(code, divisor, right)?;
+    push_one(code, division(operator, target(places, temp), left, right))?;
+    push_keep(code, places, temp)
 }
 
 /// Leaves a value as the result of the function.
-pub fn push_result(code: &mut List<Line>, rooms: &[Room], value: &Tree) -> Result<(), AllocError>
+pub fn push_result(
+    code: &mut List<Line>,
+    places: Places<'_>,
+    value: &Tree,
+) -> Result<(), AllocError>
     requires depth { depth value.now ≤ 4 }
     requires temps { temps_of value.now ≤ 507 }
-    ensures { OnOk result (code.new ≡ code.old ++ result_lines (place_in rooms.now) value.now) }
+    ensures { OnOk result (code.new ≡ code.old ++ result_lines (seats_at places.entry.rooms.now places.entry.keeping) value.now) }
 {
-    push_tree(code, rooms, value, FIRST)
+    push_into(code, places, value, RESULT, FIRST)
 }

@@ -2,11 +2,10 @@
 
 ghost use Rattle.std.specs.Prelude.{◌≡◌, ◌+◌, ◌≤◌, ◌++◌, OnOk};
 ghost use Rattle.mv_ir.specs.Trees.{depth};
-ghost use Rattle.mv_select_code.specs.Trees.TreeCode.{temps_of, is_taken, comparison, word_branch, operand_lines, operand_register, branch_lines};
-ghost use Rattle.mv_select_code.specs.Trees.Rooms.{place_in};
+ghost use Rattle.mv_select_code.specs.Trees.TreeCode.{seats_at, temps_of, is_taken, comparison, word_branch, operand_lines, operand_register, branch_lines};
 
+use crate::trees::places::Places;
 use crate::trees::trees::{operand_register, push_operand};
-use mv_ir::body::Room;
 use mv_ir::tree::Tree;
 use mv_isa::labelled::Line;
 use mv_num::list::List;
@@ -39,7 +38,7 @@ fn comparison(sense: bool, operator: u8) -> Option<u8>
 #[tactic(auto, using(crate::proofs::OfTrees::Branches::branches))]
 pub fn push_branch(
     code: &mut List<Line>,
-    rooms: &[Room],
+    places: Places<'_>,
     tree: &Tree,
     sense: bool,
     register: u8,
@@ -47,7 +46,7 @@ pub fn push_branch(
 ) -> Result<(), AllocError>
     requires registers { register + depth tree.now ≤ 32 }
     requires temps { temps_of tree.now ≤ 507 }
-    ensures { OnOk result (code.new ≡ code.old ++ branch_lines (place_in rooms.now) tree.now sense register label) }
+    ensures { OnOk result (code.new ≡ code.old ++ branch_lines (seats_at places.entry.rooms.now places.entry.keeping) tree.now sense register label) }
 {
     match tree {
         Tree::Number(n) => {
@@ -58,24 +57,24 @@ pub fn push_branch(
         }
         Tree::Unary(operator, a) => {
             if *operator == 2 {
-                push_branch(code, rooms, a.get(), !sense, register, label)
+                push_branch(code, places, a.get(), !sense, register, label)
             } else {
-                push_word_branch(code, rooms, tree, sense, register, label)
+                push_word_branch(code, places, tree, sense, register, label)
             }
         }
         Tree::Binary(operator, a, b) => match comparison(sense, *operator) {
             Some(funct3) => {
-                push_operand(code, rooms, a.get(), register)?;
-                push_operand(code, rooms, b.get(), register + 1)?;
-                let left = operand_register(a.get(), register);
-                let right = operand_register(b.get(), register + 1);
+                push_operand(code, places, a.get(), register)?;
+                push_operand(code, places, b.get(), register + 1)?;
+                let left = operand_register(places, a.get(), register);
+                let right = operand_register(places, b.get(), register + 1);
                 code.push(Line::Branch(funct3, left, right, label))?;
                 Ok(())
             }
-            None => push_word_branch(code, rooms, tree, sense, register, label),
+            None => push_word_branch(code, places, tree, sense, register, label),
         },
         Tree::Temp(_) | Tree::Global(_) | Tree::Function(_) | Tree::Narrow(_, _) => {
-            push_word_branch(code, rooms, tree, sense, register, label)
+            push_word_branch(code, places, tree, sense, register, label)
         }
     }
 }
@@ -83,7 +82,7 @@ pub fn push_branch(
 // By the word of the whole tree.
 fn push_word_branch(
     code: &mut List<Line>,
-    rooms: &[Room],
+    places: Places<'_>,
     tree: &Tree,
     sense: bool,
     register: u8,
@@ -91,11 +90,11 @@ fn push_word_branch(
 ) -> Result<(), AllocError>
     requires registers { register + depth tree.now ≤ 32 }
     requires temps { temps_of tree.now ≤ 507 }
-    ensures { OnOk result (code.new ≡ code.old ++ (operand_lines (place_in rooms.now) tree.now register
-        ++ word_branch sense (operand_register tree.now register) label)) }
+    ensures { OnOk result (code.new ≡ code.old ++ (operand_lines (seats_at places.entry.rooms.now places.entry.keeping) tree.now register
+        ++ word_branch sense (operand_register (seats_at places.entry.rooms.now places.entry.keeping) tree.now register) label)) }
 {
-    push_operand(code, rooms, tree, register)?;
+    push_operand(code, places, tree, register)?;
     let funct3 = if sense { 1 } else { 0 };
-    code.push(Line::Branch(funct3, operand_register(tree, register), 0, label))?;
+    code.push(Line::Branch(funct3, operand_register(places, tree, register), 0, label))?;
     Ok(())
 }

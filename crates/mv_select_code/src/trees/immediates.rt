@@ -1,6 +1,6 @@
 // Operators on a register and a number, which stands in the instruction.
 ghost use Rattle.std.specs.Prelude.{◌≡◌, ◌++◌, OnOk};
-ghost use Rattle.mv_select_code.specs.Trees.TreeCode.{short_immediate, count_immediate, immediate, immediate_of, immediate_lines};
+ghost use Rattle.mv_select_code.specs.Trees.TreeCode.{short_immediate, count_immediate, immediate, immediate_of, immediate_lines, literal};
 
 use crate::trees::leaves::{lower_bits, upper_bits};
 use crate::trees::lines::{push_one, push_two};
@@ -52,12 +52,23 @@ fn immediate(operator: u8, n: u32) -> Option<i32>
 
 /// What stands in an instruction for a tree at the right of an operator, by its number in `mv_ir::operators`, where the tree is
 /// a number that fits: from -2048 to 2047, negated for a difference, `==` and `!=`; or the count of a shift, below 32.
-#[tactic(auto, unfolding(crate::specs::Trees::TreeCode::immediate_of), using(crate::proofs::OfTrees::Equations::trees))]
+#[tactic(auto, unfolding(crate::specs::Trees::TreeCode::immediate_of))]
 pub(crate) fn immediate_of(operator: u8, tree: &Tree) -> Option<i32>
     ensures { result ≡ immediate_of operator tree.now }
 {
+    match literal(tree) {
+        Some(n) => immediate(operator, n),
+        None => None,
+    }
+}
+
+/// The number that a tree is written as.
+#[tactic(auto, using(crate::proofs::OfTrees::Equations::trees))]
+pub fn literal(tree: &Tree) -> Option<u32>
+    ensures { result ≡ literal tree.now }
+{
     match tree {
-        Tree::Number(n) => immediate(operator, *n),
+        Tree::Number(n) => Some(*n),
         Tree::Temp(_) => None,
         Tree::Global(_) => None,
         Tree::Function(_) => None,

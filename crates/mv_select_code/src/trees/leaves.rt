@@ -1,14 +1,22 @@
 // The leaves of trees: numbers, temporaries and globals.
 ghost use Rattle.std.specs.Prelude.{◌≡◌, ◌<◌, ◌++◌, pos, OnOk};
-ghost use Rattle.mv_select_code.specs.Trees.TreeCode.{upper_bits, lower_bits, number_lines, load_lines, temp_register, temp_offset, read_temp};
+ghost use Rattle.mv_select_code.specs.Trees.TreeCode.{upper_bits, lower_bits, near, number_lines, load_lines, seats_at, temp_register, temp_offset, read_temp};
 ghost use Rattle.mv_select_code.specs.Trees.Rooms.{place_in};
 
 use crate::trees::lines::{push_one, push_two};
+use crate::trees::places::Places;
 use mv_ir::body::Room;
 use mv_isa::Instr;
 use mv_isa::labelled::Line;
 use mv_num::list::List;
+use mv_num::regions::{DATA_START, GP_VALUE, TP_VALUE};
 use std::alloc::AllocError;
+
+/// The global pointer, gp.
+const GP: u8 = 3;
+
+/// The thread pointer, tp.
+const TP: u8 = 4;
 
 /// The address of a global's first word, and 0 where it has no room.
 pub fn place_of(rooms: &[Room], global: u32) -> u32
@@ -57,19 +65,59 @@ pub fn push_number(code: &mut List<Line>, n: u32, rd: u8) -> Result<(), AllocErr
     }
 }
 
+/// An address that a register reaches: the register, and what is added to it.
+#[derive(Clone, Copy, PartialEq, Eq, Debug)]
+pub struct Based {
+    pub base: u8,
+    pub offset: i32,
+}
+
+/// How gp or tp reaches an address of the first 8,192 bytes of data.
+#[tactic(auto, unfolding(crate::specs::Trees::TreeCode::near))]
+pub fn near(address: u32) -> Option<Based>
+    ensures { result ≡ near address }
+{
+    if address >= DATA_START && address < DATA_START + 4096 {
+        Some(Based {
+            base: GP,
+            offset: address as i32 - GP_VALUE as i32,
+        })
+    } else if address >= DATA_START + 4096 && address < DATA_START + 8192 {
+        Some(Based {
+            base: TP,
+            offset: address as i32 - TP_VALUE as i32,
+        })
+    } else {
+        None
+    }
+}
+
 /// Puts code at the end that leaves the word at an address in a register, and changes no other.
+#[tactic(auto, unfolding(crate::specs::Trees::TreeCode::load_lines))]
 pub fn push_load(code: &mut List<Line>, address: u32, rd: u8) -> Result<(), AllocError>
     ensures { OnOk result (code.new ≡ code.old ++ load_lines address rd) }
 {
-    let imm = lower_bits(address);
-    push_two(
-        code,
-        Instr::Lui {
-            rd,
-            imm: upper_bits(address),
-        },
-        Instr::Lw { rd, rs1: rd, imm },
-    )
+    match near(address) {
+        Some(Based { base, offset }) => push_one(
+            code,
+            Instr::Lw {
+                rd,
+                rs1: base,
+                imm: offset,
+            },
+        ),
+        None => {
+            let imm = lower_bits(address);
+            push_two(
+                code,
+                Instr::Lui {
+                    rd,
+                    imm: upper_bits(address),
+                },
+                Instr::Lw { rd, rs1: rd, imm },
+            )
+        }
+    }
 }
 
 /// The register of one of the first nine temporaries.
@@ -92,21 +140,16 @@ pub fn temp_offset(temp: u32) -> i32
 
 /// The instruction that reads a temporary into a register.
 #[tactic(auto, unfolding(crate::specs::Trees::TreeCode::read_temp))]
-pub(crate) fn read_temp(temp: u32, rd: u8) -> Instr
+pub(crate) fn read_temp(places: Places<'_>, temp: u32, rd: u8) -> Instr
     requires { temp < 507 }
-    ensures { result ≡ read_temp temp rd }
+    ensures { result ≡ read_temp (seats_at places.entry.rooms.now places.entry.keeping) temp rd }
 {
-    if temp < 9 {
-        Instr::Addi {
-            rd,
-            rs1: temp_register(temp),
-            imm: 0,
-        }
-    } else {
-        Instr::Lw {
+    match places.keeping.register(temp) {
+        Some(rs1) => Instr::Addi { rd, rs1, imm: 0 },
+        None => Instr::Lw {
             rd,
             rs1: 2,
             imm: temp_offset(temp),
-        }
+        },
     }
 }

@@ -1,13 +1,12 @@
 ghost use Rattle.std.specs.Prelude.{◌≡◌, ◌+◌, ◌<◌, ◌≤◌, ◌++◌, OnOk};
 ghost use Rattle.mv_ir.specs.Trees.{depth};
-ghost use Rattle.mv_select_code.specs.Trees.TreeCode.{temps_of, own_register, tree_into, tree_lines, operand_lines, operand_register};
-ghost use Rattle.mv_select_code.specs.Trees.Rooms.{place_in};
+ghost use Rattle.mv_select_code.specs.Trees.TreeCode.{seats_at, temps_of, own_register, tree_into, tree_lines, operand_lines, operand_register};
 
 use crate::trees::immediates::{immediate_of, push_immediate};
-use crate::trees::leaves::{place_of, push_load, push_number, read_temp, temp_register};
+use crate::trees::leaves::{place_of, push_load, push_number, read_temp};
 use crate::trees::lines::push_one;
 use crate::trees::operators::{keeps_words, push_binary, push_narrow, push_unary};
-use mv_ir::body::Room;
+use crate::trees::places::Places;
 use mv_ir::tree::Tree;
 use mv_isa::labelled::Line;
 use mv_num::list::List;
@@ -15,21 +14,15 @@ use std::alloc::AllocError;
 
 // The register in which a tree's value stands already.
 #[tactic(auto, using(crate::proofs::OfTrees::Equations::trees))]
-fn own_register(tree: &Tree) -> Option<u8>
-    ensures { result ≡ own_register tree.now }
+fn own_register(places: Places<'_>, tree: &Tree) -> Option<u8>
+    ensures { result ≡ own_register (seats_at places.entry.rooms.now places.entry.keeping) tree.now }
 {
     match tree {
         Tree::Number(n) => { if *n == 0 { Some(0) } else { None } }
-        Tree::Temp(t) => {
-            if *t < 9 {
-                Some(temp_register(*t))
-            } else {
-                None
-            }
-        }
+        Tree::Temp(t) => places.keeping.register(*t),
         Tree::Narrow(kind, a) => {
             if keeps_words(*kind) {
-                own_register(a.get())
+                own_register(places, a.get())
             } else {
                 None
             }
@@ -40,10 +33,10 @@ fn own_register(tree: &Tree) -> Option<u8>
 
 /// The register in which an operand stands behind the code of `push_operand` for a register: its own one, if it has one.
 #[tactic(auto, unfolding(crate::specs::Trees::TreeCode::operand_register))]
-pub fn operand_register(tree: &Tree, register: u8) -> u8
-    ensures { result ≡ operand_register tree.now register }
+pub fn operand_register(places: Places<'_>, tree: &Tree, register: u8) -> u8
+    ensures { result ≡ operand_register (seats_at places.entry.rooms.now places.entry.keeping) tree.now register }
 {
-    own_register(tree).unwrap_or(register)
+    own_register(places, tree).unwrap_or(register)
 }
 
 /// Puts code at the end that makes an operand ready: none where its value stands in a register already, else that of
@@ -52,17 +45,17 @@ pub fn operand_register(tree: &Tree, register: u8) -> u8
 #[tactic(auto, unfolding(crate::specs::Trees::TreeCode::operand_lines, crate::specs::Trees::TreeCode::tree_lines))]
 pub fn push_operand(
     code: &mut List<Line>,
-    rooms: &[Room],
+    places: Places<'_>,
     tree: &Tree,
     register: u8,
 ) -> Result<(), AllocError>
     requires registers { register + depth tree.now ≤ 32 }
     requires temps { temps_of tree.now ≤ 507 }
-    ensures { OnOk result (code.new ≡ code.old ++ operand_lines (place_in rooms.now) tree.now register) }
+    ensures { OnOk result (code.new ≡ code.old ++ operand_lines (seats_at places.entry.rooms.now places.entry.keeping) tree.now register) }
 {
-    match own_register(tree) {
+    match own_register(places, tree) {
         Some(_) => Ok(()),
-        None => push_into(code, rooms, tree, register, register),
+        None => push_into(code, places, tree, register, register),
     }
 }
 
@@ -72,50 +65,55 @@ pub fn push_operand(
 #[tactic(auto, using(crate::proofs::OfTrees::Equations::trees))]
 pub fn push_into(
     code: &mut List<Line>,
-    rooms: &[Room],
+    places: Places<'_>,
     tree: &Tree,
     rd: u8,
     register: u8,
 ) -> Result<(), AllocError>
     requires registers { register + depth tree.now ≤ 32 }
     requires temps { temps_of tree.now ≤ 507 }
-    ensures { OnOk result (code.new ≡ code.old ++ tree_into (place_in rooms.now) tree.now rd register) }
+    ensures { OnOk result (code.new ≡ code.old ++ tree_into (seats_at places.entry.rooms.now places.entry.keeping) tree.now rd register) }
 {
     match tree {
         Tree::Number(n) => push_number(code, *n, rd),
-        Tree::Temp(t) => push_one(code, read_temp(*t, rd)),
-        Tree::Global(g) => push_load(code, place_of(rooms, *g), rd),
+        Tree::Temp(t) => push_one(code, read_temp(places, *t, rd)),
+        Tree::Global(g) => push_load(code, place_of(places.rooms, *g), rd),
         Tree::Function(f) => {
             code.push(Line::Entry(rd, *f))?;
             Ok(())
         }
         Tree::Unary(operator, a) => {
-            push_operand(code, rooms, a.get(), register)?;
-            push_unary(code, *operator, rd, operand_register(a.get(), register))
+            push_operand(code, places, a.get(), register)?;
+            push_unary(
+                code,
+                *operator,
+                rd,
+                operand_register(places, a.get(), register),
+            )
         }
         Tree::Binary(operator, a, b) => {
-            push_operand(code, rooms, a.get(), register)?;
-            let left = operand_register(a.get(), register);
+            push_operand(code, places, a.get(), register)?;
+            let left = operand_register(places, a.get(), register);
             match immediate_of(*operator, b.get()) {
                 Some(imm) => push_immediate(code, *operator, rd, left, imm),
                 None => {
-                    push_operand(code, rooms, b.get(), register + 1)?;
+                    push_operand(code, places, b.get(), register + 1)?;
                     push_binary(
                         code,
                         *operator,
                         rd,
                         left,
-                        operand_register(b.get(), register + 1),
+                        operand_register(places, b.get(), register + 1),
                     )
                 }
             }
         }
         Tree::Narrow(kind, a) => {
             if keeps_words(*kind) {
-                push_into(code, rooms, a.get(), rd, register)
+                push_into(code, places, a.get(), rd, register)
             } else {
-                push_operand(code, rooms, a.get(), register)?;
-                push_narrow(code, *kind, rd, operand_register(a.get(), register))
+                push_operand(code, places, a.get(), register)?;
+                push_narrow(code, *kind, rd, operand_register(places, a.get(), register))
             }
         }
     }
@@ -126,13 +124,13 @@ pub fn push_into(
 #[tactic(auto, unfolding(crate::specs::Trees::TreeCode::tree_lines))]
 pub fn push_tree(
     code: &mut List<Line>,
-    rooms: &[Room],
+    places: Places<'_>,
     tree: &Tree,
     register: u8,
 ) -> Result<(), AllocError>
     requires registers { register + depth tree.now ≤ 32 }
     requires temps { temps_of tree.now ≤ 507 }
-    ensures { OnOk result (code.new ≡ code.old ++ tree_lines (place_in rooms.now) tree.now register) }
+    ensures { OnOk result (code.new ≡ code.old ++ tree_lines (seats_at places.entry.rooms.now places.entry.keeping) tree.now register) }
 {
-    push_into(code, rooms, tree, register, register)
+    push_into(code, places, tree, register, register)
 }

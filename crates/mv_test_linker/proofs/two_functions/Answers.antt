@@ -22,7 +22,7 @@ abbrev called : Labelled
 called = record { items = Branch 1 10 0 0 ∷ Jump 0 4294967290 ∷ Label 0 ∷ Word (Jalr 0 1 (pos 0)) ∷ []; labels = 1 }
 
 abbrev caller : Labelled
-caller = record { items = Slot 0 ∷ Label 0 ∷ Entry 10 0 ∷ Jump 0 0 ∷ []; labels = 1 }
+caller = record { items = Slot 0 ∷ Jump 1 2147483648 ∷ Label 0 ∷ Entry 10 0 ∷ Jump 0 0 ∷ []; labels = 1 }
 
 abbrev bound : Labelled
 bound = record { items = Word (Addi 11 0 (pos 1)) ∷ Slot 0 ∷ Word (Jalr 0 1 (pos 0)) ∷ []; labels = 0 }
@@ -45,13 +45,13 @@ both = record { functions = called ∷ caller ∷ []; main = 1; globals = Number
 called_fits : IsFunction 2 false called
 called_fits = record {
   fields = All-from_recursion LineFits called.items (search rules);
-  names = All-from_recursion (NamesAreThere 2 false called) called.items (inl (omega arith, refl), (inr (inl (omega arith, omega arith)), (omega arith, (tt, tt))));
+  names = All-from_recursion (NamesAreThere 2 false called) called.items (inl (omega arith, refl), (inl (inr (inl (omega arith, omega arith))), (omega arith, (tt, tt))));
 }
 
 caller_fits : IsFunction 2 false caller
 caller_fits = record {
   fields = All-from_recursion LineFits caller.items (search rules);
-  names = All-from_recursion (NamesAreThere 2 false caller) caller.items (omega arith, (omega arith, (omega arith, (inl (omega arith, refl), tt))));
+  names = All-from_recursion (NamesAreThere 2 false caller) caller.items (omega arith, (inr (omega arith, omega arith), (omega arith, (omega arith, (inl (inl (omega arith, refl)), tt)))));
 }
 
 bound_fits : IsFunction 2 false bound
@@ -151,7 +151,7 @@ fit_tables = record {
   slots = All-from_recursion (λ (code : Labelled). All (CallsAmong (0 ∷ [])) code.items) (called ∷ caller ∷ bound ∷ []) (
     All-from_recursion (CallsAmong (0 ∷ [])) called.items (tt, (tt, (tt, (tt, tt)))),
     (
-      All-from_recursion (CallsAmong (0 ∷ [])) caller.items ((0, refl), (tt, (tt, (tt, tt)))),
+      All-from_recursion (CallsAmong (0 ∷ [])) caller.items ((0, refl), (tt, (tt, (tt, (tt, tt))))),
       (All-from_recursion (CallsAmong (0 ∷ [])) bound.items (tt, ((0, refl), (tt, tt))), tt),
     ),
   );
@@ -160,7 +160,7 @@ fit_tables = record {
   through = All-from_recursion (λ (code : Labelled). All (GoesThrough []) code.items) (called ∷ caller ∷ bound ∷ []) (
     All-from_recursion (GoesThrough []) called.items (tt, (tt, (tt, (tt, tt)))),
     (
-      All-from_recursion (GoesThrough []) caller.items (tt, (tt, (tt, (tt, tt)))),
+      All-from_recursion (GoesThrough []) caller.items (tt, (tt, (tt, (tt, (tt, tt))))),
       (All-from_recursion (GoesThrough []) bound.items (tt, (tt, (tt, tt))), tt),
     ),
   );

@@ -29,13 +29,14 @@ use Rattle.mv_merge.specs.declared.rows.Bound.{Bound}
 use Rattle.mv_merge.specs.declared.rows.Variants.{Variants}
 use Rattle.mv_merge.specs.Guards.{IsMerged}
 use Rattle.mv_variants.specs.Bound.Led.{AreMade}
-use Rattle.mv_variants.specs.Bound.Slots.{sites, one_each, SlotsAreFew, OwnSlotsAreFew, RenamedSlotsAreFew, variant_slots, AllSlotsAreFew, VariantSlotsAreFew}
+use Rattle.mv_variants.specs.Bound.Slots.{sites, one_each, SlotsAreFew, OwnSlotsAreFew, GeneralSlotsAreFew, variant_slots, AllSlotsAreFew, VariantSlotsAreFew}
 use Rattle.mv_variants.proofs.OfBound.Meant.{made}
 use Rattle.mv_variants.proofs.OfBound.Led.{bodies_made}
 use Rattle.mv_variants.proofs.OfBound.Groups.{groups_fit}
 use Rattle.mv_source_forms.proofs.Sites.{sites_are}
 use Rattle.mv_variants.proofs.OfBound.Weights.{w_roll, weights, throughs}
-use Rattle.mv_variants.proofs.OfBound.Variants.{CountsNoMore, renamed_counts_no_more, worked_no_more, made_no_more}
+use Rattle.mv_variants.proofs.OfBound.Variants.{CountsNoMore, worked_no_more, made_no_more}
+use Rattle.mv_variants.proofs.OfBound.Generals.{kept, general_no_more}
 use Rattle.mv_variants.proofs.OfBound.Slots.{slots_are_calls, points_are_calls}
 use Rattle.mv_num.proofs.Booleans.{and_left}
 use Rattle.mv_variants.proofs.OfBound.Fitting.{bool_cases}
@@ -135,9 +136,9 @@ pub own_few_slots : OwnSlotsAreFew
 own_few_slots p g often folded result is_folded is_renamed =
     few p g often result (ap (λ (b : Body). b.marked) is_renamed.changes ∙ is_folded.marked) (λ layer count of. worked_no_more of (lower_function p g) folded result is_folded is_renamed)
 
-pub renamed_few_slots : RenamedSlotsAreFew
-renamed_few_slots p g often result is_renamed =
-    few p g often result (ap (λ (b : Body). b.marked) is_renamed.changes) (λ layer count of. renamed_counts_no_more of (lower_function p g) result is_renamed)
+pub general_few_slots : GeneralSlotsAreFew
+general_few_slots p g often result general =
+    few p g often result (kept (lower_function p g) result general).marked (λ layer count of. general_no_more (lower_function p g) result general of)
 
 -- one and what is no more than some are no more than one and some
 pub one_and_more : (n m k : ℕ) → m ≤ k → n + m * n ≤ n * (1 + k)

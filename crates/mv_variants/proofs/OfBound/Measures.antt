@@ -21,6 +21,8 @@ use Rattle.mv_carry.specs.declared.facts.Fact.{Fact}
 use Rattle.mv_carry.specs.declared.facts.Reach.TheVariants.{Knowing}
 use Rattle.mv_carry.specs.Carrying.{carried_tree, carried_callee, outermost, carried_code}
 use Rattle.mv_carry.proofs.Structure.{IsClosed, carried_is}
+use Rattle.mv_tidy.specs.Tidying.{IsOne, divided, fetched, called, asked, carried, stored, written, IsTidiedCode}
+use Rattle.mv_tidy.proofs.Structure as tidying
 use Rattle.mv_fold.specs.Simple.{constant, simple_tree, jumps, ended, simple_callee, alone, division, choice, simple_layer, simple_stm, simple_code}
 use Rattle.mv_fold.specs.Opened.{leave, from_outside}
 use Rattle.mv_fold.proofs.Opening.{Opens, blocked_is, looped_is}
@@ -68,6 +70,11 @@ pub record Measure (layer : Stm-F ℕ → ℕ) (m : Stm → ℕ) : Type 0 where
   pub call : (r s : Option ℕ) (f g : Callee) (xs ys : List Tree) → SameGoal f g → layer (stm.Call r f xs) ≡ layer (stm.Call s g ys)
   pub known : (r s : Option ℕ) (k : Known) (xs ys : List Tree) → layer (stm.Known r k xs) ≡ layer (stm.Known s k ys)
   pub return : (v w : Tree) → layer (stm.Return v) ≡ layer (stm.Return w)
+
+same_goal : (f : Callee) → SameGoal f f
+same_goal (callee.Direct f) = refl
+same_goal (callee.Through t) = tt
+same_goal (callee.Switched g) = refl
 
 bound_goal : (ps : List (ℕ × ℕ)) (f : Callee) → SameGoal (bound_callee ps f) f
 bound_goal ps (callee.Direct f) = refl
@@ -329,3 +336,66 @@ module _ {layer : Stm-F ℕ → ℕ} {m : Stm → ℕ} (of : Measure layer m) wh
 
     pub folded_no_more : (temps : ℕ) (code : List Stm) → all (needed_code needed (simple_body temps code)) ≤ all code
     folded_no_more temps code = omega (arith, needed_no_more (simple_body temps code), short_no_more temps (simple_code code), simple_no_more code)
+
+  -- two statements that are one count as much as one of them
+  one_no_more : (gone : ℕ → Type 0) (s n z : Stm) → IsOne gone s n z → CountsNoMore (s ∷ n ∷ []) (z ∷ [])
+  one_no_more gone s n z (divided t x o a b g) = let e = twin (stm.Divide t o a b) (stm.Divide x o a b) (of.divide _ _ _ _ _ _ _ _) in omega (arith, e)
+  one_no_more gone s n z (fetched t x r i g) = let e = twin (stm.Read t r i) (stm.Read x r i) (of.read _ _ _ _ _ _) in omega (arith, e)
+  one_no_more gone s n z (called t x f args g) = let e = twin (stm.Call (Some t) f args) (stm.Call (Some x) f args) (of.call _ _ _ _ _ _ (same_goal f)) in omega (arith, e)
+  one_no_more gone s n z (asked t x k args g) = let e = twin (stm.Known (Some t) k args) (stm.Known (Some x) k args) (of.known _ _ _ _ _) in omega (arith, e)
+  one_no_more gone s n z (carried t x e v w g k) = let h = twin (stm.Set x v) (stm.Set x w) (of.set _ _ _ _) in omega (arith, h)
+  one_no_more gone s n z (stored t x e v w g k) = let h = twin (stm.SetGlobal x v) (stm.SetGlobal x w) (of.store _ _ _ _) in omega (arith, h)
+  one_no_more gone s n z (written t r e i v w g unread k) = let h = twin (stm.Write r i v) (stm.Write r i w) (of.write _ _ _ _ _ _) in omega (arith, h)
+
+  tidied_closed : tidying.IsClosed CountsNoMore
+  tidied_closed = record {
+    itself = λ xs. omega arith;
+    both = λ xs xs' ys ys' h k. omega (arith, all_append xs ys, all_append xs' ys', h, k);
+    trans = λ xs ys zs h k. omega (arith, h, k);
+    pair = one_no_more;
+    branch = λ t a a' b b' h k. pair (stm.If t a b) (stm.If t a' b') (of.branch _ _ _ _ _ _ h k);
+    loop = λ b b' h. pair (stm.Loop b) (stm.Loop b') (of.loop _ _ h);
+    enclose = λ b b' h. pair (stm.Block b) (stm.Block b') (of.block _ _ h);
+  }
+
+  pub tidied_no_more : (temps : ℕ) (code result : List Stm) → IsTidiedCode temps code result → all result ≤ all code
+  tidied_no_more temps = tidying.tidied_is temps CountsNoMore tidied_closed
+
+  -- ---- where a value that is put into a temporary counts nothing
+
+  module _ (free : (t : ℕ) (v : Tree) → layer (stm.Set t v) ≡ 0) where
+    abbrev CountsSame : List Stm → List Stm → Type 0
+    CountsSame xs ys = all ys ≡ all xs
+
+    moved : (x y z : Stm-F Stm) → own z ≡ own x → own y ≡ 0 → CountsSame (roll-Stm x ∷ roll-Stm y ∷ []) (roll-Stm z ∷ [])
+    moved x y z e none = omega (arith, of.roll x, of.roll y, of.roll z, e, none)
+
+    taken : (x y z : Stm-F Stm) → own z ≡ own y → own x ≡ 0 → CountsSame (roll-Stm x ∷ roll-Stm y ∷ []) (roll-Stm z ∷ [])
+    taken x y z e none = omega (arith, of.roll x, of.roll y, of.roll z, e, none)
+
+    one_same : (gone : ℕ → Type 0) (s n z : Stm) → IsOne gone s n z → CountsSame (s ∷ n ∷ []) (z ∷ [])
+    one_same gone s n z (divided t x o a b g) = moved (stm.Divide t o a b) (stm.Set x (temp t)) (stm.Divide x o a b) (of.divide _ _ _ _ _ _ _ _) (free x (temp t))
+    one_same gone s n z (fetched t x r i g) = moved (stm.Read t r i) (stm.Set x (temp t)) (stm.Read x r i) (of.read _ _ _ _ _ _) (free x (temp t))
+    one_same gone s n z (called t x f args g) =
+        moved (stm.Call (Some t) f args) (stm.Set x (temp t)) (stm.Call (Some x) f args) (of.call _ _ _ _ _ _ (same_goal f)) (free x (temp t))
+    one_same gone s n z (asked t x k args g) = moved (stm.Known (Some t) k args) (stm.Set x (temp t)) (stm.Known (Some x) k args) (of.known _ _ _ _ _) (free x (temp t))
+    one_same gone s n z (carried t x e v w g k) = taken (stm.Set t e) (stm.Set x v) (stm.Set x w) (of.set _ _ _ _) (free t e)
+    one_same gone s n z (stored t x e v w g k) = taken (stm.Set t e) (stm.SetGlobal x v) (stm.SetGlobal x w) (of.store _ _ _ _) (free t e)
+    one_same gone s n z (written t r e i v w g unread k) = taken (stm.Set t e) (stm.Write r i v) (stm.Write r i w) (of.write _ _ _ _ _ _) (free t e)
+
+    lone_same : (x y : Stm-F Stm) → own y ≡ own x → CountsSame (alone x) (alone y)
+    lone_same x y e = omega (arith, of.roll x, of.roll y, e)
+
+    same_closed : tidying.IsClosed CountsSame
+    same_closed = record {
+      itself = λ xs. refl;
+      both = λ xs xs' ys ys' h k. omega (arith, all_append xs ys, all_append xs' ys', h, k);
+      trans = λ xs ys zs h k. k ∙ h;
+      pair = one_same;
+      branch = λ t a a' b b' h k. lone_same (stm.If t a b) (stm.If t a' b') (branch_same _ _ _ _ _ _ h k);
+      loop = λ b b' h. lone_same (stm.Loop b) (stm.Loop b') (loop_same _ _ h);
+      enclose = λ b b' h. lone_same (stm.Block b) (stm.Block b') (block_same _ _ h);
+    }
+
+    pub tidied_same : (temps : ℕ) (code result : List Stm) → IsTidiedCode temps code result → all result ≡ all code
+    tidied_same temps = tidying.tidied_is temps CountsSame same_closed

@@ -1,4 +1,4 @@
--- Binding, carrying and folding name no more.
+-- Binding, carrying, tidying and folding name no more.
 use Rattle.std.proofs.Common.{ℕ, List, [], sym, subst, Contains}
 use Rattle.std.proofs.lemmas.List.Elements.{All-contains, All-contains_itself}
 use Rattle.mv_ir.specs.declared.stm.Stm.{Stm}
@@ -12,12 +12,13 @@ use Rattle.mv_carry.specs.declared.facts.Reach.TheVariants.{Knowing}
 use Rattle.mv_carry.specs.Carrying.{outermost, carried_code}
 use Rattle.mv_fold.specs.Needed.{needed_code}
 use Rattle.mv_fold.specs.Folded.{simple_body}
-use Rattle.mv_variants.specs.Bound.Names.{NamesNoMore, BindingNamesNoMore, CarryingNamesNoMore, FoldingNamesNoMore}
+use Rattle.mv_variants.specs.Bound.Names.{NamesNoMore, BindingNamesNoMore, CarryingNamesNoMore, TidyingNamesNoMore, FoldingNamesNoMore}
 use Rattle.mv_variants.proofs.OfBound.Words.{unary_word, binary_word, narrow_word, divide_word}
 use Rattle.mv_select.proofs.OfBodies.Naming.{CodeNames, code_functions, code_knowns, code_constants, code_of}
 use Rattle.mv_variants.proofs.OfBound.BoundNames.{bound_names}
 use Rattle.mv_variants.proofs.OfBound.FoldedNames.{IsClosed, folded_names}
 use Rattle.mv_variants.proofs.OfBound.CarriedNames.{carried_names}
+use Rattle.mv_variants.proofs.OfBound.TidiedNames.{tidied_names}
 use Rattle.mv_variants.proofs.OfBound.RenamedNames.{renamed_names}
 use Rattle.mv_ir.proofs.Common.{each_is_all}
 use Rattle.mv_select.proofs.OfBodies.Lists.{each_all}
@@ -60,6 +61,10 @@ binding_names ps words code =
 pub carrying_names : CarryingNamesNoMore
 carrying_names temps code =
     no_more code (carried_code temps outermost (Knowing []) code).code (carried_names (Contains (functions code)) (Contains (knowns code)) AnyNumber anything_closed temps code) (carried_names AnyNumber IsOrder IsWord words_closed temps code)
+
+pub tidying_names : TidyingNamesNoMore
+tidying_names temps code tidied k =
+    no_more code tidied (tidied_names (Contains (functions code)) (Contains (knowns code)) AnyNumber temps code tidied k) (tidied_names AnyNumber IsOrder IsWord temps code tidied k)
 
 pub folding_names : FoldingNamesNoMore
 folding_names temps code folded (needed, is, e) =

@@ -10,7 +10,7 @@ use Rattle.mv_ir.specs.Measures.{scalars_read, arrays_read}
 use Rattle.mv_ir.specs.Trees.{found}
 use Rattle.mv_lower_spec.specs.Functions.{lower_function}
 use Rattle.mv_variants.specs.Bound.Reads.{VariantsReadNoSwitch}
-use Rattle.mv_variants.proofs.OfBound.Meant.{made}
+use Rattle.mv_variants.proofs.OfBound.Meant.{tidy, made}
 
 -- what has no value is none of the switches
 not_among : (ss vs : List ℕ) (k : ℕ) → length vs ≡ length ss → found (zip ss vs) k ≡ None → is_among k ss ≡ false
@@ -36,4 +36,4 @@ read_no_switch p g reads vs many result m =
     was_read : (k : ℕ) → Contains (arrays_read result.code) k → Contains (arrays_read (lower_function p g).code) k
     was_read k c =
         let in_folded = subst (λ l. Contains l k) m.is_renamed.arrays c in
-        subst (λ l. Contains l k) m.is_bound.arrays (m.is_carried.smaller.arrays k (m.is_folded.smaller.arrays k in_folded))
+        subst (λ l. Contains l k) m.is_bound.arrays (m.is_carried.smaller.arrays k ((tidy (zip (lower_function p g).switches vs) (lower_function p g) result m).smaller.arrays k (m.is_folded.smaller.arrays k in_folded)))

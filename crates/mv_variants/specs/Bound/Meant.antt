@@ -1,5 +1,5 @@
--- What a body means and has that comes of another by binding its switches, carrying numbers, folding and renaming.
-use Rattle.std.specs.Prelude.{ℕ, ◌≡◌, ◌≤◌, List, All, None}
+-- What a body means and has that comes of another by binding its switches, carrying numbers, tidying, folding and renaming.
+use Rattle.std.specs.Prelude.{ℕ, ◌≡◌, ◌≤◌, ◌⊎◌, List, All, None}
 use Rattle.std.specs.List.{zip}
 use Rattle.mv_ast.specs.declared.program.Program.{Program}
 use Rattle.mv_ast.specs.declared.program.Function.{Function}
@@ -12,21 +12,32 @@ use Rattle.mv_ir.specs.Live.{IsWhole, HasTemps, most_intervals}
 use Rattle.mv_ir.specs.WellFormed.{IsWellFormed}
 use Rattle.mv_clone.specs.Bind.{IsBound}
 use Rattle.mv_carry.specs.Carried.{IsCarried}
+use Rattle.mv_tidy.specs.Tidied.{IsTidied}
 use Rattle.mv_fold.specs.Form.{IsFoldedForm}
 use Rattle.mv_fold.specs.Folded.{IsFolded}
 use Rattle.mv_regalloc.specs.Rename.{renamed_code}
 use Rattle.mv_regalloc.specs.Intervals.{IsRenamed}
 use Rattle.mv_lower_spec.specs.Functions.{lower_function}
 
--- a body bound to the values of its switches, then with numbers carried through its temporaries, then folded, then with its temporaries renamed
+-- a body folded and then renamed
+pub record IsWorked (body result : Body) : Type 0 where
+  pub folded : Body
+  pub is_folded : IsFolded body folded
+  pub is_renamed : IsRenamed folded result
+
+-- A body bound to the values of its switches, then with numbers carried through its temporaries, then tidied, then folded, then with its temporaries renamed. It
+-- isn't tidied where it would need more temporaries by that than the first body does.
 pub record IsMadeUnder (ps : List (ℕ × ℕ)) (body result : Body) : Type 0 where
   pub bound : Body
   pub carried : Body
+  pub tidied : Body
   pub folded : Body
   pub is_bound : IsBound ps body bound
   pub is_carried : IsCarried bound carried
-  pub is_folded : IsFolded carried folded
+  pub is_tidied : IsTidied carried tidied ⊎ (tidied ≡ carried)
+  pub is_folded : IsFolded tidied folded
   pub is_renamed : IsRenamed folded result
+  pub temps : result.temps ≤ most_intervals body
 
 -- Whatever numbers temporaries get, code that has the folded form has it with them.
 abbrev pub RenamingKeepsForm : Type 0

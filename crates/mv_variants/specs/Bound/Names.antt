@@ -1,4 +1,4 @@
--- The names and constants in code that comes of other code by binding, carrying numbers or folding.
+-- The names and constants in code that comes of other code by binding, carrying numbers, tidying or folding.
 use Rattle.std.specs.Prelude.{ℕ, ◌≡◌, ◌<◌, ◌^◌, List, [], Contains, Some}
 use Rattle.mv_ast.specs.declared.program.Known.{Known}
 use Rattle.mv_ir.specs.declared.stm.Stm.{Stm}
@@ -9,6 +9,7 @@ use Rattle.mv_clone.specs.Bind.{bound_code}
 use Rattle.mv_carry.specs.declared.facts.Reach.TheVariants.{Knowing}
 use Rattle.mv_carry.specs.Carrying.{outermost, carried_code}
 use Rattle.mv_fold.specs.Folded.{IsFoldedCode}
+use Rattle.mv_tidy.specs.Tidying.{IsTidiedCode}
 
 -- The second code names no functions and known functions that the first doesn't; and its constants are words, and its orders fit, where those of the first are and do.
 pub record NamesNoMore (code result : List Stm) : Type 0 where
@@ -25,6 +26,9 @@ BindingNamesNoMore = (ps : List (ℕ × ℕ)) → ReadAsWords ps → (code : Lis
 
 abbrev pub CarryingNamesNoMore : Type 0
 CarryingNamesNoMore = (temps : ℕ) (code : List Stm) → NamesNoMore code (carried_code temps outermost (Knowing []) code).code
+
+abbrev pub TidyingNamesNoMore : Type 0
+TidyingNamesNoMore = (temps : ℕ) (code tidied : List Stm) → IsTidiedCode temps code tidied → NamesNoMore code tidied
 
 abbrev pub FoldingNamesNoMore : Type 0
 FoldingNamesNoMore = (temps : ℕ) (code folded : List Stm) → IsFoldedCode temps code folded → NamesNoMore code folded

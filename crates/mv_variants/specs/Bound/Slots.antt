@@ -21,6 +21,7 @@ use Rattle.mv_merge.specs.declared.rows.Bound.{Bound}
 use Rattle.mv_merge.specs.declared.rows.Variants.{Variants}
 use Rattle.mv_merge.specs.Guards.{IsMerged}
 use Rattle.mv_variants.specs.Bound.Meant.{IsMadeUnder}
+use Rattle.mv_variants.specs.Bound.General.{IsGeneral}
 use Rattle.mv_variants.specs.Bound.Led.{AreMade}
 
 -- how many of some lines are slots
@@ -85,10 +86,10 @@ OwnSlotsAreFew =
     (p : Program) (g : Function) → CallsAsOften p g (lower_function p g) → (folded result : Body) → IsFolded (lower_function p g) folded → IsRenamed folded result →
     (place sizes : ℕ → ℕ) (shape : Shape) → sites (function_lines place sizes (is_marked result.marked) shape result.code) ≤ counts.call_sites p g
 
--- The same of its code that is renamed alone.
-abbrev pub RenamedSlotsAreFew : Type 0
-RenamedSlotsAreFew =
-    (p : Program) (g : Function) → CallsAsOften p g (lower_function p g) → (result : Body) → IsRenamed (lower_function p g) result →
+-- The same of its code that isn't folded.
+abbrev pub GeneralSlotsAreFew : Type 0
+GeneralSlotsAreFew =
+    (p : Program) (g : Function) → CallsAsOften p g (lower_function p g) → (result : Body) → IsGeneral (lower_function p g) result →
     (place sizes : ℕ → ℕ) (shape : Shape) → sites (function_lines place sizes (is_marked result.marked) shape result.code) ≤ counts.call_sites p g
 
 -- the sites in a variant's code

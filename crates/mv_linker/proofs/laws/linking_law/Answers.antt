@@ -33,7 +33,7 @@ renamed text place entry at end first count few (Jump rd l) h = h
 renamed text place entry at end first count few (Branch funct3 rs1 rs2 l) h = h
 renamed text place entry at end first count few (Entry rd f) h = h
 renamed text place entry at end first count few (Slot f) h = h
-renamed text place entry at end first count few (Point a) h = subst (λ l. PointStands text at end (place l) a) (sym (own_stays first count check_label few)) h
+renamed text place entry at end first count few (Point a) h = subst (λ l. PointStands text at end (place l) a) (sym (own_stays first count check_label few (omega arith))) h
 
 pub returns-clause-renamed : goal.returns-clause-renamed
 returns-clause-renamed c = renamed

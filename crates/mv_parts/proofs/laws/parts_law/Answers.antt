@@ -17,12 +17,11 @@ returns-clause-parts c =
       there = c.lowered_names_are_there.ensures.functions;
       pointers = c.lowered_names_are_there.ensures.pointers;
       well_formed = c.lowered_forms_are_right.ensures.well_formed;
-      keeps = c.renaming_keeps_names.ensures;
       name_no_more = c.variants_can_be_selected.ensures.names;
       made = c.made_bodies_are_variants.ensures.all;
       encoded = c.selection_law.ensures.encoded;
       labels_own = c.selection_law.ensures.labels;
-      begins = c.selection_law.ensures.begins;
+      opens = c.selection_law.ensures.opens;
       named = c.lines_are_named.ensures.names;
     } in
     can_be_linked laws c.rows_lead_to_variants.ensures.bodies c.rows_lead_to_variants.ensures.groups c.rows_lead_to_variants.ensures.grouped c.data_law.ensures.count c.data_law.ensures.functions

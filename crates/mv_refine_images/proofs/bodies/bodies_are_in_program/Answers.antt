@@ -9,7 +9,6 @@ returns-clause-functions c =
     let laws : Laws = record {
       functions_there = names.functions;
       orders_there = names.orders;
-      same_names = c.renaming_keeps_names.ensures;
       same_code = c.code_is_the_same.ensures;
       rooms_stand = c.rooms_stand.ensures;
     } in
@@ -22,7 +21,6 @@ returns-clause-variants c =
       lowered = record {
         functions_there = names.functions;
         orders_there = names.orders;
-        same_names = c.renaming_keeps_names.ensures;
         same_code = c.code_is_the_same.ensures;
         rooms_stand = c.rooms_stand.ensures;
       };

@@ -28,6 +28,7 @@ returns c = built_behaves laws
       own_code = c.bodies_are_in_program.ensures.functions;
       variant_code = c.bodies_are_in_program.ensures.variants;
       bodies_are_functions = c.bodies_are_functions.ensures;
+      opens = c.selection_law.ensures.opens;
       reads_no_more = c.lowered_forms_are_right.ensures.reads;
       words_first = c.data_law.ensures.words;
       sizes_are_counts = c.data_law.ensures.sizes;

@@ -1,5 +1,5 @@
 use Rattle.mv_variants.proofs.OfBound.Slots.{slots_are_calls, points_are_calls, slots_weigh}
-use Rattle.mv_variants.proofs.OfBound.FewSlots.{few_slots, own_few_slots, renamed_few_slots, all_few_slots, variant_few_slots}
+use Rattle.mv_variants.proofs.OfBound.FewSlots.{few_slots, own_few_slots, general_few_slots, all_few_slots, variant_few_slots}
 use Rattle.mv_variants.proofs.OfBound.Patchable.{slots_patchable}
 use Rattle.mv_variants.proofs.bound.slots_are_counted.Goals as goal
 
@@ -18,8 +18,8 @@ returns-clause-few c = few_slots
 pub returns-clause-own : goal.returns-clause-own
 returns-clause-own c = own_few_slots
 
-pub returns-clause-renamed : goal.returns-clause-renamed
-returns-clause-renamed c = renamed_few_slots
+pub returns-clause-general : goal.returns-clause-general
+returns-clause-general c = general_few_slots
 
 pub returns-clause-all : goal.returns-clause-all
 returns-clause-all c = all_few_slots

@@ -1,21 +1,20 @@
 use Rattle.std.proofs.Common.{◌≡◌, ◌+◌, [], ◌∷◌, ◌++◌, Some, sym, ap, ◌∙◌}
 use Rattle.std.proofs.lemmas.List.{append-nil}
 use Rattle.mv_isa.specs.declared.labelled.Line.TheVariants.{Branch}
-use Rattle.mv_select_code.specs.Trees.TreeCode.{comparison, operand_lines, branch_lines}
-use Rattle.mv_select_code.specs.Trees.Rooms.{place_in}
+use Rattle.mv_select_code.specs.Trees.TreeCode.{seats_at, comparison, operand_lines, branch_lines}
 use Rattle.mv_select_code.proofs.OfTrees.Branches.{passed_number, compared}
 use Rattle.mv_select_code.proofs.OfTrees.Equations.{joined_three}
 use Rattle.mv_select_code.proofs.trees.branches.+push_branch.Goals as goal
 
 pub returns-else-is_taken : goal.returns-else-is_taken
 returns-else-is_taken t c =
-    let p = place_in c.args.rooms.now in
+    let p = seats_at c.args.places.rooms.now c.args.places.keeping in
     let none = passed_number p c.args.sense c.args.register c.args.label c.in-Number.n c.args.tree.now c.in-Number.is (sym c.is_taken.ensures ∙ c.if-is_taken.false) in
     sym (ap (λ l. c.args.code.now ++ l) none ∙ append-nil c.args.code.now)
 
 pub returns-in_ok-push-in-Some : goal.returns-in_ok-push-in-Some
 returns-in_ok-push-in-Some t c =
-    let p = place_in c.args.rooms.now in
+    let p = seats_at c.args.places.rooms.now c.args.places.keeping in
     let r = c.args.register in
     let o = c.in-Binary.operator in
     let ls = branch_lines p c.args.tree.now c.args.sense r c.args.label in

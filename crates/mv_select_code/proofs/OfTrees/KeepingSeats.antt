@@ -1,0 +1,51 @@
+-- A function's temporaries stand in registers of their own.
+use Rattle.std.proofs.Common.{◌≡◌, ℕ, zero, suc, ◌+◌, ◌-◌, ◌<◌, ◌≤◌, Bool, true, false, cond, ltb, Some, None, refl, sym, ap, ◌∙◌, subst, arith}
+use Rattle.std.proofs.lemmas.Bool.{ltb-true, ne_eqb}
+use Rattle.mv_select_code.specs.Trees.TreeCode.{temp_register, register_of}
+use Rattle.mv_select_code.specs.Trees.View.{AreSeats}
+use Rattle.mv_select_code.specs.declared.trees.places.Keeping.{Keeping}
+use Rattle.mv_select_code.specs.declared.trees.places.Keeping.TheVariants.{Saved, Arguments}
+
+-- s1 is that of temporary 0, and the others follow behind a7
+pub temp_register_zero : temp_register 0 ≡ 9
+unfolding temp_register
+temp_register_zero = refl
+
+pub temp_register_above : (t : ℕ) → 0 < t → temp_register t ≡ 17 + t
+unfolding temp_register
+temp_register_above t h = ap (λ b. cond b 9 (17 + t)) (ne_eqb t 0 (λ e. omega arith))
+
+-- which temporary it is
+abbrev number_of : Keeping → ℕ → ℕ
+number_of Saved q = q - 17
+number_of Arguments q = q - 10
+
+record IsSeat (k : Keeping) (t q : ℕ) : Type 0 where
+  low : 9 ≤ q
+  high : q < 26
+  number : t ≡ number_of k q
+
+saved_seat : (t : ℕ) → t < 9 → IsSeat Saved t (temp_register t)
+saved_seat zero h = rw temp_register_zero (record { low = omega arith; high = omega arith; number = refl })
+saved_seat (suc t) h = rw (temp_register_above (suc t) (omega arith)) (record { low = omega arith; high = omega arith; number = omega arith })
+
+argument_seat : (t : ℕ) → t < 8 → IsSeat Arguments t (10 + t)
+argument_seat t h = record { low = omega arith; high = omega arith; number = omega arith }
+
+keeping_seat : (k : Keeping) (t q : ℕ) → register_of k t ≡ Some q → IsSeat k t q
+unfolding register_of
+keeping_seat k t q = by_keeping k
+  where
+    by_test : (k : Keeping) (n r : ℕ) → (t < n → IsSeat k t r) → (is_low : Bool) → ltb t n ≡ is_low → cond is_low (Some r) None ≡ Some q → IsSeat k t q
+    by_test k n r h true low e = let same : r ≡ q = cc in subst (IsSeat k t) same (h (ltb-true t n low))
+    by_test k n r h false low e = absurd cc
+
+    by_keeping : (k : Keeping) → register_of k t ≡ Some q → IsSeat k t q
+    by_keeping Saved e = by_test Saved 9 (temp_register t) (saved_seat t) (ltb t 9) refl e
+    by_keeping Arguments e = by_test Arguments 8 (10 + t) (argument_seat t) (ltb t 8) refl e
+
+pub keeping_seats : (place : ℕ → ℕ) (k : Keeping) → AreSeats (record { place = place; register = register_of k })
+keeping_seats place k = record {
+  seat = λ t q e. let seat = keeping_seat k t q e in (seat.low, seat.high);
+  apart = λ t u q e f. (keeping_seat k t q e).number ∙ sym (keeping_seat k u q f).number;
+}

@@ -1,0 +1,10 @@
+pub mod Equations
+pub mod Values
+pub mod Pairs
+pub mod Thinning
+pub mod Structure
+pub mod Measures
+pub mod TidiedKept
+pub mod BodyTidied
+pub mod Walked
+pub mod Joined

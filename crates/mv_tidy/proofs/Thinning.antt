@@ -1,0 +1,257 @@
+-- What becomes of code has nothing live at its start that wasn't live there before, and reads and writes no other temporaries.
+use Rattle.std.proofs.Common.{◌≡◌, ℕ, zero, suc, ◌<◌, Bool, true, false, ◌||◌, List, [], ◌∷◌, ◌++◌, map, Some, refl, sym, ◌∙◌, ap, ◌⊎◌, inl, inr}
+use Rattle.std.proofs.lemmas.Bool.{or_left, or_right}
+use Rattle.mv_num.proofs.Booleans.{or_cases, from_falsity}
+use Rattle.mv_ast.specs.Names.{any_of}
+use Rattle.mv_ir.specs.declared.tree.Tree.{Tree}
+use Rattle.mv_ir.specs.declared.stm.Stm.{Stm}
+use Rattle.mv_ir.specs.declared.stm.Stm.TheOpen as stm
+use Rattle.mv_ir.specs.declared.stm.Stm.TheViews.{roll-Stm}
+use Rattle.mv_ir.specs.declared.body.Body.{Body}
+use Rattle.mv_ir.specs.Live.{is, Around, Flow, with_after, around_block, around_loop, at_place, live_in_order, marks_in_order, live_at_loop, plain, goes_next, flow, nowhere, live_at_start, all_marks, mark_at, IsWhole, HasTemps}
+use Rattle.mv_ir.specs.Rolled.{choose, repeat, enclosed}
+use Rattle.mv_ir.proofs.Rolls.{flow_roll, flow_of_layer}
+use Rattle.mv_ir.proofs.Joining.{any_append}
+use Rattle.mv_fold.proofs.Thinner.{Covers, covers_mark, place, Implies, FitsAround, nowhere_fits}
+use Rattle.mv_fold.proofs.FoldedThinner.{every, same as stays}
+use Rattle.mv_tidy.specs.Tidying.{IsOne, before, in_loop, in_block, Left, Becomes, none, put, one, same, choice, turns, block, IsTidiedCode}
+use Rattle.mv_tidy.proofs.Pairs.{Pair, pair_of, pair_live}
+
+-- ---- marks
+
+any_marked : (xs : List Bool) → any_of xs ≡ true → (i : ℕ) × (mark_at xs i ≡ true)
+any_marked [] e = from_falsity e
+any_marked (x ∷ xs) e = by (any_marked xs) (or_cases x (any_of xs) e)
+  where
+    by : (any_of xs ≡ true → (i : ℕ) × (mark_at xs i ≡ true)) → (x ≡ true) ⊎ (any_of xs ≡ true) → (i : ℕ) × (mark_at (x ∷ xs) i ≡ true)
+    by k (inl h) = (0, h)
+    by k (inr h) = let further = k h in (suc further.0, further.1)
+
+marked_any : (xs : List Bool) (i : ℕ) → mark_at xs i ≡ true → any_of xs ≡ true
+marked_any [] i e = e
+marked_any (x ∷ xs) zero e = or_left x (any_of xs) e
+marked_any (x ∷ xs) (suc i) e = or_right x (any_of xs) (marked_any xs i e)
+
+any_left : (xs ys : List Bool) → any_of xs ≡ true → any_of (xs ++ ys) ≡ true
+any_left xs ys e = any_append xs ys ∙ or_left (any_of xs) (any_of ys) e
+
+any_right : (xs ys : List Bool) → any_of ys ≡ true → any_of (xs ++ ys) ≡ true
+any_right xs ys e = any_append xs ys ∙ or_right (any_of xs) (any_of ys) e
+
+any_cases : (xs ys : List Bool) → any_of (xs ++ ys) ≡ true → (any_of xs ≡ true) ⊎ (any_of ys ≡ true)
+any_cases xs ys e = or_cases (any_of xs) (any_of ys) (sym (any_append xs ys) ∙ e)
+
+covered_any : (mask xs ys : List Bool) → Covers mask xs ys → any_of ys ≡ true → any_of xs ≡ true
+covered_any mask xs ys c e = let found = any_marked ys e in marked_any xs (place mask found.0) (covers_mark mask xs ys c found.0 found.1)
+
+-- ---- around one temporary
+
+module _ (temps t : ℕ) where
+  -- the second sees no more that is live
+  abbrev pub Fits : Around → Around → Type 0
+  Fits = FitsAround every t
+
+  as_implied : (b b' : Bool) → (b' ≡ true → b ≡ true) → Implies every t b b'
+  as_implied b b' h e = (h e, refl)
+
+  fits_after : (r r' : Around) (b b' : Bool) → Fits r r' → (b' ≡ true → b ≡ true) → Fits (with_after r b) (with_after r' b')
+  fits_after r r' b b' f h = record { next = as_implied b b' h; leaves = f.leaves; restarts = f.restarts }
+
+  at_place_fits : (b b' : Bool) (f f' : ℕ → Bool) → Implies every t b b' → ((n : ℕ) → Implies every t (f n) (f' n)) → (n : ℕ) → Implies every t (at_place b f n) (at_place b' f' n)
+  at_place_fits b b' f f' h k zero = h
+  at_place_fits b b' f f' h k (suc n) = k n
+
+  fits_loop : (r r' : Around) (b b' : Bool) → Fits r r' → (b' ≡ true → b ≡ true) → Fits (around_loop r b) (around_loop r' b')
+  fits_loop r r' b b' f h = record { next = as_implied b b' h; leaves = at_place_fits _ _ _ _ f.next f.leaves; restarts = at_place_fits _ _ _ _ (as_implied b b' h) f.restarts }
+
+  fits_block : (r r' : Around) → Fits r r' → Fits (around_block r) (around_block r')
+  fits_block r r' f = record { next = f.next; leaves = at_place_fits _ _ _ _ f.next f.leaves; restarts = at_place_fits _ _ _ _ (λ v. from_falsity v) f.restarts }
+
+  -- ---- what is shown
+
+  abbrev pub live_in : List Stm → Around → Bool
+  live_in code r = live_in_order (map (flow t) code) r
+
+  abbrev pub marks_in : List Stm → Around → List Bool
+  marks_in code r = marks_in_order (map (flow t) code) r
+
+  pub record Thin (r : Around) (code : List Stm) (behind : Bool) (n : Stm) (rest : List Stm) : Type 0 where
+    pub step : (r' : Around) (b : Bool) → Fits r r' → (b ≡ true → behind ≡ true) → (flow t n).live (with_after r' b) ≡ true → live_in code r ≡ true
+    pub beyond : (r' : Around) → Fits r r' → live_in rest r' ≡ true → behind ≡ true
+    pub marks : (r' : Around) → Fits r r' → any_of (marks_in (n ∷ rest) r') ≡ true → any_of (marks_in code r) ≡ true
+
+  abbrev pub IsThin : Around → List Stm → Bool → List Stm → Type 0
+  IsThin r code behind [] = (r' : Around) → Fits r r' → r'.next ≡ true → live_in code r ≡ true
+  IsThin r code behind (n ∷ rest) = Thin r code behind n rest
+
+  pub record ThinStm (r : Around) (s y : Stm) : Type 0 where
+    pub live : (r' : Around) → Fits r r' → (flow t y).live r' ≡ true → (flow t s).live r ≡ true
+    pub marks : (r' : Around) → Fits r r' → any_of ((flow t y).marks r') ≡ true → any_of ((flow t s).marks r) ≡ true
+
+  thin_live : (r : Around) (code : List Stm) (behind : Bool) (result : List Stm) → IsThin r code behind result → (r' : Around) → Fits r r' → live_in result r' ≡ true → live_in code r ≡ true
+  thin_live r code behind [] h r' f e = h r' f e
+  thin_live r code behind (n ∷ rest) h r' f e = h.step r' (live_in rest r') f (h.beyond r' f) e
+
+  thin_marks : (r : Around) (code : List Stm) (behind : Bool) (result : List Stm) → IsThin r code behind result → (r' : Around) → Fits r r' → any_of (marks_in result r') ≡ true → any_of (marks_in code r) ≡ true
+  thin_marks r code behind [] h r' f e = from_falsity e
+  thin_marks r code behind (n ∷ rest) h r' f e = h.marks r' f e
+
+  -- ---- a statement that stands
+
+  put_thin : (r : Around) (s y : Stm) (code rest : List Stm) (behind : Bool) → IsThin r code behind rest → ThinStm (with_after r (live_in code r)) s y → Thin r (s ∷ code) (live_in code r) y rest
+  put_thin r s y code rest behind h k = record {
+    step = λ r' b f hb e. k.live (with_after r' b) (fits_after r r' (live_in code r) b f hb) e;
+    beyond = thin_live r code behind rest h;
+    marks = λ r' f e. by r' f (any_cases ((flow t y).marks (with_after r' (live_in rest r'))) (marks_in rest r') e);
+  }
+    where
+      by : (r' : Around) → Fits r r' → (any_of ((flow t y).marks (with_after r' (live_in rest r'))) ≡ true) ⊎ (any_of (marks_in rest r') ≡ true) → any_of (marks_in (s ∷ code) r) ≡ true
+      by r' f (inl e) =
+          any_left ((flow t s).marks (with_after r (live_in code r))) (marks_in code r) (k.marks (with_after r' (live_in rest r')) (fits_after r r' (live_in code r) (live_in rest r') f (thin_live r code behind rest h r' f)) e)
+      by r' f (inr e) = any_right ((flow t s).marks (with_after r (live_in code r))) (marks_in code r) (thin_marks r code behind rest h r' f e)
+
+  -- ---- two as one
+
+  gone_other : (behind : ℕ → Bool) (u : ℕ) (b : Bool) → (b ≡ true → behind t ≡ true) → behind u ≡ false → b ≡ true → t ≡ u → ⊥
+  gone_other behind u b h g e equal = let k : false ≡ true = sym g ∙ ap behind (sym equal) ∙ h e in absurd (cc)
+
+  one_thin : (r : Around) (s n z : Stm) (code rest : List Stm) (behind : ℕ → Bool) → Thin r code (behind t) n rest → IsOne (λ u. (u < temps) × (behind u ≡ false)) s n z → Thin r (s ∷ code) (behind t) z rest
+  one_thin r s n z code rest behind h k = record {
+    step = step;
+    beyond = h.beyond;
+    marks = λ r' f e. by r' f (any_cases ((flow t z).marks (with_after r' (live_in rest r'))) (marks_in rest r') e);
+  }
+    where
+      p : Pair (λ u. (u < temps) × (behind u ≡ false)) s n z
+      p = pair_of (λ u. (u < temps) × (behind u ≡ false)) s n z k
+
+      step : (r' : Around) (b : Bool) → Fits r r' → (b ≡ true → behind t ≡ true) → (flow t z).live (with_after r' b) ≡ true → live_in (s ∷ code) r ≡ true
+      step r' b f hb e =
+          pair_live (λ u. (u < temps) × (behind u ≡ false)) s n z p t r (with_after r' b) (live_in code r) (gone_other behind p.temp b hb p.is_gone.1) (h.step r' b f hb) e
+
+      -- the first statement is marked where it is live
+      first_marked : live_in (s ∷ code) r ≡ true → any_of (marks_in (s ∷ code) r) ≡ true
+      first_marked e =
+          any_left ((flow t s).marks (with_after r (live_in code r))) (marks_in code r)
+          (ap (λ (g : Flow). any_of (g.marks (with_after r (live_in code r)))) (p.s_is t) ∙
+          or_left _ false (or_left _ (is (Some p.temp) t) (ap (λ (g : Flow). g.live (with_after r (live_in code r))) (sym (p.s_is t)) ∙ e)))
+
+      -- the second is where it writes
+      second_marked : (r' : Around) → is p.writes t ≡ true → any_of (marks_in (n ∷ rest) r') ≡ true
+      second_marked r' e =
+          any_left ((flow t n).marks (with_after r' (live_in rest r'))) (marks_in rest r') (ap (λ (g : Flow). any_of (g.marks (with_after r' (live_in rest r')))) (p.n_is t) ∙ or_left _ false (or_right _ (is p.writes t) e))
+
+      behind_it : any_of (marks_in code r) ≡ true → any_of (marks_in (s ∷ code) r) ≡ true
+      behind_it = any_right ((flow t s).marks (with_after r (live_in code r))) (marks_in code r)
+
+      at_z : (r' : Around) → Fits r r' → ((flow t z).live (with_after r' (live_in rest r')) ≡ true) ⊎ (is p.writes t ≡ true) → any_of (marks_in (s ∷ code) r) ≡ true
+      at_z r' f (inl e) = first_marked (step r' (live_in rest r') f (h.beyond r' f) e)
+      at_z r' f (inr e) = behind_it (h.marks r' f (second_marked r' e))
+
+      z_marks : (r' : Around) → any_of ((flow t z).marks r') ≡ true → ((flow t z).live r' ≡ true) ⊎ (is p.writes t ≡ true)
+      z_marks r' e = told (or_cases _ (is p.writes t) (drop_none (ap (λ (g : Flow). any_of (g.marks r')) (sym (p.z_is t)) ∙ e)))
+        where
+          drop_none : {b : Bool} → (b || false) ≡ true → b ≡ true
+          drop_none {b} h = cases (or_cases b false h)
+            where
+              cases : (b ≡ true) ⊎ (false ≡ true) → b ≡ true
+              cases (inl x) = x
+              cases (inr x) = from_falsity x
+
+          told : ((plain t p.both p.writes goes_next).live r' ≡ true) ⊎ (is p.writes t ≡ true) → ((flow t z).live r' ≡ true) ⊎ (is p.writes t ≡ true)
+          told (inl x) = inl (ap (λ (g : Flow). g.live r') (p.z_is t) ∙ x)
+          told (inr x) = inr x
+
+      by : (r' : Around) → Fits r r' → (any_of ((flow t z).marks (with_after r' (live_in rest r'))) ≡ true) ⊎ (any_of (marks_in rest r') ≡ true) → any_of (marks_in (s ∷ code) r) ≡ true
+      by r' f (inl e) = at_z r' f (z_marks (with_after r' (live_in rest r')) e)
+      by r' f (inr e) = behind_it (h.marks r' f (any_right ((flow t n).marks (with_after r' (live_in rest r'))) (marks_in rest r') e))
+
+  -- ---- statements
+
+  same_thin : (r : Around) (s : Stm) → ThinStm r s s
+  same_thin r s =
+      let (mask, k) = stays s in
+      record {
+        live = λ r' f e. (k.live t r r' f e).0;
+        marks = λ r' f e. bare (covered_any mask _ _ (k.marks t r r' f) (any_left ((flow t s).marks r') [] e));
+      }
+    where
+      bare : any_of ((flow t s).marks r ++ []) ≡ true → any_of ((flow t s).marks r) ≡ true
+      bare e = cases (any_cases ((flow t s).marks r) [] e)
+        where
+          cases : (any_of ((flow t s).marks r) ≡ true) ⊎ (false ≡ true) → any_of ((flow t s).marks r) ≡ true
+          cases (inl x) = x
+          cases (inr x) = from_falsity x
+
+  -- by the layers
+  layer_thin : (r : Around) (x y : stm.Stm-F Stm) → ((r' : Around) → Fits r r' → (flow_of_layer y t).live r' ≡ true → (flow_of_layer x t).live r ≡ true) → ((r' : Around) → Fits r r' → any_of ((flow_of_layer y t).marks r') ≡ true → any_of ((flow_of_layer x t).marks r) ≡ true) → ThinStm r (roll-Stm x) (roll-Stm y)
+  layer_thin r x y h k = record {
+    live = λ r' f e. ap (λ (g : Flow). g.live r) (flow_roll t x) ∙ h r' f (ap (λ (g : Flow). g.live r') (sym (flow_roll t y)) ∙ e);
+    marks = λ r' f e. ap (λ (g : Flow). any_of (g.marks r)) (flow_roll t x) ∙ k r' f (ap (λ (g : Flow). any_of (g.marks r')) (sym (flow_roll t y)) ∙ e);
+  }
+
+  or_both : (a b c d : Bool) → (c ≡ true → a ≡ true) → (d ≡ true → b ≡ true) → (c || d) ≡ true → (a || b) ≡ true
+  or_both a b c d h k e = by (or_cases c d e)
+    where
+      by : (c ≡ true) ⊎ (d ≡ true) → (a || b) ≡ true
+      by (inl x) = or_left a b (h x)
+      by (inr y) = or_right a b (k y)
+
+  any_both : (a b c d : List Bool) → (any_of c ≡ true → any_of a ≡ true) → (any_of d ≡ true → any_of b ≡ true) → any_of (c ++ d) ≡ true → any_of (a ++ b) ≡ true
+  any_both a b c d h k e = by (any_cases c d e)
+    where
+      by : (any_of c ≡ true) ⊎ (any_of d ≡ true) → any_of (a ++ b) ≡ true
+      by (inl x) = any_left a b (h x)
+      by (inr y) = any_right a b (k y)
+
+  choice_thin : (r : Around) (x : Tree) (a a' b b' : List Stm) (p q : Bool) → IsThin r a p a' → IsThin r b q b' → ThinStm r (choose x a b) (choose x a' b')
+  choice_thin r x a a' b b' p q ha hb =
+      let live = λ (r' : Around) (f : Fits r r'). or_both _ _ _ _ (λ e. e) (or_both _ _ _ _ (thin_live r a p a' ha r' f) (thin_live r b q b' hb r' f)) in
+      layer_thin r (stm.If x a b) (stm.If x a' b') live
+      (λ r' f. or_both _ _ _ _ (live r' f) (any_both (marks_in a r) (marks_in b r) (marks_in a' r') (marks_in b' r') (thin_marks r a p a' ha r' f) (thin_marks r b q b' hb r' f)))
+
+  -- what is live at a loop's start is so with it
+  settled : (f : Bool → Bool) → f (f false) ≡ true → f false ≡ true
+  settled f h = by (f false) refl
+    where
+      by : (b : Bool) → f false ≡ b → f false ≡ true
+      by true e = e
+      by false e = sym (ap f e) ∙ h
+
+  turns_thin : (r : Around) (b b' : List Stm) (p : Bool) → IsThin (around_loop r (live_at_loop (map (flow t) b) r)) b p b' → ThinStm r (repeat b) (repeat b')
+  turns_thin r b b' p h = layer_thin r (stm.Loop b) (stm.Loop b') start (λ r' f. or_both _ _ _ _ (start r' f) (thin_marks _ b p b' h _ (fits_loop r r' _ _ f (start r' f))))
+    where
+      start : (r' : Around) → Fits r r' → live_at_loop (map (flow t) b') r' ≡ true → live_at_loop (map (flow t) b) r ≡ true
+      start r' f e = settled (λ c. live_in b (around_loop r c)) (thin_live _ b p b' h (around_loop r' false) (fits_loop r r' _ false f (λ v. from_falsity v)) e)
+
+  block_thin : (r : Around) (b b' : List Stm) (p : Bool) → IsThin (around_block r) b p b' → ThinStm r (enclosed b) (enclosed b')
+  block_thin r b b' p h =
+      layer_thin r (stm.Block b) (stm.Block b') (λ r' f. thin_live _ b p b' h _ (fits_block r r' f))
+      (λ r' f. or_both _ _ _ _ (thin_live _ b p b' h _ (fits_block r r' f)) (thin_marks _ b p b' h _ (fits_block r r' f)))
+
+  mutual
+    pub left_thin : (r : ℕ → Around) (code result : List Stm) (behind : ℕ → Bool) → Left temps r code behind result → IsThin (r t) code (behind t) result
+    left_thin r code result behind (none q) = λ r' f e. (f.next e).0
+    left_thin r code result behind (put q s y ss rest p h k) = put_thin (r t) s y ss rest (p t) (left_thin q ss rest p h) (becomes_thin (before q ss) s y k)
+    left_thin r code result behind (one q s n z ss rest p h k) = one_thin (r t) s n z ss rest p (left_thin q ss (n ∷ rest) p h) k
+
+    pub becomes_thin : (r : ℕ → Around) (s y : Stm) → Becomes temps r s y → ThinStm (r t) s y
+    becomes_thin r s y (same q u) = same_thin (q t) u
+    becomes_thin r s y (choice q x a a' b b' p w h k) = choice_thin (q t) x a a' b b' (p t) (w t) (left_thin q a a' p h) (left_thin q b b' w k)
+    becomes_thin r s y (turns q b b' p h) = turns_thin (q t) b b' (p t) (left_thin (in_loop q b) b b' p h)
+    becomes_thin r s y (block q b b' p h) = block_thin (q t) b b' (p t) (left_thin (in_block q) b b' p h)
+
+-- ---- bodies
+
+module _ (b : Body) (code : List Stm) (k : IsTidiedCode b.temps b.code code) where
+  start : (t : ℕ) → live_at_start t code ≡ true → live_at_start t b.code ≡ true
+  start t = thin_live b.temps t nowhere b.code (k.behind t) code (left_thin b.temps t (λ u. nowhere) b.code code k.behind k.left) nowhere (nowhere_fits every t)
+
+  all : (t : ℕ) → any_of (all_marks (record b { code = code }) t) ≡ true → any_of (all_marks b t) ≡ true
+  all t = or_both b.temps t _ _ _ _ (or_both b.temps t _ _ _ _ (start t) (λ e. e)) (thin_marks b.temps t nowhere b.code (k.behind t) code (left_thin b.temps t (λ u. nowhere) b.code code k.behind k.left) nowhere (nowhere_fits every t))
+
+  pub tidied_whole : IsWhole b → IsWhole (record b { code = code })
+  tidied_whole w t e = w t (start t e)
+
+  pub tidied_temps : HasTemps b → HasTemps (record b { code = code })
+  tidied_temps w i t e = let found = any_marked (all_marks b t) (all t (marked_any (all_marks (record b { code = code }) t) i e)) in w found.0 t found.1

@@ -1,0 +1,3 @@
+pub mod Tidying
+pub mod Tidied
+pub mod Walking

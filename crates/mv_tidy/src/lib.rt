@@ -1,0 +1,48 @@
+//! Bodies without temporaries that only hand a value on.
+//!
+//! - `tidy`: the body means what the given one means, traps included, at no greater cost, in each frame, whatever it holds at first, and under each numbering
+//!   (`KeepsBody`). A result that is only moved to another temporary is made there, and a value that was put into a temporary for the next statement alone
+//!   stands in that statement: where it is all that the statement computes, or one node (`specs/Tidying.antt`).
+//! - A whole body stays whole, and a well-formed one well formed. It reads no global scalar and no global array that the given one doesn't read. Its
+//!   greatest tree depth, statements, tree nodes and calls are at most those of the given one. `params`, `temps`, `arrays`, `rooms`, `marked` and `switches`
+//!   are the same.
+//! - Nothing is said of how many intervals stand over one position: a place that a result is made in may be in use while the result's operands are. Who
+//!   tidies a body compares (`mv_variants`).
+#![tactic(auto)]
+
+ghost use Rattle.std.specs.Prelude.{IfOk};
+ghost use Rattle.mv_tidy.specs.Tidied.{IsTidied};
+ghost use Rattle.mv_tidy.specs.Tidying.{IsTidiedCode};
+
+mod one;
+mod trees;
+mod walk;
+
+use crate::walk::tidy_code;
+use mv_ir::body::Body;
+use mv_ir::stm::Stm;
+use mv_num::list::List;
+use mv_regalloc::liveness::Liveness;
+use std::alloc::{AllocError, Global};
+
+/// The body with each value made where it is moved to.
+pub fn tidy(alloc: Global, body: &Body) -> Result<Body, AllocError>
+    ensures { IfOk result (λ tidied. IsTidied body.now tidied) }
+{
+    Ok(Body {
+        params: body.params,
+        temps: body.temps,
+        arrays: body.arrays.copied(alloc)?,
+        code: tidied(alloc, body.temps, &body.code)?,
+        rooms: body.rooms.copied(alloc)?,
+        marked: body.marked.copied(alloc)?,
+        switches: body.switches.copied(alloc)?,
+    })
+}
+
+fn tidied(alloc: Global, temps: u32, code: &List<Stm>) -> Result<List<Stm>, AllocError>
+    ensures { IfOk result (λ left. IsTidiedCode temps code.now left) }
+{
+    let mut liveness = Liveness::new(alloc, temps as usize)?;
+    tidy_code(alloc, temps, code, &mut liveness)
+}
