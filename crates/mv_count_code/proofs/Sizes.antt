@@ -22,7 +22,8 @@ use Rattle.mv_variants.specs.Bound.Led.{BodiesAreMade}
 use Rattle.mv_variants.specs.Bound.Tables.{GroupsFit}
 use Rattle.mv_variants.proofs.OfBound.FewSlots.{one_and_more}
 use Rattle.mv_variants.proofs.OfBound.Generals.{kept, tidied_or_not}
-use Rattle.mv_variants.proofs.OfBound.Measures.{bound_no_more, carried_no_more, tidied_no_more, folded_no_more, renamed_no_more}
+use Rattle.mv_variants.proofs.OfBound.Measures.{bound_no_more, carried_no_more, folded_no_more, renamed_no_more}
+use Rattle.mv_variants.proofs.OfBound.TidiedMeasures.{tidied_no_more}
 use Rattle.mv_select.specs.Laws.{greatest_length, SelectedIsEncoded}
 use Rattle.mv_count_code.specs.Sizes.{IsBodyOf, general, folded, bound, words_of, frame_count, CodeIsShort, LinesAreShort, VariantsAreShort, FramesFit, FramesPass, LoweredFramesPass}
 use Rattle.mv_count_code.proofs.OwnWords.{words_allowed, words_measured}
@@ -73,12 +74,14 @@ module _ (made : MadeAreVariants) where
   }
   no_longer p g b (bound ps m) =
       let variant = made ps (lower_function p g) b m in
-      let own : own_words m.bound.code ≤ own_words (lower_function p g).code =
-      subst (λ x. own_words x ≤ own_words (lower_function p g).code) (sym m.is_bound.code) (bound_no_more words_measured ps (lower_function p g).code)
+      let w = m.worked in
+      let own : own_words w.bound.code ≤ own_words m.tidied.code =
+      subst (λ x. own_words x ≤ own_words m.tidied.code) (sym w.is_bound.code) (bound_no_more words_measured ps m.tidied.code)
       in
-      let trees = m.is_bound.tree_nodes in
+      let trees = w.is_bound.tree_nodes in
+      let first = tidied_words_fewer (lower_function p g) m.tidied m.is_tidied in
       record {
-        words = omega (arith, own, trees, carried_words_fewer m.bound m.carried m.is_carried, tidied_words_fewer m.carried m.tidied m.is_tidied, folded_words_fewer m.tidied m.folded m.is_folded, renamed_words_fewer m.folded b m.is_renamed);
+        words = omega (arith, first, own, trees, carried_words_fewer w.bound w.carried w.is_carried, folded_words_fewer w.carried w.folded w.is_folded, renamed_words_fewer w.folded b w.is_renamed);
         temps = variant.temps;
         sizes = variant.sizes;
       }

@@ -18,7 +18,7 @@ use Rattle.mv_variants.specs.Bound.General.{IsGeneral}
 use Rattle.mv_variants.specs.Bound.Slots.{slot_weight, weight_where, SlotsWeighAsCalls}
 use Rattle.mv_variants.proofs.OfBound.FewSlots.{marked_attributed}
 use Rattle.mv_variants.proofs.OfBound.Generals.{kept, general_same}
-use Rattle.mv_variants.proofs.OfBound.Weights.{weights}
+use Rattle.mv_variants.proofs.OfBound.Weights.{weights, weights_of_calls}
 use Rattle.mv_select.specs.Selected.{selected_lines}
 use Rattle.mv_count_slots.specs.Calls.{once_for, CalleesHaveSlots}
 use Rattle.mv_count_slots.proofs.Calls.{each_among, other, no_other}
@@ -51,7 +51,7 @@ module _ (p : Program) (g : Function) (weight : ℕ → ℕ) where
   slots_weigh_calls weigh b r attributed =
       weigh (place_in b.rooms) (size_in b.rooms) (is_marked b.marked) (shape_of attributed b) b.code weight
       ∙ ap (λ fs. code_weight (weight_where (is_marked fs) weight) 0 b.code) (kept (lower_function p g) b r).marked
-      ∙ general_same (lower_function p g) b r (weights (weight_where marked weight) 0) (λ t v. refl) ∙ sym same_weight
+      ∙ general_same (lower_function p g) b r (weights (weight_where marked weight) 0) (weights_of_calls (weight_where marked weight) 0) ∙ sym same_weight
 
 -- the weight of one attributed function
 once_is : (p : Program) (k f : ℕ) → is_attributed (slice_get p.functions k) ≡ true → weight_where (λ j. is_attributed (slice_get p.functions j)) (once_for k) f ≡ once_for k f

@@ -22,7 +22,7 @@ use Rattle.mv_variants.specs.Bound.Slots.{slots, one_each, SlotsAreCalls}
 use Rattle.mv_variants.proofs.OfBound.FewSlots.{Among, marked_attributed}
 use Rattle.mv_variants.proofs.OfBound.Meant.{made}
 use Rattle.mv_variants.proofs.OfBound.Generals.{kept, general_no_more, general_same}
-use Rattle.mv_variants.proofs.OfBound.Weights.{weights}
+use Rattle.mv_variants.proofs.OfBound.Weights.{weights, weights_of_calls}
 use Rattle.mv_variants.proofs.OfBound.Variants.{made_calls, worked_no_more}
 use Rattle.mv_select.specs.Selected.{selected_lines}
 use Rattle.mv_linker.specs.Tables.{is_slot, slot_count}
@@ -129,4 +129,4 @@ module _ (are_calls : SlotsAreCalls) where
 
   pub source_slots : LoweredCallAsOften → SourceCallsHaveSlots
   source_slots often p f g h b r attributed =
-      attributed_slots p g b (general r) attributed ∙ general_same (lower_function p g) b r (weights (attributed_once p) 0) (λ t v. refl) ∙ (often p f g h).attributed
+      attributed_slots p g b (general r) attributed ∙ general_same (lower_function p g) b r (weights (attributed_once p) 0) (weights_of_calls (attributed_once p) 0) ∙ (often p f g h).attributed

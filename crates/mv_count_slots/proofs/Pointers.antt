@@ -24,7 +24,7 @@ use Rattle.mv_variants.specs.Bound.Slots.{points_where, PointsAreCalls}
 use Rattle.mv_variants.proofs.OfBound.Meant.{made}
 use Rattle.mv_variants.proofs.OfBound.Variants.{CountsNoMore, worked_no_more, made_no_more}
 use Rattle.mv_variants.proofs.OfBound.Generals.{kept, general_no_more, general_same}
-use Rattle.mv_variants.proofs.OfBound.Weights.{throughs}
+use Rattle.mv_variants.proofs.OfBound.Weights.{throughs, throughs_of_calls}
 use Rattle.mv_count_code.specs.Sizes.{IsBodyOf, general, folded, bound}
 use Rattle.mv_count_slots.specs.Calls.{PointersHaveSlots}
 use Rattle.mv_count_slots.proofs.Places.{places_apart}
@@ -115,6 +115,6 @@ pointers_have_slots are_calls often well_formed p f g h attributed x pointed =
     let calls = calls_are p g h.formed (often p f g h) (well_formed p f g h) x pointed in
     let points = points_are p g h.formed (often p f g h) (well_formed p f g h) x pointed are_calls attributed in
     let at = at_place p g h.formed (often p f g h) (well_formed p f g h) x pointed in (
-      λ b r. points b (general r) ∙ (general_same (lower_function p g) b r (throughs at) (λ t v. refl) ∙ calls),
+      λ b r. points b (general r) ∙ (general_same (lower_function p g) b r (throughs at) (throughs_of_calls at) ∙ calls),
       λ b of none. omega (arith, points b of, no_more p g b of _ _ (throughs at), calls, none),
     )

@@ -39,7 +39,7 @@ use Rattle.mv_variants.specs.Domains.{switch_kind}
 use Rattle.mv_variants.specs.Variants.{AreVariants}
 use Rattle.mv_variants.proofs.OfBound.Led.{bodies_made}
 use Rattle.mv_variants.proofs.OfBound.Slots.{points_are_calls}
-use Rattle.mv_variants.proofs.OfBound.Weights.{throughs}
+use Rattle.mv_variants.proofs.OfBound.Weights.{throughs, throughs_of_calls}
 use Rattle.mv_count_code.specs.Sizes.{IsBodyOf, general, bound}
 use Rattle.mv_count_slots.proofs.Places.{words_apart}
 use Rattle.mv_count_slots.proofs.Pointers.{rooms_kept, no_more, of_pointers, calls_by}
@@ -134,7 +134,7 @@ module _ (p : Program) (formed : IsWellFormed p) (below : AreBelow p) where
           ∙ ap (λ rooms. code_through (λ k. eqb (place_in rooms k) at) b.code) (rooms_kept p g b is)
 
       own_points : (b : Body) → IsGeneral lowered b → (attributed : Bool) → points_through at (selected_lines attributed b) ≡ calls_through (nat_eq x) g
-      own_points b r attributed = in_body b (general r) attributed ∙ general_same lowered b r (throughs here) (λ t v. refl) ∙ counted
+      own_points b r attributed = in_body b (general r) attributed ∙ general_same lowered b r (throughs here) (throughs_of_calls here) ∙ counted
 
       most_points : (b : Body) → IsBodyOf p g b → (attributed : Bool) → points_through at (selected_lines attributed b) ≤ calls_through (nat_eq x) g
       most_points b is attributed = omega (arith, in_body b is attributed, no_more p g b is _ _ (throughs here), counted)

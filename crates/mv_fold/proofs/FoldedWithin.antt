@@ -45,7 +45,7 @@ of_node x = record {
   arrays = [];
 }
 
-of_tree_roll : (x : Tree-F Tree) → of_tree (roll-Tree x) ≡ of_node x
+pub of_tree_roll : (x : Tree-F Tree) → of_tree (roll-Tree x) ≡ of_node x
 of_tree_roll x = λ i. record { nodes = nodes_roll x i; depth = depth_roll x i; reads = reads_roll x i; statements = 0; calls = 0; arrays = [] }
 
 pub nodes_less : (x y : Tree-F Tree) → Less (of_node y) (of_node x) → Less (of_tree (roll-Tree y)) (of_tree (roll-Tree x))
@@ -165,10 +165,10 @@ loop_amount b = λ i. record { nodes = none_plus (amount b).nodes i; depth = non
 pub block_amount : (b : List Stm) → layer_amount (stm.Block b) ≡ with (record { nodes = 0; depth = 0; reads = []; statements = 1; calls = 0; arrays = [] }) (amount b)
 block_amount b = λ i. record { nodes = none_plus (amount b).nodes i; depth = none_max (amount b).depth i; reads = (amount b).reads; statements = one_plus (amount b).statements i; calls = none_plus (amount b).calls i; arrays = (amount b).arrays }
 
-abbrev chooser : Tree → Amount
+abbrev pub chooser : Tree → Amount
 chooser t = record { nodes = nodes t; depth = depth t; reads = tree_reads t; statements = 1; calls = 0; arrays = [] }
 
-if_amount : (t : Tree) (a b : List Stm) → layer_amount (stm.If t a b) ≡ with (chooser t) (with (amount a) (amount b))
+pub if_amount : (t : Tree) (a b : List Stm) → layer_amount (stm.If t a b) ≡ with (chooser t) (with (amount a) (amount b))
 if_amount t a b = λ i. record {
   nodes = nodes t + (both i).nodes;
   depth = max (depth t) (both i).depth;

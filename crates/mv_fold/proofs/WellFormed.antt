@@ -48,10 +48,10 @@ pub record Keep (a b : Facts) : Type 0 where
 pub keep_refl : (a : Facts) → Keep a a
 keep_refl a = record { targets = λ r e. e; arguments = λ e. e; named = λ p e. e }
 
-keep_trans : (a b c : Facts) → Keep a b → Keep b c → Keep a c
+pub keep_trans : (a b c : Facts) → Keep a b → Keep b c → Keep a c
 keep_trans a b c h k = record { targets = λ r e. k.targets r (h.targets r e); arguments = λ e. k.arguments (h.arguments e); named = λ p e. k.named p (h.named p e) }
 
-abbrev both : Facts → Facts → Facts
+abbrev pub both : Facts → Facts → Facts
 both a b = record { targets = λ r. a.targets r && b.targets r; arguments = a.arguments && b.arguments; named = λ p. a.named p && b.named p }
 
 and_keeps : (a b c d : Bool) → (a ≡ true → c ≡ true) → (b ≡ true → d ≡ true) → (a && b) ≡ true → (c && d) ≡ true
@@ -101,7 +101,7 @@ arrays_append p xs ys = ap all_true (map_append p xs ys) ∙ true_append (map p 
 named_append : (xs ys : List Stm) → named (xs ++ ys) ≡ named xs ++ named ys
 named_append xs ys = ap joined (map_append stm_named xs ys) ∙ joined_append (map stm_named xs) (map stm_named ys)
 
-facts_append : (xs ys : List Stm) → facts (xs ++ ys) ≡ both (facts xs) (facts ys)
+pub facts_append : (xs ys : List Stm) → facts (xs ++ ys) ≡ both (facts xs) (facts ys)
 facts_append xs ys = λ i. record {
   targets = λ r. (ap (λ fs. all_around fs r) (map_append stm_targets xs ys) ∙ around_append (map stm_targets xs) (map stm_targets ys) r) i;
   arguments = (ap all_true (map_append stm_arguments xs ys) ∙ true_append (map stm_arguments xs) (map stm_arguments ys)) i;
@@ -115,7 +115,7 @@ layer_facts x = record {
   named = λ p. all_true (map p (layer_named (map-Stm Stm (List Array) stm_named x)));
 }
 
-facts_one : (x : Stm-F Stm) → facts (roll-Stm x ∷ []) ≡ layer_facts x
+pub facts_one : (x : Stm-F Stm) → facts (roll-Stm x ∷ []) ≡ layer_facts x
 facts_one x = λ i. record {
   targets = λ r. (and_true (stm_targets (roll-Stm x) r) ∙ ap (λ f. f r) (targets_roll x)) i;
   arguments = (and_true (stm_arguments (roll-Stm x)) ∙ arguments_roll x) i;
@@ -142,7 +142,7 @@ kept_nothing xs = record { targets = λ r e. refl; arguments = λ e. refl; named
 pub alike : (x y : Stm-F Stm) → layer_facts x ≡ layer_facts y → Kept (roll-Stm x ∷ []) (alone y)
 alike x y e = kept_one x y (subst (Keep (layer_facts x)) e (keep_refl (layer_facts x)))
 
-if_facts : (t : Tree) (a b : List Stm) → layer_facts (stm.If t a b) ≡ both (facts a) (facts b)
+pub if_facts : (t : Tree) (a b : List Stm) → layer_facts (stm.If t a b) ≡ both (facts a) (facts b)
 if_facts t a b = λ i. record {
   targets = λ r. all_around (map stm_targets a) r && all_around (map stm_targets b) r;
   arguments = all_true (map stm_arguments a) && all_true (map stm_arguments b);

@@ -6,4 +6,3 @@ pub mod FromTypes
 pub mod FromFolds
 pub mod Lowered
 pub mod Pointers
-pub mod Renaming

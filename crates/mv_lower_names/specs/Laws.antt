@@ -3,15 +3,13 @@ use Rattle.std.specs.Prelude.{◌≡◌, ℕ, ◌<◌, false, true, All, [], len
 use Rattle.mv_ast.specs.declared.program.Program.{Program}
 use Rattle.mv_ast.specs.declared.program.Function.{Function}
 use Rattle.mv_ast.specs.Counts.{is_pointer}
-use Rattle.mv_ir.specs.declared.body.Body.{Body}
 use Rattle.mv_select.specs.Calls.Environment.{IsDirect}
 use Rattle.mv_select_code.specs.Control.Labels.{functions, pointers}
 use Rattle.mv_lower_spec.specs.Shape.Law.{IsFunctionOf}
 use Rattle.mv_lower_names.specs.Sources.{NumbersAreWords}
 use Rattle.mv_source_forms.specs.Uses.{known_is_there}
 use Rattle.mv_lower_spec.specs.Functions.{lower_function}
-use Rattle.mv_regalloc.specs.Rename.{renamed}
-use Rattle.mv_select.specs.Bodies.SelectedBodies.{HasWords, constants, knowns}
+use Rattle.mv_select.specs.Bodies.SelectedBodies.{HasWords, knowns}
 use Rattle.mv_lower_spec.specs.Calls.Bindings.{NeverRebinds}
 
 -- The functions that lowered code calls by name, and those whose addresses it takes, are functions of the program.
@@ -38,18 +36,3 @@ NothingIsMarked =
 -- Where the numbers in a program are words, so are the constants in its code, and the numbers of its orders fit.
 abbrev pub ConstantsAreWords : Type 0
 ConstantsAreWords = (p : Program) (f : ℕ) (g : Function) → IsFunctionOf p f g → NumbersAreWords p → HasWords (lower_function p g).code
-
--- Two bodies name the same functions, pointer switches that they call through, known functions and constants, and have the same rooms, marked functions and
--- switches.
-pub record NamesTheSame (b result : Body) : Type 0 where
-  pub functions : functions result.code ≡ functions b.code
-  pub pointers : pointers result.code ≡ pointers b.code
-  pub knowns : knowns result.code ≡ knowns b.code
-  pub constants : constants result.code ≡ constants b.code
-  pub rooms : result.rooms ≡ b.rooms
-  pub marked : result.marked ≡ b.marked
-  pub switches : result.switches ≡ b.switches
-
--- A body whose temporaries are renamed names what it named.
-abbrev pub RenamingKeepsNames : Type 0
-RenamingKeepsNames = (numbers : ℕ → ℕ) (temps : ℕ) (b : Body) → NamesTheSame b (renamed numbers temps b)

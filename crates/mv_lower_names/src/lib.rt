@@ -2,10 +2,10 @@
 //!
 //! - `lowered_names_are_there`: the code of a well-formed program's functions names only functions, pointer switches,
 //!   orders and switches that the program has; without commits, reverts and polls it calls only `getchar` and `putchar`; its constants are
-//!   words where the source's numbers are. `renaming_keeps_names`: renaming temporaries changes none of these names.
+//!   words where the source's numbers are.
 #![tactic(auto)]
 
-ghost use Rattle.mv_lower_names.specs.Laws.{ConstantsAreWords, FunctionsAreThere, NothingIsMarked, OnlyInputAndOutput, OrdersAreThere, PointersAreThere, RenamingKeepsNames};
+ghost use Rattle.mv_lower_names.specs.Laws.{ConstantsAreWords, FunctionsAreThere, NothingIsMarked, OnlyInputAndOutput, OrdersAreThere, PointersAreThere};
 
 /// The code of a well-formed program's functions names what the program has. The call does nothing: its contract is the law.
 ///
@@ -20,10 +20,4 @@ pub fn lowered_names_are_there()
     ensures direct { OnlyInputAndOutput }
     ensures marked { NothingIsMarked }
     ensures words { ConstantsAreWords }
-{}
-
-/// A body whose temporaries are renamed names the same functions, pointer switches that it calls through, known functions and constants, and has the same rooms,
-/// marked functions and switches. The call does nothing: its contract is the law.
-pub fn renaming_keeps_names()
-    ensures { RenamingKeepsNames }
 {}

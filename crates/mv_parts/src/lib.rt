@@ -15,7 +15,7 @@
 //!   `specs/Switches.antt` defines them.
 //! - `size_of`: how many words and sites the code of functions has, behind the stubs and with each branch as one word.
 //!   `site_count`: how many slots all code has, those of four words counted twice, as far as a `u64` goes. `labels_fit`:
-//!   whether there are numbers for all labels below those of the stubs.
+//!   whether there are numbers for all labels below those of entries.
 //! - `parts_law`: where the names and domains of a well-formed program can stand in tables, and there are numbers for its
 //!   labels and room for its data, all this is what `link` asks for (`parts`); its switches and pointer switches are
 //!   globals (`switches`); there are as many words of data as its globals have (`data`); and counts over the source bound

@@ -79,7 +79,7 @@ module _ (p : Program) (image : Fields) (basis : Basis p image) where
   -- the frame of a function without temporaries and arrays, at the bottom of the stack
   abbrev any_site : Site
   any_site = record {
-    seats = record { place = y.place; register = λ t. None };
+    seats = record { place = y.place; register = λ t. None; pinned = λ n. None };
     size = y.size;
     reach = record { is_read = λ g. false; is_written = λ g. false; may_load = λ a. false };
     entry = y.entry;

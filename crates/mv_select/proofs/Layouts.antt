@@ -14,6 +14,7 @@ use Rattle.mv_select.specs.Calls.CallCode.{calls_of, is_marked}
 use Rattle.mv_select_code.specs.Trees.TreeCode.{seats_at}
 use Rattle.mv_select.specs.Functions.FunctionCode.{arrays_start, words_before, array_offset}
 use Rattle.mv_select.specs.Functions.Functions.{keeping_of}
+use Rattle.mv_select.specs.Functions.Pins.{pins_of}
 use Rattle.mv_select.proofs.OfBodies.Lists.{each_true}
 use Rattle.mv_select.specs.Selected.{spaces_behind, layout_in, plan_of, FitsFrame}
 use Rattle.mv_select.proofs.SameCode.{code_same}
@@ -42,7 +43,7 @@ pub arrays_within : (attributed : Bool) (body : Body) → FitsFrame body → All
 arrays_within attributed body h = let few = few_words body h in spaces_within (arrays_start body.temps) body.arrays (omega (arith, few))
 
 abbrev pub calls_in : Bool → Body → CallLines
-calls_in attributed body = calls_of (seats_at body.rooms (keeping_of attributed body)) (is_marked body.marked)
+calls_in attributed body = calls_of (seats_at body.rooms (keeping_of attributed body) (pins_of (keeping_of attributed body) body)) (is_marked body.marked)
 
 -- the code over the layout is that of the body's plan
 pub layout_code : (attributed : Bool) (body : Body) → IsWellFormed body → code_of (plan_in (layout_in attributed body) (calls_in attributed body)) body.code ≡ code_of (plan_of attributed body) body.code

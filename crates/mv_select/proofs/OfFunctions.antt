@@ -16,6 +16,10 @@ pub mod Alone
 pub mod Silent
 pub mod SilentFine
 pub mod Seats
+pub mod Pins
+pub mod PinsChosen
+pub mod Uses
+pub mod PinsCome
 pub mod Entered
 pub mod BodyKeeps
 pub mod Leaf

@@ -8,6 +8,7 @@ use Rattle.mv_isa.specs.Code.{nop, LineFits, StandsOnce, TargetStands, is_label}
 use Rattle.mv_ir.specs.declared.body.Body.{Body}
 use Rattle.mv_select_code.specs.Trees.Rooms.{place_in}
 use Rattle.mv_select_code.specs.Trees.TreeCode.{one, seats_at}
+use Rattle.mv_select_code.specs.Trees.View.{IsPin}
 use Rattle.mv_select_code.specs.declared.trees.places.Keeping.{Keeping}
 use Rattle.mv_select_code.specs.declared.trees.places.Keeping.TheVariants.{Saved, Arguments}
 use Rattle.mv_select_code.specs.Control.Layouts.{size_in}
@@ -30,6 +31,9 @@ use Rattle.mv_select.proofs.OfCalls.CallsEncoded.{calls_encoded}
 use Rattle.mv_select.proofs.OfCalls.CallsName.{calls_have_no_labels, call_targets_stand}
 use Rattle.mv_select.specs.Functions.FunctionCode.{Shape, bytes_of, entry_by, return_by, led}
 use Rattle.mv_select.specs.Functions.Functions.{keeping_of, shape_of}
+use Rattle.mv_select.specs.Functions.Pins.{ArePins, first_pin, pins_of}
+use Rattle.mv_select.proofs.OfFunctions.Pins.{pins_within}
+use Rattle.mv_select.proofs.OfFunctions.PinsChosen.{pins_are}
 use Rattle.mv_select.proofs.OfBodies.Addresses.{function_opens}
 use Rattle.mv_select.proofs.OfFunctions.EncodedFrames.{saved_encoded, leaf_encoded}
 use Rattle.mv_select.proofs.OfFunctions.FramesAreMade.{entry_made, return_made, led_made}
@@ -91,7 +95,7 @@ selected_labels_own attributed body =
     let k = keeping_of attributed body in
     let shape = shape_of attributed body in
     let lines = code.lines [] 1 (fall_to 0) in
-    let calls = calls_have_no_labels (seats_at body.rooms k) (is_marked body.marked) in
+    let calls = calls_have_no_labels (seats_at body.rooms k (pins_of k body)) (is_marked body.marked) in
     let rest = end_own code.labels lines stop (labels_own (plan_of attributed body) calls body.code [] 1 (fall_to 0))
     (return_made (names_made AnyNumber) k shape) in
     let count : 0 + suc code.labels ≡ suc code.labels = omega arith in
@@ -110,7 +114,7 @@ selected_targets_stand whole attributed body h =
     let lines = (inner attributed body).lines [] 1 (fall_to 0) in
     let P = StandsOnce whole in
     let stubs : StubsStand whole = record { null = h.traps 3 (omega arith) (omega arith); depth = h.traps 4 (omega arith) (omega arith); commit = h.commit } in
-    let calls : CallsName P (calls_in attributed body) = call_targets_stand whole stubs (seats_at body.rooms k) (is_marked body.marked) in
+    let calls : CallsName P (calls_in attributed body) = call_targets_stand whole stubs (seats_at body.rooms k (pins_of k body)) (is_marked body.marked) in
     let within = targets_stand whole (plan_of attributed body) calls body.code [] 1 (fall_to 0) (record {
       behind = h.own 0 (omega arith);
       own = λ l p q. h.own l (omega (arith, q));
@@ -144,7 +148,7 @@ led_code n (Point a ∷ lines) h = wider n (n + 1) (Point a ∷ lines) (omega ar
 
 -- what is around the lines of a body has at most 33 words, where it is entered by a word or by one less
 around : (shape : Shape) → shape.params ≤ 8 → bytes_of shape ≤ 2032 → (n : ℕ) (lines : List Line) → IsCode n lines → (k : Keeping)
-    → IsCode (33 + n) (led (entry_by k shape ++ (lines ++ (Label 0 ∷ return_by k shape))))
+    → ArePins k shape.params shape.temps shape.pins → IsCode (33 + n) (led (entry_by k shape ++ (lines ++ (Label 0 ∷ return_by k shape))))
 around shape few fits n lines within k = by k
   where
     end : IsCode 0 (Label 0 ∷ [])
@@ -155,24 +159,26 @@ around shape few fits n lines within k = by k
         let stop = return_by k shape in
         both a (n + (0 + b)) (entry_by k shape) (lines ++ (Label 0 ∷ stop)) first (both n (0 + b) lines (Label 0 ∷ stop) within (both 0 b (Label 0 ∷ []) stop end last))
 
-    by : (k : Keeping) → IsCode (33 + n) (led (entry_by k shape ++ (lines ++ (Label 0 ∷ return_by k shape))))
-    by Saved =
-        let frames = saved_encoded shape few fits in
+    by : (k : Keeping) → ArePins k shape.params shape.temps shape.pins → IsCode (33 + n) (led (entry_by k shape ++ (lines ++ (Label 0 ∷ return_by k shape))))
+    by Saved pins =
+        let frames = saved_encoded shape pins few fits in
         wider (20 + (n + (0 + 13))) (33 + n) (entry_by Saved shape ++ (lines ++ (Label 0 ∷ return_by Saved shape))) (omega arith) (parts Saved 20 13 frames.0 frames.1)
-    by Arguments =
-        let frames = leaf_encoded shape fits in
+    by Arguments pins =
+        let frames = leaf_encoded shape pins fits in
         let all = entry_by Arguments shape ++ (lines ++ (Label 0 ∷ return_by Arguments shape)) in
-        wider (1 + (n + (0 + 2)) + 1) (33 + n) (led all) (omega arith) (led_code (1 + (n + (0 + 2))) all (parts Arguments 1 2 frames.0 frames.1))
+        wider (9 + (n + (0 + 2)) + 1) (33 + n) (led all) (omega arith) (led_code (9 + (n + (0 + 2))) all (parts Arguments 9 2 frames.0 frames.1))
 
 pub selected_encoded : SelectedIsEncoded
 selected_encoded attributed body suitable fits =
     let k = keeping_of attributed body in
     let lines = (inner attributed body).lines [] 1 (fall_to 0) in
     let n = most_words body.code + 0 in
-    let over = flow_encoded (layout_in attributed body) (arrays_within attributed body fits) (calls_in attributed body)
-    (calls_encoded (seats_at body.rooms k) (keeping_seats (place_in body.rooms) k) (is_marked body.marked)) body.code (has_small_code attributed body suitable fits).1 [] 1 (fall_to 0) in
+    let pins = pins_are k body in
+    let real : All IsPin (pins_of k body) = pins_within k (first_pin k body.temps) (pins_of k body) pins.stand in
+    let over = flow_encoded (layout_in attributed body) (arrays_within attributed body fits) real (calls_in attributed body)
+    (calls_encoded (seats_at body.rooms k (pins_of k body)) (keeping_seats (place_in body.rooms) k (pins_of k body) real) (is_marked body.marked)) body.code (has_small_code attributed body suitable fits).1 [] 1 (fall_to 0) in
     let within : IsCode n lines = subst (λ (c : Emitted). IsCode n (c.lines [] 1 (fall_to 0))) (layout_code attributed body suitable.formed) over in
-    wider (33 + n) (greatest_length body) (selected_lines attributed body) (omega arith) (around (shape_of attributed body) suitable.formed.params fits n lines within k)
+    wider (33 + n) (greatest_length body) (selected_lines attributed body) (omega arith) (around (shape_of attributed body) suitable.formed.params fits n lines within k pins)
 
 -- ---- the first line
 

@@ -7,6 +7,7 @@ use Rattle.mv_ir.specs.declared.body.Body.{Body}
 use Rattle.mv_ir.specs.declared.body.Room.{Room}
 use Rattle.mv_select_code.specs.Trees.TreeCode.{seats_at}
 use Rattle.mv_select_code.specs.declared.trees.places.Keeping.{Keeping}
+use Rattle.mv_select_code.specs.declared.trees.places.Pin.{Pin}
 use Rattle.mv_select_code.specs.declared.control.enclosing.Enclosing.{Enclosing}
 use Rattle.mv_select_code.specs.declared.control.layout.Layout.{Layout}
 use Rattle.mv_select_code.specs.Control.FlowCode.{Emitted, fall_to, code_of}
@@ -16,9 +17,13 @@ use Rattle.mv_select_code.proofs.OfControl.LabelsOwn.{labels_few}
 use Rattle.mv_select.specs.Calls.CallCode.{calls_of, is_marked}
 use Rattle.mv_select.specs.Functions.FunctionCode.{Shape, entry_by, return_by, led}
 use Rattle.mv_select.specs.Functions.Functions.{keeping_of, shape_of}
+use Rattle.mv_select.specs.Functions.Pins.{pins_of}
 use Rattle.mv_select.specs.Selected.{layout_in, plan_of, selected_lines, selected_labels, IsSuitable, FitsFrame, IsSelected}
 use Rattle.mv_select.proofs.Layouts.{calls_in, layout_code}
 use Rattle.mv_select.proofs.SelectedLines.{entry, return, inner, selected_labels_own}
+
+abbrev pub own_pins : Bool → Body → List Pin
+own_pins attributed body = pins_of (keeping_of attributed body) body
 
 abbrev pub over_layout : Bool → Body → Emitted
 over_layout attributed body = code_of (plan_in (layout_in attributed body) (calls_in attributed body)) body.code
@@ -31,21 +36,25 @@ labels_fit attributed body suitable =
     omega (arith, few, size)
 
 -- the same over what is known to be the layout and the names of calls
-pub over_same : (attributed : Bool) (body : Body) (layout : Layout) (k : Keeping) (rooms : List Room) (marked : List ℕ) → layout ≡ layout_in attributed body → k ≡ keeping_of attributed body
-    → rooms ≡ body.rooms → marked ≡ body.marked → code_of (plan_in layout (calls_of (seats_at rooms k) (is_marked marked))) body.code ≡ over_layout attributed body
-over_same attributed body layout k rooms marked of_layout of_keeping of_rooms of_marked =
-    ap (λ (y : Layout). code_of (plan_in y (calls_of (seats_at rooms k) (is_marked marked))) body.code) of_layout ∙
-    ap (λ (x : Keeping). code_of (plan_in (layout_in attributed body) (calls_of (seats_at rooms x) (is_marked marked))) body.code) of_keeping ∙
-    ap (λ (r : List Room). code_of (plan_in (layout_in attributed body) (calls_of (seats_at r (keeping_of attributed body)) (is_marked marked))) body.code) of_rooms ∙
-    ap (λ (m : List ℕ). code_of (plan_in (layout_in attributed body) (calls_of (seats_at body.rooms (keeping_of attributed body)) (is_marked m))) body.code) of_marked
+pub over_same : (attributed : Bool) (body : Body) (layout : Layout) (k : Keeping) (pins : List Pin) (rooms : List Room) (marked : List ℕ) → layout ≡ layout_in attributed body
+    → k ≡ keeping_of attributed body → pins ≡ own_pins attributed body → rooms ≡ body.rooms → marked ≡ body.marked
+    → code_of (plan_in layout (calls_of (seats_at rooms k pins) (is_marked marked))) body.code ≡ over_layout attributed body
+over_same attributed body layout k pins rooms marked of_layout of_keeping of_pins of_rooms of_marked =
+    ap (λ (y : Layout). code_of (plan_in y (calls_of (seats_at rooms k pins) (is_marked marked))) body.code) of_layout ∙
+    ap (λ (x : Keeping). code_of (plan_in (layout_in attributed body) (calls_of (seats_at rooms x pins) (is_marked marked))) body.code) of_keeping ∙
+    ap (λ (ps : List Pin). code_of (plan_in (layout_in attributed body) (calls_of (seats_at rooms (keeping_of attributed body) ps) (is_marked marked))) body.code) of_pins ∙
+    ap (λ (r : List Room). code_of (plan_in (layout_in attributed body) (calls_of (seats_at r (keeping_of attributed body) (own_pins attributed body)) (is_marked marked))) body.code) of_rooms ∙
+    ap (λ (m : List ℕ). code_of (plan_in (layout_in attributed body) (calls_of (seats_at body.rooms (keeping_of attributed body) (own_pins attributed body)) (is_marked m))) body.code) of_marked
 
 -- the shape as it is put together
-abbrev pub shape_with : Bool → Keeping → Body → List ℕ → Shape
-shape_with attributed k body arrays = record { attributed = attributed; keeping = k; params = body.params; temps = body.temps; arrays = arrays }
+abbrev pub shape_with : Bool → Keeping → Body → List ℕ → List Pin → Shape
+shape_with attributed k body arrays pins = record { attributed = attributed; keeping = k; params = body.params; temps = body.temps; arrays = arrays; pins = pins }
 
-pub shaped : (attributed : Bool) (body : Body) (k : Keeping) (arrays : List ℕ) → k ≡ keeping_of attributed body → arrays ≡ body.arrays → shape_with attributed k body arrays ≡ shape_of attributed body
-shaped attributed body k arrays of_keeping of_arrays =
-    ap (λ (x : Keeping). shape_with attributed x body arrays) of_keeping ∙ ap (λ (xs : List ℕ). shape_with attributed (keeping_of attributed body) body xs) of_arrays
+pub shaped : (attributed : Bool) (body : Body) (k : Keeping) (arrays : List ℕ) (pins : List Pin) → k ≡ keeping_of attributed body → arrays ≡ body.arrays → pins ≡ own_pins attributed body
+    → shape_with attributed k body arrays pins ≡ shape_of attributed body
+shaped attributed body k arrays pins of_keeping of_arrays of_pins =
+    ap (λ (x : Keeping). shape_with attributed x body arrays pins) of_keeping ∙ ap (λ (xs : List ℕ). shape_with attributed (keeping_of attributed body) body xs pins) of_arrays ∙
+    ap (λ (ps : List Pin). shape_with attributed (keeping_of attributed body) body body.arrays ps) of_pins
 
 -- what is written one behind the other
 abbrev pub written : Bool → Body → List Line

@@ -16,6 +16,7 @@ use Rattle.mv_select.specs.Calls.CallCode.{is_marked}
 use Rattle.mv_select.specs.Calls.Convention.{frame_limit}
 use Rattle.mv_select.specs.Functions.FunctionCode.{arrays_start, frame_bytes, end_label, plan, function_lines}
 use Rattle.mv_select.specs.Functions.Functions.{keeping_of, shape_of}
+use Rattle.mv_select.specs.Functions.Pins.{pins_of}
 use Rattle.mv_select.specs.Bodies.SelectedBodies.{IsOrder, knowns}
 use Rattle.mv_select.specs.declared.error.SelectError.{SelectError}
 use Rattle.mv_select.specs.declared.error.SelectError.TheVariants.{Frame, Memory}
@@ -29,7 +30,13 @@ spaces_behind word (n ∷ sizes) = record { at = 4 * word; size = n } ∷ spaces
 
 -- where things stand that a body names
 abbrev pub layout_in : Bool → Body → Layout
-layout_in attributed body = record { rooms = body.rooms; keeping = keeping_of attributed body; arrays = spaces_behind (arrays_start body.temps) body.arrays; end = end_label }
+layout_in attributed body = record {
+  rooms = body.rooms;
+  keeping = keeping_of attributed body;
+  pins = pins_of (keeping_of attributed body) body;
+  arrays = spaces_behind (arrays_start body.temps) body.arrays;
+  end = end_label;
+}
 
 -- ---- code
 

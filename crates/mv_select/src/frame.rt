@@ -9,8 +9,8 @@ use mv_num::list::List;
 use mv_select_code::control::layout::Space;
 use std::alloc::{AllocError, Global};
 
-// How many words all arrays have.
-fn words_of(arrays: &[u32]) -> u128
+/// How many words all arrays have.
+pub(crate) fn words_of(arrays: &[u32]) -> u128
     ensures value { result ≡ total arrays.now }
     ensures within { result ≤ 2 ^ 96 }
 {

@@ -4,7 +4,9 @@
 //!   exactly as `specs/Selected.antt` defines it, with the addresses and sizes of the body's own rooms; all its labels
 //!   are below `labels`, at most three for each statement and one. `Frame` comes exactly where the frame has more than
 //!   2,032 bytes, with the function and the bytes (at most the greatest number of 64 bits); then temporaries and elements
-//!   together are more than 480.
+//!   together are more than 480. Up to nine numbers that save most words, counted eight times within each loop, are pins: they
+//!   stand in registers that no temporary has, from entry on, which brings them there by one or two words each and has at most
+//!   eight for them and the moves of parameters.
 //! - `selection_law`: the instructions have encodings, and there are at most 33 words besides two for each tree node and
 //!   those that `mv_select_code::control` says for each form of statement (`encoded`); each label that the code takes stands in it
 //!   once, and no other does (`labels`); each label that it names stands once, wherever its own labels do, the stubs of
@@ -29,9 +31,11 @@ mod frame;
 pub mod functions;
 pub mod inline;
 mod laws;
+mod pins;
 mod selection;
 mod silent;
 pub mod slots;
+mod uses;
 
 pub use crate::inline::inline_of;
 pub use laws::selection_law;

@@ -11,6 +11,7 @@ use crate::calls::Calls;
 use crate::error::SelectError;
 use crate::frame::{frame_bytes, spaces};
 use crate::functions::{Outline, push_entry, push_return};
+use crate::pins::pins_of;
 use crate::silent::calls_nothing;
 use mv_ir::body::Body;
 use mv_isa::Instr;
@@ -68,9 +69,11 @@ fn layout_of(alloc: Global, body: &Body, attributed: bool) -> Result<Layout, All
     requires { frame_bytes body.now.temps body.now.arrays ≤ 2032 }
     ensures { IfOk result (λ layout. layout ≡ layout_in attributed body.now) }
 {
+    let keeping = keeping_of(body, attributed);
     Ok(Layout {
         rooms: body.rooms.copied(alloc)?,
-        keeping: keeping_of(body, attributed),
+        keeping,
+        pins: pins_of(alloc, body, keeping)?,
         arrays: spaces(alloc, body.temps, body.arrays.as_slice())?,
         end: END,
     })
@@ -107,12 +110,14 @@ fn written(alloc: Global, body: &Body, attributed: bool, bytes: u32) -> Result<L
         params: body.params,
         temps: body.temps,
         arrays: body.arrays.as_slice(),
+        pins: layout.pins.as_slice(),
         bytes,
     };
     let calls = Calls {
         places: Places {
             rooms: body.rooms.as_slice(),
             keeping: layout.keeping,
+            pins: layout.pins.as_slice(),
         },
         marked: body.marked.as_slice(),
     };

@@ -5,6 +5,7 @@ pub mod ElementPlaces
 pub mod EncodedCode
 pub mod Equations
 pub mod FrameChanges
+pub mod Powers
 pub mod ScalarStatements
 pub mod Stores
 pub mod TempsKept

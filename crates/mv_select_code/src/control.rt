@@ -16,10 +16,11 @@
 //!   `few`: these are at most three for each statement. `targets`: each label that it names stands once, wherever its own
 //!   labels do, those around it, that behind it, that of the function's end, the stubs of traps 1 and 2, the functions
 //!   that it names, and their entries.
-//! - Assumed: the lines stand in text, with their labels in place (`Placed`): slots apart, in words that are never
-//!   patched; the memory is fit for the frame; each step of the run that loads no more than the code may is the step of
-//!   that text, and leaves the world around the globals as it was (`IsRun`); arrays that are read and written are among
-//!   those that may be; the code of each call does what the call means (`CallsDo`), has encodings, and holds no label.
+//! - Assumed: pins stand in registers in which temporaries may stand; the lines stand in text, with their labels in place
+//!   (`Placed`): slots apart, in words that are never patched; the memory is fit for the frame; each step of the run that
+//!   loads no more than the code may is the step of that text, and leaves the world around the globals as it was (`IsRun`);
+//!   arrays that are read and written are among those that may be; the code of each call does what the call means
+//!   (`CallsDo`), has encodings, and holds no label.
 
 mod arrays;
 pub mod calls;

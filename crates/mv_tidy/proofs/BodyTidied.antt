@@ -3,27 +3,51 @@ use Rattle.std.proofs.Common.{◌≡◌, ℕ, List, refl, sym, subst}
 use Rattle.mv_ir.specs.declared.stm.Stm.{Stm}
 use Rattle.mv_ir.specs.declared.body.Body.{Body}
 use Rattle.mv_ir.specs.declared.body.Room.{Room}
-use Rattle.mv_tidy.specs.Tidying.{IsTidiedCode}
-use Rattle.mv_tidy.specs.Tidied.{IsTidied}
+use Rattle.mv_tidy.specs.Tidying.{IsJoinedCode}
+use Rattle.mv_tidy.specs.Tidied.{IsTidiedCode, IsTidied}
+use Rattle.mv_tidy.proofs.AsGood.{IsAsGood, after}
 use Rattle.mv_tidy.proofs.Thinning.{tidied_whole, tidied_temps}
 use Rattle.mv_tidy.proofs.Measures.{tidied_no_greater, tidied_well_formed}
 use Rattle.mv_tidy.proofs.TidiedKept.{tidied_keeps}
+use Rattle.mv_tidy.proofs.PlainGood.{plain_good}
+use Rattle.mv_tidy.proofs.ChosenGood.{chosen_good}
 
-tidied_is_so : (b : Body) (code : List Stm) → IsTidiedCode b.temps b.code code → IsTidied b (record b { code = code })
-tidied_is_so b code k = record {
+-- ---- the steps
+
+pub joined_good : (b : Body) (code : List Stm) → IsJoinedCode b.temps b.code code → IsAsGood b code
+joined_good b code k = record {
   means = tidied_keeps b code k;
-  code = k;
   smaller = tidied_no_greater b code k;
   whole = tidied_whole b code k;
   has_temps = tidied_temps b code k;
   well_formed = tidied_well_formed b code k;
-  params = refl;
-  temps = refl;
-  sizes = refl;
-  rooms = refl;
-  marked = refl;
-  switches = refl;
 }
+
+steps_good : (b : Body) (code : List Stm) → IsTidiedCode b.temps b.code code → IsAsGood b code
+steps_good b code k =
+    let plain : Body = record b { code = k.plain } in
+    let joined : Body = record b { code = k.joined } in
+    after b k.plain code (plain_good b k.plain k.is_plain) (after plain k.joined code (joined_good plain k.joined k.is_joined) (chosen_good joined code k.is_chosen))
+
+-- ---- a body
+
+tidied_is_so : (b : Body) (code : List Stm) → IsTidiedCode b.temps b.code code → IsTidied b (record b { code = code })
+tidied_is_so b code k =
+    let good = steps_good b code k in
+    record {
+      means = good.means;
+      code = k;
+      smaller = good.smaller;
+      whole = good.whole;
+      has_temps = good.has_temps;
+      well_formed = good.well_formed;
+      params = refl;
+      temps = refl;
+      sizes = refl;
+      rooms = refl;
+      marked = refl;
+      switches = refl;
+    }
 
 pub body_is_tidied : (b : Body) (arrays : List ℕ) (code : List Stm) (rooms : List Room) (marked switches : List ℕ) → arrays ≡ b.arrays → IsTidiedCode b.temps b.code code → rooms ≡ b.rooms → marked ≡ b.marked → switches ≡ b.switches →
     IsTidied b (record { params = b.params; temps = b.temps; arrays = arrays; code = code; rooms = rooms; marked = marked; switches = switches })

@@ -12,6 +12,7 @@ use Rattle.mv_ir.specs.declared.tree.Tree.TheFolds.{fold-roll-Tree, map-Tree}
 use Rattle.mv_ir.specs.Live.{reads_temp}
 use Rattle.mv_ir.specs.Rolled.{temp}
 use Rattle.mv_ir.proofs.Rolls.{reads_temp_roll}
+use Rattle.mv_fold.proofs.Reached.{eqb_self}
 use Rattle.mv_tidy.specs.Tidying.{taking_node, taking, layer_is_leaf, is_leaf}
 
 pub temp_is : (t : ℕ) → tr.Temp t ≡ temp t
@@ -24,6 +25,9 @@ reads_number u n = ap (reads_temp u) (sym (rolls-Number n)) ∙ reads_temp_roll 
 
 pub reads_itself : (u t : ℕ) → reads_temp u (tr.Temp t) ≡ eqb t u
 reads_itself u t = ap (reads_temp u) (sym (rolls-Temp t)) ∙ reads_temp_roll u (tree.Temp t)
+
+pub itself_read : (u t : ℕ) → t ≡ u → reads_temp u (temp t) ≡ true
+itself_read u t e = reads_temp_roll u (tree.Temp t) ∙ ap (λ n. eqb n u) e ∙ eqb_self u
 
 pub reads_global : (u g : ℕ) → reads_temp u (tr.Global g) ≡ false
 reads_global u g = ap (reads_temp u) (sym (rolls-Global g)) ∙ reads_temp_roll u (tree.Global g)

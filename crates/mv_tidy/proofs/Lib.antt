@@ -1,10 +1,24 @@
+mod AsGood
 pub mod Equations
 pub mod Values
 pub mod Pairs
 pub mod Thinning
 pub mod Structure
+pub mod ChosenWithin
+pub mod Attaching
+pub mod ChosenSteps
+pub mod ChosenThin
+pub mod ChoosingWalked
 pub mod Measures
 pub mod TidiedKept
+pub mod ChosenKept
+pub mod ChosenGood
 pub mod BodyTidied
+pub mod QuietCode
 pub mod Walked
 pub mod Joined
+pub mod PlainTrees
+pub mod PlainCode
+pub mod PlainNumbers
+pub mod PlainKept
+pub mod PlainGood

@@ -9,14 +9,14 @@ use Rattle.mv_ir.specs.declared.stm.Stm.TheOpen as stm
 use Rattle.mv_ir.specs.declared.stm.Stm.TheViews.{roll-Stm}
 use Rattle.mv_ir.specs.declared.body.Body.{Body}
 use Rattle.mv_ir.specs.Measures.{tree_reads}
-use Rattle.mv_ir.specs.Rolled.{temp}
+use Rattle.mv_ir.specs.Rolled.{temp, set}
 use Rattle.mv_ir.specs.WellFormed.{IsWellFormed}
 use Rattle.mv_fold.specs.Folded.{IsNoGreater}
 use Rattle.mv_fold.proofs.Within.{none_among, Less, less_refl, less_trans, with, less_nothing, amount, amount_append, layer_amount, amount_one, Within, within_append, within_one, no_greater}
 use Rattle.mv_fold.proofs.FoldedWithin.{of_tree, inside, loop_amount, block_amount, if_within}
 use Rattle.mv_fold.proofs.WellFormed.{layer_facts, Kept, keep_refl, kept_append, alike, if_kept, loop_kept, block_kept, code_well_formed}
-use Rattle.mv_tidy.specs.Tidying.{Takes, IsOne, divided, fetched, called, asked, carried, stored, written, IsTidiedCode}
-use Rattle.mv_tidy.proofs.Structure.{IsClosed, tidied_is}
+use Rattle.mv_tidy.specs.Tidying.{Takes, IsOne, divided, fetched, called, asked, carried, stored, written, IsJoinedCode}
+use Rattle.mv_tidy.proofs.Structure.{IsCongruence, IsClosed, joined_is}
 use Rattle.mv_tidy.proofs.Values.{taken_less}
 use Rattle.mv_tidy.proofs.Thinning.{tidied_temps}
 
@@ -97,15 +97,22 @@ one_within gone s n z (carried t x e v w g k) = carried_within t e v w k x
 one_within gone s n z (stored t h e v w g k) = stored_within t e v w k h
 one_within gone s n z (written t r e i v w g unread k) = written_within t e v w k r i
 
-within_closed : IsClosed Within
-within_closed = record {
+pub within_parts : IsCongruence Within
+within_parts = record {
   itself = λ xs. less_refl _;
   both = within_append;
   trans = λ xs ys zs h k. less_trans _ _ _ k h;
-  pair = one_within;
   branch = λ t a a' b b' h k. if_within t t a a' b b' (less_refl _) h k;
   loop = λ b b' h. inside (stm.Loop b) (stm.Loop b') b b' (loop_amount b) (loop_amount b') h;
   enclose = λ b b' h. inside (stm.Block b) (stm.Block b') b b' (block_amount b) (block_amount b') h;
+}
+
+within_closed : IsClosed Within
+within_closed = record {
+  parts = within_parts;
+  pair = one_within;
+  drop = λ t e. none_within (set t e ∷ []);
+  end = λ s rest j k. within_append (s ∷ []) (s ∷ []) rest [] (less_refl _) (none_within rest);
 }
 
 -- ---- what is asked of code
@@ -128,22 +135,29 @@ one_kept gone s n z (carried t x e v w g k) = taken_kept (stm.Set t e) (stm.Set 
 one_kept gone s n z (stored t h e v w g k) = taken_kept (stm.Set t e) (stm.SetGlobal h v) (stm.SetGlobal h w) refl
 one_kept gone s n z (written t r e i v w g unread k) = taken_kept (stm.Set t e) (stm.Write r i v) (stm.Write r i w) refl
 
-kept_closed : IsClosed Kept
-kept_closed = record {
+pub kept_parts : IsCongruence Kept
+kept_parts = record {
   itself = λ xs. keep_refl _;
   both = kept_append;
   trans = λ xs ys zs h k. record { targets = λ r e. k.targets r (h.targets r e); arguments = λ e. k.arguments (h.arguments e); named = λ p e. k.named p (h.named p e) };
-  pair = one_kept;
   branch = λ t a a' b b' h k. if_kept t t a a' b b' h k;
   loop = loop_kept;
   enclose = block_kept;
 }
 
+kept_closed : IsClosed Kept
+kept_closed = record {
+  parts = kept_parts;
+  pair = one_kept;
+  drop = λ t e. none_kept (set t e ∷ []);
+  end = λ s rest j k. kept_append (s ∷ []) (s ∷ []) rest [] (keep_refl _) (none_kept rest);
+}
+
 -- ---- bodies
 
-module _ (b : Body) (code : List Stm) (k : IsTidiedCode b.temps b.code code) where
+module _ (b : Body) (code : List Stm) (k : IsJoinedCode b.temps b.code code) where
   pub tidied_no_greater : IsNoGreater b.code code
-  tidied_no_greater = no_greater b.code code (tidied_is b.temps Within within_closed b.code code k)
+  tidied_no_greater = no_greater b.code code (joined_is b.temps Within within_closed b.code code k)
 
   pub tidied_well_formed : IsWellFormed b → IsWellFormed (record b { code = code })
-  tidied_well_formed = code_well_formed b code (tidied_is b.temps Kept kept_closed b.code code k) (tidied_temps b code k) tidied_no_greater
+  tidied_well_formed = code_well_formed b code (joined_is b.temps Kept kept_closed b.code code k) (tidied_temps b code k) tidied_no_greater

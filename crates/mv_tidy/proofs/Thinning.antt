@@ -1,25 +1,27 @@
 -- What becomes of code has nothing live at its start that wasn't live there before, and reads and writes no other temporaries.
-use Rattle.std.proofs.Common.{◌≡◌, ℕ, zero, suc, ◌<◌, Bool, true, false, ◌||◌, List, [], ◌∷◌, ◌++◌, map, Some, refl, sym, ◌∙◌, ap, ◌⊎◌, inl, inr}
-use Rattle.std.proofs.lemmas.Bool.{or_left, or_right}
+use Rattle.std.proofs.Common.{◌≡◌, ℕ, zero, suc, ◌<◌, Bool, true, false, not, eqb, ◌&&◌, ◌||◌, List, [], ◌∷◌, ◌++◌, map, Some, refl, sym, ◌∙◌, ap, subst, ◌⊎◌, inl, inr}
+use Rattle.std.proofs.lemmas.Bool.{cases_eq, ne_eqb, or_left, or_right}
 use Rattle.mv_num.proofs.Booleans.{or_cases, from_falsity}
 use Rattle.mv_ast.specs.Names.{any_of}
 use Rattle.mv_ir.specs.declared.tree.Tree.{Tree}
-use Rattle.mv_ir.specs.declared.stm.Stm.{Stm}
+use Rattle.mv_ir.specs.declared.stm.Stm.{Stm, out-Stm}
 use Rattle.mv_ir.specs.declared.stm.Stm.TheOpen as stm
-use Rattle.mv_ir.specs.declared.stm.Stm.TheViews.{roll-Stm}
+use Rattle.mv_ir.specs.declared.stm.Stm.TheViews.{roll-Stm, roll-out-Stm}
 use Rattle.mv_ir.specs.declared.body.Body.{Body}
-use Rattle.mv_ir.specs.Live.{is, Around, Flow, with_after, around_block, around_loop, at_place, live_in_order, marks_in_order, live_at_loop, plain, goes_next, flow, nowhere, live_at_start, all_marks, mark_at, IsWhole, HasTemps}
-use Rattle.mv_ir.specs.Rolled.{choose, repeat, enclosed}
-use Rattle.mv_ir.proofs.Rolls.{flow_roll, flow_of_layer}
+use Rattle.mv_ir.specs.Live.{reads_temp, any_reads, is, Around, Flow, with_after, around_block, around_loop, at_place, live_in_order, marks_in_order, live_at_loop, plain, goes_next, flow, nowhere, live_at_start, all_marks, mark_at, IsWhole, HasTemps}
+use Rattle.mv_ir.specs.Rolled.{temp, set, choose, repeat, enclosed}
+use Rattle.mv_ir.proofs.Rolls.{same_functions, flow_roll, flow_of_layer}
 use Rattle.mv_ir.proofs.Joining.{any_append}
+use Rattle.mv_fold.specs.Simple.{layer_jumps, jumps}
 use Rattle.mv_fold.proofs.Thinner.{Covers, covers_mark, place, Implies, FitsAround, nowhere_fits}
 use Rattle.mv_fold.proofs.FoldedThinner.{every, same as stays}
-use Rattle.mv_tidy.specs.Tidying.{IsOne, before, in_loop, in_block, Left, Becomes, none, put, one, same, choice, turns, block, IsTidiedCode}
+use Rattle.mv_tidy.specs.Tidying.{IsOne, lives, before, in_loop, in_block, Left, Becomes, none, put, one, dropped, idle, ended, same, choice, turns, block, IsJoinedCode}
+use Rattle.mv_tidy.proofs.Equations.{itself_read}
 use Rattle.mv_tidy.proofs.Pairs.{Pair, pair_of, pair_live}
 
 -- ---- marks
 
-any_marked : (xs : List Bool) → any_of xs ≡ true → (i : ℕ) × (mark_at xs i ≡ true)
+pub any_marked : (xs : List Bool) → any_of xs ≡ true → (i : ℕ) × (mark_at xs i ≡ true)
 any_marked [] e = from_falsity e
 any_marked (x ∷ xs) e = by (any_marked xs) (or_cases x (any_of xs) e)
   where
@@ -27,15 +29,15 @@ any_marked (x ∷ xs) e = by (any_marked xs) (or_cases x (any_of xs) e)
     by k (inl h) = (0, h)
     by k (inr h) = let further = k h in (suc further.0, further.1)
 
-marked_any : (xs : List Bool) (i : ℕ) → mark_at xs i ≡ true → any_of xs ≡ true
+pub marked_any : (xs : List Bool) (i : ℕ) → mark_at xs i ≡ true → any_of xs ≡ true
 marked_any [] i e = e
 marked_any (x ∷ xs) zero e = or_left x (any_of xs) e
 marked_any (x ∷ xs) (suc i) e = or_right x (any_of xs) (marked_any xs i e)
 
-any_left : (xs ys : List Bool) → any_of xs ≡ true → any_of (xs ++ ys) ≡ true
+pub any_left : (xs ys : List Bool) → any_of xs ≡ true → any_of (xs ++ ys) ≡ true
 any_left xs ys e = any_append xs ys ∙ or_left (any_of xs) (any_of ys) e
 
-any_right : (xs ys : List Bool) → any_of ys ≡ true → any_of (xs ++ ys) ≡ true
+pub any_right : (xs ys : List Bool) → any_of ys ≡ true → any_of (xs ++ ys) ≡ true
 any_right xs ys e = any_append xs ys ∙ or_right (any_of xs) (any_of ys) e
 
 any_cases : (xs ys : List Bool) → any_of (xs ++ ys) ≡ true → (any_of xs ≡ true) ⊎ (any_of ys ≡ true)
@@ -43,6 +45,36 @@ any_cases xs ys e = or_cases (any_of xs) (any_of ys) (sym (any_append xs ys) ∙
 
 covered_any : (mask xs ys : List Bool) → Covers mask xs ys → any_of ys ≡ true → any_of xs ≡ true
 covered_any mask xs ys c e = let found = any_marked ys e in marked_any xs (place mask found.0) (covers_mark mask xs ys c found.0 found.1)
+
+-- ---- jumps
+
+-- behind a statement that never goes on, nothing matters
+abbrev pub Stops : (ℕ → Flow) → Type 0
+Stops f = (t : ℕ) (r : Around) (b : Bool) → ((f t).live (with_after r b) ≡ (f t).live r) × ((f t).marks (with_after r b) ≡ (f t).marks r)
+
+layer_stops : (x : stm.Stm-F Stm) → layer_jumps x ≡ true → Stops (flow_of_layer x)
+layer_stops (stm.Break n) e = λ t r b. (refl, refl)
+layer_stops (stm.Back n) e = λ t r b. (refl, refl)
+layer_stops (stm.Return v) e = λ t r b. (refl, refl)
+layer_stops (stm.Set t v) e = from_falsity e
+layer_stops (stm.SetGlobal g v) e = from_falsity e
+layer_stops (stm.Divide t o a b) e = from_falsity e
+layer_stops (stm.Check a i) e = from_falsity e
+layer_stops (stm.Read t a i) e = from_falsity e
+layer_stops (stm.Write a i v) e = from_falsity e
+layer_stops (stm.Zero l) e = from_falsity e
+layer_stops (stm.If t a b) e = from_falsity e
+layer_stops (stm.Loop b) e = from_falsity e
+layer_stops (stm.Block b) e = from_falsity e
+layer_stops (stm.Call r f args) e = from_falsity e
+layer_stops (stm.Known r k args) e = from_falsity e
+
+pub jump_stops : (s : Stm) → jumps s ≡ true → Stops (λ t. flow t s)
+unfolding jumps
+jump_stops s e =
+    subst (λ u. Stops (λ t. flow t u)) (roll-out-Stm s)
+    (subst Stops (sym (same_functions (λ t. flow t (roll-Stm (out-Stm s))) (flow_of_layer (out-Stm s)) (λ t. flow_roll t (out-Stm s))))
+    (layer_stops (out-Stm s) e))
 
 -- ---- around one temporary
 
@@ -54,17 +86,17 @@ module _ (temps t : ℕ) where
   as_implied : (b b' : Bool) → (b' ≡ true → b ≡ true) → Implies every t b b'
   as_implied b b' h e = (h e, refl)
 
-  fits_after : (r r' : Around) (b b' : Bool) → Fits r r' → (b' ≡ true → b ≡ true) → Fits (with_after r b) (with_after r' b')
+  pub fits_after : (r r' : Around) (b b' : Bool) → Fits r r' → (b' ≡ true → b ≡ true) → Fits (with_after r b) (with_after r' b')
   fits_after r r' b b' f h = record { next = as_implied b b' h; leaves = f.leaves; restarts = f.restarts }
 
   at_place_fits : (b b' : Bool) (f f' : ℕ → Bool) → Implies every t b b' → ((n : ℕ) → Implies every t (f n) (f' n)) → (n : ℕ) → Implies every t (at_place b f n) (at_place b' f' n)
   at_place_fits b b' f f' h k zero = h
   at_place_fits b b' f f' h k (suc n) = k n
 
-  fits_loop : (r r' : Around) (b b' : Bool) → Fits r r' → (b' ≡ true → b ≡ true) → Fits (around_loop r b) (around_loop r' b')
+  pub fits_loop : (r r' : Around) (b b' : Bool) → Fits r r' → (b' ≡ true → b ≡ true) → Fits (around_loop r b) (around_loop r' b')
   fits_loop r r' b b' f h = record { next = as_implied b b' h; leaves = at_place_fits _ _ _ _ f.next f.leaves; restarts = at_place_fits _ _ _ _ (as_implied b b' h) f.restarts }
 
-  fits_block : (r r' : Around) → Fits r r' → Fits (around_block r) (around_block r')
+  pub fits_block : (r r' : Around) → Fits r r' → Fits (around_block r) (around_block r')
   fits_block r r' f = record { next = f.next; leaves = at_place_fits _ _ _ _ f.next f.leaves; restarts = at_place_fits _ _ _ _ (λ v. from_falsity v) f.restarts }
 
   -- ---- what is shown
@@ -166,9 +198,36 @@ module _ (temps t : ℕ) where
       by r' f (inl e) = at_z r' f (z_marks (with_after r' (live_in rest r')) e)
       by r' f (inr e) = behind_it (h.marks r' f (any_right ((flow t n).marks (with_after r' (live_in rest r'))) (marks_in rest r') e))
 
+  -- ---- a set that goes
+
+  passed_thin : (r : Around) (s : Stm) (code : List Stm) (behind : Bool) (rest : List Stm) → (live_in code r ≡ true → live_in (s ∷ code) r ≡ true) →
+      IsThin r code behind rest → IsThin r (s ∷ code) behind rest
+  passed_thin r s code behind [] k h = λ r' f e. k (h r' f e)
+  passed_thin r s code behind (n ∷ rest) k h = record {
+    step = λ r' b f hb e. k (h.step r' b f hb e);
+    beyond = h.beyond;
+    marks = λ r' f e. any_right ((flow t s).marks (with_after r (live_in code r))) (marks_in code r) (h.marks r' f e);
+  }
+
+  set_live : (r : Around) (u : ℕ) (e : Tree) (code : List Stm) → ((u ≡ t → ⊥) → live_in code r ≡ true) → (u ≡ t → reads_temp t e ≡ true) →
+      live_in (set u e ∷ code) r ≡ true
+  set_live r u e code other own = ap (λ (g : Flow). g.live (with_after r (live_in code r))) (flow_roll t (stm.Set u e)) ∙ by (cases_eq u t)
+    where
+      by : (u ≡ t) ⊎ (u ≡ t → ⊥) → (any_reads t (e ∷ []) || (not (eqb u t) && live_in code r)) ≡ true
+      by (inl q) = or_left _ _ (or_left (reads_temp t e) false (own q))
+      by (inr ne) = or_right (any_reads t (e ∷ [])) _ (ap (λ b. not b && live_in code r) (ne_eqb u t ne) ∙ other ne)
+
+  dropped_thin : (r : ℕ → Around) (u : ℕ) (e : Tree) (code rest : List Stm) (behind : Bool) → lives r code u ≡ false → IsThin (r t) code behind rest →
+      IsThin (r t) (set u e ∷ code) behind rest
+  dropped_thin r u e code rest behind dead =
+      passed_thin (r t) (set u e) code behind rest (λ l. set_live (r t) u e code (λ ne. l) (λ q. from_falsity (sym dead ∙ ap (lives r code) q ∙ l)))
+
+  idle_thin : (r : Around) (u : ℕ) (code rest : List Stm) (behind : Bool) → IsThin r code behind rest → IsThin r (set u (temp u) ∷ code) behind rest
+  idle_thin r u code rest behind = passed_thin r (set u (temp u)) code behind rest (λ l. set_live r u (temp u) code (λ ne. l) (itself_read t u))
+
   -- ---- statements
 
-  same_thin : (r : Around) (s : Stm) → ThinStm r s s
+  pub same_thin : (r : Around) (s : Stm) → ThinStm r s s
   same_thin r s =
       let (mask, k) = stays s in
       record {
@@ -183,6 +242,27 @@ module _ (temps t : ℕ) where
           cases (inl x) = x
           cases (inr x) = from_falsity x
 
+  -- ---- a jump
+
+  ended_thin : (r : Around) (s : Stm) (code : List Stm) → jumps s ≡ true → Thin r (s ∷ code) r.next s []
+  ended_thin r s code j = record {
+    step = λ r' b f hb e. (stops t r (live_in code r)).0 ∙ itself.live r' f (sym (stops t r' b).0 ∙ e);
+    beyond = λ r' f e. (f.next e).0;
+    marks = λ r' f e. by r' f (any_cases ((flow t s).marks (with_after r' r'.next)) [] e);
+  }
+    where
+      stops : Stops (λ u. flow u s)
+      stops = jump_stops s j
+
+      itself : ThinStm r s s
+      itself = same_thin r s
+
+      by : (r' : Around) → Fits r r' → (any_of ((flow t s).marks (with_after r' r'.next)) ≡ true) ⊎ (false ≡ true) → any_of (marks_in (s ∷ code) r) ≡ true
+      by r' f (inl e) =
+          any_left ((flow t s).marks (with_after r (live_in code r))) (marks_in code r)
+          (ap any_of (stops t r (live_in code r)).1 ∙ itself.marks r' f (ap any_of (sym (stops t r' r'.next).1) ∙ e))
+      by r' f (inr e) = from_falsity e
+
   -- by the layers
   layer_thin : (r : Around) (x y : stm.Stm-F Stm) → ((r' : Around) → Fits r r' → (flow_of_layer y t).live r' ≡ true → (flow_of_layer x t).live r ≡ true) → ((r' : Around) → Fits r r' → any_of ((flow_of_layer y t).marks r') ≡ true → any_of ((flow_of_layer x t).marks r) ≡ true) → ThinStm r (roll-Stm x) (roll-Stm y)
   layer_thin r x y h k = record {
@@ -190,14 +270,14 @@ module _ (temps t : ℕ) where
     marks = λ r' f e. ap (λ (g : Flow). any_of (g.marks r)) (flow_roll t x) ∙ k r' f (ap (λ (g : Flow). any_of (g.marks r')) (sym (flow_roll t y)) ∙ e);
   }
 
-  or_both : (a b c d : Bool) → (c ≡ true → a ≡ true) → (d ≡ true → b ≡ true) → (c || d) ≡ true → (a || b) ≡ true
+  pub or_both : (a b c d : Bool) → (c ≡ true → a ≡ true) → (d ≡ true → b ≡ true) → (c || d) ≡ true → (a || b) ≡ true
   or_both a b c d h k e = by (or_cases c d e)
     where
       by : (c ≡ true) ⊎ (d ≡ true) → (a || b) ≡ true
       by (inl x) = or_left a b (h x)
       by (inr y) = or_right a b (k y)
 
-  any_both : (a b c d : List Bool) → (any_of c ≡ true → any_of a ≡ true) → (any_of d ≡ true → any_of b ≡ true) → any_of (c ++ d) ≡ true → any_of (a ++ b) ≡ true
+  pub any_both : (a b c d : List Bool) → (any_of c ≡ true → any_of a ≡ true) → (any_of d ≡ true → any_of b ≡ true) → any_of (c ++ d) ≡ true → any_of (a ++ b) ≡ true
   any_both a b c d h k e = by (any_cases c d e)
     where
       by : (any_of c ≡ true) ⊎ (any_of d ≡ true) → any_of (a ++ b) ≡ true
@@ -211,7 +291,7 @@ module _ (temps t : ℕ) where
       (λ r' f. or_both _ _ _ _ (live r' f) (any_both (marks_in a r) (marks_in b r) (marks_in a' r') (marks_in b' r') (thin_marks r a p a' ha r' f) (thin_marks r b q b' hb r' f)))
 
   -- what is live at a loop's start is so with it
-  settled : (f : Bool → Bool) → f (f false) ≡ true → f false ≡ true
+  pub settled : (f : Bool → Bool) → f (f false) ≡ true → f false ≡ true
   settled f h = by (f false) refl
     where
       by : (b : Bool) → f false ≡ b → f false ≡ true
@@ -234,6 +314,9 @@ module _ (temps t : ℕ) where
     left_thin r code result behind (none q) = λ r' f e. (f.next e).0
     left_thin r code result behind (put q s y ss rest p h k) = put_thin (r t) s y ss rest (p t) (left_thin q ss rest p h) (becomes_thin (before q ss) s y k)
     left_thin r code result behind (one q s n z ss rest p h k) = one_thin (r t) s n z ss rest p (left_thin q ss (n ∷ rest) p h) k
+    left_thin r code result behind (dropped q u e ss rest p h lt dead) = dropped_thin q u e ss rest (p t) dead (left_thin q ss rest p h)
+    left_thin r code result behind (idle q u ss rest p h lt) = idle_thin (q t) u ss rest (p t) (left_thin q ss rest p h)
+    left_thin r code result behind (ended q s ss rest p h j k) = ended_thin (q t) s ss j
 
     pub becomes_thin : (r : ℕ → Around) (s y : Stm) → Becomes temps r s y → ThinStm (r t) s y
     becomes_thin r s y (same q u) = same_thin (q t) u
@@ -243,7 +326,7 @@ module _ (temps t : ℕ) where
 
 -- ---- bodies
 
-module _ (b : Body) (code : List Stm) (k : IsTidiedCode b.temps b.code code) where
+module _ (b : Body) (code : List Stm) (k : IsJoinedCode b.temps b.code code) where
   start : (t : ℕ) → live_at_start t code ≡ true → live_at_start t b.code ≡ true
   start t = thin_live b.temps t nowhere b.code (k.behind t) code (left_thin b.temps t (λ u. nowhere) b.code code k.behind k.left) nowhere (nowhere_fits every t)
 

@@ -1,5 +1,5 @@
 -- Tidying keeps the meaning of code, at no greater cost.
-use Rattle.std.proofs.Common.{arith, ◌≡◌, ℕ, zero, suc, ◌+◌, ◌*◌, ◌<◌, ◌≤◌, Bool, true, false, cond, not, eqb, ltb, ◌&&◌, ◌||◌, List, [], ◌∷◌, ◌++◌, length, map, Option, Some, None, refl, sym, ◌∙◌, ap, subst, ◌⊎◌, inl, inr}
+use Rattle.std.proofs.Common.{arith, ◌≡◌, ℕ, zero, suc, ◌+◌, ◌*◌, ◌<◌, ◌≤◌, Bool, true, false, cond, not, eqb, ltb, ◌&&◌, ◌||◌, List, [], ◌∷◌, ◌++◌, length, map, Option, Some, None, refl, sym, ◌∙◌, ap, subst, ◌⊎◌, inl, inr, append-nil}
 use Rattle.std.specs.Prelude.{slice_index, slice_index_or, slice_set}
 use Rattle.std.proofs.lemmas.List.{length-set, get_or-set_other, get_or_past, set_past}
 use Rattle.std.proofs.lemmas.Grind.{get_or-set_at}
@@ -20,7 +20,7 @@ use Rattle.mv_ir.specs.Trees.{value, nodes}
 use Rattle.mv_ir.specs.Outcome.{State, Next, Leaves, Restarts, Ends, Outcome, Bound, Meaning, spend, goes_on, in_order}
 use Rattle.mv_ir.specs.Meaning.{meaning, code_meaning, elements, with_elements, with_global, entry_state}
 use Rattle.mv_ir.specs.Measures.{callee_trees}
-use Rattle.mv_ir.specs.Keeps.{KeepsBody}
+use Rattle.mv_ir.specs.Keeps.{KeepsMeaning, KeepsBody}
 use Rattle.mv_ir.specs.Live.{reads_temp, any_reads, is, Around, with_after, at_place, around_loop, live_in_order, live_at_loop, flow, nowhere}
 use Rattle.mv_ir.specs.Rolled.{temp, set}
 use Rattle.mv_ir.proofs.Induction.{Each, StmChildren, stm_ind}
@@ -29,11 +29,14 @@ use Rattle.mv_ir.proofs.Keeping.{map_append, meaning_roll, one_meaning, layer_me
 use Rattle.mv_ir.proofs.Relating.{Rel, StateRel, Places, with_next, under, in_block as within_block, in_loop as within_loop, OutcomeRel, RunRel, MeaningRel, nil_rel, cons_rel, append_rel, meaning_weaker, places_weaker, block_rel, loop_rel, end_same}
 use Rattle.mv_ir.proofs.RelatedStatements.{from_temps, SameIn, SameTreesIn, SameCalleeIn, Writes, Weaker, Puts, set_rel, set_global_rel, divide_rel, check_rel, read_rel, write_rel, zero_rel, if_rel, break_rel, back_rel, call_rel, known_rel, return_rel}
 use Rattle.mv_ir.proofs.Joining.{temps_enough}
+use Rattle.mv_fold.specs.Simple.{jumps, ended as up_to_jump}
+use Rattle.mv_fold.proofs.SimpleKept.{ended_kept}
 use Rattle.mv_fold.proofs.FoldedThinner.{every}
 use Rattle.mv_fold.proofs.Thinner.{FitsAround}
-use Rattle.mv_tidy.specs.Tidying.{Takes, IsOne, divided, fetched, called, asked, carried, stored, written, lives, before, in_loop, in_block, Left, Becomes, none, put, one, same, choice, turns, block, IsTidiedCode}
+use Rattle.mv_tidy.specs.Tidying.{Takes, IsOne, divided, fetched, called, asked, carried, stored, written, lives, before, in_loop, in_block, Left, Becomes, none, put, one, dropped, idle, ended, same, choice, turns, block, IsJoinedCode}
+use Rattle.mv_tidy.proofs.Equations.{itself_read}
 use Rattle.mv_tidy.proofs.Values.{value_same, value_taken, takes_is, taken_less}
-use Rattle.mv_tidy.proofs.Thinning.{left_thin}
+use Rattle.mv_tidy.proofs.Thinning.{jump_stops, left_thin}
 
 -- ---- related runs, one after the other
 
@@ -45,7 +48,7 @@ pub record Transitive (q : Places) : Type 0 where
 state_trans : (p : Rel) → ((xs ys zs : List ℕ) → p xs ys → p ys zs → p xs zs) → (a b c : State) → StateRel p a b → StateRel p b c → StateRel p a c
 state_trans p h a b c x y = record { temps = h a.temps b.temps c.temps x.temps y.temps; arrays = x.arrays ∙ y.arrays; world = x.world ∙ y.world }
 
-outcome_trans : (q : Places) → Transitive q → (a b c : Outcome) → OutcomeRel q a b → OutcomeRel q b c → OutcomeRel q a c
+pub outcome_trans : (q : Places) → Transitive q → (a b c : Outcome) → OutcomeRel q a b → OutcomeRel q b c → OutcomeRel q a c
 outcome_trans q t (Next a) (Next b) (Next c) h k = state_trans q.next t.next a b c h k
 outcome_trans q t (Next a) (Next b) (Leaves n c) h k = absurd k
 outcome_trans q t (Next a) (Next b) (Restarts n c) h k = absurd k
@@ -174,10 +177,10 @@ module _ (temps : ℕ) (setting : Setting) (frame : Frame) where
   abbrev pub m : Stm → Meaning
   m = meaning setting frame
 
-  abbrev IsSelf : Stm → Type 0
+  abbrev pub IsSelf : Stm → Type 0
   IsSelf s = (r : ℕ → Around) → MeaningRel (Agree (λ t. (flow t s).live (r t))) (places r) (m s) (m s)
 
-  self_kids : (b : List Stm) → Each IsSelf b → (r : ℕ → Around) → MeaningRel (Agree (lives r b)) (places r) (in_order (map m b)) (in_order (map m b))
+  pub self_kids : (b : List Stm) → Each IsSelf b → (r : ℕ → Around) → MeaningRel (Agree (lives r b)) (places r) (in_order (map m b)) (in_order (map m b))
   self_kids [] h r = nil_rel (Agree (λ t. (r t).next)) (places r)
   self_kids (s ∷ b) h r = cons_rel (Agree (lives r (s ∷ b))) (Agree (lives r b)) (places r) (m s) (m s) (map m b) (map m b) (h.0 (before r b)) (self_kids b h.1 r)
 
@@ -206,7 +209,7 @@ module _ (temps : ℕ) (setting : Setting) (frame : Frame) where
       (meaning_weaker (Agree (lives r x)) (Agree live) (places r) _ _ (weaker live (lives r x) (λ t e. or_right (reads_temp t v) _ (or_left _ _ e))) kx)
       (meaning_weaker (Agree (lives r y)) (Agree live) (places r) _ _ (weaker live (lives r y) (λ t e. or_right (reads_temp t v) _ (or_right (lives r x t) _ e))) ky)
 
-  turns_rel : (r : ℕ → Around) (b b' : List Stm) → MeaningRel (Agree (lives (in_loop r b) b)) (places (in_loop r b)) (in_order (map m b)) (in_order (map m b')) →
+  pub turns_rel : (r : ℕ → Around) (b b' : List Stm) → MeaningRel (Agree (lives (in_loop r b) b)) (places (in_loop r b)) (in_order (map m b)) (in_order (map m b')) →
       MeaningRel (Agree (λ t. (flow_of_layer (stm.Loop b) t).live (r t))) (places r) (layer_means setting frame (stm.Loop b)) (layer_means setting frame (stm.Loop b'))
   turns_rel r b b' k =
       let start : ℕ → Bool = λ t. live_at_loop (map (flow t) b) (r t) in
@@ -214,7 +217,7 @@ module _ (temps : ℕ) (setting : Setting) (frame : Frame) where
       (places_weaker (Agree start) (places (in_loop r b)) (within_loop (Agree start) (places r)) _ _ (λ xs ys e. e) (under_block r) (under_start start r)
       (meaning_weaker (Agree (lives (in_loop r b) b)) (Agree start) (places (in_loop r b)) _ _ (weaker start (lives (in_loop r b) b) (λ t e. settled (λ s. live_in_order (map (flow t) b) (around_loop (r t) s)) e)) k))
 
-  block_kept_rel : (r : ℕ → Around) (b b' : List Stm) → MeaningRel (Agree (lives (in_block r) b)) (places (in_block r)) (in_order (map m b)) (in_order (map m b')) →
+  pub block_kept_rel : (r : ℕ → Around) (b b' : List Stm) → MeaningRel (Agree (lives (in_block r) b)) (places (in_block r)) (in_order (map m b)) (in_order (map m b')) →
       MeaningRel (Agree (λ t. (flow_of_layer (stm.Block b) t).live (r t))) (places r) (layer_means setting frame (stm.Block b)) (layer_means setting frame (stm.Block b'))
   block_kept_rel r b b' k =
       let nothing : ℕ → Bool = λ t. false in
@@ -265,7 +268,7 @@ module _ (temps : ℕ) (setting : Setting) (frame : Frame) where
       subst (λ d. MeaningRel (Agree (λ t. (flow t (roll-Stm x)).live (r t))) (places r) d (m (roll-Stm y))) (sym (meaning_roll setting frame x))
       (subst (λ d. MeaningRel (Agree (λ t. (flow t (roll-Stm x)).live (r t))) (places r) (layer_means setting frame x) d) (sym (meaning_roll setting frame y)) told)
 
-  self : (s : Stm) → IsSelf s
+  pub self : (s : Stm) → IsSelf s
   self = stm_ind IsSelf (λ x h r. rolled x x r (self_layer x h r))
 
   -- ---- two statements as one
@@ -510,7 +513,7 @@ module _ (temps : ℕ) (setting : Setting) (frame : Frame) where
     others = all_related r code rest behind h;
   }
 
-  transitive : (r : ℕ → Around) (behind : ℕ → Bool) → Transitive (Q r behind)
+  pub transitive : (r : ℕ → Around) (behind : ℕ → Bool) → Transitive (Q r behind)
   transitive r behind = record { next = agree_trans behind; leaves = λ k. agree_trans (λ t. (r t).leaves k); restarts = λ k. agree_trans (λ t. (r t).restarts k) }
 
   one_related : (r : ℕ → Around) (s n z : Stm) (code rest : List Stm) (behind : ℕ → Bool) → Split r code behind n rest → IsOne (λ u. (u < temps) × (behind u ≡ false)) s n z → Needs r behind (lives r code) n → Split r (s ∷ code) behind z rest
@@ -525,6 +528,93 @@ module _ (temps : ℕ) (setting : Setting) (frame : Frame) where
     others = h.others;
   }
 
+  -- a set that does nothing to what matters behind it
+  passed_rel : (p mid : Rel) (q : Places) (t : ℕ) (e : Tree) →
+      ((xs ys : List ℕ) (globals : List (List ℕ)) → p xs ys → mid (slice_set xs t (value setting.numbers frame.bound e xs globals)) ys) →
+      MeaningRel p (with_next mid q) (in_order (m (set t e) ∷ [])) (in_order [])
+  passed_rel p mid q t e h bound s s' a =
+      subst (λ z. RunRel (with_next mid q) z (in_order [] bound s')) (sym (one_meaning setting frame (stm.Set t e) bound s))
+      (record { outcome = record { temps = h s.temps s'.temps s.world.globals a.temps; arrays = a.arrays; world = a.world }; cheaper = omega arith })
+
+  -- before a set, and behind it
+  abbrev Passes : (ℕ → Around) → ℕ → Tree → List Stm → Type 0
+  Passes r t e code = (xs ys : List ℕ) (globals : List (List ℕ)) → Agree (lives r (set t e ∷ code)) xs ys →
+      Agree (lives r code) (slice_set xs t (value setting.numbers frame.bound e xs globals)) ys
+
+  passed_related : (r : ℕ → Around) (t : ℕ) (e : Tree) (code rest : List Stm) (behind : ℕ → Bool) → Passes r t e code → IsRelated r code behind rest →
+      IsRelated r (set t e ∷ code) behind rest
+  passed_related r t e code [] behind k h =
+      append_rel (Agree (lives r (set t e ∷ code))) (Agree (lives r code)) (places r) (m (set t e) ∷ []) [] (map m code) []
+      (passed_rel (Agree (lives r (set t e ∷ code))) (Agree (lives r code)) (places r) t e k) h
+  passed_related r t e code (n ∷ rest) behind k h = record {
+    us = set t e ∷ h.us;
+    vs = h.vs;
+    is = ap (λ l. set t e ∷ l) h.is;
+    first =
+        append_rel (Agree (lives r (set t e ∷ code))) (Agree (lives r code)) (Q r behind) (m (set t e) ∷ []) [] (map m h.us) (m n ∷ [])
+        (passed_rel (Agree (lives r (set t e ∷ code))) (Agree (lives r code)) (Q r behind) t e k) h.first;
+    others = h.others;
+  }
+
+  live_at_set : (r : ℕ → Around) (t : ℕ) (e : Tree) (code : List Stm) (u : ℕ) → L (e ∷ []) (Some t) (lives r code) u ≡ true → lives r (set t e ∷ code) u ≡ true
+  live_at_set r t e code u l = ap (λ f. f.live (before r code u)) (flow_roll u (stm.Set t e)) ∙ l
+
+  set_passes : (r : ℕ → Around) (t : ℕ) (e : Tree) (code : List Stm) →
+      ((xs ys : List ℕ) (globals : List (List ℕ)) → Agree (lives r (set t e ∷ code)) xs ys → lives r code t ≡ true →
+      slice_index (slice_set xs t (value setting.numbers frame.bound e xs globals)) t ≡ slice_index ys t) →
+      Passes r t e code
+  set_passes r t e code own xs ys globals a =
+      let v = value setting.numbers frame.bound e xs globals in
+      record {
+        long = length-set xs t v ∙ a.long;
+        room = (let k = a.room in omega (arith, k, length-set xs t v));
+        same = λ u l. by u l (cases_eq u t);
+      }
+    where
+      by : (u : ℕ) → lives r code u ≡ true → (u ≡ t) ⊎ (u ≡ t → ⊥) →
+          slice_index (slice_set xs t (value setting.numbers frame.bound e xs globals)) u ≡ slice_index ys u
+      by u l (inl q) =
+          subst (λ z. slice_index (slice_set xs t (value setting.numbers frame.bound e xs globals)) z ≡ slice_index ys z) (sym q)
+          (own xs ys globals a (ap (lives r code) (sym q) ∙ l))
+      by u l (inr ne) = get_or-set_other xs t u (value setting.numbers frame.bound e xs globals) 0 ne ∙
+          a.same u (live_at_set r t e code u (live_other (e ∷ []) t (lives r code) u ne l))
+
+  dropped_passes : (r : ℕ → Around) (t : ℕ) (e : Tree) (code : List Stm) → lives r code t ≡ false → Passes r t e code
+  dropped_passes r t e code dead = set_passes r t e code (λ xs ys globals a l. let k : false ≡ true = sym dead ∙ l in absurd (cc))
+
+  idle_passes : (r : ℕ → Around) (t : ℕ) (code : List Stm) → t < temps → Passes r t (temp t) code
+  idle_passes r t code lt = set_passes r t (temp t) code (λ xs ys globals a l.
+      get_or-set_at xs t t (value setting.numbers frame.bound (temp t) xs globals) 0 refl (let k = a.room in omega (arith, k, lt)) ∙
+      ap (λ f. f xs globals) (value_roll setting.numbers frame.bound (tree.Temp t)) ∙
+      a.same t (live_at_set r t (temp t) code t (or_left _ _ (or_left (reads_temp t (temp t)) false (itself_read t t refl)))))
+
+  -- what stands behind a jump isn't reached
+  jump_alone : (s : Stm) (code : List Stm) → jumps s ≡ true → KeepsMeaning (in_order (map m (s ∷ code))) (in_order (map m (s ∷ [])))
+  jump_alone s code j = subst (λ c. KeepsMeaning (in_order (map m (s ∷ code))) (in_order (map m (s ∷ cond c [] (up_to_jump code))))) j
+      (ended_kept setting frame (s ∷ code))
+
+  jump_related : (r : ℕ → Around) (s : Stm) (code : List Stm) → jumps s ≡ true → Split r (s ∷ code) (lives r []) s []
+  jump_related r s code j = record {
+    us = s ∷ code;
+    vs = [];
+    is = sym (append-nil (s ∷ code));
+    first = λ bound x y a.
+        let alone = jump_alone s code j bound x in
+        let run = itself_here bound x y a in
+        record {
+          outcome = subst (λ o. OutcomeRel (Q r (lives r [])) o (in_order (m s ∷ []) bound y).outcome) (sym alone.same) run.outcome;
+          cheaper = omega (arith, alone.cheaper, run.cheaper);
+        };
+    others = nil_rel (Agree (lives r [])) (places r);
+  }
+    where
+      itself_here : MeaningRel (Agree (lives r (s ∷ code))) (Q r (lives r [])) (in_order (m s ∷ [])) (in_order (m s ∷ []))
+      itself_here =
+          meaning_weaker (Agree (lives r (s ∷ []))) (Agree (lives r (s ∷ code))) (Q r (lives r [])) _ _
+          (weaker (lives r (s ∷ code)) (lives r (s ∷ [])) (λ t e. (jump_stops s j t (r t) (lives r code t)).0 ∙ sym (jump_stops s j t (r t) (r t).next).0 ∙ e))
+          (cons_rel (Agree (lives r (s ∷ []))) (Agree (lives r [])) (Q r (lives r [])) (m s) (m s) [] [] (self s (before r []))
+          (nil_rel (Agree (lives r [])) (Q r (lives r []))))
+
   fits_itself : (t : ℕ) (r : Around) → FitsAround every t r r
   fits_itself t r = record { next = λ e. (e, refl); leaves = λ k e. (e, refl); restarts = λ k e. (e, refl) }
 
@@ -534,6 +624,10 @@ module _ (temps : ℕ) (setting : Setting) (frame : Frame) where
     left_related r code result behind (put p s y ss rest w h k) = put_related p s y ss rest w (left_related p ss rest w h) (becomes_related (before p ss) s y k)
     left_related r code result behind (one p s n z ss rest w h k) =
         one_related p s n z ss rest w (left_related p ss (n ∷ rest) w h) k (λ u e. (left_thin temps u p ss (n ∷ rest) w h).step (p u) (w u) (fits_itself u (p u)) (λ b. b) e)
+    left_related r code result behind (dropped p t e ss rest w h lt dead) = passed_related p t e ss rest w (dropped_passes p t e ss dead)
+        (left_related p ss rest w h)
+    left_related r code result behind (idle p t ss rest w h lt) = passed_related p t (temp t) ss rest w (idle_passes p t ss lt) (left_related p ss rest w h)
+    left_related r code result behind (ended p s ss rest w h j k) = jump_related p s ss j
 
     becomes_related : (r : ℕ → Around) (s y : Stm) → Becomes temps r s y → MeaningRel (Agree (λ t. (flow t s).live (r t))) (places r) (m s) (m y)
     becomes_related r s y (same p u) = self u p
@@ -541,12 +635,12 @@ module _ (temps : ℕ) (setting : Setting) (frame : Frame) where
     becomes_related r s y (turns p b b' w h) = rolled (stm.Loop b) (stm.Loop b') p (turns_rel p b b' (all_related (in_loop p b) b b' w (left_related (in_loop p b) b b' w h)))
     becomes_related r s y (block p b b' w h) = rolled (stm.Block b) (stm.Block b') p (block_kept_rel p b b' (all_related (in_block p) b b' w (left_related (in_block p) b b' w h)))
 
-  pub tidied_related : (code result : List Stm) → IsTidiedCode temps code result → MeaningRel (Agree (lives (λ t. nowhere) code)) (places (λ t. nowhere)) (in_order (map m code)) (in_order (map m result))
+  pub tidied_related : (code result : List Stm) → IsJoinedCode temps code result → MeaningRel (Agree (lives (λ t. nowhere) code)) (places (λ t. nowhere)) (in_order (map m code)) (in_order (map m result))
   tidied_related code result k = all_related (λ t. nowhere) code result k.behind (left_related (λ t. nowhere) code result k.behind k.left)
 
 -- ---- bodies
 
-pub tidied_keeps : (b : Body) (code : List Stm) → IsTidiedCode b.temps b.code code → KeepsBody b (record b { code = code })
+pub tidied_keeps : (b : Body) (code : List Stm) → IsJoinedCode b.temps b.code code → KeepsBody b (record b { code = code })
 tidied_keeps b code k setting frame contents args bound w =
     let s = entry_state contents b args w in
     let run = tidied_related b.temps setting frame b.code code k bound s s (record { temps = record { long = refl; room = temps_enough contents.temps b.temps args; same = λ t e. refl }; arrays = refl; world = refl }) in

@@ -1,5 +1,5 @@
 -- The walk over code gives what becomes of it.
-use Rattle.std.proofs.Common.{arith, ◌≡◌, ℕ, ◌+◌, ◌-◌, ◌<◌, false, List, [], ◌∷◌, ◌++◌, length, map, drop, get_or, reverse, Option, Result, IfOk, IfSome, refl, sym, ◌∙◌, ap, subst}
+use Rattle.std.proofs.Common.{arith, ◌≡◌, ℕ, ◌+◌, ◌-◌, ◌<◌, false, List, [], ◌∷◌, ◌++◌, length, map, drop, get_or, reverse, Option, Result, Ok, Err, OnOk, IfOk, IfSome, true, refl, sym, ◌∙◌, ap, subst, ◌⊎◌, inl, inr}
 use Rattle.std.specs.Prelude.{replicate, slice_set}
 use Rattle.std.proofs.lemmas.List.{drop_all, get_or-reverse, length-append, length-reverse, reverse-append, reverse-reverse, length-replicate}
 use Rattle.std.proofs.lemmas.Option.{IfSome_then}
@@ -8,6 +8,9 @@ use Rattle.mv_ir.specs.declared.tree.Tree.{Tree}
 use Rattle.mv_ir.specs.declared.stm.Stm.{Stm}
 use Rattle.mv_ir.specs.declared.stm.Stm as at
 use Rattle.mv_ir.specs.declared.stm.Stm.TheVariants.{rolls-If, rolls-Loop, rolls-Block}
+use Rattle.mv_ir.specs.Measures.{calls}
+use Rattle.mv_ir.specs.Rolled.{temp, set}
+use Rattle.mv_fold.specs.Simple.{jumps}
 use Rattle.mv_ir.specs.Live.{mark_at, Around, with_after, around_block, around_loop, live_in_order, live_at_loop, flow, nowhere}
 use Rattle.mv_regalloc.specs.Rows.{Bits, Sets, sets, sets_inside, live_before, loop_bits, stm_rows, no_sets}
 use Rattle.mv_regalloc.specs.Seen.{seen}
@@ -17,8 +20,9 @@ use Rattle.mv_regalloc.proofs.RowEquations.{live_loop}
 use Rattle.mv_regalloc.proofs.RowsShow.{code_shows, wide_after, wide_inside, seen_inside, seen_nowhere}
 use Rattle.mv_regalloc.proofs.BodySpans.{clear_at}
 use Rattle.mv_regalloc.proofs.Positions.{from_end}
-use Rattle.mv_tidy.specs.Tidying.{IsOne, divided, fetched, called, asked, carried, stored, written, lives, before, in_loop, in_block, Left, Becomes, none, put, one, same, choice, turns, block, IsTidiedCode}
-use Rattle.mv_tidy.specs.Walking.{IsGone, IsSeen, IsBehind, IsLeft, HasBecome, turning, IsOneOfLast, IsWalked}
+use Rattle.mv_tidy.specs.Tidying.{IsOne, divided, fetched, called, asked, carried, stored, written, lives, before, in_loop, in_block, Left, Becomes, none, put, one, dropped, idle, ended, same, choice, turns, block, IsJoinedCode}
+use Rattle.mv_tidy.specs.Walking.{IsGone, IsSeen, IsBehind, IsLeft, HasBecome, turning, IsOneOfLast, IsIdle, passed, IsWalked}
+use Rattle.mv_tidy.proofs.QuietCode.{calls_reverse}
 
 -- ---- what one temporary sees
 
@@ -72,61 +76,103 @@ one_as g h f s n z (written t r e i v w k u l) = written t r e i v w (f t k) u l
 
 -- ---- the walk
 
-pub walk_starts : (temps : ℕ) (s now : LiveSets) → now ≡ with_saved s s.around.none → IsWalked temps s [] [] now
+pub on_ok_both : {T E A B C : Type 0} (r : Result T E) → (A → B → C) → OnOk r A → OnOk r B → OnOk r C
+on_ok_both (Ok x) f a b = f a b
+on_ok_both (Err e) f a b = tt
+
+pub walk_starts : (temps : ℕ) (s now : LiveSets) → now ≡ with_saved (with_saved s s.live) s.around.none → IsWalked temps s [] [] now
 walk_starts temps s now e = record {
   live = s.around.none;
   is = e;
   left = λ r k. record { behind = λ t. false; same = λ t lt. k.wide.clear t; left = none r };
 }
 
-module _ (temps : ℕ) (start : LiveSets) (code kept kept' : List Stm) (s : Stm) (now now' : LiveSets) (w : IsWalked temps start code kept now) where
-  -- the statement is one with the last
-  pub walk_joins : (z : Stm) → IsOneOfLast temps (row_of now (Saved 0)) s kept z →
-      ((n : Stm) (rest : List Stm) → reverse kept ≡ n ∷ rest → reverse kept' ≡ z ∷ rest) → now' ≡ with_live now ((stm_rows s).live (sets now.around now.live)) → IsWalked temps start (s ∷ code) kept' now'
-  walk_joins z (n, rest, is, k) put_there e = record {
+module _ (temps : ℕ) (start : LiveSets) (code kept : List Stm) (s : Stm) (now : LiveSets) (w : IsWalked temps start code kept now) where
+  abbrev around : Sets
+  around = sets start.around start.live
+
+  -- the statement does nothing
+  pub walk_passes : IsIdle temps now.live s → IsWalked temps start (s ∷ code) kept (passed s now)
+  walk_passes k = record {
     live = w.live;
-    is = e ∙ ap (λ l. with_live l ((stm_rows s).live (sets l.around l.live))) w.is;
-    left = λ r seen. behind r seen (w.left r seen);
+    is = ap (passed s) w.is;
+    left = λ r seen. let b = w.left r seen in record { behind = b.behind; same = b.same; left = goes r seen b };
   }
     where
-      behind : (r : ℕ → Around) → IsSeen temps (sets start.around start.live) r → IsBehind temps r w.live code (reverse kept) →
-          IsBehind temps r w.live (s ∷ code) (reverse kept')
-      behind r seen b = record {
-        behind = b.behind;
-        same = b.same;
-        left = subst (Left temps r (s ∷ code) b.behind) (sym (put_there n rest is))
-            (one r s n z code rest b.behind (subst (Left temps r code b.behind) is b.left)
-            (one_as (IsGone temps (row_of now (Saved 0))) _
-            (λ t g. (g.0, sym (b.same t g.0) ∙ sym (ap (λ l. mark_at (row_of l (Saved 0)) t) w.is) ∙ g.1)) s n z k));
-      }
+      goes : (r : ℕ → Around) → IsSeen temps around r → (b : IsBehind temps r w.live code (reverse kept)) → Left temps r (s ∷ code) b.behind (reverse kept)
+      goes r seen b = subst (λ x. Left temps r (x ∷ code) b.behind (reverse kept)) (sym k.is) (by k.idle)
+        where
+          by : (mark_at now.live k.temp ≡ false) ⊎ (k.value ≡ temp k.temp) → Left temps r (set k.temp k.value ∷ code) b.behind (reverse kept)
+          by (inl dead) =
+              dropped r k.temp k.value code (reverse kept) b.behind b.left k.within
+              (sym (live_seen temps around r seen code k.temp k.within) ∙ sym (ap (λ l. mark_at l.live k.temp) w.is) ∙ dead)
+          by (inr same_value) = subst (λ v. Left temps r (set k.temp v ∷ code) b.behind (reverse kept)) (sym same_value)
+              (idle r k.temp code (reverse kept) b.behind b.left k.within)
 
-  -- the statement stands
-  pub walk_goes_on : (y : Stm) → HasBecome temps now s y → kept' ≡ kept ++ y ∷ [] →
-      now' ≡ with_live (with_saved (forgotten now) now.live) ((stm_rows s).live (sets now.around now.live)) → IsWalked temps start (s ∷ code) kept' now'
-  walk_goes_on y h is e = record {
-    live = now.live;
-    is = e ∙ ap (λ l. with_live (with_saved (forgotten l) now.live) ((stm_rows s).live (sets l.around l.live))) w.is;
-    left = λ r seen. record {
-      behind = lives r code;
-      same = λ t lt. ap (λ l. mark_at l.live t) w.is ∙ live_seen temps (sets start.around start.live) r seen code t lt;
-      left =
-          let b = w.left r seen in
-          let here = seen_before temps (sets start.around start.live) r seen code in
-          let becomes = h (before r code) (subst (λ l. IsSeen temps (sets l.around l.live) (before r code)) (sym w.is) here) in
-          subst (Left temps r (s ∷ code) (lives r code)) (sym (ap reverse is ∙ reverse-append kept (y ∷ [])))
-          (put r s y code (reverse kept) b.behind b.left becomes);
-    };
-  }
+  module _ (kept' : List Stm) (now' : LiveSets) where
+    -- the statement is a jump behind which nothing calls
+    pub walk_jumps : jumps s ≡ true → calls kept ≡ 0 → kept' ≡ s ∷ [] → now' ≡ with_saved (forgotten now) (row_of (forgotten now) (Saved 0)) →
+        IsWalked temps start (s ∷ code) kept' (passed s now')
+    walk_jumps j quiet is e = record {
+      live = start.live;
+      is = ap (passed s) (e ∙ ap (λ l. with_saved (forgotten l) (row_of (forgotten l) (Saved 0))) w.is);
+      left = λ r seen. record {
+        behind = lives r [];
+        same = λ t lt. live_seen temps around r seen [] t lt;
+        left =
+            let b = w.left r seen in
+            subst (Left temps r (s ∷ code) (lives r [])) (sym (ap reverse is)) (ended r s code (reverse kept) b.behind b.left j (calls_reverse kept ∙ quiet));
+      };
+    }
+
+    -- the statement is one with the last
+    pub walk_joins : (z : Stm) → IsOneOfLast temps (row_of now (Saved 0)) s kept z →
+        ((n : Stm) (rest : List Stm) → reverse kept ≡ n ∷ rest → reverse kept' ≡ z ∷ rest) → now' ≡ now → IsWalked temps start (s ∷ code) kept' (passed s now')
+    walk_joins z (n, rest, is, k) put_there e = record {
+      live = w.live;
+      is = ap (passed s) (e ∙ w.is);
+      left = λ r seen. behind r seen (w.left r seen);
+    }
+      where
+        behind : (r : ℕ → Around) → IsSeen temps around r → IsBehind temps r w.live code (reverse kept) → IsBehind temps r w.live (s ∷ code) (reverse kept')
+        behind r seen b = record {
+          behind = b.behind;
+          same = b.same;
+          left = subst (Left temps r (s ∷ code) b.behind) (sym (put_there n rest is))
+              (one r s n z code rest b.behind (subst (Left temps r code b.behind) is b.left)
+              (one_as (IsGone temps (row_of now (Saved 0))) _
+              (λ t g. (g.0, sym (b.same t g.0) ∙ sym (ap (λ l. mark_at (row_of l (Saved 0)) t) w.is) ∙ g.1)) s n z k));
+        }
+
+    -- the statement stands
+    pub walk_goes_on : (y : Stm) → HasBecome temps now s y → kept' ≡ kept ++ y ∷ [] → now' ≡ with_saved (forgotten now) now.live →
+        IsWalked temps start (s ∷ code) kept' (passed s now')
+    walk_goes_on y h is e = record {
+      live = now.live;
+      is = ap (passed s) (e ∙ ap (λ l. with_saved (forgotten l) now.live) w.is);
+      left = λ r seen. record {
+        behind = lives r code;
+        same = λ t lt. ap (λ l. mark_at l.live t) w.is ∙ live_seen temps around r seen code t lt;
+        left =
+            let b = w.left r seen in
+            let here = seen_before temps around r seen code in
+            let becomes = h (before r code) (subst (λ l. IsSeen temps (sets l.around l.live) (before r code)) (sym w.is) here) in
+            subst (Left temps r (s ∷ code) (lives r code)) (sym (ap reverse is ∙ reverse-append kept (y ∷ [])))
+            (put r s y code (reverse kept) b.behind b.left becomes);
+      };
+    }
 
 -- one statement further towards the start of a list
-pub walk_next : (temps : ℕ) (start : LiveSets) (items kept kept' : List Stm) (done : ℕ) (s : Stm) (now now' : LiveSets) → done < length items →
+pub walk_next : (temps : ℕ) (start : LiveSets) (items kept kept' : List Stm) (done : ℕ) (s : Stm) (now behind now' : LiveSets) → done < length items →
     s ≡ get_or items (length items - 1 - done) s → IsWalked temps start (drop (length items - done) items) kept now →
-    ((from : LiveSets) (code : List Stm) → IsWalked temps from code kept now → IsWalked temps from (s ∷ code) kept' now') →
+    ((from : LiveSets) (code : List Stm) → IsWalked temps from code kept now → IsWalked temps from (s ∷ code) kept' (passed s behind)) →
+    now' ≡ passed s behind →
     IsWalked temps start (drop (length items - (done + 1)) items) kept' now'
-walk_next temps start items kept kept' done s now now' lt is w h =
-    subst (λ c. IsWalked temps start c kept' now') (sym (from_end items done s lt is)) (h start (drop (length items - done) items) w)
+walk_next temps start items kept kept' done s now behind now' lt is w h e =
+    subst (λ c. IsWalked temps start c kept' now') (sym (from_end items done s lt is))
+    (subst (IsWalked temps start (s ∷ drop (length items - done) items) kept') (sym e) (h start (drop (length items - done) items) w))
 
-pub walk_begins : (temps : ℕ) (s now : LiveSets) (items kept : List Stm) → kept ≡ [] → now ≡ with_saved s s.around.none →
+pub walk_begins : (temps : ℕ) (s now : LiveSets) (items kept : List Stm) → kept ≡ [] → now ≡ with_saved (with_saved s s.live) s.around.none →
     IsWalked temps s (drop (length items - 0) items) kept now
 walk_begins temps s now items kept none_kept e =
     let whole : length items - 0 ≡ length items = omega arith in
@@ -142,8 +188,8 @@ module _ (temps : ℕ) (s : LiveSets) (items kept : List Stm) (done : ℕ) (now 
   pub walk_ends : (result : List Stm) → result ≡ reverse kept → IsLeft temps s items result
   walk_ends result e r seen = let b = walk_whole.left r seen in (b.behind, subst (Left temps r items b.behind) (sym e) b.left)
 
-  pub walk_live : (now' : LiveSets) → now' ≡ forgotten now → now' ≡ with_live s (live_before (map stm_rows items) (sets s.around s.live))
-  walk_live now' e = e ∙ ap forgotten walk_whole.is
+  pub walk_live : (now' : LiveSets) → now' ≡ forgotten (forgotten now) → now' ≡ with_live s (live_before (map stm_rows items) (sets s.around s.live))
+  walk_live now' e = e ∙ ap (λ l. forgotten (forgotten l)) walk_whole.is
 
 -- ---- what becomes of a statement
 
@@ -182,7 +228,7 @@ loop_left temps s put_aside behind within b result ep eb ew =
 -- ---- a body
 
 pub body_left : (temps : ℕ) (s : LiveSets) (code result : List Stm) → s.live ≡ replicate temps false → s.around.none ≡ replicate temps false →
-    s.around.leaves ≡ [] → s.around.restarts ≡ [] → IsLeft temps s code result → IsTidiedCode temps code result
+    s.around.leaves ≡ [] → s.around.restarts ≡ [] → IsLeft temps s code result → IsJoinedCode temps code result
 body_left temps s code result el en ee er h =
     let l = h (λ t. nowhere) (subst (λ x. IsSeen temps x (λ t. nowhere)) (sym is) nothing) in
     record { behind = l.0; left = l.1 }

@@ -1,3 +1,7 @@
+pub mod Plain
 pub mod Tidying
+pub mod Choosing
+pub mod Attaching
 pub mod Tidied
 pub mod Walking
+pub mod ChoosingWalk

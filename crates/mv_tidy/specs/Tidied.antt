@@ -1,11 +1,22 @@
 -- What tidying a body gives.
-use Rattle.std.specs.Prelude.{◌≡◌}
+use Rattle.std.specs.Prelude.{ℕ, ◌≡◌, List}
+use Rattle.mv_ir.specs.declared.stm.Stm.{Stm}
 use Rattle.mv_ir.specs.declared.body.Body.{Body}
 use Rattle.mv_ir.specs.Keeps.{KeepsBody}
-use Rattle.mv_ir.specs.Live.{IsWhole, HasTemps}
+use Rattle.mv_ir.specs.Live.{IsWhole, HasTemps, nowhere}
 use Rattle.mv_ir.specs.WellFormed.{IsWellFormed}
 use Rattle.mv_fold.specs.Folded.{IsNoGreater}
-use Rattle.mv_tidy.specs.Tidying.{IsTidiedCode}
+use Rattle.mv_tidy.specs.Plain.{PlainCode}
+use Rattle.mv_tidy.specs.Tidying.{IsJoinedCode}
+use Rattle.mv_tidy.specs.Choosing.{Chosen}
+
+-- the code of a body with so many temporaries, with plainer trees, then with statements joined, then with choices put together
+pub record IsTidiedCode (temps : ℕ) (code result : List Stm) : Type 0 where
+  pub plain : List Stm
+  pub joined : List Stm
+  pub is_plain : PlainCode code plain
+  pub is_joined : IsJoinedCode temps plain joined
+  pub is_chosen : Chosen temps (λ t. nowhere) joined result
 
 -- The second body means what the first means, at no greater cost. It is whole, and well formed, where the first is. Its code is the first's, tidied.
 pub record IsTidied (body result : Body) : Type 0 where

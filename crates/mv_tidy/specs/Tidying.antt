@@ -1,5 +1,5 @@
 -- Code without temporaries that only hand a value on: two statements that stand one behind the other as one, where the temporary between them is not live
--- behind the second.
+-- behind the second. A value that is never read isn't computed, and what stands behind a jump goes, unless it calls.
 use Rattle.std.specs.Prelude.{ℕ, ◌≡◌, ◌<◌, Bool, true, false, cond, eqb, List, [], ◌∷◌, map, Some}
 use Rattle.mv_ast.specs.declared.program.Known.{Known}
 use Rattle.mv_ir.specs.declared.tree.Tree.{Tree, out-Tree}
@@ -10,8 +10,10 @@ use Rattle.mv_ir.specs.declared.tree.Tree.TheFolds.{fold-Tree}
 use Rattle.mv_ir.specs.declared.stm.Array.{Array}
 use Rattle.mv_ir.specs.declared.stm.Callee.{Callee}
 use Rattle.mv_ir.specs.declared.stm.Stm.{Stm}
+use Rattle.mv_ir.specs.Measures.{calls}
 use Rattle.mv_ir.specs.Live.{reads_temp, Around, with_after, around_block, around_loop, live_in_order, live_at_loop, flow, nowhere}
 use Rattle.mv_ir.specs.Rolled.{temp, set, set_global, divide, choose, call, read, write, repeat, enclosed, known}
+use Rattle.mv_fold.specs.Simple.{jumps}
 
 -- ---- trees
 
@@ -70,11 +72,14 @@ in_block r t = around_block (r t)
 
 mutual
   -- What becomes of code whose temporaries are below `temps`, and what is live behind the first statement of that: each statement stands, with what becomes of
-  -- the lists in it, or is one with the statement that has become the first behind it.
+  -- the lists in it, or is one with the statement that has become the first behind it, or goes.
   pub data Left (temps : ℕ) : (ℕ → Around) → List Stm → (ℕ → Bool) → List Stm → Type 0 where
     none : (r : ℕ → Around) → Left temps r [] (λ t. false) []
     put : (r : ℕ → Around) (s y : Stm) (code rest : List Stm) (behind : ℕ → Bool) → Left temps r code behind rest → Becomes temps (before r code) s y → Left temps r (s ∷ code) (lives r code) (y ∷ rest)
     one : (r : ℕ → Around) (s n z : Stm) (code rest : List Stm) (behind : ℕ → Bool) → Left temps r code behind (n ∷ rest) → IsOne (λ t. (t < temps) × (behind t ≡ false)) s n z → Left temps r (s ∷ code) behind (z ∷ rest)
+    dropped : (r : ℕ → Around) (t : ℕ) (e : Tree) (code rest : List Stm) (behind : ℕ → Bool) → Left temps r code behind rest → t < temps → lives r code t ≡ false → Left temps r (set t e ∷ code) behind rest
+    idle : (r : ℕ → Around) (t : ℕ) (code rest : List Stm) (behind : ℕ → Bool) → Left temps r code behind rest → t < temps → Left temps r (set t (temp t) ∷ code) behind rest
+    ended : (r : ℕ → Around) (s : Stm) (code rest : List Stm) (behind : ℕ → Bool) → Left temps r code behind rest → jumps s ≡ true → calls rest ≡ 0 → Left temps r (s ∷ code) (lives r []) (s ∷ [])
 
   -- what becomes of a statement
   pub data Becomes (temps : ℕ) : (ℕ → Around) → Stm → Stm → Type 0 where
@@ -84,6 +89,6 @@ mutual
     block : (r : ℕ → Around) (b b' : List Stm) (p : ℕ → Bool) → Left temps (in_block r) b p b' → Becomes temps r (enclosed b) (enclosed b')
 
 -- of a body: nothing is live around it
-pub record IsTidiedCode (temps : ℕ) (code result : List Stm) : Type 0 where
+pub record IsJoinedCode (temps : ℕ) (code result : List Stm) : Type 0 where
   pub behind : ℕ → Bool
   pub left : Left temps (λ t. nowhere) code behind result

@@ -1,7 +1,9 @@
 -- Where a walk from the end of some code to its start has come to.
-use Rattle.std.specs.Prelude.{ℕ, ◌≡◌, ◌<◌, Bool, false, List, ◌∷◌, map, reverse}
+use Rattle.std.specs.Prelude.{ℕ, ◌≡◌, ◌<◌, ◌⊎◌, Bool, false, List, ◌∷◌, map, reverse}
+use Rattle.mv_ir.specs.declared.tree.Tree.{Tree}
 use Rattle.mv_ir.specs.declared.stm.Stm.{Stm}
 use Rattle.mv_ir.specs.Live.{mark_at, Around}
+use Rattle.mv_ir.specs.Rolled.{temp as temp_of, set}
 use Rattle.mv_regalloc.specs.Rows.{Bits, Sets, live_before, loop_bits, sets, stm_rows}
 use Rattle.mv_regalloc.specs.Seen.{seen, Wide}
 use Rattle.mv_regalloc.specs.Shared.{LiveSets, entered, with_live}
@@ -36,8 +38,21 @@ turning s code = let start = loop_bits (map stm_rows code) (sets s.around s.live
 abbrev pub IsOneOfLast : ℕ → Bits → Stm → List Stm → Stm → Type 0
 IsOneOfLast temps live s kept z = (n : Stm) × (rest : List Stm) × (reverse kept ≡ n ∷ rest) × IsOne (IsGone temps live) s n z
 
--- The walk has come from a place to the start of some code. What has become of that was kept with the last one first, and what is live behind the first was put aside.
+-- a set that does nothing where this is live behind it: nothing reads it, or it gives a temporary what it has
+pub record IsIdle (temps : ℕ) (live : Bits) (s : Stm) : Type 0 where
+  pub temp : ℕ
+  pub value : Tree
+  pub is : s ≡ set temp value
+  pub within : temp < temps
+  pub idle : (mark_at live temp ≡ false) ⊎ (value ≡ temp_of temp)
+
+-- from behind a statement to its start
+abbrev pub passed : Stm → LiveSets → LiveSets
+passed s l = with_live l ((stm_rows s).live (sets l.around l.live))
+
+-- The walk has come from a place to the start of some code. What has become of that was kept with the last one first. What is live behind the first was put
+-- aside last, and before it what is live behind the code.
 pub record IsWalked (temps : ℕ) (start : LiveSets) (code kept : List Stm) (now : LiveSets) : Type 0 where
   pub live : Bits
-  pub is : now ≡ record start { live = live_before (map stm_rows code) (sets start.around start.live); saved = live ∷ start.saved }
+  pub is : now ≡ record start { live = live_before (map stm_rows code) (sets start.around start.live); saved = live ∷ start.live ∷ start.saved }
   pub left : (r : ℕ → Around) → IsSeen temps (sets start.around start.live) r → IsBehind temps r live code (reverse kept)

@@ -1,8 +1,12 @@
-//! Bodies without temporaries that only hand a value on.
+//! Bodies whose code takes fewer steps.
 //!
 //! - `tidy`: the body means what the given one means, traps included, at no greater cost, in each frame, whatever it holds at first, and under each numbering
-//!   (`KeepsBody`). A result that is only moved to another temporary is made there, and a value that was put into a temporary for the next statement alone
-//!   stands in that statement: where it is all that the statement computes, or one node (`specs/Tidying.antt`).
+//!   (`KeepsBody`). In three steps (`specs/Tidied.antt`):
+//!   1. Plainer trees: constants computed, and operators and conversions that change nothing left out (`specs/Plain.antt`).
+//!   2. Statements joined: a result that is only moved to another temporary is made there, and a value that was put into a temporary for the next statement
+//!      alone stands in that statement, where it is all that the statement computes, or one node. A set of a temporary goes that nothing reads, or that gives
+//!      it what it has, and so does what stands behind a jump, unless it calls (`specs/Tidying.antt`).
+//!   3. Two choices as one, where both sides of the first end by setting what alone the second asks for, one of them to a number (`specs/Choosing.antt`).
 //! - A whole body stays whole, and a well-formed one well formed. It reads no global scalar and no global array that the given one doesn't read. Its
 //!   greatest tree depth, statements, tree nodes and calls are at most those of the given one. `params`, `temps`, `arrays`, `rooms`, `marked` and `switches`
 //!   are the same.
@@ -11,13 +15,19 @@
 #![tactic(auto)]
 
 ghost use Rattle.std.specs.Prelude.{IfOk};
-ghost use Rattle.mv_tidy.specs.Tidied.{IsTidied};
-ghost use Rattle.mv_tidy.specs.Tidying.{IsTidiedCode};
+ghost use Rattle.mv_tidy.specs.Tidied.{IsTidied, IsTidiedCode};
+ghost use Rattle.mv_tidy.specs.Tidying.{IsJoinedCode};
 
+mod attach;
+mod choices;
 mod one;
+mod plain;
+mod quiet;
 mod trees;
 mod walk;
 
+use crate::choices::choose;
+use crate::plain::plain_code;
 use crate::walk::tidy_code;
 use mv_ir::body::Body;
 use mv_ir::stm::Stm;
@@ -25,7 +35,7 @@ use mv_num::list::List;
 use mv_regalloc::liveness::Liveness;
 use std::alloc::{AllocError, Global};
 
-/// The body with each value made where it is moved to.
+/// The body with tidied code.
 pub fn tidy(alloc: Global, body: &Body) -> Result<Body, AllocError>
     ensures { IfOk result (λ tidied. IsTidied body.now tidied) }
 {
@@ -40,8 +50,18 @@ pub fn tidy(alloc: Global, body: &Body) -> Result<Body, AllocError>
     })
 }
 
+// The three steps.
 fn tidied(alloc: Global, temps: u32, code: &List<Stm>) -> Result<List<Stm>, AllocError>
-    ensures { IfOk result (λ left. IsTidiedCode temps code.now left) }
+    ensures { IfOk result (IsTidiedCode temps code.now) }
+{
+    let plain = plain_code(alloc, code)?;
+    let joined = in_one(alloc, temps, &plain)?;
+    choose(alloc, temps, &joined)
+}
+
+// Statements that hand a value on in one with those that take it.
+fn in_one(alloc: Global, temps: u32, code: &List<Stm>) -> Result<List<Stm>, AllocError>
+    ensures { IfOk result (λ left. IsJoinedCode temps code.now left) }
 {
     let mut liveness = Liveness::new(alloc, temps as usize)?;
     tidy_code(alloc, temps, code, &mut liveness)

@@ -12,8 +12,8 @@ use mv_ir::tree::Tree;
 use mv_regalloc::liveness::{Liveness, Row};
 use std::alloc::{AllocError, Global};
 
-// Whether a temporary is one of those below `temps`, and isn't live where the set that was put aside last is.
-fn is_gone(temps: u32, temp: u32, liveness: &Liveness) -> bool
+/// Whether a temporary is one of those below `temps`, and isn't live where the set that was put aside last is.
+pub fn is_gone(temps: u32, temp: u32, liveness: &Liveness) -> bool
     ensures { result ≡ true → IsGone temps (row_of liveness.now (Saved 0)) temp }
 {
     if temp < temps {

@@ -5,10 +5,12 @@ pub mod Words
 pub mod BoundNames
 pub mod FoldedNames
 pub mod CarriedNames
+pub mod PlainNames
 pub mod TidiedNames
 pub mod RenamedNames
 pub mod NamesKept
 pub mod Measures
+pub mod TidiedMeasures
 pub mod Weights
 pub mod Variants
 pub mod Generals

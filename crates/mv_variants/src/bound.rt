@@ -1,10 +1,10 @@
 //! What holds of the bodies of attributed functions under values of their switches: which of them a table's rows lead to, and what they mean.
 //!
-//! Laws on bodies of attributed functions that are bound to values of their switches, with numbers carried, tidied, folded, renamed and merged.
+//! Laws on bodies of attributed functions that are tidied, bound to values of their switches, with numbers carried, folded, renamed and merged.
 //!
 //! - `rows_lead_to_variants`: the guard rows of an image, grouped by variant, lead from a combination of the domains to
 //!   the body that came with it, and from other values to none.
-//! - `made_bodies_are_variants`: a body that is bound, with numbers carried, tidied, folded and renamed means under these values what the function
+//! - `made_bodies_are_variants`: a body that is tidied, bound, with numbers carried, folded and renamed means under these values what the function
 //!   means, reads none of the switches, and is no greater.
 //! - `passes_name_no_more`, `variants_can_be_selected`: it names no function and no known function that the first
 //!   doesn't, calls none more often, and code can be selected for it where it can for the first, but for the number of
@@ -39,8 +39,8 @@ pub fn rows_lead_to_variants()
     ensures bodies { BodiesAreMade }
 {}
 
-/// A body that is bound to values of its switches, with numbers carried through its temporaries, tidied, folded and renamed means under these values what the first
-/// means, reads none of the switches, has the folded form, and is no greater. The call does nothing: its contract is the law.
+/// A body that is tidied, bound to values of its switches, with numbers carried through its temporaries, folded and renamed means under these values what the
+/// first means, reads none of the switches, has the folded form, and is no greater. The call does nothing: its contract is the law.
 pub fn made_bodies_are_variants()
     ensures form { RenamingKeepsForm }
     ensures all { MadeAreVariants }
@@ -55,8 +55,8 @@ pub fn passes_name_no_more()
     ensures fold { FoldingNamesNoMore }
 {}
 
-/// A body that is bound to words, with numbers carried, tidied, folded and renamed names no more than the first and has no more calls of each function; and it is one
-/// that code can be selected for, where the first is but for its temporaries. Its frame is no larger than that of the first body renamed. The call does
+/// A body that is tidied, bound to words, with numbers carried, folded and renamed names no more than the first and has no more calls of each function; and it
+/// is one that code can be selected for, where the first is but for its temporaries. Its frame is no larger than that of the first body renamed. The call does
 /// nothing: its contract is the law.
 pub fn variants_can_be_selected()
     ensures names { MadeNameNoMore }

@@ -1,10 +1,10 @@
-//! The variants of an attributed function: its body under each assignment of its switches, with numbers carried, tidied, folded and renamed, and equal bodies as one.
+//! The variants of an attributed function: its body, tidied, under each assignment of its switches, with numbers carried, folded, renamed, and equal ones as one.
 //!
 //! What they are is said by `AreVariants` (`specs/Variants.antt`) in the words of `mv_variants::bound`, whose laws say what follows: that each means what the
 //! function means under its values and reads none of its switches, and which rows lead to it.
 //!
-//! - `variants_of`: of a function and what it is lowered to, the body under each assignment of its switches, bound,
-//!   with numbers carried, tidied, folded and with its temporaries renamed, and equal bodies as one, each with the guard rows that lead to it
+//! - `variants_of`: of a function and what it is lowered to, the body, tidied once for all, under each assignment of its switches: bound,
+//!   with numbers carried, folded and with its temporaries renamed, and equal bodies as one, each with the guard rows that lead to it
 //!   (`AreVariantsOf`). By `mv_variants::bound` each means what the function means under its values, and reads none of its
 //!   switches. They are made one by one, and a body that equals one before it is dropped at once. `Limit` comes with the first
 //!   whose code, each branch taken for one word, there is no room for behind that of all before (`PassesWithin`), with how much

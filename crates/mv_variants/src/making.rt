@@ -6,6 +6,7 @@ ghost use Rattle.mv_ir.specs.declared.body.Assignment.{Assignment};
 ghost use Rattle.mv_ir.specs.Live.{IsWhole, most_intervals};
 ghost use Rattle.mv_ir.specs.Measures.{deepest};
 ghost use Rattle.mv_ir.specs.WellFormed.{IsWellFormed};
+ghost use Rattle.mv_tidy.specs.Tidied.{IsTidied};
 ghost use Rattle.mv_variants.specs.Bound.Meant.{IsMadeUnder, IsWorked};
 ghost use Rattle.mv_variants.specs.Fronts.{AreMeasured, PassesUnder};
 ghost use Rattle.mv_variants.specs.Rows.{AreMergedUnder, IsRowUnder};
@@ -58,13 +59,14 @@ pub(crate) fn merged_under(
     added_rows_are_merged();
     made_bodies_are_variants();
     let most = rename(alloc, body)?.temps;
+    let tidied = tidy(alloc, body)?;
     let mut with = size;
     let mut variants = Variants {
         bodies: List::new(alloc),
         guards: List::new(alloc),
     };
     for assignment in assignments {
-        let row = row_under(alloc, body, most, assignment)?;
+        let row = row_under(alloc, body, &tidied, most, assignment)?;
         let before = variants.bodies.len();
         add(&mut variants, row)?;
         let grown = with_new(alloc, with, variants.bodies.as_slice(), before)?;
@@ -107,16 +109,18 @@ fn with_body(alloc: Global, size: Size, body: &Body) -> Result<Size, AllocError>
 fn row_under(
     alloc: Global,
     body: &Body,
+    tidied: &Body,
     most: u32,
     assignment: &Assignment,
 ) -> Result<Bound, AllocError>
     requires formed { IsWellFormed body.now }
     requires whole { IsWhole body.now }
+    requires tidied { IsTidied body.now tidied.now }
     requires most { most ≤ most_intervals body.now }
     requires values { length body.now.switches ≡ length assignment.now.values }
     ensures { IfOk result (λ row. IsRowUnder body.now assignment.now row) }
 {
-    let made = made_under(alloc, body, most, assignment)?;
+    let made = made_under(alloc, body, tidied, most, assignment)?;
     let values = assignment.values.copied(alloc)?;
     Ok(Bound {
         assignment: Assignment { values },
@@ -124,37 +128,40 @@ fn row_under(
     })
 }
 
-// The body under an assignment: bound, then with numbers carried through its temporaries, then tidied, then folded, then renamed. It isn't tidied where it would
-// have more temporaries by that than a number of which the given body needs as many.
+// What is made of the body under an assignment, given the body tidied. The body as it was is taken where the other would have more temporaries than a number of
+// which the given body needs as many.
+#[tactic(auto, using(crate::proofs::Worked::tidied_values, crate::proofs::Worked::tidied_made))]
 fn made_under(
     alloc: Global,
     body: &Body,
+    tidied: &Body,
     most: u32,
     assignment: &Assignment,
 ) -> Result<Body, AllocError>
     requires formed { IsWellFormed body.now }
     requires whole { IsWhole body.now }
+    requires tidied { IsTidied body.now tidied.now }
     requires most { most ≤ most_intervals body.now }
     requires values { length body.now.switches ≡ length assignment.now.values }
     ensures { IfOk result (λ made. IsMadeUnder (zip body.now.switches assignment.now.values) body.now made) }
 {
-    let bound = bind(alloc, body, assignment)?;
-    let carried = carry(alloc, &bound)?;
-    let tidied = tidy(alloc, &carried)?;
-    let made = worked(alloc, &tidied)?;
+    let made = worked(alloc, tidied, assignment)?;
     if made.temps <= most {
         Ok(made)
     } else {
-        worked(alloc, &carried)
+        worked(alloc, body, assignment)
     }
 }
 
-// A body folded and then renamed.
-fn worked(alloc: Global, body: &Body) -> Result<Body, AllocError>
+// A body under an assignment: bound, then with numbers carried through its temporaries, then folded, then renamed.
+fn worked(alloc: Global, body: &Body, assignment: &Assignment) -> Result<Body, AllocError>
     requires formed { IsWellFormed body.now }
     requires whole { IsWhole body.now }
-    ensures { IfOk result (IsWorked body.now) }
+    requires values { length body.now.switches ≡ length assignment.now.values }
+    ensures { IfOk result (IsWorked (zip body.now.switches assignment.now.values) body.now) }
 {
-    let folded = fold(alloc, body)?;
+    let bound = bind(alloc, body, assignment)?;
+    let carried = carry(alloc, &bound)?;
+    let folded = fold(alloc, &carried)?;
     rename(alloc, &folded)
 }

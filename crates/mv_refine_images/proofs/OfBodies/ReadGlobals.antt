@@ -1,15 +1,14 @@
 -- What a body reads: no more than the function's lowered code, and a variant none of its switches.
-use Rattle.std.proofs.Common.{◌≡◌, ℕ, Bool, true, false, cond, eqb, nat_eq, ◌||◌, List, [], ◌∷◌, filter, Some, None, All, Contains, refl, sym, ap, ◌∙◌, subst}
+use Rattle.std.proofs.Common.{◌≡◌, ℕ, Bool, true, false, cond, eqb, nat_eq, ◌||◌, List, [], ◌∷◌, Some, None, All, Contains, refl, sym, ap, ◌∙◌, subst}
 use Rattle.std.specs.List.{zip}
 use Rattle.std.proofs.lemmas.Bool.{eq-eqb, eqb-true}
-use Rattle.std.proofs.lemmas.List.Elements.{All-nil, All-cons, All-head, All-tail, All-append, All-weaker, All-filter, All-contains, All-contains_itself, Contains-append_left, Contains-append_right}
+use Rattle.std.proofs.lemmas.List.Elements.{All-nil, All-cons, All-head, All-tail, All-append, All-weaker, All-contains, All-contains_itself, Contains-append_left, Contains-append_right}
 use Rattle.mv_num.specs.Lists.{is_among}
 use Rattle.mv_ir.specs.declared.body.Body.{Body}
 use Rattle.mv_ir.specs.Measures.{scalars_read, arrays_read}
 use Rattle.mv_ir.specs.Trees.{found}
-use Rattle.mv_clone.specs.Bind.{is_free}
 use Rattle.mv_select.specs.Bodies.SelectedBodies.{globals_read}
-use Rattle.mv_variants.proofs.OfBound.Meant.{tidy}
+use Rattle.mv_variants.proofs.OfBound.Meant.{reads_scalar, reads_array}
 use Rattle.mv_variants.specs.Bound.Meant.{IsMadeUnder}
 
 -- ---- elements of lists
@@ -69,16 +68,5 @@ module _ (body result : Body) (scalars : (k : ℕ) → Contains (scalars_read re
   pub reads_no_more : (x : ℕ) → is_among x (globals_read result.code) ≡ true → is_among x (globals_read body.code) ≡ true
   reads_no_more x e = among_all Among (globals_read result.code) x (All-append Among (scalars_read result.code) (arrays_read result.code) scalars_among arrays_among) e
 
-module _ (ps : List (ℕ × ℕ)) (body result : Body) (m : IsMadeUnder ps body result) where
-  scalar_was : (k : ℕ) → Contains (scalars_read result.code) k → Contains (scalars_read body.code) k
-  scalar_was k c =
-      let was = m.is_carried.smaller.scalars k ((tidy ps body result m).smaller.scalars k (m.is_folded.smaller.scalars k (subst (λ l. Contains l k) m.is_renamed.scalars c))) in
-      let unbound : All (Contains (scalars_read body.code)) (filter (is_free ps) (scalars_read body.code)) =
-      All-filter (is_free ps) (Contains (scalars_read body.code)) (scalars_read body.code) (All-contains_itself (scalars_read body.code)) in
-      All-contains (Contains (scalars_read body.code)) (filter (is_free ps) (scalars_read body.code)) k unbound (subst (λ l. Contains l k) m.is_bound.scalars was)
-
-  array_was : (k : ℕ) → Contains (arrays_read result.code) k → Contains (arrays_read body.code) k
-  array_was k c = subst (λ l. Contains l k) m.is_bound.arrays (m.is_carried.smaller.arrays k ((tidy ps body result m).smaller.arrays k (m.is_folded.smaller.arrays k (subst (λ l. Contains l k) m.is_renamed.arrays c))))
-
-  pub made_reads_no_more : (x : ℕ) → is_among x (globals_read result.code) ≡ true → is_among x (globals_read body.code) ≡ true
-  made_reads_no_more = reads_no_more body result scalar_was array_was
+pub made_reads_no_more : (ps : List (ℕ × ℕ)) (body result : Body) → IsMadeUnder ps body result → (x : ℕ) → is_among x (globals_read result.code) ≡ true → is_among x (globals_read body.code) ≡ true
+made_reads_no_more ps body result m = reads_no_more body result (reads_scalar ps body result m) (reads_array ps body result m)

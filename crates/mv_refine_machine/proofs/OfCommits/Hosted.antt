@@ -48,7 +48,7 @@ fenced_first image input polls = refl
 -- a frame without cells
 no_frame : Site
 no_frame = record {
-  seats = record { place = λ g. 0; register = λ t. None };
+  seats = record { place = λ g. 0; register = λ t. None; pinned = λ n. None };
   size = λ g. 0;
   reach = record { is_read = λ g. false; is_written = λ g. false; may_load = λ a. false };
   entry = λ f. 0;

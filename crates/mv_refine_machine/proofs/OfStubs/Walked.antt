@@ -41,7 +41,7 @@ use Rattle.mv_num.proofs.Numbers.{word_of_pos, word_of_negsuc}
 -- a frame without cells
 abbrev pub no_frame : (ℕ → ℕ) → Site
 no_frame entry = record {
-  seats = record { place = λ g. 0; register = λ t. None };
+  seats = record { place = λ g. 0; register = λ t. None; pinned = λ n. None };
   size = λ g. 0;
   reach = nothing;
   entry = entry;

@@ -23,12 +23,12 @@ use Rattle.mv_ir.specs.Measures.{callee_trees, layer_trees, stm_trees, trees, la
 use Rattle.mv_ir.specs.WellFormed.{callee_named, layer_named, stm_named, named, has_room, is_there, IsWellFormed}
 use Rattle.mv_ir.proofs.Induction.{Each, TreeChildren, tree_ind, StmChildren, stm_ind, stms_ind}
 use Rattle.mv_ir.proofs.Rolls.{same_functions, reads_roll, trees_roll, named_roll}
-use Rattle.mv_select_code.specs.Trees.TreeCode.{Seats, one, register_of, own_layer, own_register, literal, unless, read_temp, Code, tree_layer, tree_code, tree_into, tree_lines, operand_lines, operand_register, branch_lines}
+use Rattle.mv_select_code.specs.Trees.TreeCode.{Seats, one, register_of, pinned_in, own_layer, own_register, literal, unless, read_temp, Code, tree_layer, tree_code, tree_into, tree_lines, operand_lines, operand_register, branch_lines}
 use Rattle.mv_select_code.specs.Trees.Rooms.{place_in}
 use Rattle.mv_select_code.proofs.OfTrees.Rolls.{code_roll as tree_roll}
 use Rattle.mv_select_code.specs.declared.statements.elements.Home.{Home}
 use Rattle.mv_select_code.specs.declared.statements.elements.Home.TheVariants as place_at
-use Rattle.mv_select_code.specs.Statements.StatementCode.{first, second, trap_label, write_temp, target, keep_lines, division, divisor_lines, fixed, element_at, element_offset, element_lines, put_lines, store_lines, test_lines, set_lines, divide_lines, check_by, check_lines, read_by, read_lines, write_by, write_lines}
+use Rattle.mv_select_code.specs.Statements.StatementCode.{first, second, trap_label, write_temp, target, keep_lines, is_seat, division, power_of, power_division, divisor_lines, fixed, element_at, element_offset, element_lines, put_lines, store_lines, test_lines, set_lines, divide_by, divide_lines, check_by, check_lines, read_by, read_lines, write_by, write_lines}
 use Rattle.mv_select_code.specs.Control.FlowCode.{Plan, Emitted, Tested, plain, fall_to, jump_to, go_to, go_on, leads_to, in_turn, staying, short_cut, if_by, if_code, loop_at, loop_by, loop_code, block_code, home, code_layer, statement_code, code_of}
 use Rattle.mv_select_code.specs.Control.FlowCode as flow_code
 use Rattle.mv_select_code.specs.declared.control.enclosing.Leading.{Leading}
@@ -51,17 +51,17 @@ module _ (is_known : ℕ → Bool) where
   IsKnownArray (array.Global g) = IsIn is_known g
   IsKnownArray (array.Local l) = Unit {0}
 
-  module _ (place place' : ℕ → ℕ) (same_place : (g : ℕ) → is_known g ≡ true → place g ≡ place' g) (register : ℕ → Option ℕ) where
+  module _ (place place' : ℕ → ℕ) (same_place : (g : ℕ) → is_known g ≡ true → place g ≡ place' g) (register : ℕ → Option ℕ) (pinned : ℕ → Option ℕ) where
     abbrev s : Seats
-    s = record { place = place; register = register }
+    s = record { place = place; register = register; pinned = pinned }
 
     abbrev s' : Seats
-    s' = record { place = place'; register = register }
+    s' = record { place = place'; register = register; pinned = pinned }
 
     -- ---- trees
 
     -- which register a tree stands in doesn't depend on globals
-    own_layers : (x : Tree-F (Option ℕ)) → own_layer (record { place = place; register = register }) x ≡ own_layer (record { place = place'; register = register }) x
+    own_layers : (x : Tree-F (Option ℕ)) → own_layer (record { place = place; register = register; pinned = pinned }) x ≡ own_layer (record { place = place'; register = register; pinned = pinned }) x
     own_layers (tree.Number n) = refl
     own_layers (tree.Temp t) = refl
     own_layers (tree.Global g) = refl
@@ -75,14 +75,14 @@ module _ (is_known : ℕ → Bool) where
     same_own t = ap (λ (f : Tree-F (Option ℕ) → Option ℕ). fold-Tree (Option ℕ) f t) (same_functions (own_layer s) (own_layer s') own_layers)
 
     abbrev IsSameTree : Tree → Type 0
-    IsSameTree t = ReadsKnown t → tree_code (record { place = place; register = register }) t ≡ tree_code (record { place = place'; register = register }) t
+    IsSameTree t = ReadsKnown t → tree_code (record { place = place; register = register; pinned = pinned }) t ≡ tree_code (record { place = place'; register = register; pinned = pinned }) t
 
     same_layer : (x : Tree-F Tree) → TreeChildren IsSameTree x → Each (IsIn is_known) (layer_reads (map-Tree Tree (List ℕ) tree_reads x)) →
         tree_layer s (map-Tree Tree Code (tree_code s) x) ≡ tree_layer s' (map-Tree Tree Code (tree_code s') x)
     unfolding read_temp
     same_layer (tree.Number n) c h = refl
     same_layer (tree.Temp t) c h = refl
-    same_layer (tree.Global g) c h = ap (λ a. tree_layer (record { place = λ x. a; register = register }) (tree.Global g)) (same_place g h.0)
+    same_layer (tree.Global g) c h = ap (λ a. tree_layer (record { place = λ x. a; register = register; pinned = pinned }) (tree.Global g)) (same_place g h.0)
     same_layer (tree.Function f) c h = refl
     same_layer (tree.Unary o a) c h = ap (λ z. tree_layer s (tree.Unary o z)) (c h)
     same_layer (tree.Binary o a b) c h =
@@ -155,20 +155,27 @@ module _ (is_known : ℕ → Bool) where
 
     same_set : (t : ℕ) (v : Tree) → ReadsKnown v → set_lines s t v ≡ set_lines s' t v
     unfolding target keep_lines
-    same_set t v h = ap (λ l. l ++ keep_lines s t) (same_into v h (target s t) first)
+    same_set t v h =
+        let set = tree_into s v (target s t) first ++ keep_lines s t in
+        ap (λ own. cond (is_seat (s.register t) own) [] set) (same_own v) ∙
+        ap (λ l. cond (is_seat (s.register t) (own_register s' v)) [] (l ++ keep_lines s t)) (same_into v h (target s t) first)
 
     same_divide : (t o : ℕ) (a b : Tree) → ReadsKnown a → ReadsKnown b → divide_lines s t o a b ≡ divide_lines s' t o a b
     unfolding target keep_lines
-    same_divide t o a b h k =
-        let rest = λ (p q : ℕ). divisor_lines (literal b) q ++ (Word (division o (target s t) p q) ∷ keep_lines s t) in
-        ap (λ (p : List Line × ℕ). p.0 ++ (operand_lines s b second ++ rest p.1 (operand_register s b second))) (same_operand a h first) ∙
-        ap (λ (q : List Line × ℕ). operand_lines s' a first ++ (q.0 ++ rest (operand_register s' a first) q.1)) (same_operand b k second)
+    same_divide t o a b h k = by (power_of o (literal b))
+      where
+        by : (n : Option ℕ) → divide_by s n t o a b ≡ divide_by s' n t o a b
+        by None =
+            let rest = λ (p q : ℕ). divisor_lines (literal b) q ++ (Word (division o (target s t) p q) ∷ keep_lines s t) in
+            ap (λ (p : List Line × ℕ). p.0 ++ (operand_lines s b second ++ rest p.1 (operand_register s b second))) (same_operand a h first) ∙
+            ap (λ (q : List Line × ℕ). operand_lines s' a first ++ (q.0 ++ rest (operand_register s' a first) q.1)) (same_operand b k second)
+        by (Some n) = ap (λ (p : List Line × ℕ). p.0 ++ (Word (power_division o n (target s t) p.1) ∷ keep_lines s t)) (same_operand a h first)
 
     same_check : (n : ℕ) (i : Tree) → ReadsKnown i → check_lines s n i ≡ check_lines s' n i
     same_check n i h = by (fixed n (literal i))
       where
         by : (o : Option ℕ) → check_by s o n i ≡ check_by s' o n i
-        by None = ap (λ (p : List Line × ℕ). p.0 ++ test_lines n p.1) (same_operand i h first)
+        by None = ap (λ (p : List Line × ℕ). p.0 ++ test_lines s n p.1) (same_operand i h first)
         by (Some m) = refl
 
     same_read : (t : ℕ) (at : Home) (n : ℕ) (i : Tree) → ReadsKnown i → read_lines s t at n i ≡ read_lines s' t at n i
@@ -177,7 +184,7 @@ module _ (is_known : ℕ → Bool) where
       where
         by : (o : Option ℕ) → read_by s o t at n i ≡ read_by s' o t at n i
         by None =
-            ap (λ (p : List Line × ℕ). p.0 ++ (test_lines n p.1 ++ (element_lines at p.1 ++ (Word (Lw (target s t) first (element_offset at)) ∷ keep_lines s t)))) (same_operand i h first)
+            ap (λ (p : List Line × ℕ). p.0 ++ (test_lines s n p.1 ++ (element_lines at p.1 ++ (Word (Lw (target s t) first (element_offset at)) ∷ keep_lines s t)))) (same_operand i h first)
         by (Some m) = refl
 
     same_write : (at : Home) (n : ℕ) (i v : Tree) → ReadsKnown i → ReadsKnown v → write_lines s at n i v ≡ write_lines s' at n i v
@@ -185,7 +192,7 @@ module _ (is_known : ℕ → Bool) where
       where
         by : (o : Option ℕ) → write_by s o at n i v ≡ write_by s' o at n i v
         by None =
-            let rest = λ (p q : ℕ). test_lines n p ++ (element_lines at p ++ one (Sw first q (element_offset at))) in
+            let rest = λ (p q : ℕ). test_lines s n p ++ (element_lines at p ++ one (Sw first q (element_offset at))) in
             ap (λ (p : List Line × ℕ). p.0 ++ (operand_lines s v second ++ rest p.1 (operand_register s v second))) (same_operand i h first) ∙
             ap (λ (q : List Line × ℕ). operand_lines s' i first ++ (q.0 ++ rest (operand_register s' i first) q.1)) (same_operand v k second)
         by (Some m) = ap (λ (q : List Line × ℕ). q.0 ++ put_lines (element_at at m) q.1) (same_operand v k first)
@@ -342,22 +349,23 @@ module _ (is_known : ℕ → Bool) where
       pub all_same : (code : List Stm) → Each ReadsKnown (trees code) → Each IsKnownArray (named code) → code_of P code ≡ code_of Q code
       all_same code h k = same_code code (stms_ind IsSame (stm_ind IsSame from_layer) code) h k
 
-    pub same_lines : (size size' : ℕ → ℕ) → ((g : ℕ) → is_known g ≡ true → size g ≡ size' g) → (is_attributed : ℕ → Bool) (shape : Shape) → register_of shape.keeping ≡ register
+    pub same_lines : (size size' : ℕ → ℕ) → ((g : ℕ) → is_known g ≡ true → size g ≡ size' g) → (is_attributed : ℕ → Bool) (shape : Shape) → register_of shape.keeping ≡ register → pinned_in shape.pins ≡ pinned
         → (code : List Stm) → Each ReadsKnown (trees code) → Each IsKnownArray (named code) → function_lines place size is_attributed shape code ≡ function_lines place' size' is_attributed shape code
-    same_lines size size' same_size is_attributed shape is code h k =
+    same_lines size size' same_size is_attributed shape is pins_are code h k =
         let behind = Label end_label ∷ return_by shape.keeping shape in
         let at = array_offset shape.temps shape.arrays in
         let count = slice_index shape.arrays in
-        let over = λ (p : ℕ → ℕ) (n : ℕ → ℕ) (r : ℕ → Option ℕ). code_of (record {
-          seats = record { place = p; register = r };
+        let over = λ (p : ℕ → ℕ) (n : ℕ → ℕ) (r o : ℕ → Option ℕ). code_of (record {
+          seats = record { place = p; register = r; pinned = o };
           size = n;
           array_at = at;
           array_size = count;
           end = end_label;
-          calls = calls_of (record { place = p; register = r }) is_attributed;
+          calls = calls_of (record { place = p; register = r; pinned = o }) is_attributed;
         }) code in
-        let same : over place size (register_of shape.keeping) ≡ over place' size' (register_of shape.keeping) =
-        ap (over place size) is ∙ all_same size size' same_size is_attributed at count code h k ∙ sym (ap (over place' size') is) in
+        let same : over place size (register_of shape.keeping) (pinned_in shape.pins) ≡ over place' size' (register_of shape.keeping) (pinned_in shape.pins) =
+        ap (λ r. over place size r (pinned_in shape.pins)) is ∙ ap (over place size register) pins_are ∙ all_same size size' same_size is_attributed at count code h k
+        ∙ sym (ap (over place' size' register) pins_are) ∙ sym (ap (λ r. over place' size' r (pinned_in shape.pins)) is) in
         ap (λ (e : Emitted). led (entry_by shape.keeping shape ++ (e.lines [] (end_label + 1) (fall_to end_label) ++ behind))) same
 
 -- ---- bodies
@@ -376,5 +384,5 @@ module _ (b : Body) (formed : IsWellFormed b) where
 
 pub code_is_the_same : CodeIsTheSame
 code_is_the_same y attributed is_attributed b formed rooms =
-    same_lines (has_room b.rooms) (place_in b.rooms) y.place rooms.places (register_of (shape_of attributed b).keeping) (size_in b.rooms) y.size rooms.sizes is_attributed (shape_of attributed b) refl b.code
+    same_lines (has_room b.rooms) (place_in b.rooms) y.place rooms.places (register_of (shape_of attributed b).keeping) (pinned_in (shape_of attributed b).pins) (size_in b.rooms) y.size rooms.sizes is_attributed (shape_of attributed b) refl refl b.code
     (known_reads b formed) (known_arrays b formed)

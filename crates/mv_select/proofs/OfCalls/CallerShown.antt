@@ -29,7 +29,7 @@ saved_apart q r low high (inr (inr h)) e = let least = h.0 in omega (arith, leas
 pub shown_saved : {M : Type 0} (access : Access M) (y : Layout) (s : Site) (setting : ir.Setting) (frame : ir.Frame) → IsCaller y s setting frame → (l : State) (regs regs' : List ℕ) (m : M)
     → AreRegisters regs' → ((q : ℕ) → IsSaved q → reg regs' q ≡ reg regs q) → Shows s access l regs m → Shows s access l regs' m
 shown_saved access y s setting frame caller l regs regs' m are saved =
-    frame_same s access l regs regs' m are (λ q h. saved q (caller.left q h)) (λ t q p h. saved q (caller.saved t q h))
+    frame_same s access l regs regs' m are (λ q h. saved q (caller.left q h)) (λ t q p h. saved q (caller.saved t q h)) (λ n q h. saved q (caller.pins n q h))
 
 module _ {M : Type 0} (access : Access M) (y : Layout) (s : Site) (setting : ir.Setting) (frame : ir.Frame) (caller : IsCaller y s setting frame)
     (machine : Machine M) (budget far : ℕ) where
@@ -61,6 +61,7 @@ module _ {M : Type 0} (access : Access M) (y : Layout) (s : Site) (setting : ir.
     sizes = sizes;
     temp_words = f.temp_words;
     in_register = λ t q p h. saved q (caller.saved t q h) ∙ f.in_register t q p h;
+    pinned = λ n q h. saved q (caller.pins n q h) ∙ f.pinned n q h;
     words = words;
     in_memory = in_memory;
   }

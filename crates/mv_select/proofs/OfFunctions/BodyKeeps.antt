@@ -18,7 +18,6 @@ use Rattle.mv_select_code.specs.declared.trees.places.Keeping.{Keeping}
 use Rattle.mv_select_code.specs.declared.trees.places.Keeping.TheVariants.{Saved, Arguments}
 use Rattle.mv_select_code.specs.Statements.Frames.{Site, IsFine, IsFit, Shows, Reach}
 use Rattle.mv_select_code.specs.Control.FlowCode.{fall_to, are_fine}
-use Rattle.mv_select_code.specs.Control.Placed.{Placed}
 use Rattle.mv_select_code.specs.Control.Runs.{Spot, Machine, outside, IsRun}
 use Rattle.mv_select_code.specs.Control.Laws.{CallsDo, uses_in}
 use Rattle.mv_select_code.specs.Control.Flow.{IsWithin, Here, Follows}
@@ -36,6 +35,7 @@ use Rattle.mv_select.proofs.OfFunctions.Contents.{contents_at, holds_still}
 use Rattle.mv_select.proofs.OfFunctions.Entered.{Entered, Unwound}
 use Rattle.mv_select.proofs.OfFunctions.EntryShown as shown
 use Rattle.mv_select.proofs.OfFunctions.Frame.{shape_at, frame_of, lowered_small, IsFrame, own_words, frame_fits}
+use Rattle.mv_select.proofs.OfFunctions.PinsChosen.{pins_are}
 use Rattle.mv_select.proofs.OfFunctions.FrameWords.{words_site, ok, other_frame, frame_course}
 use Rattle.mv_select.proofs.OfFunctions.SilentFine.{silent_fine}
 
@@ -104,6 +104,7 @@ module _ {M : Type 0} (y : Layout) (laid : IsLaid y) (machine : Machine M) (sett
     low = omega (arith, begun.room, fn.small, small, lowered_small k body.arrays (bytes_of (shape_at attributed k body)));
     high = begun.within;
     few = fn.few;
+    pins = pins_are k body;
   }
 
   pub live_small : live + 1 < 2 ^ 32
@@ -163,10 +164,10 @@ module _ {M : Type 0} (access : Access M) (y : Layout) (laid : IsLaid y) (machin
   held_still = holds_still access y laid machine memory reach ample runs budget far place attributed k body args live sp caller (machine.run i).regs (machine.run i).memory w from i e is calm count
 
   abbrev begin : State
-  begin = shown.begin access y laid machine memory budget far reach attributed k body (outside w) e.regs e.mem caller is calm args contents w few enough e.are globals_now held held_still
+  begin = shown.begin access y laid machine memory budget far reach attributed k body (outside w) e.regs e.mem caller is calm args contents w few enough e.are globals_now held held_still e.pinned
 
   begins : Shows S access begin e.regs e.mem
-  begins = shown.begins_shown access y laid machine memory budget far reach attributed k body (outside w) e.regs e.mem caller is calm args contents w few enough e.are globals_now held held_still
+  begins = shown.begins_shown access y laid machine memory budget far reach attributed k body (outside w) e.regs e.mem caller is calm args contents w few enough e.are globals_now held held_still e.pinned
 
   pub fit : IsFit S access setting frame
   fit = frame_fits y laid reach (shape_at attributed k body) (reg e.regs) caller kept is access machine memory setting frame entries ample fn.read fn.free

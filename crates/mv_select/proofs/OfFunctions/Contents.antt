@@ -58,8 +58,8 @@ module _ {M : Type 0} (access : Access M) (y : Layout) (laid : IsLaid y) (machin
       (contents_before access before m0 sp (shape_at attributed k body) (length args))
   unfolding contents_before
   holds_still count = record {
-    low = λ t q le seat. ap (temp_before access before m0 sp (shape_at attributed k body)) (total t le)
-        ∙ ap (λ o. temp_by access before m0 sp (shape_at attributed k body) o t) seat ∙ sym (e.others t q (omega (arith, le, count)) seat);
+    low = λ t q le lt seat. ap (temp_before access before m0 sp (shape_at attributed k body)) (total t le)
+        ∙ ap (λ o. temp_by access before m0 sp (shape_at attributed k body) o t) seat ∙ sym (e.others t q (omega (arith, le, count)) lt seat);
     high = λ t le none lt. ap (temp_before access before m0 sp (shape_at attributed k body)) (total t le)
         ∙ ap (λ o. temp_by access before m0 sp (shape_at attributed k body) o t) none
         ∙ ap (λ z. word_at access m0 (z + temp_offset t)) (sym e.sp_is) ∙ kept_word (TempCell t) (none, lt) tt (temp_high t (unseated k t body.temps none lt is.few).0);

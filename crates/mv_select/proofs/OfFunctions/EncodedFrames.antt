@@ -1,5 +1,5 @@
 -- The fields of the code of entry and return fit, and it has few words.
-use Rattle.std.proofs.Common.{ℕ, zero, suc, ◌+◌, ◌*◌, ◌≤◌, Bool, true, false, List, [], ◌∷◌, ◌++◌, ℤ, pos, ◌-ℤ◌, arith}
+use Rattle.std.proofs.Common.{ℕ, zero, suc, ◌+◌, ◌*◌, ◌≤◌, Bool, true, false, cond, eqb, max, List, [], ◌++◌, ℤ, pos, ◌-ℤ◌, arith}
 use Rattle.std.proofs.Math.Nat.{min-le_right}
 use Rattle.std.proofs.lemmas.Int.{ints}
 use Rattle.std.proofs.lemmas.List.Elements.{All-nil}
@@ -7,15 +7,18 @@ use Rattle.mv_isa.specs.declared.instr.Instr.TheVariants.{Lw, Sw, Addi, Jalr}
 use Rattle.mv_isa.specs.Encoding.{IsSigned}
 use Rattle.mv_isa.specs.Code.{LineFits}
 use Rattle.mv_isa.specs.Registers.{a0, ra as link_register, s10 as live_register}
+use Rattle.mv_ir.specs.Measures.{total}
 use Rattle.mv_select_code.specs.Trees.TreeCode.{one, two, minus_one, temp_register}
 use Rattle.mv_select_code.specs.declared.trees.places.Keeping.{Keeping}
 use Rattle.mv_select_code.specs.declared.trees.places.Keeping.TheVariants.{Saved, Arguments}
 use Rattle.mv_select_code.proofs.OfTrees.TreesFit.{small_fits, register_below}
 use Rattle.mv_select_code.specs.Statements.Encoded.{IsCode}
 use Rattle.mv_select_code.proofs.OfStatements.EncodedCode.{both, wider, single, pair}
-use Rattle.mv_select.specs.Functions.FunctionCode.{Shape, bytes_of, move_lines, entry_by, return_by, saved_count, saved_register, save_lines, restore_lines, parameter_lines, enter_lines, leave_lines}
+use Rattle.mv_select.specs.Functions.FunctionCode.{Shape, seated_of, bytes_of, move_lines, entry_by, return_by, saved_count, saved_register, save_lines, restore_lines, parameter_lines, enter_lines, leave_lines}
+use Rattle.mv_select.specs.Functions.Pins.{pin_lines, pin_words, ArePins}
 use Rattle.mv_select.specs.Functions.Encoded.{FramesAreEncoded}
 use Rattle.mv_select.proofs.OfFunctions.Entry.{saved_below}
+use Rattle.mv_select.proofs.OfFunctions.Pins.{pins_code}
 
 save_code : (k : ℕ) → k ≤ 10 → IsCode k (save_lines k)
 save_code zero h = (All-nil LineFits, omega arith)
@@ -52,44 +55,56 @@ minus_fits n h = (omega (arith, ints, h), omega (arith, ints, h))
 pub saved_few : (temps : ℕ) → saved_count temps ≤ 10
 saved_few temps = omega (arith, min-le_right temps 9)
 
-pub saved_encoded : (shape : Shape) → shape.params ≤ 8 → bytes_of shape ≤ 2032 → IsCode 20 (entry_by Saved shape) × IsCode 13 (return_by Saved shape)
-saved_encoded shape few small =
-    let temps = shape.temps in
+pub saved_encoded : (shape : Shape) → ArePins Saved shape.params shape.temps shape.pins → shape.params ≤ 8 → bytes_of shape ≤ 2032 → IsCode 20 (entry_by Saved shape) × IsCode 13 (return_by Saved shape)
+saved_encoded shape pins few small =
+    let seated = seated_of shape in
     let params = shape.params in
     let attributed = shape.attributed in
+    let numbers = pin_lines shape.pins in
+    let count = pin_words shape.pins in
     let lower = Addi 2 2 (pos 0 -ℤ pos (bytes_of shape)) in
     let raise = Addi 2 2 (pos (bytes_of shape)) in
     let back = Jalr 0 link_register (pos 0) in (
-      wider (1 + (saved_count temps + (params + 1))) 20 (one lower ++ (save_lines (saved_count temps) ++ (parameter_lines params ++ enter_lines attributed))) (omega (arith, few, saved_few temps))
-          (both 1 (saved_count temps + (params + 1)) (one lower) (save_lines (saved_count temps) ++ (parameter_lines params ++ enter_lines attributed)) (single lower (omega arith, omega arith, minus_fits (bytes_of shape) small))
-          (both (saved_count temps) (params + 1) (save_lines (saved_count temps)) (parameter_lines params ++ enter_lines attributed) (save_code (saved_count temps) (saved_few temps))
-          (both params 1 (parameter_lines params) (enter_lines attributed) (parameter_code params few) (enter_code attributed)))),
-      wider (1 + (saved_count temps + 2)) 13 (leave_lines attributed ++ (restore_lines (saved_count temps) ++ two raise back)) (omega (arith, saved_few temps))
-          (both 1 (saved_count temps + 2) (leave_lines attributed) (restore_lines (saved_count temps) ++ two raise back) (leave_code attributed)
-          (both (saved_count temps) 2 (restore_lines (saved_count temps)) (two raise back) (restore_code (saved_count temps) (saved_few temps))
+      wider (1 + (saved_count seated + (params + (count + 1)))) 20 (one lower ++ (save_lines (saved_count seated) ++ (parameter_lines params ++ (numbers ++ enter_lines attributed))))
+          (omega (arith, few, pins.few, saved_few seated))
+          (both 1 (saved_count seated + (params + (count + 1))) (one lower) (save_lines (saved_count seated) ++ (parameter_lines params ++ (numbers ++ enter_lines attributed)))
+          (single lower (omega arith, omega arith, minus_fits (bytes_of shape) small))
+          (both (saved_count seated) (params + (count + 1)) (save_lines (saved_count seated)) (parameter_lines params ++ (numbers ++ enter_lines attributed)) (save_code (saved_count seated) (saved_few seated))
+          (both params (count + 1) (parameter_lines params) (numbers ++ enter_lines attributed) (parameter_code params few)
+          (both count 1 numbers (enter_lines attributed) (pins_code Saved shape.temps shape.pins pins.stand) (enter_code attributed))))),
+      wider (1 + (saved_count seated + 2)) 13 (leave_lines attributed ++ (restore_lines (saved_count seated) ++ two raise back)) (omega (arith, saved_few seated))
+          (both 1 (saved_count seated + 2) (leave_lines attributed) (restore_lines (saved_count seated) ++ two raise back) (leave_code attributed)
+          (both (saved_count seated) 2 (restore_lines (saved_count seated)) (two raise back) (restore_code (saved_count seated) (saved_few seated))
           (pair raise back (omega arith, omega arith, small_fits (bytes_of shape) (omega (arith, small))) (omega arith, omega arith, small_fits 0 (omega arith))))),
     )
 
 -- where nothing is saved
 move_code : (sizes : List ℕ) (n : ℤ) → IsSigned 2048 n → IsCode 1 (move_lines sizes n)
-move_code [] n h = (All-nil LineFits, omega arith)
-move_code (x ∷ sizes) n h = single (Addi 2 2 n) (omega arith, omega arith, h)
+move_code sizes n h = by (eqb (total sizes) 0)
+  where
+    by : (none : Bool) → IsCode 1 (cond none [] (one (Addi 2 2 n)))
+    by true = (All-nil LineFits, omega arith)
+    by false = single (Addi 2 2 n) (omega arith, omega arith, h)
 
-pub leaf_encoded : (shape : Shape) → bytes_of shape ≤ 2032 → IsCode 1 (entry_by Arguments shape) × IsCode 2 (return_by Arguments shape)
-leaf_encoded shape small =
+pub leaf_encoded : (shape : Shape) → ArePins Arguments shape.params shape.temps shape.pins → bytes_of shape ≤ 2032 → IsCode 9 (entry_by Arguments shape) × IsCode 2 (return_by Arguments shape)
+leaf_encoded shape pins small =
+    let down = pos 0 -ℤ pos (bytes_of shape) in
+    let count = pin_words shape.pins in
     let back = Jalr 0 link_register (pos 0) in (
-      move_code shape.arrays (pos 0 -ℤ pos (bytes_of shape)) (minus_fits (bytes_of shape) small),
+      wider (1 + count) 9 (entry_by Arguments shape) (omega (arith, pins.few))
+          (both 1 count (move_lines shape.arrays down) (pin_lines shape.pins) (move_code shape.arrays down (minus_fits (bytes_of shape) small))
+          (pins_code Arguments (max shape.temps 1) shape.pins pins.stand)),
       both 1 1 (move_lines shape.arrays (pos (bytes_of shape))) (one back) (move_code shape.arrays (pos (bytes_of shape)) (small_fits (bytes_of shape) (omega (arith, small))))
           (single back (omega arith, omega arith, small_fits 0 (omega arith))),
     )
 
 pub frames_encoded : FramesAreEncoded
-frames_encoded shape few small = by shape.keeping
+frames_encoded shape pins few small = by shape.keeping pins
   where
-    by : (k : Keeping) → IsCode 20 (entry_by k shape) × IsCode 13 (return_by k shape)
-    by Saved = saved_encoded shape few small
-    by Arguments =
-        let leaf = leaf_encoded shape small in (
-          wider 1 20 (entry_by Arguments shape) (omega arith) leaf.0,
+    by : (k : Keeping) → ArePins k shape.params shape.temps shape.pins → IsCode 20 (entry_by k shape) × IsCode 13 (return_by k shape)
+    by Saved pins = saved_encoded shape pins few small
+    by Arguments pins =
+        let leaf = leaf_encoded shape pins small in (
+          wider 9 20 (entry_by Arguments shape) (omega arith) leaf.0,
           wider 2 13 (return_by Arguments shape) (omega arith) leaf.1,
         )

@@ -9,12 +9,13 @@ use Rattle.mv_ir.specs.declared.stm.Array.TheVariants as array
 use Rattle.mv_ir.specs.World.{World}
 use Rattle.mv_ir.specs.Outcome.{State}
 use Rattle.mv_ir.specs.Meaning.{Contents, first_items, first_temps, first_arrays, entry_state, elements}
-use Rattle.mv_select_code.specs.Trees.TreeCode.{register_of}
+use Rattle.mv_select_code.specs.Trees.TreeCode.{register_of, pinned_in}
 use Rattle.mv_select_code.specs.declared.trees.places.Keeping.{Keeping}
 use Rattle.mv_select_code.specs.Trees.View.{AreRegisters}
 use Rattle.mv_select_code.specs.Statements.Frames.{Site, Cell, TempCell, Element, Kept, IsThere, address, content, size_of, Shows, Reach}
 use Rattle.mv_select_code.specs.Control.Runs.{Machine}
 use Rattle.mv_select.specs.Calls.Convention.{Layout, IsAbove, HoldsGlobals}
+use Rattle.mv_select.specs.Functions.Pins.{pins_of}
 use Rattle.mv_select.specs.Functions.Functions.{IsStack, IsWord, IsLaid, IsMemory}
 use Rattle.mv_select.proofs.OfFunctions.Frame.{shape_at, IsFrame, S, frame_word}
 use Rattle.mv_select.proofs.OfFunctions.Seats.{unseated}
@@ -60,12 +61,13 @@ module _ {M : Type 0} (access : Access M) (y : Layout) (laid : IsLaid y) (machin
 
   -- the contents of the frame, behind so many arguments, are what registers and memory have
   pub record Holds (count : ℕ) (contents : Contents) : Type 0 where
-    pub low : (t q : ℕ) → count ≤ t → register_of k t ≡ Some q → contents.temps (t - count) ≡ reg regs q
+    pub low : (t q : ℕ) → count ≤ t → t < body.temps → register_of k t ≡ Some q → contents.temps (t - count) ≡ reg regs q
     pub high : (t : ℕ) → count ≤ t → register_of k t ≡ None → t < body.temps → contents.temps (t - count) ≡ word_at access m (address Here (TempCell t))
     pub arrays : (a i : ℕ) → i < slice_index body.arrays a → contents.arrays a i ≡ word_at access m (address Here (Element (array.Local a) i))
 
   module _ (args : List ℕ) (contents : Contents) (now : World) (few : length args ≤ 8) (count : length args ≤ body.temps) (are : AreRegisters regs)
-      (globals : HoldsGlobals access y machine budget far now m) (held : (j q : ℕ) → j < length args → register_of k j ≡ Some q → reg regs q ≡ slice_index args j) (holds : Holds (length args) contents) where
+      (globals : HoldsGlobals access y machine budget far now m) (held : (j q : ℕ) → j < length args → register_of k j ≡ Some q → reg regs q ≡ slice_index args j) (holds : Holds (length args) contents)
+      (pinned : (n q : ℕ) → pinned_in (pins_of k body) n ≡ Some q → reg regs q ≡ n) where
     abbrev pub begin : State
     begin = entry_state contents body args now
 
@@ -75,7 +77,7 @@ module _ {M : Type 0} (access : Access M) (y : Layout) (laid : IsLaid y) (machin
     low_temp : (t q : ℕ) → t < body.temps → register_of k t ≡ Some q → reg regs q ≡ slice_index begin.temps t
     low_temp t q lt seat = ⊎_elim
         (λ (h : t < length args). held t q h seat ∙ sym (argument_at contents.temps body.temps args t h))
-        (λ (h : length args ≤ t). sym (behind t h lt ∙ holds.low t q h seat))
+        (λ (h : length args ≤ t). sym (behind t h lt ∙ holds.low t q h lt seat))
         (cases_lt t (length args))
 
     high_temp : (t : ℕ) → t < body.temps → register_of k t ≡ None → slice_index begin.temps t ≡ word_at access m (address Here (TempCell t))
@@ -121,6 +123,7 @@ module _ {M : Type 0} (access : Access M) (y : Layout) (laid : IsLaid y) (machin
       sizes = sizes;
       temp_words = λ t q lt seat. subst (λ z. z < 2 ^ 32) (low_temp t q lt seat) (are.words q);
       in_register = low_temp;
+      pinned = pinned;
       words = words;
       in_memory = in_memory;
     }

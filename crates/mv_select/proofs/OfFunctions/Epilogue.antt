@@ -13,12 +13,14 @@ use Rattle.mv_select_code.specs.declared.trees.places.Keeping.TheVariants.{Saved
 use Rattle.mv_select_code.proofs.OfTrees.Registers.{free_low, put_same, put_other, put_registers}
 use Rattle.mv_select_code.specs.Statements.Frames.{Kept, Shows, Reach}
 use Rattle.mv_select_code.proofs.OfTrees.KeepingSeats.{temp_register_above, temp_register_zero}
-use Rattle.mv_select.proofs.OfFunctions.Seats.{register_low, register_high, one_register, unused_left, counters_left, stack_left}
+use Rattle.mv_select.proofs.OfFunctions.Seats.{register_low, register_high, one_register, saved_some, unused_left, counters_left, stack_left}
+use Rattle.mv_select.specs.Functions.Pins.{pins_of}
+use Rattle.mv_select.proofs.OfFunctions.Pins.{AreApart, pins_apart, pins_above}
 use Rattle.mv_select.proofs.OfFunctions.Entered.{Unwound}
 use Rattle.mv_select_code.specs.Control.Runs.{Machine, outside}
 use Rattle.mv_select_code.proofs.OfControl.Walk.{placed_split}
 use Rattle.mv_select.specs.Calls.Convention.{Layout, IsTarget, IsSaved, IsAbove}
-use Rattle.mv_select.specs.Functions.FunctionCode.{bytes_of, saved_count, saved_register, restore_lines, leave_lines, epilogue_lines}
+use Rattle.mv_select.specs.Functions.FunctionCode.{seated_of, bytes_of, saved_count, saved_register, restore_lines, leave_lines, epilogue_lines}
 use Rattle.mv_select.specs.Functions.Functions.{IsStack, IsLaid, IsMemory, IsAmple, RunsWithin}
 use Rattle.mv_select.proofs.OfFunctions.Entry.{sp_apart, Restores, restore_walk}
 use Rattle.mv_select.proofs.OfFunctions.EntryShown.{Here, word_at, loaded}
@@ -62,9 +64,9 @@ module _ {M : Type 0} (access : Access M) (y : Layout) (laid : IsLaid y) (machin
     module _ (w : World) (l : State) (regs : List ℕ) (m : M)
         (f : Shows (Here access y laid machine memory budget far reach attributed Saved body (outside w0) p.regs p.mem caller is calm) access l regs m) where
       -- the saved registers are still in the frame
-      still_saved : (j : ℕ) → j < saved_count body.temps → access.load m (sp + 4 * j) 4 ≡ Some (reg before (saved_register j))
+      still_saved : (j : ℕ) → j < saved_count (seated_of (shape_at attributed Saved body)) → access.load m (sp + 4 * j) 4 ≡ Some (reg before (saved_register j))
       still_saved j lt =
-          let few : j < 10 = omega (arith, lt, min-le_right body.temps 9) in
+          let few : j < 10 = omega (arith, lt, min-le_right (seated_of (shape_at attributed Saved body)) 9) in
           let at : reg p.regs 2 + 4 * j ≡ sp + 4 * j = ap (λ z. z + 4 * j) p.sp_is in
           let stack = saved_words y (shape_at attributed Saved body) refl (reg p.regs 2) caller is j few in
           let kept = kept_low (reg p.regs 2) (reg p.regs 2 + 40) caller y.top (reg p.regs 2 + 4 * j) stack.2 (omega arith) (omega (arith, few)) in
@@ -78,35 +80,39 @@ module _ {M : Type 0} (access : Access M) (y : Layout) (laid : IsLaid y) (machin
           let stack : IsStack y b = (omega (arith, low, is.low, is.below), h.1, h.2) in
           let kept = kept_high (reg p.regs 2) (reg p.regs 2 + 40) caller y.top b h.2 low h.1 in
           f.in_memory (Kept b) kept ∙ sym (loaded access y laid machine memory budget far reach attributed Saved body (outside w0) p.regs p.mem caller is calm b stack)
-          ∙ p.words b (inl stack) (λ j lt e. omega (arith, e, low, is.below, p.sp_is, lt, min-le_right body.temps 9, room_for_saved (shape_at attributed Saved body)))
+          ∙ p.words b (inl stack) (λ j lt e. omega (arith, e, low, is.below, p.sp_is, lt, min-le_right (seated_of (shape_at attributed Saved body)) 9, room_for_saved (shape_at attributed Saved body)))
 
       -- what a temporary's register had
       temp_back : (t : ℕ) (mid after : List ℕ) → t < 9 → body.params ≤ body.temps → reg mid (temp_register t) ≡ reg regs (temp_register t)
-          → ((j v : ℕ) → j < saved_count body.temps → access.load m (sp + 4 * j) 4 ≡ Some v → reg after (saved_register j) ≡ v)
-          → ((q : ℕ) → ((j : ℕ) → j < saved_count body.temps → q ≢ saved_register j) → reg after q ≡ reg mid q) → reg after (temp_register t) ≡ reg before (temp_register t)
-      temp_back t mid after small enough mid_is restored others = ⊎_elim low high (cases_lt t body.temps)
+          → ((j v : ℕ) → j < saved_count (seated_of (shape_at attributed Saved body)) → access.load m (sp + 4 * j) 4 ≡ Some v → reg after (saved_register j) ≡ v)
+          → ((q : ℕ) → ((j : ℕ) → j < saved_count (seated_of (shape_at attributed Saved body)) → q ≢ saved_register j) → reg after q ≡ reg mid q) → reg after (temp_register t) ≡ reg before (temp_register t)
+      temp_back t mid after small enough mid_is restored others = ⊎_elim low high (cases_lt t (seated_of (shape_at attributed Saved body)))
         where
-          low : t < body.temps → reg after (temp_register t) ≡ reg before (temp_register t)
-          low lt = let within : suc t ≤ min body.temps 9 = le-min lt small in
+          low : t < (seated_of (shape_at attributed Saved body)) → reg after (temp_register t) ≡ reg before (temp_register t)
+          low lt = let within : suc t ≤ min (seated_of (shape_at attributed Saved body)) 9 = le-min lt small in
               restored (suc t) (reg before (temp_register t)) (omega (arith, within)) (still_saved (suc t) (omega (arith, within)))
 
-          unsaved : body.temps ≤ t → (j : ℕ) → j < saved_count body.temps → temp_register t ≢ saved_register j
+          unsaved : (seated_of (shape_at attributed Saved body)) ≤ t → (j : ℕ) → j < saved_count (seated_of (shape_at attributed Saved body)) → temp_register t ≢ saved_register j
           unsaved le zero lt e = omega (arith, e, register_low t)
-          unsaved le (suc u) lt e = one_register t u (λ same. omega (arith, same, le, lt, min-le_left body.temps 9)) e
+          unsaved le (suc u) lt e = one_register t u (λ same. omega (arith, same, le, lt, min-le_left (seated_of (shape_at attributed Saved body)) 9)) e
 
-          high : body.temps ≤ t → reg after (temp_register t) ≡ reg before (temp_register t)
-          high le = others (temp_register t) (unsaved le) ∙ mid_is ∙ f.left (temp_register t) (unused_left body.temps t le small)
+          unpinned : (seated_of (shape_at attributed Saved body)) ≤ t → AreApart (temp_register t) (pins_of Saved body)
+          unpinned le = pins_apart Saved body.temps (pins_of Saved body) (temp_register t) is.pins.stand
+              (λ u from below e. one_register t u (λ same. omega (arith, same, le, below)) (saved_some u (temp_register t) e).1)
+
+          high : (seated_of (shape_at attributed Saved body)) ≤ t → reg after (temp_register t) ≡ reg before (temp_register t)
+          high le = others (temp_register t) (unsaved le) ∙ mid_is ∙ f.left (temp_register t) (unused_left (seated_of (shape_at attributed Saved body)) t le small)
               ∙ p.others (temp_register t) (λ e. omega (arith, e, register_low t)) (λ e. omega (arith, e, register_high t small))
-              (λ j lt e. one_register t j (λ same. omega (arith, same, le, lt, enough)) e)
+              (λ j lt e. one_register t j (λ same. omega (arith, same, le, lt, enough)) e) (unpinned le)
 
       pub epilogue_walk : (back_to pc next i : ℕ) → body.params ≤ 8 → body.params ≤ body.temps → reg before 2 ≡ caller → reg before live_register ≡ live → live + 1 < 2 ^ 32
-          → reg before link_register ≡ back_to → IsTarget back_to → Ps (epilogue_lines attributed body.temps (bytes_of (shape_at attributed Saved body))) pc next → Ws w pc regs m i → Unwound access y laid machine memory reach ample runs budget far place before m0 back_to w regs m i
+          → reg before link_register ≡ back_to → IsTarget back_to → Ps (epilogue_lines attributed (seated_of (shape_at attributed Saved body)) (bytes_of (shape_at attributed Saved body))) pc next → Ws w pc regs m i → Unwound access y laid machine memory reach ample runs budget far place before m0 back_to w regs m i
       epilogue_walk back_to pc next i few enough from live_before small ra target lines a = record {
         after = after;
-        time = c.time + saved_count body.temps + 1 + 1;
+        time = c.time + saved_count (seated_of (shape_at attributed Saved body)) + 1 + 1;
         late = let late = c.late in omega (arith, late);
         soon = let soon = c.soon in omega (arith, soon, saved_few);
-        stands = back access y laid machine memory reach ample runs budget far place back_to w u.2.0 u.2.2.0 after m (c.time + saved_count body.temps + 1) link_is target u.2.2.1 raised;
+        stands = back access y laid machine memory reach ample runs budget far place back_to w u.2.0 u.2.2.0 after m (c.time + saved_count (seated_of (shape_at attributed Saved body)) + 1) link_is target u.2.2.1 raised;
         are = put_registers d.after 2 (sp + bytes_of (shape_at attributed Saved body)) d.restored.are (free_low 2 (omega arith) (omega arith)) below;
         result = put_other d.after 2 a0 (sp + bytes_of (shape_at attributed Saved body)) (omega arith) (λ e. omega (arith, e)) ∙ d.restored.others a0 (λ j lt. first_apart j)
             ∙ c.others a0 (λ e. omega (arith, e));
@@ -114,23 +120,23 @@ module _ {M : Type 0} (access : Access M) (y : Layout) (laid : IsLaid y) (machin
         stack = above_frame from;
       }
         where
-          saved_few : saved_count body.temps ≤ 10
-          saved_few = omega (arith, min-le_right body.temps 9)
+          saved_few : saved_count (seated_of (shape_at attributed Saved body)) ≤ 10
+          saved_few = omega (arith, min-le_right (seated_of (shape_at attributed Saved body)) 9)
 
-          q : (mid : ℕ) × Ps (leave_lines attributed) pc mid × Ps (restore_lines (saved_count body.temps) ++ two (Addi 2 2 (pos (bytes_of (shape_at attributed Saved body)))) (Jalr 0 link_register (pos 0))) mid next
-          q = placed_split machine.text place y.entry (leave_lines attributed) (restore_lines (saved_count body.temps) ++ two (Addi 2 2 (pos (bytes_of (shape_at attributed Saved body)))) (Jalr 0 link_register (pos 0))) pc next lines
+          q : (mid : ℕ) × Ps (leave_lines attributed) pc mid × Ps (restore_lines (saved_count (seated_of (shape_at attributed Saved body))) ++ two (Addi 2 2 (pos (bytes_of (shape_at attributed Saved body)))) (Jalr 0 link_register (pos 0))) mid next
+          q = placed_split machine.text place y.entry (leave_lines attributed) (restore_lines (saved_count (seated_of (shape_at attributed Saved body))) ++ two (Addi 2 2 (pos (bytes_of (shape_at attributed Saved body)))) (Jalr 0 link_register (pos 0))) pc next lines
 
-          u : (mid : ℕ) × Ps (restore_lines (saved_count body.temps)) q.0 mid × Ps (two (Addi 2 2 (pos (bytes_of (shape_at attributed Saved body)))) (Jalr 0 link_register (pos 0))) mid next
-          u = placed_split machine.text place y.entry (restore_lines (saved_count body.temps)) (two (Addi 2 2 (pos (bytes_of (shape_at attributed Saved body)))) (Jalr 0 link_register (pos 0))) q.0 next q.2
+          u : (mid : ℕ) × Ps (restore_lines (saved_count (seated_of (shape_at attributed Saved body)))) q.0 mid × Ps (two (Addi 2 2 (pos (bytes_of (shape_at attributed Saved body)))) (Jalr 0 link_register (pos 0))) mid next
+          u = placed_split machine.text place y.entry (restore_lines (saved_count (seated_of (shape_at attributed Saved body)))) (two (Addi 2 2 (pos (bytes_of (shape_at attributed Saved body)))) (Jalr 0 link_register (pos 0))) q.0 next q.2
 
           c : Counted access y laid machine memory reach ample runs budget far place live w q.0 regs m i
-          c = leave_walk access y laid machine memory reach ample runs budget far place attributed live w pc q.0 regs m i f.are small (f.left live_register (counters_left body.temps live_register (omega arith) (omega arith)) ∙ p.live_is) q.1 a
+          c = leave_walk access y laid machine memory reach ample runs budget far place attributed live w pc q.0 regs m i f.are small (f.left live_register (counters_left (seated_of (shape_at attributed Saved body)) live_register (omega arith) (omega arith)) ∙ p.live_is) q.1 a
 
           sp_held : reg c.after 2 ≡ sp
-          sp_held = c.others 2 (λ e. omega (arith, e)) ∙ f.left 2 (stack_left Saved body.temps) ∙ p.sp_is
+          sp_held = c.others 2 (λ e. omega (arith, e)) ∙ f.left 2 (stack_left Saved (seated_of (shape_at attributed Saved body))) ∙ p.sp_is
 
-          d : Restores access y laid machine memory reach ample runs budget far place (saved_count body.temps) sp w u.0 c.after m (c.time + saved_count body.temps)
-          d = restore_walk access y laid machine memory reach ample runs budget far place (saved_count body.temps) sp w q.0 u.0 c.after m c.time saved_few sp_held
+          d : Restores access y laid machine memory reach ample runs budget far place (saved_count (seated_of (shape_at attributed Saved body))) sp w u.0 c.after m (c.time + saved_count (seated_of (shape_at attributed Saved body)))
+          d = restore_walk access y laid machine memory reach ample runs budget far place (saved_count (seated_of (shape_at attributed Saved body))) sp w q.0 u.0 c.after m c.time saved_few sp_held
               (λ j lt. subst (λ z. IsStack y (z + 4 * j)) p.sp_is (saved_words y (shape_at attributed Saved body) refl (reg p.regs 2) caller is j (omega (arith, lt, saved_few)))) c.are u.1 c.stands
 
           frame_is : sp + bytes_of (shape_at attributed Saved body) ≡ caller
@@ -142,8 +148,8 @@ module _ {M : Type 0} (access : Access M) (y : Layout) (laid : IsLaid y) (machin
           after : List ℕ
           after = put d.after 2 (sp + bytes_of (shape_at attributed Saved body))
 
-          raised : Ws w u.2.0 (put d.after 2 (sp + bytes_of (shape_at attributed Saved body))) m (c.time + saved_count body.temps + 1)
-          raised = up access y laid machine memory reach ample runs budget far place (bytes_of (shape_at attributed Saved body)) sp w u.0 u.2.0 d.after m (c.time + saved_count body.temps) below
+          raised : Ws w u.2.0 (put d.after 2 (sp + bytes_of (shape_at attributed Saved body))) m (c.time + saved_count (seated_of (shape_at attributed Saved body)) + 1)
+          raised = up access y laid machine memory reach ample runs budget far place (bytes_of (shape_at attributed Saved body)) sp w u.0 u.2.0 d.after m (c.time + saved_count (seated_of (shape_at attributed Saved body))) below
               (d.restored.others 2 (λ j lt. sp_apart j) ∙ sp_held) u.2.1 d.stands
 
           other : (r : ℕ) → r ≢ 2 → reg (put d.after 2 (sp + bytes_of (shape_at attributed Saved body))) r ≡ reg d.after r
@@ -166,8 +172,9 @@ module _ {M : Type 0} (access : Access M) (y : Layout) (laid : IsLaid y) (machin
           by_case r (inr (inr (inr e))) =
               ap (reg (put d.after 2 (sp + bytes_of (shape_at attributed Saved body)))) e ∙ other left_register (λ e. omega (arith, e))
               ∙ d.restored.others left_register (λ j lt. high_apart left_register j (omega arith) (omega (arith, lt, saved_few))) ∙ c.others left_register (λ e. omega (arith, e))
-              ∙ f.left left_register (counters_left body.temps left_register (omega arith) (omega arith))
+              ∙ f.left left_register (counters_left (seated_of (shape_at attributed Saved body)) left_register (omega arith) (omega arith))
               ∙ p.others left_register (λ e. omega (arith, e)) (λ e. omega (arith, e)) (λ j lt e. omega (arith, e, register_high j (omega (arith, lt, few))))
+              (pins_above Saved body.temps (pins_of Saved body) left_register is.pins.stand (omega arith))
               ∙ ap (reg before) (sym e)
 
           registers : (r : ℕ) → IsSaved r → reg (put d.after 2 (sp + bytes_of (shape_at attributed Saved body))) r ≡ reg before r

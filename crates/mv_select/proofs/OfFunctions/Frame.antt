@@ -1,7 +1,7 @@
 -- The frame of a function: where its cells stand, and that they stand apart.
-use Rattle.std.proofs.Common.{◌≡◌, inl, inr, ⊎_elim, ℕ, zero, suc, ◌+◌, ◌*◌, ◌%◌, ◌^◌, ◌<◌, ◌≤◌, ◌⊎◌, Bool, true, not, ◌&&◌, ◌||◌, eqb, ltb, max, List, [], ◌∷◌, length, slice_index, None, refl, sym, ap, ◌∙◌, subst, arith}
+use Rattle.std.proofs.Common.{◌≡◌, inl, inr, ⊎_elim, ℕ, zero, suc, ◌+◌, ◌*◌, ◌%◌, ◌^◌, ◌<◌, ◌≤◌, ◌⊎◌, Bool, true, false, not, ◌&&◌, ◌||◌, cond, eqb, ltb, max, List, [], ◌∷◌, length, slice_index, None, refl, sym, ap, ◌∙◌, subst, arith}
 use Rattle.std.proofs.Math.Nat.{le-max_left, le-max_right}
-use Rattle.std.proofs.lemmas.Bool.{cases_lt, eqb-true, ltb-true, ltb-false, lt-ltb, le-ltb, eq-eqb, not-true}
+use Rattle.std.proofs.lemmas.Bool.{cases_lt, eqb-true, ltb-true, ltb-false, lt-ltb, le-ltb, eq-eqb, ne_eqb, not-true}
 use Rattle.mv_bindings.specs.Traps.{depth_limit}
 use Rattle.mv_isa.specs.Code.{IsPlace}
 use Rattle.mv_isa.specs.Execution.{Access}
@@ -19,9 +19,11 @@ use Rattle.mv_select_code.specs.Statements.Frames.{Site, Cell, TempCell, Element
 use Rattle.mv_select_code.specs.Control.Runs.{Machine}
 use Rattle.mv_select.specs.Calls.Convention.{Layout, IsAbove, frame_limit}
 use Rattle.mv_select.specs.Calls.Laws.{IsOfFrame, IsCaller}
-use Rattle.mv_select.specs.Functions.FunctionCode.{words_before, Shape, bytes_of, is_left_by}
+use Rattle.mv_select.specs.Functions.FunctionCode.{words_before, Shape, HasPins, seated_of, bytes_of, is_left_by}
+use Rattle.mv_select.specs.Functions.Pins.{ArePins, first_pin, pins_of}
 use Rattle.mv_select.specs.Functions.Functions as functions
 use Rattle.mv_select.specs.Functions.Functions.{IsStack, IsWord, IsLaid, IsMemory, StandsInWords, asks_by, site_of, IsAmple}
+use Rattle.mv_select.proofs.OfFunctions.Pins.{pins_off_temps, pins_off_result, pins_saved, pins_within}
 use Rattle.mv_select.proofs.OfFunctions.Seats.{SeatsSaved, LeftSaved, seats_saved, left_saved, unseated, stack_left, counters_left, left_real, left_result, left_scratch, left_temps}
 use Rattle.mv_num.proofs.Booleans.{and_right, and_left, or_true, or_cases}
 
@@ -85,8 +87,7 @@ temp_is t = refl
 -- by how many bytes sp is moved
 abbrev pub lowered_by : Keeping → List ℕ → ℕ → ℕ
 lowered_by Saved sizes bytes = bytes
-lowered_by Arguments [] bytes = 0
-lowered_by Arguments (n ∷ sizes) bytes = bytes
+lowered_by Arguments sizes bytes = cond (eqb (total sizes) 0) 0 bytes
 
 abbrev pub frame_of : Shape → ℕ
 frame_of shape = lowered_by shape.keeping shape.arrays (bytes_of shape)
@@ -98,19 +99,24 @@ saved_end Arguments sp = sp
 
 pub lowered_small : (k : Keeping) (sizes : List ℕ) (bytes : ℕ) → lowered_by k sizes bytes ≤ bytes
 lowered_small Saved sizes bytes = omega arith
-lowered_small Arguments [] bytes = omega arith
-lowered_small Arguments (n ∷ sizes) bytes = omega arith
+lowered_small Arguments sizes bytes = by (eqb (total sizes) 0)
+  where
+    by : (none : Bool) → cond none 0 bytes ≤ bytes
+    by true = omega arith
+    by false = omega arith
 
 lowered_even : (k : Keeping) (sizes : List ℕ) (bytes : ℕ) → bytes % 4 ≡ 0 → lowered_by k sizes bytes % 4 ≡ 0
 lowered_even Saved sizes bytes e = e
-lowered_even Arguments [] bytes e = refl
-lowered_even Arguments (n ∷ sizes) bytes e = e
+lowered_even Arguments sizes bytes e = by (eqb (total sizes) 0)
+  where
+    by : (none : Bool) → cond none 0 bytes % 4 ≡ 0
+    by true = refl
+    by false = e
 
--- where there is an array, sp is moved
+-- where an array has an element, sp is moved
 lowered_whole : (k : Keeping) (sizes : List ℕ) (bytes a i : ℕ) → i < slice_index sizes a → lowered_by k sizes bytes ≡ bytes
 lowered_whole Saved sizes bytes a i lt = refl
-lowered_whole Arguments [] bytes a i lt = absurd (omega (arith, lt))
-lowered_whole Arguments (n ∷ sizes) bytes a i lt = refl
+lowered_whole Arguments sizes bytes a i lt = ap (λ none. cond none 0 bytes) (ne_eqb (total sizes) 0 (λ e. omega (arith, e, lt, size_within sizes a)))
 
 saved_end_low : (k : Keeping) (sp : ℕ) → saved_end k sp ≤ sp + 40
 saved_end_low Saved sp = omega arith
@@ -120,17 +126,18 @@ saved_end_within : (k : Keeping) (sizes : List ℕ) (sp bytes : ℕ) → 40 ≤ 
 saved_end_within Saved sizes sp bytes h = omega (arith, h)
 saved_end_within Arguments sizes sp bytes h = omega arith
 
--- A frame of a function, below the sp of its caller. One that saves no registers has few temporaries.
+-- A frame of a function, below the sp of its caller. One that saves no registers has few temporaries. Pins have their registers.
 pub record IsFrame (y : Layout) (shape : Shape) (sp caller : ℕ) : Type 0 where
   pub below : sp + frame_of shape ≡ caller
   pub even : caller % 4 ≡ 0
   pub low : y.bottom ≤ sp
   pub high : caller ≤ y.top
   pub few : shape.keeping ≡ Arguments → shape.temps < 9
+  pub pins : HasPins shape
 
 -- the numbers of a body that keeps its temporaries in a way
 abbrev pub shape_at : Bool → Keeping → Body → Shape
-shape_at attributed k body = record { attributed = attributed; keeping = k; params = body.params; temps = body.temps; arrays = body.arrays }
+shape_at attributed k body = record { attributed = attributed; keeping = k; params = body.params; temps = body.temps; arrays = body.arrays; pins = pins_of k body }
 
 -- a frame has room for its saved registers
 pub room_for_saved : (shape : Shape) → 40 ≤ bytes_of shape
@@ -261,11 +268,13 @@ module _ (y : Layout) (laid : IsLaid y) (reach : Reach) (shape : Shape) (registe
 
   leaves_alone : LeavesAlone S
   leaves_alone = record {
-    stack = stack_left shape.keeping shape.temps;
-    real = left_real shape.keeping shape.temps;
-    result = left_result shape.keeping shape.temps;
-    scratch = left_scratch shape.keeping shape.temps;
-    temps = left_temps shape.keeping shape.temps;
+    stack = stack_left shape.keeping (seated_of shape);
+    real = left_real shape.keeping (seated_of shape);
+    result = left_result shape.keeping (seated_of shape);
+    scratch = left_scratch shape.keeping (seated_of shape);
+    temps = λ t q lt. left_temps shape.keeping (seated_of shape) t q (omega (arith, lt));
+    pinned = pins_off_temps shape.keeping shape.params shape.temps shape.pins is.pins;
+    pinned_result = pins_off_result shape.keeping shape.params shape.temps shape.pins is.pins;
   }
 
   module _ {M : Type 0} (access : Access M) (machine : Machine M) (memory : IsMemory access y machine) (setting : ir.Setting) (frame : ir.Frame)
@@ -281,7 +290,7 @@ module _ (y : Layout) (laid : IsLaid y) (reach : Reach) (shape : Shape) (registe
 
     pub frame_fits : IsAmple y reach → ((g : ℕ) → reach.is_read g ≡ true → 0 < y.size g) → ((g : ℕ) → reach.is_read g ≡ true → found frame.bound g ≡ None) → IsFit S access setting frame
     frame_fits ample read free = record {
-      seats = keeping_seats y.place shape.keeping;
+      seats = keeping_seats y.place shape.keeping shape.pins (pins_within shape.keeping (first_pin shape.keeping shape.temps) shape.pins is.pins.stand);
       left = leaves_alone;
       stores = λ m x v w there lt load. stored_in m x v (memory.stores m (address S x) v w (cell_word x there) lt load);
       apart = cells_apart;
@@ -299,9 +308,10 @@ module _ (y : Layout) (laid : IsLaid y) (reach : Reach) (shape : Shape) (registe
       places = λ g. refl;
       sizes = λ g. refl;
       saved = subst SeatsSaved (sym saves) seats_saved;
-      left = λ q. subst (λ k. LeftSaved k shape.temps q) (sym saves) (left_saved shape.temps q);
-      counters = subst (λ k. (is_left_by k shape.temps 26 ≡ true) × (is_left_by k shape.temps 27 ≡ true)) (sym saves)
-          (counters_left shape.temps 26 (omega arith) (omega arith), counters_left shape.temps 27 (omega arith) (omega arith));
+      pins = pins_saved shape.params shape.temps shape.pins (subst (λ k. ArePins k shape.params shape.temps shape.pins) saves is.pins);
+      left = λ q. subst (λ k. LeftSaved k (seated_of shape) q) (sym saves) (left_saved (seated_of shape) q);
+      counters = subst (λ k. (is_left_by k (seated_of shape) 26 ≡ true) × (is_left_by k (seated_of shape) 27 ≡ true)) (sym saves)
+          (counters_left (seated_of shape) 26 (omega arith) (omega arith), counters_left (seated_of shape) 27 (omega arith) (omega arith));
       entries = λ f. refl;
       may_ask = λ k. subst (λ by. asks_by by y.may_ask k ≡ true → y.may_ask k ≡ true) (sym saves) (λ e. e);
       entry_places = λ f lt. (entries f lt).1;

@@ -25,7 +25,7 @@ use Rattle.mv_select_code.specs.Statements.Leads.{limited}
 -- a frame whose own cells are all words of the stack
 abbrev pub words_site : Layout → Reach → Site
 words_site y reach = record {
-  seats = record { place = λ g. 0; register = λ t. None };
+  seats = record { place = λ g. 0; register = λ t. None; pinned = λ n. None };
   size = λ g. 0;
   reach = record { is_read = λ g. false; is_written = λ g. false; may_load = reach.may_load };
   entry = y.entry;

@@ -1,15 +1,18 @@
 -- What holds of instructions and of lines that are put together holds of the code that enters a function, and of the code that leaves it.
-use Rattle.std.proofs.Common.{ℕ, zero, suc, ◌*◌, ◌+◌, Bool, true, false, List, [], ◌∷◌, ◌++◌, ℤ, pos, ◌-ℤ◌}
+use Rattle.std.proofs.Common.{ℕ, zero, suc, ◌*◌, ◌+◌, Bool, true, false, cond, eqb, List, [], ◌∷◌, ◌++◌, ℤ, pos, ◌-ℤ◌}
 use Rattle.mv_isa.specs.declared.instr.Instr.TheVariants.{Lw, Sw, Addi, Jalr}
 use Rattle.mv_isa.specs.declared.labelled.Line.{Line}
 use Rattle.mv_isa.specs.declared.labelled.Line.TheVariants.{Word, Label, Jump, Branch, Entry, Slot, Point}
 use Rattle.mv_isa.specs.Code.{nop}
 use Rattle.mv_isa.specs.Registers.{a0, ra as link_register, s10 as live_register}
-use Rattle.mv_select_code.specs.Trees.TreeCode.{one, two, minus_one, temp_register}
+use Rattle.mv_ir.specs.Measures.{total}
+use Rattle.mv_select_code.specs.Trees.TreeCode.{one, two, minus_one, number_lines, temp_register}
 use Rattle.mv_select_code.specs.declared.trees.places.Keeping.{Keeping}
 use Rattle.mv_select_code.specs.declared.trees.places.Keeping.TheVariants.{Saved, Arguments}
-use Rattle.mv_select_code.proofs.OfControl.StatementsAreMade.{LineByLine, words_made}
-use Rattle.mv_select.specs.Functions.FunctionCode.{saved_count, saved_register, save_lines, restore_lines, parameter_lines, enter_lines, leave_lines, lowered_lines, prologue_lines, epilogue_lines, Shape, bytes_of, move_lines, entry_by, return_by, led}
+use Rattle.mv_select_code.specs.declared.trees.places.Pin.{Pin}
+use Rattle.mv_select_code.proofs.OfControl.StatementsAreMade.{LineByLine, words_made, number_made}
+use Rattle.mv_select.specs.Functions.Pins.{pin_lines}
+use Rattle.mv_select.specs.Functions.FunctionCode.{saved_count, saved_register, save_lines, restore_lines, parameter_lines, enter_lines, leave_lines, lowered_lines, prologue_lines, epilogue_lines, Shape, seated_of, bytes_of, move_lines, entry_by, return_by, led}
 
 module _ {P : List Line → Type 0} {L J Q : ℕ → Type 0} (made : LineByLine P L J Q) where
   save_made : (k : ℕ) → P (save_lines k)
@@ -24,6 +27,10 @@ module _ {P : List Line → Type 0} {L J Q : ℕ → Type 0} (made : LineByLine 
   parameter_made zero = made.none
   parameter_made (suc k) = let i = Addi (temp_register k) (a0 + k) (pos 0) in made.after (parameter_lines k) (one i) (parameter_made k) (made.word i)
 
+  pins_made : (pins : List Pin) → P (pin_lines pins)
+  pins_made [] = made.none
+  pins_made (p ∷ pins) = made.after (number_lines p.number p.register) (pin_lines pins) (number_made made p.number p.register) (pins_made pins)
+
   enter_made : (attributed : Bool) → P (enter_lines attributed)
   enter_made true = made.word (Addi live_register live_register (pos 1))
   enter_made false = made.none
@@ -32,12 +39,13 @@ module _ {P : List Line → Type 0} {L J Q : ℕ → Type 0} (made : LineByLine 
   leave_made true = made.word (Addi live_register live_register minus_one)
   leave_made false = made.none
 
-  prologue_made : (attributed : Bool) (params temps bytes : ℕ) → P (prologue_lines attributed params temps bytes)
-  prologue_made attributed params temps bytes =
+  prologue_made : (attributed : Bool) (params seated bytes : ℕ) (pins : List Pin) → P (prologue_lines attributed params seated bytes pins)
+  prologue_made attributed params seated bytes pins =
       let lower = Addi 2 2 (pos 0 -ℤ pos bytes) in
-      made.after (one lower) (lowered_lines attributed params temps) (made.word lower)
-      (made.after (save_lines (saved_count temps)) (parameter_lines params ++ enter_lines attributed) (save_made (saved_count temps))
-      (made.after (parameter_lines params) (enter_lines attributed) (parameter_made params) (enter_made attributed)))
+      made.after (one lower) (lowered_lines attributed params seated pins) (made.word lower)
+      (made.after (save_lines (saved_count seated)) (parameter_lines params ++ (pin_lines pins ++ enter_lines attributed)) (save_made (saved_count seated))
+      (made.after (parameter_lines params) (pin_lines pins ++ enter_lines attributed) (parameter_made params)
+      (made.after (pin_lines pins) (enter_lines attributed) (pins_made pins) (enter_made attributed))))
 
   epilogue_made : (attributed : Bool) (temps bytes : ℕ) → P (epilogue_lines attributed temps bytes)
   epilogue_made attributed temps bytes =
@@ -47,15 +55,19 @@ module _ {P : List Line → Type 0} {L J Q : ℕ → Type 0} (made : LineByLine 
       (made.after (restore_lines (saved_count temps)) (two raise back) (restore_made (saved_count temps)) (words_made made raise back))
 
   move_made : (sizes : List ℕ) (n : ℤ) → P (move_lines sizes n)
-  move_made [] n = made.none
-  move_made (x ∷ sizes) n = made.word (Addi 2 2 n)
+  move_made sizes n = by (eqb (total sizes) 0)
+    where
+      by : (none : Bool) → P (cond none [] (one (Addi 2 2 n)))
+      by true = made.none
+      by false = made.word (Addi 2 2 n)
 
   pub entry_made : (k : Keeping) (shape : Shape) → P (entry_by k shape)
-  entry_made Saved shape = prologue_made shape.attributed shape.params shape.temps (bytes_of shape)
-  entry_made Arguments shape = move_made shape.arrays (pos 0 -ℤ pos (bytes_of shape))
+  entry_made Saved shape = prologue_made shape.attributed shape.params (seated_of shape) (bytes_of shape) shape.pins
+  entry_made Arguments shape =
+      let down = pos 0 -ℤ pos (bytes_of shape) in made.after (move_lines shape.arrays down) (pin_lines shape.pins) (move_made shape.arrays down) (pins_made shape.pins)
 
   pub return_made : (k : Keeping) (shape : Shape) → P (return_by k shape)
-  return_made Saved shape = epilogue_made shape.attributed shape.temps (bytes_of shape)
+  return_made Saved shape = epilogue_made shape.attributed (seated_of shape) (bytes_of shape)
   return_made Arguments shape =
       let back = Jalr 0 link_register (pos 0) in made.after (move_lines shape.arrays (pos (bytes_of shape))) (one back) (move_made shape.arrays (pos (bytes_of shape))) (made.word back)
 

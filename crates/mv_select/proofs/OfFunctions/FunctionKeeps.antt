@@ -25,7 +25,7 @@ use Rattle.mv_select.specs.Calls.Environment.{ServesKnown}
 use Rattle.mv_select.specs.Calls.Laws.{IsCaller, IsLinked}
 use Rattle.mv_select.proofs.OfCalls.FunctionCalls.{call_done}
 use Rattle.mv_select.proofs.OfCalls.KnownCalls.{known_done}
-use Rattle.mv_select.specs.Functions.FunctionCode.{Shape, bytes_of, lowered_lines, epilogue_lines, body_lines, later_lines, end_label, seats_of}
+use Rattle.mv_select.specs.Functions.FunctionCode.{Shape, seated_of, bytes_of, lowered_lines, epilogue_lines, body_lines, later_lines, end_label, seats_of}
 use Rattle.mv_select.specs.Functions.Functions.{IsLaid, IsMemory, IsStack, LowersStack, IsAmple, RunsWithin}
 use Rattle.mv_select.proofs.OfFunctions.Begun.{Begun, frame_at}
 use Rattle.mv_select.proofs.OfFunctions.BodyKeeps as body_of
@@ -37,6 +37,8 @@ use Rattle.mv_select.proofs.OfFunctions.Epilogue.{epilogue_walk}
 use Rattle.mv_select.proofs.OfFunctions.EntryShown as shown
 use Rattle.mv_select.proofs.OfFunctions.Frame.{shape_at, IsFrame, frame_calls}
 use Rattle.mv_select.proofs.OfFunctions.FrameWords.{frame_course}
+use Rattle.mv_select.specs.Functions.Pins.{pins_of}
+use Rattle.mv_select.proofs.OfFunctions.Pins.{one_seat, pins_apart, pins_above}
 use Rattle.mv_select.proofs.OfFunctions.Prologue.{Prepared, saved_words, prologue_walk}
 use Rattle.mv_select.proofs.OfFunctions.Seats.{register_low, register_high, one_register, saved_some}
 
@@ -67,10 +69,10 @@ module _ {M : Type 0} (access : Access M) (y : Layout) (laid : IsLaid y) (machin
   body_code = body_lines y.place y.size is_attributed (shape_at attributed Saved body) body.code
 
   abbrev epilogue : List Line
-  epilogue = epilogue_lines attributed body.temps (bytes_of (shape_at attributed Saved body))
+  epilogue = epilogue_lines attributed (seated_of (shape_at attributed Saved body)) (bytes_of (shape_at attributed Saved body))
 
   abbrev prologue : List Line
-  prologue = lowered_lines attributed body.params body.temps
+  prologue = lowered_lines attributed body.params (seated_of (shape_at attributed Saved body)) (pins_of Saved body)
 
   p : (m : ℕ) × Ps prologue mid m × Ps (body_code ++ (Label end_label ∷ epilogue)) m next
   p = placed_split machine.text place y.entry prologue (body_code ++ (Label end_label ∷ epilogue)) mid next placed
@@ -87,7 +89,7 @@ module _ {M : Type 0} (access : Access M) (y : Layout) (laid : IsLaid y) (machin
   few_live = live_small y laid machine setting attributed Saved bound reach is_fine body fn depth live args i begun
 
   prep : Prepared access y laid machine memory reach ample runs budget far place (shape_at attributed Saved body) args live sp (machine.run i).regs (machine.run i).memory w p.0 i
-  prep = prologue_walk access y laid machine memory reach ample runs budget far place shape args live sp caller (machine.run i).regs (machine.run i).memory w mid p.0 i refl framed fn.params refl
+  prep = prologue_walk access y laid machine memory reach ample runs budget far place shape args live sp caller (machine.run i).regs (machine.run i).memory w mid p.0 i refl framed fn.params fn.temps refl
       begun.live_is few_live stands.are (λ j lt. begun.arguments j (omega (arith, lt, count))) p.1
       (record { is = lowers.goes; calm = stands.calm; sound = before_next (λ t. machine.is_sound (machine.run t) ≡ true) i stands.sound lowers.sound })
 
@@ -102,19 +104,22 @@ module _ {M : Type 0} (access : Access M) (y : Layout) (laid : IsLaid y) (machin
     are = prep.are;
     sp_is = prep.sp_is;
     live_is = prep.live_is;
-    left_is = prep.others left_register (λ e. omega (arith, e)) (λ e. omega (arith, e)) (λ j lt e. omega (arith, e, register_high j (omega (arith, lt, fn.params))));
+    left_is = prep.others left_register (λ e. omega (arith, e)) (λ e. omega (arith, e)) (λ j lt e. omega (arith, e, register_high j (omega (arith, lt, fn.params))))
+        (pins_above Saved body.temps (pins_of Saved body) left_register framed.pins.stand (omega arith));
     held = λ j r lt seat. ap (reg prep.regs) (saved_some j r seat).1 ∙ prep.held j lt;
     others = others;
+    pinned = prep.pinned;
     globals = λ g n lt. prep.words (y.place g + 4 * n) (inr (g, n, lt, refl))
-        (λ j few e. laid.off_stack g n lt (subst (IsStack y) (sym e) (saved_words y shape refl sp caller framed j (omega (arith, few, saved_few body.temps)))));
-    words = λ b stack away. prep.words b (inl stack) (λ j few. away j (omega (arith, few, saved_few body.temps)));
+        (λ j few e. laid.off_stack g n lt (subst (IsStack y) (sym e) (saved_words y shape refl sp caller framed j (omega (arith, few, saved_few (seated_of (shape_at attributed Saved body)))))));
+    words = λ b stack away. prep.words b (inl stack) (λ j few. away j (omega (arith, few, saved_few (seated_of (shape_at attributed Saved body)))));
   }
     where
-      others : (t r : ℕ) → body.params ≤ t → register_of Saved t ≡ Some r → reg prep.regs r ≡ reg (machine.run i).regs r
-      others t r le seat =
+      others : (t r : ℕ) → body.params ≤ t → t < body.temps → register_of Saved t ≡ Some r → reg prep.regs r ≡ reg (machine.run i).regs r
+      others t r le few seat =
           let s = saved_some t r seat in
           prep.others r (λ e. omega (arith, e, s.1, register_low t)) (λ e. omega (arith, e, s.1, register_high t s.0))
           (λ j lt e. one_register t j (λ same. omega (arith, same, le, lt)) (sym s.1 ∙ e))
+          (pins_apart Saved body.temps (pins_of Saved body) r framed.pins.stand (λ u from below e. omega (arith, one_seat Saved t u r seat e, few, from)))
 
   -- ---- the body
 

@@ -92,7 +92,7 @@ module _ {M : Type 0} (access : Access M) (y : Layout) (laid : IsLaid y) (machin
     stop = return_by Arguments (shape_at attributed Arguments body)
 
     e : LeafEntered access y laid machine memory reach ample runs budget far place attributed body args live (machine.run i).regs (machine.run i).memory w (code ++ (Label end_label ∷ stop)) next i
-    e = leaf_entered access y laid machine memory reach ample runs budget far place attributed body (fn.plain refl) args live (machine.run i).regs (machine.run i).memory w (code ++ (Label end_label ∷ stop)) pc next i
+    e = leaf_entered access y laid machine memory reach ample runs budget far place attributed body (fn.plain refl) fn.temps args live (machine.run i).regs (machine.run i).memory w (code ++ (Label end_label ∷ stop)) pc next i
         stands.are begun.live_is (small y laid machine setting attributed Arguments bound reach is_fine body fn depth live args i begun) (λ j lt. begun.arguments j (omega (arith, lt, count))) placed here
 
     q : (mid : ℕ) × Ps code e.mid mid × Ps (Label end_label ∷ stop) mid next

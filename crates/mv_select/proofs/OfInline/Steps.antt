@@ -28,7 +28,7 @@ use Rattle.mv_num.proofs.Numbers.{word_of_pos}
 -- a frame that has no cells but the words of globals
 abbrev pub globals_site : Layout → Reach → Site
 globals_site y reach = record {
-  seats = record { place = y.place; register = λ t. None };
+  seats = record { place = y.place; register = λ t. None; pinned = λ n. None };
   size = y.size;
   reach = record { is_read = λ g. false; is_written = λ g. true; may_load = reach.may_load };
   entry = y.entry;

@@ -23,12 +23,13 @@ abbrev pub IsOfFrame : Cell → Type 0
 IsOfFrame (Element (array.Global g) i) = ⊥
 IsOfFrame _ = Unit {0}
 
--- A frame as its callees find it: its temporaries stand in registers that callees set back, and what it leaves alone they set back too; s10 and s11, which it
--- leaves alone, count what the frame's numbers say, there is room below sp for each call that is left, and the frame stands from sp up.
+-- A frame as its callees find it: its temporaries and numbers stand in registers that callees set back, and what it leaves alone they set back too; s10 and
+-- s11, which it leaves alone, count what the frame's numbers say, there is room below sp for each call that is left, and the frame stands from sp up.
 pub record IsCaller (y : Layout) (s : Site) (setting : ir.Setting) (frame : ir.Frame) : Type 0 where
   pub places : (g : ℕ) → s.seats.place g ≡ y.place g
   pub sizes : (g : ℕ) → s.size g ≡ y.size g
   pub saved : (t q : ℕ) → s.seats.register t ≡ Some q → IsSaved q
+  pub pins : (n q : ℕ) → s.seats.pinned n ≡ Some q → IsSaved q
   pub left : (q : ℕ) → s.is_left q ≡ true → IsSaved q
   pub counters : (s.is_left s10 ≡ true) × (s.is_left s11 ≡ true)
   pub entries : (f : ℕ) → s.entry f ≡ y.entry f

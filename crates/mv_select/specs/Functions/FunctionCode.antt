@@ -1,5 +1,5 @@
 -- The code of a whole function: its frame is made, its body carried out, and the frame taken down.
-use Rattle.std.specs.Prelude.{ℕ, zero, suc, ◌+◌, ◌*◌, ◌/◌, Bool, true, false, ◌&&◌, ◌||◌, cond, eqb, leb, ltb, max, min, slice_index, List, [], ◌∷◌, ◌++◌, map, ℤ, pos, ◌-ℤ◌}
+use Rattle.std.specs.Prelude.{ℕ, zero, suc, ◌+◌, ◌*◌, ◌/◌, Bool, true, false, ◌&&◌, ◌||◌, cond, eqb, leb, ltb, max, min, slice_index, length, List, [], ◌∷◌, ◌++◌, map, ℤ, pos, ◌-ℤ◌}
 use Rattle.mv_isa.specs.declared.instr.Instr.TheVariants.{Lw, Sw, Addi, Jalr}
 use Rattle.mv_isa.specs.declared.labelled.Line.{Line}
 use Rattle.mv_isa.specs.declared.labelled.Line.TheVariants.{Word, Label}
@@ -11,17 +11,19 @@ use Rattle.mv_ir.specs.declared.stm.Stm.TheOpen as stm
 use Rattle.mv_ir.specs.declared.stm.Stm.TheFolds.{fold-Stm}
 use Rattle.mv_ir.specs.WellFormed.{all_true}
 use Rattle.mv_ir.specs.Measures.{total}
-use Rattle.mv_select_code.specs.Trees.TreeCode.{Seats, one, two, minus_one, temp_register, register_of}
+use Rattle.mv_select_code.specs.Trees.TreeCode.{Seats, one, two, minus_one, temp_register, register_of, pinned_in}
 use Rattle.mv_select_code.specs.declared.trees.places.Keeping.{Keeping}
+use Rattle.mv_select_code.specs.declared.trees.places.Pin.{Pin}
 use Rattle.mv_select_code.specs.declared.trees.places.Keeping.TheVariants.{Saved, Arguments}
 use Rattle.mv_select_code.specs.Control.FlowCode.{Plan, fall_to, code_of}
 use Rattle.mv_select.specs.Calls.CallCode.{calls_of}
+use Rattle.mv_select.specs.Functions.Pins.{pin_lines, ArePins}
 
 -- ---- frames, in words above sp: ra and the registers of temporaries, then the temporaries from number 9 on, then the arrays
 
--- how many registers a frame saves: ra, and that of each temporary that has one
+-- how many registers a frame saves: ra, and that of each temporary or number that has one
 abbrev pub saved_count : ℕ → ℕ
-saved_count temps = suc (min temps 9)
+saved_count seated = suc (min seated 9)
 
 abbrev pub saved_register : ℕ → ℕ
 saved_register zero = ra
@@ -67,16 +69,17 @@ enter_lines attributed = cond attributed (one (Addi s10 s10 (pos 1))) []
 abbrev pub leave_lines : Bool → List Line
 leave_lines attributed = cond attributed (one (Addi s10 s10 minus_one)) []
 
--- what follows where sp has moved
-abbrev pub lowered_lines : Bool → (params temps : ℕ) → List Line
-lowered_lines attributed params temps = save_lines (saved_count temps) ++ (parameter_lines params ++ enter_lines attributed)
+-- what follows where sp has moved, with so many temporaries and numbers in all
+abbrev pub lowered_lines : Bool → (params seated : ℕ) → List Pin → List Line
+lowered_lines attributed params seated pins =
+    save_lines (saved_count seated) ++ (parameter_lines params ++ (pin_lines pins ++ enter_lines attributed))
 
-abbrev pub prologue_lines : Bool → (params temps bytes : ℕ) → List Line
-prologue_lines attributed params temps bytes = Word (Addi sp sp (pos 0 -ℤ pos bytes)) ∷ lowered_lines attributed params temps
+abbrev pub prologue_lines : Bool → (params seated bytes : ℕ) → List Pin → List Line
+prologue_lines attributed params seated bytes pins = Word (Addi sp sp (pos 0 -ℤ pos bytes)) ∷ lowered_lines attributed params seated pins
 
-abbrev pub epilogue_lines : Bool → (temps bytes : ℕ) → List Line
-epilogue_lines attributed temps bytes =
-    leave_lines attributed ++ (restore_lines (saved_count temps) ++ two (Addi sp sp (pos bytes)) (Jalr x0 ra (pos 0)))
+abbrev pub epilogue_lines : Bool → (seated bytes : ℕ) → List Line
+epilogue_lines attributed seated bytes =
+    leave_lines attributed ++ (restore_lines (saved_count seated) ++ two (Addi sp sp (pos bytes)) (Jalr x0 ra (pos 0)))
 
 -- ---- functions
 
@@ -84,14 +87,15 @@ epilogue_lines attributed temps bytes =
 abbrev pub end_label : ℕ
 end_label = 0
 
--- a function's own numbers: whether it is attributed, in which registers it keeps its temporaries, how many parameters and temporaries it has, and the words
--- of each of its arrays
+-- a function's own numbers: whether it is attributed, in which registers it keeps its temporaries, how many parameters and temporaries it has, the words of
+-- each of its arrays, and its pins
 pub record Shape : Type 0 where
   pub attributed : Bool
   pub keeping : Keeping
   pub params : ℕ
   pub temps : ℕ
   pub arrays : List ℕ
+  pub pins : List Pin
 
 -- whether a statement calls nothing, neither a function nor a known one, given whether those within it do
 abbrev pub silent_layer : Stm-F Bool → Bool
@@ -113,25 +117,31 @@ abbrev pub bytes_of : Shape → ℕ
 bytes_of shape = frame_bytes shape.temps shape.arrays
 
 abbrev pub seats_of : (ℕ → ℕ) → Shape → Seats
-seats_of place shape = record { place = place; register = register_of shape.keeping }
+seats_of place shape = record { place = place; register = register_of shape.keeping; pinned = pinned_in shape.pins }
 
--- The registers that the body of a function leaves alone: sp, s10 and s11, and the rest of s1 to s9 where it saves those of its temporaries; and ra and all of
--- s1 to s11 where it keeps them where arguments come.
-abbrev pub is_left_by : Keeping → (temps : ℕ) → ℕ → Bool
-is_left_by Saved temps q = eqb q sp || ((eqb temps 0 && eqb q s1) || (leb (a7 + max (min temps 9) 1) q && ltb q t3))
-is_left_by Arguments temps q = eqb q ra || (eqb q sp || (eqb q s1 || (leb s2 q && ltb q t3)))
+-- how many temporaries and numbers there are in all
+abbrev pub seated_of : Shape → ℕ
+seated_of shape = shape.temps + length shape.pins
 
--- what calls nothing and keeps its temporaries where arguments come has a frame for arrays alone
+abbrev pub HasPins : Shape → Type 0
+HasPins shape = ArePins shape.keeping shape.params shape.temps shape.pins
+
+-- The registers that the body of a function leaves alone: sp, s10 and s11, and the rest of s1 to s9 where it saves those of its temporaries and numbers; and ra
+-- and all of s1 to s11 where it keeps them where arguments come.
+abbrev pub is_left_by : Keeping → (seated : ℕ) → ℕ → Bool
+is_left_by Saved seated q = eqb q sp || ((eqb seated 0 && eqb q s1) || (leb (a7 + max (min seated 9) 1) q && ltb q t3))
+is_left_by Arguments seated q = eqb q ra || (eqb q sp || (eqb q s1 || (leb s2 q && ltb q t3)))
+
+-- what calls nothing and keeps its temporaries where arguments come has a frame for arrays alone, so none where these have no words
 abbrev pub move_lines : List ℕ → ℤ → List Line
-move_lines [] bytes = []
-move_lines (n ∷ sizes) bytes = one (Addi sp sp bytes)
+move_lines sizes bytes = cond (eqb (total sizes) 0) [] (one (Addi sp sp bytes))
 
 abbrev pub entry_by : Keeping → Shape → List Line
-entry_by Saved shape = prologue_lines shape.attributed shape.params shape.temps (bytes_of shape)
-entry_by Arguments shape = move_lines shape.arrays (pos 0 -ℤ pos (bytes_of shape))
+entry_by Saved shape = prologue_lines shape.attributed shape.params (seated_of shape) (bytes_of shape) shape.pins
+entry_by Arguments shape = move_lines shape.arrays (pos 0 -ℤ pos (bytes_of shape)) ++ pin_lines shape.pins
 
 abbrev pub return_by : Keeping → Shape → List Line
-return_by Saved shape = epilogue_lines shape.attributed shape.temps (bytes_of shape)
+return_by Saved shape = epilogue_lines shape.attributed (seated_of shape) (bytes_of shape)
 return_by Arguments shape = move_lines shape.arrays (pos (bytes_of shape)) ++ one (Jalr x0 ra (pos 0))
 
 -- lines that begin with a word: so no two functions begin at the same address
@@ -157,8 +167,8 @@ module _ (place size : ℕ → ℕ) (is_attributed : ℕ → Bool) (shape : Shap
   -- the code behind its first instruction, where the function saves registers
   abbrev pub later_lines : List Stm → List Line
   later_lines code =
-      lowered_lines shape.attributed shape.params shape.temps
-      ++ (body_lines code ++ (Label end_label ∷ epilogue_lines shape.attributed shape.temps (bytes_of shape)))
+      lowered_lines shape.attributed shape.params (seated_of shape) shape.pins
+      ++ (body_lines code ++ (Label end_label ∷ epilogue_lines shape.attributed (seated_of shape) (bytes_of shape)))
 
   abbrev pub function_lines : List Stm → List Line
   function_lines code = led (entry_by shape.keeping shape ++ (body_lines code ++ (Label end_label ∷ return_by shape.keeping shape)))

@@ -19,7 +19,8 @@ use Rattle.mv_select_code.specs.Control.Runs.{Machine, IsRun}
 use Rattle.mv_select.specs.Calls.Convention.{Layout, IsTarget, IsAbove, frame_limit, Stands, FollowsCall, Conventions, Answers}
 use Rattle.mv_select.specs.Calls.Environment.{ServesKnown}
 use Rattle.mv_select.specs.Calls.Laws.{IsLinked}
-use Rattle.mv_select.specs.Functions.FunctionCode.{Shape, seats_of, is_left_by, calls_nothing, array_offset, bytes_of, later_lines, function_lines}
+use Rattle.mv_select.specs.Functions.FunctionCode.{Shape, seats_of, seated_of, is_left_by, calls_nothing, array_offset, bytes_of, later_lines, function_lines}
+use Rattle.mv_select.specs.Functions.Pins.{pins_of}
 use Rattle.mv_select_code.specs.declared.trees.places.Keeping.{Keeping}
 use Rattle.mv_select_code.specs.declared.trees.places.Keeping.TheVariants.{Saved, Arguments}
 use Rattle.mv_select_code.specs.Control.Laws.{uses_in}
@@ -105,7 +106,7 @@ site_of y reach shape register is_kept kept = record {
   temps = shape.temps;
   array_at = array_offset shape.temps shape.arrays;
   array_size = slice_index shape.arrays;
-  is_left = is_left_by shape.keeping shape.temps;
+  is_left = is_left_by shape.keeping (seated_of shape);
   register = register;
   is_kept = is_kept;
   kept = kept;
@@ -122,6 +123,7 @@ shape_of attributed body = record {
   params = body.params;
   temps = body.temps;
   arrays = body.arrays;
+  pins = pins_of (keeping_of attributed body) body;
 }
 
 -- the frame of a function that is called from one with these numbers

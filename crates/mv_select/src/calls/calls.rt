@@ -46,7 +46,7 @@ fn push_result(
     temp: Option<u32>,
 ) -> Result<(), AllocError>
     requires { IfSome temp (λ t. t < 507) }
-    ensures { OnOk result (code.new ≡ code.old ++ result_lines (seats_at places.entry.rooms.now places.entry.keeping) temp) }
+    ensures { OnOk result (code.new ≡ code.old ++ result_lines (seats_at places.entry.rooms.now places.entry.keeping places.entry.pins.now) temp) }
 {
     match temp {
         None => Ok(()),
@@ -62,7 +62,7 @@ fn push_arguments(
 ) -> Result<(), AllocError>
     requires few { length arguments.now < 9 }
     requires small { All IsSmall arguments.now }
-    ensures { OnOk result (code.new ≡ code.old ++ argument_lines (seats_at places.entry.rooms.now places.entry.keeping) 10 arguments.now) }
+    ensures { OnOk result (code.new ≡ code.old ++ argument_lines (seats_at places.entry.rooms.now places.entry.keeping places.entry.pins.now) 10 arguments.now) }
 {
     for (index, argument) in arguments.iter().enumerate() {
         push_into(code, places, argument, FIRST + index as u8, SCRATCH)?;
@@ -88,7 +88,7 @@ fn push_guard(code: &mut List<Line>) -> Result<(), AllocError>
 // One call more is left again, and the result comes into its temporary.
 fn push_back(code: &mut List<Line>, places: Places<'_>, temp: Option<u32>) -> Result<(), AllocError>
     requires { IfSome temp (λ t. t < 507) }
-    ensures { OnOk result (code.new ≡ code.old ++ back_lines (seats_at places.entry.rooms.now places.entry.keeping) temp) }
+    ensures { OnOk result (code.new ≡ code.old ++ back_lines (seats_at places.entry.rooms.now places.entry.keeping places.entry.pins.now) temp) }
 {
     push_one(
         code,
@@ -109,7 +109,7 @@ fn push_slot(
     temp: Option<u32>,
 ) -> Result<(), AllocError>
     requires { IfSome temp (λ t. t < 507) }
-    ensures { OnOk result (code.new ≡ code.old ++ guarded_lines (seats_at places.entry.rooms.now places.entry.keeping) (slot_lines function) temp) }
+    ensures { OnOk result (code.new ≡ code.old ++ guarded_lines (seats_at places.entry.rooms.now places.entry.keeping places.entry.pins.now) (slot_lines function) temp) }
 {
     push_guard(code)?;
     code.push(Line::Slot(function))?;
@@ -124,7 +124,7 @@ fn push_entry(
     temp: Option<u32>,
 ) -> Result<(), AllocError>
     requires { IfSome temp (λ t. t < 507) }
-    ensures { OnOk result (code.new ≡ code.old ++ guarded_lines (seats_at places.entry.rooms.now places.entry.keeping) (entry_lines function) temp) }
+    ensures { OnOk result (code.new ≡ code.old ++ guarded_lines (seats_at places.entry.rooms.now places.entry.keeping places.entry.pins.now) (entry_lines function) temp) }
 {
     push_guard(code)?;
     code.push(Line::Jump(LINK, ENTRIES + function % ENTRIES))?;
@@ -134,7 +134,7 @@ fn push_entry(
 // A call to the address in t3.
 fn push_jump(code: &mut List<Line>, places: Places<'_>, temp: Option<u32>) -> Result<(), AllocError>
     requires { IfSome temp (λ t. t < 507) }
-    ensures { OnOk result (code.new ≡ code.old ++ guarded_lines (seats_at places.entry.rooms.now places.entry.keeping) jump_lines temp) }
+    ensures { OnOk result (code.new ≡ code.old ++ guarded_lines (seats_at places.entry.rooms.now places.entry.keeping places.entry.pins.now) jump_lines temp) }
 {
     push_guard(code)?;
     push_one(
@@ -155,7 +155,7 @@ fn push_pointer(
     temp: Option<u32>,
 ) -> Result<(), AllocError>
     requires { IfSome temp (λ t. t < 507) }
-    ensures { OnOk result (code.new ≡ code.old ++ pointer_lines (seats_at places.entry.rooms.now places.entry.keeping) temp) }
+    ensures { OnOk result (code.new ≡ code.old ++ pointer_lines (seats_at places.entry.rooms.now places.entry.keeping places.entry.pins.now) temp) }
 {
     code.push(Line::Branch(0, SCRATCH, 0, TRAPS + u32::from(NULL_CALL)))?;
     push_jump(code, places, temp)
@@ -171,7 +171,7 @@ fn push_transfer(
 ) -> Result<(), AllocError>
     requires temp { IfSome temp (λ t. t < 507) }
     requires small { All IsSmall (callee_trees callee.now) }
-    ensures { OnOk result (code.new ≡ code.old ++ transfer_lines (seats_at places.entry.rooms.now places.entry.keeping) (is_marked marked.now) callee.now temp) }
+    ensures { OnOk result (code.new ≡ code.old ++ transfer_lines (seats_at places.entry.rooms.now places.entry.keeping places.entry.pins.now) (is_marked marked.now) callee.now temp) }
 {
     match callee {
         Callee::Direct(function) => {
@@ -217,7 +217,7 @@ pub fn push_call(
     requires few { length arguments.now < 9 }
     requires small { All IsSmall arguments.now }
     requires small_callee { All IsSmall (callee_trees callee.now) }
-    ensures { OnOk result (code.new ≡ code.old ++ call_lines (seats_at places.entry.rooms.now places.entry.keeping) (is_marked marked.now) temp callee.now arguments.now) }
+    ensures { OnOk result (code.new ≡ code.old ++ call_lines (seats_at places.entry.rooms.now places.entry.keeping places.entry.pins.now) (is_marked marked.now) temp callee.now arguments.now) }
 {
     push_pad(code, callee, arguments)?;
     push_arguments(code, places, arguments)?;
@@ -280,7 +280,7 @@ pub fn push_known(
     requires temp { IfSome temp (λ t. t < 507) }
     requires few { length arguments.now < 9 }
     requires small { All IsSmall arguments.now }
-    ensures { OnOk result (code.new ≡ code.old ++ known_lines (seats_at places.entry.rooms.now places.entry.keeping) temp known arguments.now) }
+    ensures { OnOk result (code.new ≡ code.old ++ known_lines (seats_at places.entry.rooms.now places.entry.keeping places.entry.pins.now) temp known arguments.now) }
 {
     push_arguments(code, places, arguments)?;
     push_order(code, known)?;

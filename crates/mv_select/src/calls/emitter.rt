@@ -23,7 +23,7 @@ pub struct Calls<'a> {
 }
 
 impl CallCode for Calls<'_> {
-    ghost lines = { λ s. calls_of (seats_at s.places.rooms.now s.places.keeping) (is_marked s.marked.now) };
+    ghost lines = { λ s. calls_of (seats_at s.places.rooms.now s.places.keeping s.places.pins.now) (is_marked s.marked.now) };
 
     fn push_call(
         &self,

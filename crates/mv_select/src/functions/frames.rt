@@ -1,14 +1,16 @@
 //! The entry of a function, which makes its frame, and its return, which takes it down.
 
-ghost use Rattle.std.specs.Prelude.{◌≡◌, ◌<◌, ◌≤◌, ◌++◌, OnOk};
+ghost use Rattle.std.specs.Prelude.{◌≡◌, ◌+◌, ◌<◌, ◌≤◌, ◌++◌, length, OnOk};
 ghost use Rattle.mv_select.specs.Functions.FunctionCode.{saved_count, saved_register, save_lines, restore_lines, parameter_lines, enter_lines, leave_lines, prologue_lines, epilogue_lines, move_lines, entry_by, return_by, bytes_of};
 ghost use Rattle.mv_select.specs.Functions.Outlines.{outlined};
+ghost use Rattle.mv_select.specs.Functions.Pins.{pin_lines};
 
+use crate::frame::words_of;
 use mv_isa::Instr;
 use mv_isa::labelled::Line;
 use mv_num::list::List;
-use mv_select_code::trees::places::Keeping;
-use mv_select_code::trees::{push_one, push_two, temp_register};
+use mv_select_code::trees::places::{Keeping, Pin};
+use mv_select_code::trees::{push_number, push_one, push_two, temp_register};
 use std::alloc::AllocError;
 
 /// The return address, ra.
@@ -21,11 +23,12 @@ const FIRST: u8 = 10;
 const LIVE: u8 = 26;
 
 // How many registers a frame saves.
-fn saved_count(temps: u32) -> u32
-    ensures count { result ≡ saved_count temps }
+fn saved_count(temps: u32, pins: &[Pin]) -> u32
+    ensures count { result ≡ saved_count (temps + length pins.now) }
     ensures few { result ≤ 10 }
 {
-    temps.min(9) + 1
+    let seated = u128::from(temps) + pins.len() as u128;
+    seated.min(9) as u32 + 1
 }
 
 // The register that a frame saves in one of its first words.
@@ -97,6 +100,16 @@ fn push_parameters(code: &mut List<Line>, count: u32) -> Result<(), AllocError>
     Ok(())
 }
 
+// Numbers come into their registers.
+fn push_pins(code: &mut List<Line>, pins: &[Pin]) -> Result<(), AllocError>
+    ensures { OnOk result (code.new ≡ code.old ++ pin_lines pins.now) }
+{
+    for pin in pins {
+        push_number(code, pin.number, pin.register)?;
+    }
+    Ok(())
+}
+
 // An attributed function counts as live.
 fn push_enter(code: &mut List<Line>, attributed: bool) -> Result<(), AllocError>
     ensures { OnOk result (code.new ≡ code.old ++ enter_lines attributed) }
@@ -142,14 +155,16 @@ pub struct Outline<'a> {
     pub temps: u32,
     /// How many words each array has.
     pub arrays: &'a [u32],
+    /// The numbers that stand in registers.
+    pub pins: &'a [Pin],
     pub bytes: u32,
 }
 
-// Moves sp, where there are arrays.
+// Moves sp, where the arrays have words.
 fn push_move(code: &mut List<Line>, arrays: &[u32], bytes: i32) -> Result<(), AllocError>
     ensures { OnOk result (code.new ≡ code.old ++ move_lines arrays.now bytes) }
 {
-    if arrays.is_empty() {
+    if words_of(arrays) == 0 {
         return Ok(());
     }
     push_one(
@@ -162,8 +177,8 @@ fn push_move(code: &mut List<Line>, arrays: &[u32], bytes: i32) -> Result<(), Al
     )
 }
 
-/// The entry of a function: its frame is made, and its parameters come to their temporaries. One that keeps its temporaries where
-/// arguments come needs a frame for arrays alone.
+/// The entry of a function: its frame is made, and its parameters and numbers come to their registers. One that keeps its temporaries
+/// where arguments come needs a frame for arrays alone.
 pub fn push_entry(code: &mut List<Line>, outline: Outline<'_>) -> Result<(), AllocError>
     requires params { outline.params ≤ 8 }
     requires bytes { outline.bytes ≡ bytes_of (outlined outline) }
@@ -177,8 +192,12 @@ pub fn push_entry(code: &mut List<Line>, outline: Outline<'_>) -> Result<(), All
             outline.params,
             outline.temps,
             outline.bytes,
+            outline.pins,
         ),
-        Keeping::Arguments => push_move(code, outline.arrays, -(outline.bytes as i32)),
+        Keeping::Arguments => {
+            push_move(code, outline.arrays, -(outline.bytes as i32))?;
+            push_pins(code, outline.pins)
+        }
     }
 }
 
@@ -189,7 +208,13 @@ pub fn push_return(code: &mut List<Line>, outline: Outline<'_>) -> Result<(), Al
     ensures { OnOk result (code.new ≡ code.old ++ return_by outline.entry.keeping (outlined outline.entry)) }
 {
     match outline.keeping {
-        Keeping::Saved => push_epilogue(code, outline.attributed, outline.temps, outline.bytes),
+        Keeping::Saved => push_epilogue(
+            code,
+            outline.attributed,
+            outline.temps,
+            outline.bytes,
+            outline.pins,
+        ),
         Keeping::Arguments => {
             push_move(code, outline.arrays, outline.bytes as i32)?;
             push_one(
@@ -204,17 +229,18 @@ pub fn push_return(code: &mut List<Line>, outline: Outline<'_>) -> Result<(), Al
     }
 }
 
-// Makes the frame of a function, of so many bytes, and puts its parameters into its first temporaries.
+// Makes the frame of a function, of so many bytes, and puts its parameters into its first temporaries, and numbers into registers.
 fn push_prologue(
     code: &mut List<Line>,
     attributed: bool,
     params: u32,
     temps: u32,
     bytes: u32,
+    pins: &[Pin],
 ) -> Result<(), AllocError>
     requires params { params ≤ 8 }
     requires bytes { bytes ≤ 2032 }
-    ensures { OnOk result (code.new ≡ code.old ++ prologue_lines attributed params temps bytes) }
+    ensures { OnOk result (code.new ≡ code.old ++ prologue_lines attributed params (temps + length pins.now) bytes pins.now) }
 {
     push_one(
         code,
@@ -224,8 +250,9 @@ fn push_prologue(
             imm: -(bytes as i32),
         },
     )?;
-    push_save(code, saved_count(temps))?;
+    push_save(code, saved_count(temps, pins))?;
     push_parameters(code, params)?;
+    push_pins(code, pins)?;
     push_enter(code, attributed)
 }
 
@@ -235,12 +262,13 @@ fn push_epilogue(
     attributed: bool,
     temps: u32,
     bytes: u32,
+    pins: &[Pin],
 ) -> Result<(), AllocError>
     requires { bytes ≤ 2032 }
-    ensures { OnOk result (code.new ≡ code.old ++ epilogue_lines attributed temps bytes) }
+    ensures { OnOk result (code.new ≡ code.old ++ epilogue_lines attributed (temps + length pins.now) bytes) }
 {
     push_leave(code, attributed)?;
-    push_restore(code, saved_count(temps))?;
+    push_restore(code, saved_count(temps, pins))?;
     push_two(
         code,
         Instr::Addi {

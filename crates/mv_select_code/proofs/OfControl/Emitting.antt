@@ -16,6 +16,7 @@ use Rattle.mv_ir.proofs.Induction.{stm_ind}
 use Rattle.mv_ir.specs.declared.body.Room.{Room}
 use Rattle.mv_select_code.specs.Trees.TreeCode.{seats_at}
 use Rattle.mv_select_code.specs.declared.trees.places.Keeping.{Keeping}
+use Rattle.mv_select_code.specs.declared.trees.places.Pin.{Pin}
 use Rattle.mv_select_code.specs.declared.control.emitter.Emitter.{Emitter}
 use Rattle.mv_select_code.specs.declared.control.enclosing.Leading.{Leading}
 use Rattle.mv_select_code.specs.declared.control.enclosing.Way.{Way}
@@ -56,8 +57,9 @@ both_emitted e a b way =
     let lines : ((e.lines ++ one) ++ (Label e.free ∷ [])) ++ other ≡ e.lines ++ (one ++ (Label e.free ∷ other)) = simp append_assoc in
     at_both e (((e.lines ++ one) ++ (Label e.free ∷ [])) ++ other) (e.lines ++ (one ++ (Label e.free ∷ other))) (e.free + 1 + a.labels + b.labels) (e.free + (1 + (a.labels + b.labels))) lines (omega arith)
 
-pub seats_same : {rooms rooms' : List Room} {k k' : Keeping} → rooms ≡ rooms' → k ≡ k' → seats_at rooms k ≡ seats_at rooms' k'
-seats_same p q = λ i. seats_at (p i) (q i)
+pub seats_same : {rooms rooms' : List Room} {k k' : Keeping} {pins pins' : List Pin} → rooms ≡ rooms' → k ≡ k' → pins ≡ pins'
+    → seats_at rooms k pins ≡ seats_at rooms' k' pins'
+seats_same p q r = λ i. seats_at (p i) (q i) (r i)
 
 -- ---- statements in order
 

@@ -1,5 +1,5 @@
 -- The code of statements has encodings and few words, by induction over the statements.
-use Rattle.std.proofs.Common.{◌≡◌, ℕ, ◌+◌, ◌*◌, ◌<◌, ◌≤◌, Bool, true, false, cond, eqb, ltb, ◌&&◌, Option, Some, None, IfSome, List, [], ◌∷◌, ◌++◌, inl, map, sym, ap, ◌∙◌, subst, arith}
+use Rattle.std.proofs.Common.{◌≡◌, ℕ, ◌+◌, ◌*◌, ◌<◌, ◌≤◌, Bool, true, false, cond, eqb, ltb, ◌&&◌, Option, Some, None, IfSome, List, [], ◌∷◌, ◌++◌, inl, map, sym, ap, subst, arith}
 use Rattle.std.proofs.lemmas.Bool.{ltb-true}
 use Rattle.std.proofs.lemmas.List.Elements.{All-cons, All-nil}
 use Rattle.mv_isa.specs.declared.labelled.Line.{Line}
@@ -302,8 +302,8 @@ module _ (plan : Plan) (seats : AreSeats plan.seats) (within : (a : ℕ) → pla
   statement_holds = stm_ind StmHolds (λ x h. from_layer x (layer x h, stays_layer x h))
 
 pub flow_encoded : FlowIsEncoded
-flow_encoded layout within lines calls code small around label way =
+flow_encoded layout within pins lines calls code small around label way =
     let plan = plan_in layout lines in
-    let seats = keeping_seats plan.seats.place layout.keeping in
+    let seats = keeping_seats plan.seats.place layout.keeping layout.pins pins in
     let arrays = plan_within layout lines within in
     in_order_holds plan seats arrays calls code (stms_ind (StmHolds plan seats arrays calls) (statement_holds plan seats arrays calls) code) small around label way

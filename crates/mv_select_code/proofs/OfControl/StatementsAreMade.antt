@@ -1,5 +1,5 @@
 -- What holds of single lines and of lines that are put together holds of the code of statements without control.
-use Rattle.std.proofs.Common.{ℕ, ◌+◌, ◌*◌, ◌&&◌, Bool, true, false, not, cond, eqb, List, [], ◌∷◌, ◌++◌, Option, Some, None, pos, All, sym, subst}
+use Rattle.std.proofs.Common.{ℕ, ◌+◌, ◌*◌, ◌&&◌, Bool, true, false, not, cond, eqb, List, [], ◌∷◌, ◌++◌, Option, Some, None, unwrap_or, pos, All, sym, subst}
 use Rattle.std.proofs.lemmas.List.Elements.{All-append, All-cons, All-nil}
 use Rattle.mv_isa.specs.declared.instr.Instr.{Instr}
 use Rattle.mv_isa.specs.declared.instr.Instr.TheVariants.{Lui, Lw, Sw, Addi, Slli, Add}
@@ -10,13 +10,13 @@ use Rattle.mv_ir.specs.declared.tree.Tree.TheOpen.{Tree-F}
 use Rattle.mv_ir.specs.declared.tree.Tree.TheOpen as tree
 use Rattle.mv_ir.specs.declared.tree.Tree.TheViews.{roll-Tree}
 use Rattle.mv_ir.proofs.Induction.{TreeChildren, tree_ind}
-use Rattle.mv_select_code.specs.Trees.TreeCode.{Seats, one, two, upper_bits, lower_bits, near, number_lines, load_by, load_lines, temp_offset, literal, tree_into, tree_lines, operand_lines, operand_register, is_taken, word_branch, comparison, branch_lines}
+use Rattle.mv_select_code.specs.Trees.TreeCode.{Seats, one, two, upper_bits, lower_bits, near, number_lines, load_by, load_lines, temp_offset, literal, unless, own_register, tree_into, tree_lines, operand_lines, operand_register, is_taken, word_branch, comparison, branch_lines}
 use Rattle.mv_select_code.proofs.OfTrees.Rolls.{word_lines, compared_or, branch_tree, branch_roll}
 use Rattle.mv_select_code.proofs.OfTrees.TreesAreMade as trees
 use Rattle.mv_select_code.specs.declared.trees.leaves.Based.{Based}
 use Rattle.mv_select_code.specs.declared.statements.elements.Home.{Home}
 use Rattle.mv_select_code.specs.declared.statements.elements.Home.TheVariants as home
-use Rattle.mv_select_code.specs.Statements.StatementCode.{first, second, third, trap_label, target, keep_in, keep_lines, division, element_offset, base_by, element_lines, fixed, element_at, fetch_lines, store_by, store_lines, put_lines, test_lines, divisor_lines, check_by, read_by, write_by, bounds_lines, clear_lines, set_lines, set_global_lines, divide_lines, check_lines, read_lines, write_lines, result_lines}
+use Rattle.mv_select_code.specs.Statements.StatementCode.{first, second, third, trap_label, target, keep_in, keep_lines, is_seat, division, power_of, power_division, element_offset, base_by, element_lines, fixed, element_at, fetch_lines, store_by, store_lines, put_lines, test_lines, divisor_lines, divide_by, check_by, read_by, write_by, bounds_lines, clear_lines, set_lines, set_global_lines, divide_lines, check_lines, read_lines, write_lines, result_lines}
 use Rattle.mv_select_code.specs.declared.control.enclosing.Way.{Way}
 use Rattle.mv_select_code.specs.Control.FlowCode.{go_to, go_on}
 use Rattle.mv_select_code.specs.Control.Labels.{tree_functions, Names}
@@ -72,8 +72,12 @@ module _ {P : List Line → Type 0} {L J Q : ℕ → Type 0} (made : LineByLine 
   put_made (home.Data at) q = store_made at q
   put_made (home.Frame at) q = made.word (Sw 2 q (pos at))
 
-  test_made : (size q : ℕ) → J (trap_label 2) → P (test_lines size q)
-  test_made size q h = made.after (number_lines size third) (Branch 7 q third (trap_label 2) ∷ []) (number_made size third) (made.branch 7 q third (trap_label 2) h)
+  test_made : (s : Seats) (size q : ℕ) → J (trap_label 2) → P (test_lines s size q)
+  test_made s size q h = by (s.pinned size)
+    where
+      by : (own : Option ℕ) → P (unless own (number_lines size third) ++ (Branch 7 q (unwrap_or own third) (trap_label 2) ∷ []))
+      by (Some r) = made.branch 7 q r (trap_label 2) h
+      by None = made.after (number_lines size third) (Branch 7 q third (trap_label 2) ∷ []) (number_made size third) (made.branch 7 q third (trap_label 2) h)
 
   pub bounds_made : (at n : ℕ) → P (bounds_lines at n)
   bounds_made at n = words_made (Addi first 2 (pos at)) (Addi second 2 (pos (at + 4 * n)))
@@ -119,7 +123,9 @@ module _ {P : List Line → Type 0} {L J Q : ℕ → Type 0} (made : LineByLine 
     last_made i t = made.after (one i) (keep_lines s t) (made.word i) (keep_made t)
 
     pub set_made : (t : ℕ) (v : Tree) → Fs v → P (set_lines s t v)
-    set_made t v h = made.after (tree_into s v (target s t) first) (keep_lines s t) (into_made v h (target s t) first) (keep_made t)
+    set_made t v h =
+        let ls = tree_into s v (target s t) first ++ keep_lines s t in
+        either_made (is_seat (s.register t) (own_register s v)) [] ls made.none (made.after (tree_into s v (target s t) first) (keep_lines s t) (into_made v h (target s t) first) (keep_made t))
 
     pub set_global_made : (g : ℕ) (v : Tree) → Fs v → P (set_global_lines s g v)
     set_global_made g v h =
@@ -127,14 +133,22 @@ module _ {P : List Line → Type 0} {L J Q : ℕ → Type 0} (made : LineByLine 
         made.after (operand_lines s v first) (store_lines (s.place g) q) (operand_made v h first) (store_made (s.place g) q)
 
     pub divide_made : (t o : ℕ) (a b : Tree) → J (trap_label 1) → Fs a → Fs b → P (divide_lines s t o a b)
-    divide_made t o a b p h k =
-        let left = operand_register s a first in
-        let right = operand_register s b second in
-        let test = divisor_lines (literal b) right in
-        let divide = division o (target s t) left right in
-        made.after (operand_lines s a first) (operand_lines s b second ++ (test ++ (Word divide ∷ keep_lines s t))) (operand_made a h first)
-        (made.after (operand_lines s b second) (test ++ (Word divide ∷ keep_lines s t)) (operand_made b k second)
-        (made.after test (Word divide ∷ keep_lines s t) (divisor_made (literal b) right p) (last_made divide t)))
+    divide_made t o a b p h k = by (power_of o (literal b))
+      where
+        left : ℕ
+        left = operand_register s a first
+
+        by : (n : Option ℕ) → P (divide_by s n t o a b)
+        by None =
+            let right = operand_register s b second in
+            let test = divisor_lines (literal b) right in
+            let divide = division o (target s t) left right in
+            made.after (operand_lines s a first) (operand_lines s b second ++ (test ++ (Word divide ∷ keep_lines s t))) (operand_made a h first)
+            (made.after (operand_lines s b second) (test ++ (Word divide ∷ keep_lines s t)) (operand_made b k second)
+            (made.after test (Word divide ∷ keep_lines s t) (divisor_made (literal b) right p) (last_made divide t)))
+        by (Some n) =
+            let divide = power_division o n (target s t) left in
+            made.after (operand_lines s a first) (Word divide ∷ keep_lines s t) (operand_made a h first) (last_made divide t)
 
     pub check_made : (size : ℕ) (i : Tree) → J (trap_label 2) → Fs i → P (check_lines s size i)
     check_made size i p h = by (fixed size (literal i))
@@ -143,7 +157,7 @@ module _ {P : List Line → Type 0} {L J Q : ℕ → Type 0} (made : LineByLine 
         q = operand_register s i first
 
         by : (n : Option ℕ) → P (check_by s n size i)
-        by None = made.after (operand_lines s i first) (test_lines size q) (operand_made i h first) (test_made size q p)
+        by None = made.after (operand_lines s i first) (test_lines s size q) (operand_made i h first) (test_made s size q p)
         by (Some n) = made.none
 
     pub read_made : (t size : ℕ) (e : Home) (i : Tree) → J (trap_label 2) → Fs i → P (read_lines s t e size i)
@@ -157,8 +171,8 @@ module _ {P : List Line → Type 0} {L J Q : ℕ → Type 0} (made : LineByLine 
 
         by : (n : Option ℕ) → P (read_by s n t e size i)
         by None =
-            made.after (operand_lines s i first) (test_lines size q ++ (element_lines e q ++ load)) (operand_made i h first)
-            (made.after (test_lines size q) (element_lines e q ++ load) (test_made size q p)
+            made.after (operand_lines s i first) (test_lines s size q ++ (element_lines e q ++ load)) (operand_made i h first)
+            (made.after (test_lines s size q) (element_lines e q ++ load) (test_made s size q p)
             (made.after (element_lines e q) load (element_made e q) (last_made (Lw (target s t) first (element_offset e)) t)))
         by (Some n) = made.after (fetch_lines (element_at e n) (target s t)) (keep_lines s t) (fetch_made (element_at e n) (target s t)) (keep_made t)
 
@@ -173,9 +187,9 @@ module _ {P : List Line → Type 0} {L J Q : ℕ → Type 0} (made : LineByLine 
 
         by : (n : Option ℕ) → P (write_by s n e size i v)
         by None =
-            made.after (operand_lines s i first) (operand_lines s v second ++ (test_lines size q ++ (element_lines e q ++ one store))) (operand_made i h first)
-            (made.after (operand_lines s v second) (test_lines size q ++ (element_lines e q ++ one store)) (operand_made v k second)
-            (made.after (test_lines size q) (element_lines e q ++ one store) (test_made size q p)
+            made.after (operand_lines s i first) (operand_lines s v second ++ (test_lines s size q ++ (element_lines e q ++ one store))) (operand_made i h first)
+            (made.after (operand_lines s v second) (test_lines s size q ++ (element_lines e q ++ one store)) (operand_made v k second)
+            (made.after (test_lines s size q) (element_lines e q ++ one store) (test_made s size q p)
             (made.after (element_lines e q) (one store) (element_made e q) (made.word store))))
         by (Some n) =
             let r = operand_register s v first in

@@ -1,7 +1,6 @@
 -- The code of statements does what they mean, at each bound, by induction over the statements.
 use Rattle.std.proofs.Common.{◌≡◌, ℕ, ◌+◌, ◌<◌, ◌≤◌, Bool, true, false, cond, ltb, ◌&&◌, eqb, List, [], ◌∷◌, ◌++◌, ◌*◌, length, map, Option, Some, None, IfSome, slice_index, slice_set, refl, sym, ap, ◌∙◌, subst, arith}
 use Rattle.std.proofs.lemmas.Bool.{ltb-true}
-use Rattle.mv_ast.specs.declared.program.Known.{Known}
 use Rattle.mv_isa.specs.declared.labelled.Line.{Line}
 use Rattle.mv_isa.specs.declared.labelled.Line.TheVariants.{Label}
 use Rattle.mv_isa.specs.Execution.{Access}

@@ -1,5 +1,5 @@
 -- The code of the statements that test an index, read and write.
-use Rattle.std.proofs.Common.{◌≡◌, ◌≢◌, ◌⊎◌, inl, inr, ℕ, ◌+◌, ◌*◌, ◌<◌, ◌≤◌, Bool, true, false, not, cond, ltb, List, [], ◌∷◌, ◌++◌, length, slice_index, slice_set, Option, Some, None, sum_by, refl, sym, ap, ◌∙◌, subst, arith, append_assoc}
+use Rattle.std.proofs.Common.{◌≡◌, ◌≢◌, ◌⊎◌, inl, inr, ℕ, ◌+◌, ◌*◌, ◌<◌, ◌≤◌, Bool, true, false, not, cond, ltb, List, [], ◌∷◌, ◌++◌, length, slice_index, slice_set, Option, Some, None, unwrap_or, sum_by, refl, sym, ap, ◌∙◌, subst, arith, append_assoc}
 use Rattle.std.proofs.lemmas.Bool.{cases_lt, ltb-true, ltb-false, lt-ltb, le-ltb}
 use Rattle.mv_num.specs.Words.{lt_u}
 use Rattle.mv_isa.specs.declared.instr.Instr.TheVariants.{Lw, Sw}
@@ -14,12 +14,12 @@ use Rattle.mv_ir.specs.World as ir
 use Rattle.mv_ir.specs.Outcome.{State, Next}
 use Rattle.mv_ir.specs.Trees.{nodes}
 use Rattle.mv_ir.specs.Meaning.{of_tree, elements, with_temp, with_elements, traps}
-use Rattle.mv_select_code.specs.Trees.TreeCode.{Seats, one, number_lines, literal, operand_lines, operand_register}
+use Rattle.mv_select_code.specs.Trees.TreeCode.{Seats, one, number_lines, literal, unless, operand_lines, operand_register}
 use Rattle.mv_select_code.specs.Trees.Straight.{Straight}
 use Rattle.mv_select_code.specs.Trees.View.{AreSeats, Changes}
-use Rattle.mv_select_code.proofs.OfTrees.Gives.{number_gives}
+use Rattle.mv_select_code.proofs.OfTrees.Gives.{Within, number_gives}
 use Rattle.mv_select_code.proofs.OfTrees.Instructions.{lw_sets}
-use Rattle.mv_select_code.proofs.OfTrees.Registers.{free_above, put_same, put_other, put_registers}
+use Rattle.mv_select_code.proofs.OfTrees.Registers.{changes_none, free_above, put_same, put_other, put_registers}
 use Rattle.mv_select_code.proofs.OfTrees.TreesAreShort.{number_size}
 use Rattle.mv_select_code.specs.Statements.StatementCode.{first, second, third, trap_label, target, keep_lines, element_offset, element_lines, fixed, element_at, fetch_lines, put_lines, test_lines, check_by, check_lines, read_by, read_lines, write_by, write_lines}
 use Rattle.mv_select_code.specs.Statements.Leads.{Exit, Past, To, limited, Leads}
@@ -59,41 +59,72 @@ module _ {M : Type 0} (access : Access M) (s : Site) (setting : ir.Setting) (fra
 
   -- ---- the test of an index
 
-  -- the number of elements stands in the third register
-  record IsSized (size : ℕ) (l : State) (regs : List ℕ) (m : M) : Type 0 where
+  -- the number of elements stands in its register, or else in the third one
+  record SizedBy (own : Option ℕ) (size : ℕ) (l : State) (regs : List ℕ) (m : M) : Type 0 where
     after : List ℕ
-    runs : Straight (limited access s) m s.entry (number_lines size third) regs after
+    runs : Straight (limited access s) m s.entry (unless own (number_lines size third)) regs after
     changes : Changes third (third + 1) regs after
-    holds : reg after third ≡ size
+    holds : reg after (unwrap_or own third) ≡ size
     shown : Shows s access l after m
 
-  sized : (a : Array) (l : State) (regs : List ℕ) (m : M) → Shows s access l regs m → IsSized (size_of s a) l regs m
-  sized a l regs m f =
-      let g = number_gives (limited access s) m s.entry third (third + 1) third (size_of s a) regs f.are (record { from = omega arith; below = omega arith; free = free_above third (omega arith) (omega arith) }) (fit.sizes a) in
-      record { after = g.after; runs = g.runs; changes = g.changes; holds = g.holds; shown = frame_scratch s access fit.left fit.seats third (third + 1) l regs g.after m (inr (omega arith, omega arith)) g.changes f }
+  abbrev own_of : Array → Option ℕ
+  own_of a = s.seats.pinned (size_of s a)
 
-  abbrev branch : ℕ → Line
-  branch q = Branch 7 q third (trap_label 2)
+  abbrev IsSized : Array → State → List ℕ → M → Type 0
+  IsSized a = SizedBy (own_of a) (size_of s a)
 
-  after_size : (a : Array) (q : ℕ) (ks : List Line) (n : ℕ) (l : State) (regs : List ℕ) (m : M) (exit : Exit) (regs' : List ℕ) (m' : M) (z : IsSized (size_of s a) l regs m)
-      → L (branch q ∷ ks) n z.after m exit regs' m' → L (number_lines (size_of s a) third ++ (branch q ∷ ks)) (n + 2) regs m exit regs' m'
+  sized : (a : Array) (l : State) (regs : List ℕ) (m : M) → Shows s access l regs m → IsSized a l regs m
+  sized a l regs m f = by_place (own_of a) refl
+    where
+      by_place : (own : Option ℕ) → own_of a ≡ own → SizedBy own (size_of s a) l regs m
+      by_place (Some q) is =
+          record { after = regs; runs = refl; changes = changes_none third (third + 1) regs f.are; holds = f.pinned (size_of s a) q is; shown = f }
+      by_place None is =
+          let free : Within third (third + 1) third = record { from = omega arith; below = omega arith; free = free_above third (omega arith) (omega arith) } in
+          let g = number_gives (limited access s) m s.entry third (third + 1) third (size_of s a) regs f.are free (fit.sizes a) in
+          record {
+            after = g.after;
+            runs = g.runs;
+            changes = g.changes;
+            holds = g.holds;
+            shown = frame_scratch s access fit.left fit.seats third (third + 1) l regs g.after m (inr (omega arith, omega arith)) g.changes f;
+          }
+
+  abbrev size_lines : Array → List Line
+  size_lines a = unless (own_of a) (number_lines (size_of s a) third)
+
+  size_words : (a : Array) → sum_by greatest_words (size_lines a) ≤ 2
+  size_words a = by_place (own_of a)
+    where
+      by_place : (own : Option ℕ) → sum_by greatest_words (unless own (number_lines (size_of s a) third)) ≤ 2
+      by_place (Some q) = omega arith
+      by_place None = number_size (size_of s a) third
+
+  abbrev limit : Array → ℕ
+  limit a = unwrap_or (own_of a) third
+
+  abbrev branch : Array → ℕ → Line
+  branch a q = Branch 7 q (limit a) (trap_label 2)
+
+  after_size : (a : Array) (q : ℕ) (ks : List Line) (n : ℕ) (l : State) (regs : List ℕ) (m : M) (exit : Exit) (regs' : List ℕ) (m' : M) (z : IsSized a l regs m)
+      → L (branch a q ∷ ks) n z.after m exit regs' m' → L (size_lines a ++ (branch a q ∷ ks)) (n + 2) regs m exit regs' m'
   after_size a q ks n l regs m exit regs' m' z h =
-      let ls = number_lines (size_of s a) third in
-      leads_more access s (ls ++ (branch q ∷ ks)) (sum_by greatest_words ls + n) (n + 2) regs m exit regs' m' (omega (arith, number_size (size_of s a) third)) (leads_straight access s ls (branch q ∷ ks) n regs z.after m exit regs' m' z.runs h)
+      let ls = size_lines a in
+      leads_more access s (ls ++ (branch a q ∷ ks)) (sum_by greatest_words ls + n) (n + 2) regs m exit regs' m' (omega (arith, size_words a)) (leads_straight access s ls (branch a q ∷ ks) n regs z.after m exit regs' m' z.runs h)
 
   -- the same, for a test that is put before lines as a whole
-  after_test : (a : Array) (q : ℕ) (ks : List Line) (n : ℕ) (l : State) (regs : List ℕ) (m : M) (exit : Exit) (regs' : List ℕ) (m' : M) (z : IsSized (size_of s a) l regs m)
-      → L (branch q ∷ ks) n z.after m exit regs' m' → L (test_lines (size_of s a) q ++ ks) (n + 2) regs m exit regs' m'
+  after_test : (a : Array) (q : ℕ) (ks : List Line) (n : ℕ) (l : State) (regs : List ℕ) (m : M) (exit : Exit) (regs' : List ℕ) (m' : M) (z : IsSized a l regs m)
+      → L (branch a q ∷ ks) n z.after m exit regs' m' → L (test_lines s.seats (size_of s a) q ++ ks) (n + 2) regs m exit regs' m'
   after_test a q ks n l regs m exit regs' m' z h =
-      subst (λ lines. L lines (n + 2) regs m exit regs' m') (sym (append_assoc (number_lines (size_of s a) third) (branch q ∷ []) ks)) (after_size a q ks n l regs m exit regs' m' z h)
+      subst (λ lines. L lines (n + 2) regs m exit regs' m') (sym (append_assoc (size_lines a) (branch a q ∷ []) ks)) (after_size a q ks n l regs m exit regs' m' z h)
 
   -- an index that is too great leads to the stub
-  failed : (a : Array) (q k : ℕ) (ks : List Line) (l : State) (regs : List ℕ) (m : M) (z : IsSized (size_of s a) l regs m) → reg z.after q ≡ k → size_of s a ≤ k → L (branch q ∷ ks) 2 z.after m (To (trap_label 2)) z.after m
-  failed a q k ks l regs m z index le = inl (not_less_is (reg z.after q) (reg z.after third) (omega (arith, index, z.holds, le)), omega arith, refl, (refl, refl))
+  failed : (a : Array) (q k : ℕ) (ks : List Line) (l : State) (regs : List ℕ) (m : M) (z : IsSized a l regs m) → reg z.after q ≡ k → size_of s a ≤ k → L (branch a q ∷ ks) 2 z.after m (To (trap_label 2)) z.after m
+  failed a q k ks l regs m z index le = inl (not_less_is (reg z.after q) (reg z.after (limit a)) (omega (arith, index, z.holds, le)), omega arith, refl, (refl, refl))
 
   -- one below the number goes on
-  passed : (a : Array) (q k n : ℕ) (ks : List Line) (l : State) (regs : List ℕ) (m : M) (regs' : List ℕ) (m' : M) (z : IsSized (size_of s a) l regs m) → reg z.after q ≡ k → k < size_of s a → L ks n z.after m Past regs' m' → L (branch q ∷ ks) (n + 1) z.after m Past regs' m'
-  passed a q k n ks l regs m regs' m' z index lt h = inr (less_is (reg z.after q) (reg z.after third) (omega (arith, index, z.holds, lt)), n, omega arith, h)
+  passed : (a : Array) (q k n : ℕ) (ks : List Line) (l : State) (regs : List ℕ) (m : M) (regs' : List ℕ) (m' : M) (z : IsSized a l regs m) → reg z.after q ≡ k → k < size_of s a → L ks n z.after m Past regs' m' → L (branch a q ∷ ks) (n + 1) z.after m Past regs' m'
+  passed a q k n ks l regs m regs' m' z index lt h = inr (less_is (reg z.after q) (reg z.after (limit a)) (omega (arith, index, z.holds, lt)), n, omega arith, h)
 
   -- ---- an index that is known
 
@@ -120,7 +151,7 @@ module _ {M : Type 0} (access : Access M) (s : Site) (setting : ir.Setting) (fra
       x : HasOperand access s setting frame fit first i l regs m
       x = operand_first access s setting frame fit first i l regs m at_first fine f
 
-      z : IsSized (size_of s a) l x.after m
+      z : IsSized a l x.after m
       z = sized a l x.after m x.shown
 
       index : reg z.after q ≡ V i l
@@ -131,7 +162,7 @@ module _ {M : Type 0} (access : Access M) (s : Site) (setting : ir.Setting) (fra
           let below : V i l < size_of s a = omega (arith, ltb-true (V i l) (length (elements a l)) is, f.sizes a) in (
             z.after,
             m,
-            after_operand access s setting frame fit first i (test_lines (size_of s a) q) (0 + 1 + 2) (8 + 3 * nodes i) l regs m Past z.after m (omega arith) x
+            after_operand access s setting frame fit first i (test_lines s.seats (size_of s a) q) (0 + 1 + 2) (8 + 3 * nodes i) l regs m Past z.after m (omega arith) x
                 (after_size a q [] (0 + 1) l x.after m Past z.after m z (passed a q (V i l) 0 [] l x.after m z.after m z index below (refl, (refl, refl)))),
             z.shown,
           )
@@ -142,7 +173,7 @@ module _ {M : Type 0} (access : Access M) (s : Site) (setting : ir.Setting) (fra
             (
               z.after,
               m,
-              after_operand access s setting frame fit first i (test_lines (size_of s a) q) (2 + 2) (8 + 3 * nodes i) l regs m (To (trap_label 2)) z.after m (omega arith) x
+              after_operand access s setting frame fit first i (test_lines s.seats (size_of s a) q) (2 + 2) (8 + 3 * nodes i) l regs m (To (trap_label 2)) z.after m (omega arith) x
                   (after_size a q [] 2 l x.after m (To (trap_label 2)) z.after m z (failed a q (V i l) [] l x.after m z index above)),
               z.shown,
             ),
@@ -168,7 +199,7 @@ module _ {M : Type 0} (access : Access M) (s : Site) (setting : ir.Setting) (fra
       x : HasOperand access s setting frame fit first i l regs m
       x = operand_first access s setting frame fit first i l regs m at_first fine f
 
-      z : IsSized (size_of s a) l x.after m
+      z : IsSized a l x.after m
       z = sized a l x.after m x.shown
 
       index : reg z.after q ≡ V i l
@@ -197,7 +228,7 @@ module _ {M : Type 0} (access : Access M) (s : Site) (setting : ir.Setting) (fra
           (leads_straight access s (element_lines (home_of s a) q) load 2 z.after p.after m Past g.after g.memory p.runs loads) in (
             g.after,
             g.memory,
-            after_operand access s setting frame fit first i (test_lines (size_of s a) q ++ ks) (5 + 1 + 2) (8 + 3 * nodes i) l regs m Past g.after g.memory (omega arith) x
+            after_operand access s setting frame fit first i (test_lines s.seats (size_of s a) q ++ ks) (5 + 1 + 2) (8 + 3 * nodes i) l regs m Past g.after g.memory (omega arith) x
                 (after_test a q ks (5 + 1) l x.after m Past g.after g.memory z (passed a q (V i l) 5 ks l x.after m g.after g.memory z index below placed)),
             g.shown,
           )
@@ -208,7 +239,7 @@ module _ {M : Type 0} (access : Access M) (s : Site) (setting : ir.Setting) (fra
             (
               z.after,
               m,
-              after_operand access s setting frame fit first i (test_lines (size_of s a) q ++ ks) (2 + 2) (8 + 3 * nodes i) l regs m (To (trap_label 2)) z.after m (omega arith) x
+              after_operand access s setting frame fit first i (test_lines s.seats (size_of s a) q ++ ks) (2 + 2) (8 + 3 * nodes i) l regs m (To (trap_label 2)) z.after m (omega arith) x
                   (after_test a q ks 2 l x.after m (To (trap_label 2)) z.after m z (failed a q (V i l) ks l x.after m z index above)),
               z.shown,
             ),
@@ -259,17 +290,17 @@ module _ {M : Type 0} (access : Access M) (s : Site) (setting : ir.Setting) (fra
       y : HasOperand access s setting frame fit second v l x.after m
       y = operand_first access s setting frame fit second v l x.after m at_second fv x.shown
 
-      z : IsSized (size_of s a) l y.after m
+      z : IsSized a l y.after m
       z = sized a l y.after m y.shown
 
       index : reg z.after q ≡ V i l
       index = z.changes.others q (size_beside s.seats fit.seats i first (omega arith)) ∙ y.changes.others q (operand_aside s.seats fit.seats i first second (second + 4) at_second (inr (omega arith))) ∙ x.holds
 
-      both : (n : ℕ) (exit : Exit) (regs' : List ℕ) (m' : M) → n ≤ 8 → L (test_lines (size_of s a) q ++ ks) n y.after m exit regs' m'
+      both : (n : ℕ) (exit : Exit) (regs' : List ℕ) (m' : M) → n ≤ 8 → L (test_lines s.seats (size_of s a) q ++ ks) n y.after m exit regs' m'
           → L (write_by s.seats None (home_of s a) (size_of s a) i v) (8 + 3 * (nodes i + nodes v)) regs m exit regs' m'
       both n exit regs' m' le h =
-          after_operand access s setting frame fit first i (operand_lines s.seats v second ++ (test_lines (size_of s a) q ++ ks)) (8 + 2 * nodes v) (8 + 3 * (nodes i + nodes v)) l regs m exit regs' m' (omega arith) x
-          (after_operand access s setting frame fit second v (test_lines (size_of s a) q ++ ks) n (8 + 2 * nodes v) l x.after m exit regs' m' (omega arith) y h)
+          after_operand access s setting frame fit first i (operand_lines s.seats v second ++ (test_lines s.seats (size_of s a) q ++ ks)) (8 + 2 * nodes v) (8 + 3 * (nodes i + nodes v)) l regs m exit regs' m' (omega arith) x
+          (after_operand access s setting frame fit second v (test_lines s.seats (size_of s a) q ++ ks) n (8 + 2 * nodes v) l x.after m exit regs' m' (omega arith) y h)
 
       by_index : (d : Bool) → ltb (V i l) (length (elements a l)) ≡ d
           → Follows access s setting frame (write_by s.seats None (home_of s a) (size_of s a) i v) (8 + 3 * (nodes i + nodes v)) regs m (cond d (Next (with_elements a l (slice_set (elements a l) (V i l) (V v l)))) (traps 2 l))

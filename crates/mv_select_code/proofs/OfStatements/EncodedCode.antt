@@ -1,5 +1,5 @@
 -- The fields of the code of statements fit, and it has few words.
-use Rattle.std.proofs.Common.{inl, inr, ◌≡◌, ℕ, zero, suc, ◌+◌, ◌*◌, ◌<◌, ◌≤◌, Bool, true, false, not, cond, eqb, List, [], ◌∷◌, ◌++◌, Option, Some, None, pos, refl, sym, subst, arith}
+use Rattle.std.proofs.Common.{inl, inr, ◌≡◌, ℕ, zero, suc, ◌+◌, ◌*◌, ◌<◌, ◌≤◌, Bool, true, false, not, cond, eqb, List, [], ◌∷◌, ◌++◌, Option, Some, None, unwrap_or, pos, refl, sym, subst, arith}
 use Rattle.std.proofs.lemmas.List.Elements.{All-append, All-cons, All-nil}
 use Rattle.std.proofs.lemmas.List.Sums.{sum_by-append}
 use Rattle.mv_num.specs.Words.{add}
@@ -18,21 +18,22 @@ use Rattle.mv_ir.specs.declared.tree.Tree.TheViews.{roll-Tree}
 use Rattle.mv_ir.specs.Trees.{nodes, depth}
 use Rattle.mv_ir.proofs.Induction.{TreeChildren, tree_ind}
 use Rattle.mv_ir.proofs.Rolls.{nodes_roll, depth_roll}
-use Rattle.mv_select_code.specs.Trees.TreeCode.{Seats, upper_bits, lower_bits, near, one, two, number_lines, temp_offset, literal, tree_into, tree_lines, operand_lines, operand_register, is_taken, word_branch, comparison, branch_lines}
+use Rattle.mv_select_code.specs.Trees.TreeCode.{Seats, upper_bits, lower_bits, near, one, two, number_lines, temp_offset, literal, unless, own_register, tree_into, tree_lines, operand_lines, operand_register, is_taken, word_branch, comparison, branch_lines}
 use Rattle.mv_select_code.specs.Trees.View.{AreSeats}
 use Rattle.mv_select_code.specs.declared.trees.leaves.Based.{Based}
 use Rattle.mv_select_code.proofs.OfTrees.Branches.{comparison_cases}
 use Rattle.mv_select_code.proofs.OfTrees.Near.{near_fits, near_below}
 use Rattle.mv_select_code.proofs.OfTrees.Operands.{operand_below}
-use Rattle.mv_select_code.proofs.OfTrees.Registers.{seat_free}
+use Rattle.mv_select_code.proofs.OfTrees.Registers.{pin_free, seat_free}
 use Rattle.mv_select_code.proofs.OfTrees.Rolls.{temps_roll, word_lines, compared_or, branch_tree, branch_roll}
 use Rattle.mv_select_code.proofs.OfTrees.TreesAreShort.{number_size, load_size, trees_are_short, into_short, operand_short}
 use Rattle.mv_select_code.proofs.OfTrees.TreesFit.{one_fits, small_fits, lower_fits, upper_fits, number_fits, load_fits, offset_fits, trees_fit, into_fits, operand_fits}
 use Rattle.mv_select_code.specs.declared.statements.elements.Home.{Home}
 use Rattle.mv_select_code.specs.declared.statements.elements.Home.TheVariants as home
-use Rattle.mv_select_code.specs.Statements.StatementCode.{first, second, third, trap_label, write_to, write_temp, target, keep_in, keep_lines, division, offset_by, element_offset, base_by, element_lines, home_within, fixed, element_at, fetch_lines, store_by, store_lines, put_lines, test_lines, bounds_lines, clear_lines, divisor_lines, check_by, read_by, write_by}
+use Rattle.mv_select_code.specs.Statements.StatementCode.{first, second, third, trap_label, write_to, write_temp, target, keep_in, keep_lines, is_seat, division, power_of, power_division, offset_by, element_offset, base_by, element_lines, home_within, fixed, element_at, fetch_lines, store_by, store_lines, put_lines, test_lines, bounds_lines, clear_lines, divisor_lines, divide_by, check_by, read_by, write_by}
 use Rattle.mv_select_code.specs.Statements.Encoded.{IsCode, IsSmall, AreEncoded, StatementsAreEncoded}
 use Rattle.mv_select_code.proofs.OfStatements.ElementPlaces.{fixed_is}
+use Rattle.mv_select_code.proofs.OfStatements.Powers.{power_fits}
 use Rattle.mv_select_code.proofs.OfStatements.TempsKept.{target_free}
 
 -- ---- parts put together
@@ -160,10 +161,16 @@ divisor_code (Some n) q p = by_number (eqb n 0)
     by_number true = branch 0 q 0 (trap_label 1) (inl (omega arith)) p (omega arith)
     by_number false = (All-nil LineFits, omega arith)
 
-test_code : (size q : ℕ) → q < 32 → IsCode 4 (test_lines size q)
-test_code size q p =
-    both 2 2 (number_lines size third) (Branch 7 q third (trap_label 2) ∷ []) (number_fits size third (omega arith), number_size size third)
-    (branch 7 q third (trap_label 2) (inr (omega arith, omega arith)) p (omega arith))
+test_code : (s : Seats) → AreSeats s → (size q : ℕ) → q < 32 → IsCode 4 (test_lines s size q)
+test_code s seats size q p = by_place (s.pinned size) refl
+  where
+    by_place : (own : Option ℕ) → s.pinned size ≡ own
+        → IsCode 4 (unless own (number_lines size third) ++ (Branch 7 q (unwrap_or own third) (trap_label 2) ∷ []))
+    by_place (Some r) is =
+        wider 2 4 (Branch 7 q r (trap_label 2) ∷ []) (omega arith) (branch 7 q r (trap_label 2) (inr (omega arith, omega arith)) p (pin_free s seats size r is).below)
+    by_place None is =
+        both 2 2 (number_lines size third) (Branch 7 q third (trap_label 2) ∷ []) (number_fits size third (omega arith), number_size size third)
+        (branch 7 q third (trap_label 2) (inr (omega arith, omega arith)) p (omega arith))
 
 bounds_code : (at n : ℕ) → at + 4 * n ≤ 2032 → IsCode 2 (bounds_lines at n)
 bounds_code at n h =
@@ -253,6 +260,31 @@ module _ (s : Seats) (seats : AreSeats s) where
       (λ x h small sense label. subst (IsCode (2 * nodes (roll-Tree x) + 2)) (sym (branch_roll s x sense first label))
       (branch_layer_code x h small sense label (word_lines s (roll-Tree x) sense first label) (word_code (roll-Tree x) small sense label)))
 
+  -- ---- a set, by whether the value stands where it should already
+
+  set_code : (t : ℕ) (v : Tree) → t < 507 → IsSmall v → (there : Bool) → IsCode (2 * nodes v + 1) (cond there [] (tree_into s v (target s t) first ++ keep_lines s t))
+  set_code t v lt h true = (All-nil LineFits, omega arith)
+  set_code t v lt h false = both (2 * nodes v) 1 (tree_into s v (target s t) first) (keep_lines s t) (into_code v (target s t) (target_below t) h) (keep_code s t lt)
+
+  -- ---- a division, by whether the divisor is a power of two
+
+  divide_code : (t o : ℕ) (a b : Tree) → t < 507 → IsSmall a → IsSmall b → (power : Option ℕ) → power_of o (literal b) ≡ power → IsCode (2 * nodes a + (2 * nodes b + 4)) (divide_by s power t o a b)
+  divide_code t o a b lt h l None is =
+      let p = operand_register s a first in
+      let q = operand_register s b second in
+      let test = divisor_lines (literal b) q in
+      let last = division o (target s t) p q in
+      let under = below b second (omega arith) in
+      both (2 * nodes a) (2 * nodes b + 4) (operand_lines s a first) (operand_lines s b second ++ (test ++ (Word last ∷ keep_lines s t))) (first_code a h)
+      (both (2 * nodes b) 4 (operand_lines s b second) (test ++ (Word last ∷ keep_lines s t)) (second_code b l)
+      (both 2 2 test (Word last ∷ keep_lines s t) (divisor_code (literal b) q under) (last_code last t (division_fits o (target s t) p q (target_below t) (below a first (omega arith)) under) lt)))
+  divide_code t o a b lt h l (Some k) is =
+      let p = operand_register s a first in
+      let last = power_division o k (target s t) p in
+      let fits = power_fits o k (target s t) p (literal b) is (target_below t) (below a first (omega arith)) in
+      wider (2 * nodes a + 2) (2 * nodes a + (2 * nodes b + 4)) (operand_lines s a first ++ (Word last ∷ keep_lines s t)) (omega arith)
+      (both (2 * nodes a) 2 (operand_lines s a first) (Word last ∷ keep_lines s t) (first_code a h) (last_code last t fits lt))
+
   -- ---- statements on elements, by an index that isn't known and by one that is
 
   abbrev load : ℕ → Home → List Line
@@ -261,15 +293,15 @@ module _ (s : Seats) (seats : AreSeats s) where
   check_code : (size : ℕ) (i : Tree) → IsSmall i → (index : Option ℕ) → IsCode (2 * nodes i + 4) (check_by s index size i)
   check_code size i h None =
       let q = operand_register s i first in
-      both (2 * nodes i) 4 (operand_lines s i first) (test_lines size q) (first_code i h) (test_code size q (below i first (omega arith)))
+      both (2 * nodes i) 4 (operand_lines s i first) (test_lines s size q) (first_code i h) (test_code s seats size q (below i first (omega arith)))
   check_code size i h (Some n) = (All-nil LineFits, omega arith)
 
   read_code : (t size : ℕ) (h : Home) (i : Tree) → t < 507 → home_within h size 2032 → IsSmall i → (index : Option ℕ) → fixed size (literal i) ≡ index → IsCode (2 * nodes i + 9) (read_by s index t h size i)
   read_code t size h i lt b l None is =
       let q = operand_register s i first in
       let under = below i first (omega arith) in
-      both (2 * nodes i) 9 (operand_lines s i first) (test_lines size q ++ (element_lines h q ++ load t h)) (first_code i l)
-      (both 4 5 (test_lines size q) (element_lines h q ++ load t h) (test_code size q under)
+      both (2 * nodes i) 9 (operand_lines s i first) (test_lines s size q ++ (element_lines h q ++ load t h)) (first_code i l)
+      (both 4 5 (test_lines s size q) (element_lines h q ++ load t h) (test_code s seats size q under)
       (both 3 2 (element_lines h q) (load t h) (element_code h q under) (last_code (Lw (target s t) first (element_offset h)) t (target_below t, omega arith, element_fits h size b) lt)))
   read_code t size h i lt b l (Some n) is =
       let d = target s t in
@@ -282,9 +314,9 @@ module _ (s : Seats) (seats : AreSeats s) where
       let q = operand_register s i first in
       let under = below i first (omega arith) in
       let store = Sw first (operand_register s v second) (element_offset h) in
-      both (2 * nodes i) (2 * nodes v + 8) (operand_lines s i first) (operand_lines s v second ++ (test_lines size q ++ (element_lines h q ++ one store))) (first_code i l)
-      (both (2 * nodes v) 8 (operand_lines s v second) (test_lines size q ++ (element_lines h q ++ one store)) (second_code v k)
-      (both 4 4 (test_lines size q) (element_lines h q ++ one store) (test_code size q under)
+      both (2 * nodes i) (2 * nodes v + 8) (operand_lines s i first) (operand_lines s v second ++ (test_lines s size q ++ (element_lines h q ++ one store))) (first_code i l)
+      (both (2 * nodes v) 8 (operand_lines s v second) (test_lines s size q ++ (element_lines h q ++ one store)) (second_code v k)
+      (both 4 4 (test_lines s size q) (element_lines h q ++ one store) (test_code s seats size q under)
       (both 3 1 (element_lines h q) (one store) (element_code h q under) (single store (omega arith, below v second (omega arith), element_fits h size b)))))
   write_code size h i v b l k (Some n) is =
       let q = operand_register s v first in
@@ -294,18 +326,11 @@ module _ (s : Seats) (seats : AreSeats s) where
 
   pub are_encoded : AreEncoded s
   are_encoded = record {
-    set = λ t v lt h. both (2 * nodes v) 1 (tree_into s v (target s t) first) (keep_lines s t) (into_code v (target s t) (target_below t) h) (keep_code s t lt);
+    set = λ t v lt h. set_code t v lt h (is_seat (s.register t) (own_register s v));
     set_global = λ g v h. let q = operand_register s v first in
         let store = store_lines (s.place g) q in
         both (2 * nodes v) 2 (operand_lines s v first) store (first_code v h) (store_code (s.place g) q (below v first (omega arith)));
-    divide = λ t o a b lt h l. let p = operand_register s a first in
-        let q = operand_register s b second in
-        let test = divisor_lines (literal b) q in
-        let last = division o (target s t) p q in
-        let under = below b second (omega arith) in
-        both (2 * nodes a) (2 * nodes b + 4) (operand_lines s a first) (operand_lines s b second ++ (test ++ (Word last ∷ keep_lines s t))) (first_code a h)
-        (both (2 * nodes b) 4 (operand_lines s b second) (test ++ (Word last ∷ keep_lines s t)) (second_code b l)
-        (both 2 2 test (Word last ∷ keep_lines s t) (divisor_code (literal b) q under) (last_code last t (division_fits o (target s t) p q (target_below t) (below a first (omega arith)) under) lt)));
+    divide = λ t o a b lt h l. divide_code t o a b lt h l (power_of o (literal b)) refl;
     check = λ size i h. check_code size i h (fixed size (literal i));
     read = λ t size h i lt b l. read_code t size h i lt b l (fixed size (literal i)) refl;
     write = λ size h i v b l k. write_code size h i v b l k (fixed size (literal i)) refl;

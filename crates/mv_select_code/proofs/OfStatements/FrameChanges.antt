@@ -11,7 +11,7 @@ use Rattle.mv_ir.specs.Outcome.{State}
 use Rattle.mv_ir.specs.Meaning.{elements, with_temp, with_elements}
 use Rattle.mv_select_code.specs.Trees.TreeCode.{Seats, temp_offset}
 use Rattle.mv_select_code.specs.Trees.View.{AreRegisters, AreScratch, AreSeats, Changes}
-use Rattle.mv_select_code.proofs.OfTrees.Registers.{put_same, put_other, put_registers, scratch_part, seat_free, seat_apart}
+use Rattle.mv_select_code.proofs.OfTrees.Registers.{put_same, put_other, put_registers, scratch_part, pin_outside, seat_free, seat_apart}
 use Rattle.mv_select_code.specs.Statements.Frames.{Site, Cell, TempCell, Element, Kept, LeavesAlone, IsThere, address, content, Stored, IsFit, Shows}
 
 -- ---- arrays
@@ -55,6 +55,9 @@ aside_outside lo hi q scratch h = ⊎_elim (λ (l : q < lo). inl l) above (cases
 
 pub seat_aside : (s : Seats) → AreSeats s → (t q : ℕ) → s.register t ≡ Some q → IsAside q
 seat_aside s seats t q h scratch = seat_apart s seats t q h q (q + 1) q scratch (omega arith) (omega arith) refl
+
+pub pin_aside : (s : Seats) → AreSeats s → (n q : ℕ) → s.pinned n ≡ Some q → IsAside q
+pin_aside s seats n q h scratch = ⊎_elim (λ (l : q < q). omega arith) (λ (u : q + 1 ≤ q). omega arith) (pin_outside s seats n q h q (q + 1) scratch)
 
 -- a temporary that has a register is another than one that has none
 two_places : (register : ℕ → Option ℕ) (t u q : ℕ) → register t ≡ None → register u ≡ Some q → u ≢ t
@@ -123,20 +126,23 @@ module _ (s : Site) where
   module _ {M : Type 0} (access : Access M) where
     -- registers that a frame doesn't count on may change
     pub frame_same : (l : State) (a b : List ℕ) (m : M) → AreRegisters b → ((q : ℕ) → s.is_left q ≡ true → reg b q ≡ reg a q)
-        → ((t q : ℕ) → t < s.temps → s.seats.register t ≡ Some q → reg b q ≡ reg a q) → Shows s access l a m → Shows s access l b m
-    frame_same l a b m are left seated f = record {
+        → ((t q : ℕ) → t < s.temps → s.seats.register t ≡ Some q → reg b q ≡ reg a q) → ((n q : ℕ) → s.seats.pinned n ≡ Some q → reg b q ≡ reg a q)
+        → Shows s access l a m → Shows s access l b m
+    frame_same l a b m are left seated pinned f = record {
       are = are;
       left = λ q k. left q k ∙ f.left q k;
       count = f.count;
       sizes = f.sizes;
       temp_words = f.temp_words;
       in_register = λ t q p k. seated t q p k ∙ f.in_register t q p k;
+      pinned = λ n q k. pinned n q k ∙ f.pinned n q k;
       words = f.words;
       in_memory = f.in_memory;
     }
 
     pub frame_aside : LeavesAlone s → AreSeats s.seats → (l : State) (a b : List ℕ) (m : M) → AreRegisters b → ((q : ℕ) → IsAside q → reg b q ≡ reg a q) → Shows s access l a m → Shows s access l b m
-    frame_aside alone seats l a b m are same = frame_same l a b m are (λ q k. same q (alone.scratch q k)) (λ t q p k. same q (seat_aside s.seats seats t q k))
+    frame_aside alone seats l a b m are same =
+        frame_same l a b m are (λ q k. same q (alone.scratch q k)) (λ t q p k. same q (seat_aside s.seats seats t q k)) (λ n q k. same q (pin_aside s.seats seats n q k))
 
     pub frame_scratch : LeavesAlone s → AreSeats s.seats → (lo hi : ℕ) (l : State) (a b : List ℕ) (m : M) → AreScratch lo hi → Changes lo hi a b → Shows s access l a m → Shows s access l b m
     frame_scratch alone seats lo hi l a b m scratch h = frame_aside alone seats l a b m h.are (λ q k. h.others q (aside_outside lo hi q scratch k))
@@ -151,6 +157,7 @@ module _ (s : Site) where
       sizes = λ a. ap length (elements_temp a l t v) ∙ f.sizes a;
       temp_words = λ u q p h. ⊎_elim (λ (e : u ≡ t). rw e (rw (now) b)) (λ (ne : u ≡ t → ⊥). rw (get_or-set_other l.temps t u v 0 ne) (f.temp_words u q p h)) (cases_eq u t);
       in_register = λ u q p h. ⊎_elim (same u q h) (other u q p h) (cases_eq u t);
+      pinned = λ n q h. put_other regs r q v above (λ (e : q ≡ r). alone.pinned t n r lt is (h ∙ ap Some e)) ∙ f.pinned n q h;
       words = λ x h. rw (unchanged x h) (f.words x h);
       in_memory = λ x h. f.in_memory x h ∙ ap Some (sym (unchanged x h));
     }
@@ -187,6 +194,7 @@ module _ (s : Site) where
       sizes = λ a. u.sizes a ∙ f.sizes a;
       temp_words = λ t q p h. rw (u.seated t q h) (f.temp_words t q p h);
       in_register = λ t q p h. f.in_register t q p h ∙ sym (u.seated t q h);
+      pinned = f.pinned;
       words = words;
       in_memory = in_memory;
     }

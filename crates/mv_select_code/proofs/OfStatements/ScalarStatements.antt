@@ -1,7 +1,8 @@
 -- The code of the statements that store a value, divide and leave a result.
-use Rattle.std.proofs.Common.{◌≡◌, ◌≢◌, ◌⊎◌, inl, inr, ⊎_elim, ℕ, zero, suc, ◌+◌, ◌*◌, ◌^◌, ◌<◌, ◌≤◌, Bool, true, false, cond, eqb, List, [], ◌∷◌, ◌++◌, slice_set, Option, Some, None, sum_by, refl, sym, ap, ◌∙◌, subst, arith}
+use Rattle.std.proofs.Common.{◌≡◌, ◌≢◌, ◌⊎◌, inl, inr, ⊎_elim, ℕ, zero, suc, ◌+◌, ◌*◌, ◌^◌, ◌<◌, ◌≤◌, Bool, true, false, cond, eqb, List, [], ◌∷◌, ◌++◌, slice_set, Option, Some, None, unwrap_or, sum_by, refl, sym, ap, ◌∙◌, subst, arith}
 use Rattle.std.proofs.lemmas.Bool.{cases_eq, eqb-true, eqb-false, eq-eqb, ne_eqb}
 use Rattle.std.proofs.lemmas.List.{append-nil}
+use Rattle.std.proofs.lemmas.Nat.{pow_below}
 use Rattle.std.proofs.lemmas.Option.{none-some}
 use Rattle.mv_isa.specs.declared.labelled.Line.{Line}
 use Rattle.mv_isa.specs.declared.labelled.Line.TheVariants.{Word, Branch}
@@ -15,17 +16,20 @@ use Rattle.mv_ir.specs.World as ir
 use Rattle.mv_ir.specs.Outcome.{State, Next}
 use Rattle.mv_ir.specs.Trees.{nodes, depth, divide}
 use Rattle.mv_ir.specs.Meaning.{of_tree, elements, with_temp, with_elements, traps}
-use Rattle.mv_select_code.specs.Trees.TreeCode.{literal, tree_into, operand_lines, operand_register}
+use Rattle.mv_select_code.specs.Trees.TreeCode.{literal, unless, own_register, tree_into, tree_lines, operand_lines, operand_register}
+use Rattle.mv_select_code.specs.Trees.Straight.{Sets, Straight}
 use Rattle.mv_select_code.specs.Trees.View.{AreRegisters, AreScratch}
 use Rattle.mv_select_code.proofs.OfTrees.Registers.{IsFree, free_above, reg_zero, put_same, put_other, put_registers, scratch_part}
 use Rattle.mv_select_code.proofs.OfTrees.TreesAreShort.{into_short, operand_short}
 use Rattle.mv_select_code.proofs.OfTrees.TreesRun.{trees_leave}
-use Rattle.mv_select_code.specs.Statements.StatementCode.{first, second, trap_label, target, keep_lines, division, store_lines, divisor_lines, set_lines, set_global_lines, divide_lines, result_lines}
+use Rattle.mv_select_code.specs.Statements.StatementCode.{first, second, trap_label, target, keep_lines, is_seat, division, power_of, power_division, store_lines, divisor_lines, set_lines, set_global_lines, divide_by, divide_lines, result_lines}
 use Rattle.mv_select_code.specs.Statements.Leads.{Exit, Past, To, limited, Leads}
 use Rattle.mv_select_code.specs.Statements.Frames.{Site, Element, IsWritten, address, view_of, IsFine, IsFit, Shows}
-use Rattle.mv_select_code.specs.Statements.Laws.{Gives, Follows, Does}
+use Rattle.mv_select_code.specs.Statements.Laws.{LeadsTo, Gives, Follows, Does}
 use Rattle.mv_select_code.proofs.OfStatements.Divisions.{divide_below, division_sets}
-use Rattle.mv_select_code.proofs.OfStatements.FrameChanges.{aside_outside, seat_aside, updates_element, frame_same}
+use Rattle.mv_select_code.proofs.OfStatements.Equations.{power_unwritten}
+use Rattle.mv_select_code.proofs.OfStatements.FrameChanges.{aside_outside, seat_aside, pin_aside, updates_element, frame_same}
+use Rattle.mv_select_code.proofs.OfStatements.Powers.{IsPower, power_is, power_above, power_sets}
 use Rattle.mv_select_code.proofs.OfStatements.Stores.{stored_at}
 use Rattle.mv_select_code.proofs.OfStatements.TempsKept.{ChangesOne, target_free, seat_shown, temp_kept}
 use Rattle.mv_select_code.proofs.OfStatements.TreesFirst.{operand_aside, operand_beside, HasOperand, operand_first, temps_held, named_held}
@@ -98,12 +102,42 @@ module _ {M : Type 0} (access : Access M) (s : Site) (setting : ir.Setting) (fra
         below = subst (λ z. z < 2 ^ 32) g.holds (g.are.words d);
       }
 
+  -- a value that stands in the temporary's register already
+  stands_there : (t q : ℕ) (v : Tree) (l : State) (regs : List ℕ) (m : M) → t < s.temps → s.seats.register t ≡ Some q → own_register s.seats v ≡ Some q → Fine v → Shows s access l regs m
+      → LeadsTo access s setting frame [] (8 + 3 * nodes v) regs m Past (with_temp l t (V v l))
+  unfolding operand_lines operand_register
+  stands_there t q v l regs m lt is own fine f =
+      let x = operand_first access s setting frame fit first v l regs m at_first fine f in
+      let same : x.after ≡ regs = subst (λ o. Straight (limited access s) m s.entry (unless o (tree_lines s.seats v first)) regs x.after) own x.runs in
+      let holds : reg x.after q ≡ V v l = subst (λ o. reg x.after (unwrap_or o first) ≡ V v l) own x.holds in
+      (x.after, m, (refl, (same, refl)), seat_shown access s setting frame fit t q (V v l) l x.after x.after m lt is x.below x.shown.are (λ z aside ne. refl) holds x.shown)
+
   pub set_done : (t : ℕ) (v : Tree) → t < s.temps → Fine v → Does access s setting frame (set_lines s.seats t v) (stm.Set t v)
-  set_done t v lt fine bound l regs m f =
-      let x = tree_computed (target s.seats t) v l regs m (target_free s.seats fit.seats t) fine f in
-      let w = temp_kept access s setting frame fit t (V v l) l regs x.after m lt x.below x.are x.others x.holds f in
-      let ls = set_lines s.seats t v in
-      (w.after, w.memory, leads_more access s ls (2 * nodes v + 1) (8 + 3 * nodes v) regs m Past w.after w.memory (omega arith) (x.leads (keep_lines s.seats t) 1 Past w.after w.memory w.leads), w.shown)
+  set_done t v lt fine bound l regs m f = by_seat (s.seats.register t) (own_register s.seats v) refl refl
+    where
+      l' : State
+      l' = with_temp l t (V v l)
+
+      ls : List Line
+      ls = tree_into s.seats v (target s.seats t) first ++ keep_lines s.seats t
+
+      Sets : List Line → Type 0
+      Sets lines = LeadsTo access s setting frame lines (8 + 3 * nodes v) regs m Past l'
+
+      computed : Sets ls
+      computed =
+          let x = tree_computed (target s.seats t) v l regs m (target_free s.seats fit.seats t) fine f in
+          let w = temp_kept access s setting frame fit t (V v l) l regs x.after m lt x.below x.are x.others x.holds f in
+          (w.after, w.memory, leads_more access s ls (2 * nodes v + 1) (8 + 3 * nodes v) regs m Past w.after w.memory (omega arith) (x.leads (keep_lines s.seats t) 1 Past w.after w.memory w.leads), w.shown)
+
+      by_seat : (seat own : Option ℕ) → s.seats.register t ≡ seat → own_register s.seats v ≡ own → Sets (cond (is_seat seat own) [] ls)
+      by_seat None own is h = computed
+      by_seat (Some q) None is h = computed
+      by_seat (Some q) (Some p) is h = by_register (eqb q p) refl
+        where
+          by_register : (same : Bool) → eqb q p ≡ same → Sets (cond same [] ls)
+          by_register true e = stands_there t q v l regs m lt is (h ∙ ap Some (sym (eqb-true q p e))) fine f
+          by_register false e = computed
 
   pub set_global_done : (g : ℕ) (v : Tree) → 0 < s.size g → IsWritten s (array.Global g) → Fine v → Does access s setting frame (set_global_lines s.seats g v) (stm.SetGlobal g v)
   set_global_done g v lt may fine bound l regs m f =
@@ -144,12 +178,14 @@ module _ {M : Type 0} (access : Access M) (s : Site) (setting : ir.Setting) (fra
         frame_same s access l regs x.after m x.are
             (λ q k. x.others q (fit.left.scratch q k) (λ e. fit.left.result (subst (λ n. s.is_left n ≡ true) e k)))
             (λ t q p k. x.others q (seat_aside s.seats fit.seats t q k) (λ e. none t p (k ∙ ap Some e)))
+            (λ n q k. x.others q (pin_aside s.seats fit.seats n q k) (λ e. fit.left.pinned_result n (k ∙ ap Some e)))
             f,
         x.holds,
       )
 
-  pub divide_done : (t o : ℕ) (a b : Tree) → t < s.temps → Fine a → Fine b → Does access s setting frame (divide_lines s.seats t o a b) (stm.Divide t o a b)
-  divide_done t o a b lt fa fb bound l regs m f = by_divisor (eqb (V b l) 0) refl
+  -- by a divisor that isn't written as such a power of two
+  division_done : (t o : ℕ) (a b : Tree) → t < s.temps → Fine a → Fine b → Does access s setting frame (divide_by s.seats None t o a b) (stm.Divide t o a b)
+  division_done t o a b lt fa fb bound l regs m f = by_divisor (eqb (V b l) 0) refl
     where
       p : ℕ
       p = operand_register s.seats a first
@@ -173,7 +209,7 @@ module _ {M : Type 0} (access : Access M) (s : Site) (setting : ir.Setting) (fra
       y = operand_first access s setting frame fit second b l x.after m at_second fb x.shown
 
       -- lines behind both trees
-      both : (k : ℕ) (exit : Exit) (regs' : List ℕ) (m' : M) → k ≤ 8 → L (test ++ tail) k y.after m exit regs' m' → L (divide_lines s.seats t o a b) (8 + 3 * (nodes a + nodes b)) regs m exit regs' m'
+      both : (k : ℕ) (exit : Exit) (regs' : List ℕ) (m' : M) → k ≤ 8 → L (test ++ tail) k y.after m exit regs' m' → L (divide_by s.seats None t o a b) (8 + 3 * (nodes a + nodes b)) regs m exit regs' m'
       both k exit regs' m' le h =
           after_operand first a (operand_lines s.seats b second ++ (test ++ tail)) (8 + 2 * nodes b) (8 + 3 * (nodes a + nodes b)) l regs m exit regs' m' (omega arith) x
           (after_operand second b (test ++ tail) k (8 + 2 * nodes b) l x.after m exit regs' m' (omega arith) y h)
@@ -209,7 +245,7 @@ module _ {M : Type 0} (access : Access M) (s : Site) (setting : ir.Setting) (fra
               by_number false = leads_more access s tail k (k + 1) y.after m Past regs' m' (omega arith) go
 
       by_divisor : (is_null : Bool) → eqb (V b l) 0 ≡ is_null
-          → Follows access s setting frame (divide_lines s.seats t o a b) (8 + 3 * (nodes a + nodes b)) regs m (cond is_null (traps 1 l) (Next (with_temp l t (divide o (V a l) (V b l)))))
+          → Follows access s setting frame (divide_by s.seats None t o a b) (8 + 3 * (nodes a + nodes b)) regs m (cond is_null (traps 1 l) (Next (with_temp l t (divide o (V a l) (V b l)))))
       by_divisor true is = (l, refl, (y.after, m, both 2 (To (trap_label 1)) y.after m (omega arith) (failed (eqb-true (V b l) 0 is)), y.shown))
       by_divisor false is =
           let nonzero = eqb-false (V b l) 0 is in
@@ -226,3 +262,58 @@ module _ {M : Type 0} (access : Access M) (s : Site) (setting : ir.Setting) (fra
                 (leads_next access s (division o d p q) (keep_lines s.seats t) 1 y.after m mid m Past w.after w.memory (division_sets (limited access s) m o d p q (V a l) (V b l) y.after nonzero dividend y.holds, inl refl) w.leads)),
             w.shown,
           )
+
+  -- by one that is, so it isn't 0
+  power_done : (t o k n : ℕ) (a b : Tree) → literal b ≡ Some n → IsPower o k n → t < s.temps → Fine a → Does access s setting frame (divide_by s.seats (Some k) t o a b) (stm.Divide t o a b)
+  power_done t o k n a b written is lt fa bound l regs m f = by_divisor (eqb (V b l) 0) refl
+    where
+      value_is : V b l ≡ n
+      value_is = written_value setting.numbers frame.bound l.temps l.world.globals b n written
+
+      nonzero : V b l ≡ 0 → ⊥
+      nonzero e = power_above o k n is (sym value_is ∙ e)
+
+      d : ℕ
+      d = target s.seats t
+
+      p : ℕ
+      p = operand_register s.seats a first
+
+      tail : List Line
+      tail = Word (power_division o k d p) ∷ keep_lines s.seats t
+
+      x : HasOperand access s setting frame fit first a l regs m
+      x = operand_first access s setting frame fit first a l regs m at_first fa f
+
+      v : ℕ
+      v = divide o (V a l) (V b l)
+
+      sets : Sets (limited access s) m (power_division o k d p) x.after (put x.after d v)
+      sets = subst (λ z. Sets (limited access s) m (power_division o k d p) x.after (put x.after d (divide o (V a l) z))) (sym value_is) (power_sets (limited access s) m o k n d p (V a l) x.after is x.holds)
+
+      by_divisor : (is_null : Bool) → eqb (V b l) 0 ≡ is_null
+          → Follows access s setting frame (divide_by s.seats (Some k) t o a b) (8 + 3 * (nodes a + nodes b)) regs m (cond is_null (traps 1 l) (Next (with_temp l t v)))
+      by_divisor true e = absurd (nonzero (eqb-true (V b l) 0 e))
+      by_divisor false e =
+          let below = divide_below o (V a l) (V b l) nonzero x.below (subst (λ z. z < 2 ^ 32) (sym (value_is ∙ is.same)) (pow_below k 32 is.low)) in
+          let free = target_free s.seats fit.seats t in
+          let mid = put x.after d v in
+          let are = put_registers x.after d v x.shown.are free below in
+          let w = temp_kept access s setting frame fit t v l x.after mid m lt below are (λ z o ne. put_other x.after d z v free.above ne) (put_same x.after d v free.above (omega (arith, x.shown.are.count, free.below))) x.shown in (
+            w.after,
+            w.memory,
+            after_operand first a tail 2 (8 + 3 * (nodes a + nodes b)) l regs m Past w.after w.memory (omega arith) x
+                (leads_next access s (power_division o k d p) (keep_lines s.seats t) 1 x.after m mid m Past w.after w.memory (sets, inl refl) w.leads),
+            w.shown,
+          )
+
+  pub divide_done : (t o : ℕ) (a b : Tree) → t < s.temps → Fine a → Fine b → Does access s setting frame (divide_lines s.seats t o a b) (stm.Divide t o a b)
+  divide_done t o a b lt fa fb = by_literal (literal b) refl
+    where
+      by_literal : (written : Option ℕ) → literal b ≡ written → Does access s setting frame (divide_by s.seats (power_of o written) t o a b) (stm.Divide t o a b)
+      by_literal None h = subst (λ w. Does access s setting frame (divide_by s.seats w t o a b) (stm.Divide t o a b)) (sym (power_unwritten o)) (division_done t o a b lt fa fb)
+      by_literal (Some n) h = by_power (power_of o (Some n)) refl
+        where
+          by_power : (power : Option ℕ) → power_of o (Some n) ≡ power → Does access s setting frame (divide_by s.seats power t o a b) (stm.Divide t o a b)
+          by_power None e = division_done t o a b lt fa fb
+          by_power (Some k) e = power_done t o k n a b h (power_is o n k e) lt fa

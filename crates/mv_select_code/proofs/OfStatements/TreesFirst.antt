@@ -53,6 +53,7 @@ module _ {M : Type 0} (access : Access M) (s : Site) (setting : ir.Setting) (fra
     seats = fit.seats;
     words = λ t p. word t (omega (arith, p, f.count)) (s.seats.register t) refl;
     in_register = λ t q p h. f.in_register t q (omega (arith, p, f.count)) h;
+    pinned = f.pinned;
     in_frame = λ t p h. loaded t (h, omega (arith, p, f.count));
   }
     where

@@ -9,14 +9,14 @@ use Rattle.mv_ir.specs.declared.tree.Tree.{Tree}
 use Rattle.mv_ir.specs.declared.tree.Tree as tr
 use Rattle.mv_ir.specs.declared.tree.Tree.TheOpen as tree
 use Rattle.mv_ir.specs.declared.tree.Tree.TheVariants.{rolls-Number, rolls-Temp, rolls-Global, rolls-Function, rolls-Unary, rolls-Binary, rolls-Narrow}
-use Rattle.mv_select_code.specs.Trees.TreeCode.{Seats, one, two, minus_one, number_lines, load_lines, read_temp, unary_lines, binary_lines, short_immediate, count_immediate, immediate, immediate_lines, operator_lines, literal, keeps_words, narrow_lines, own_register, tree_into, operand_lines, operand_register, immediate_of, temps_of, clear}
+use Rattle.mv_select_code.specs.Trees.TreeCode.{Seats, one, two, minus_one, number_by, load_lines, read_temp, unary_lines, binary_lines, short_immediate, count_immediate, immediate, immediate_lines, operator_lines, literal, keeps_words, narrow_lines, own_register, tree_into, operand_lines, operand_register, immediate_of, temps_of, clear}
 use Rattle.mv_select_code.proofs.OfTrees.Rolls.{into_roll, own_roll, literal_roll, temps_roll}
 use Rattle.mv_ir.proofs.Common.{depth_number, depth_temp, depth_global, depth_function, depth_unary, depth_binary, depth_narrow}
 
-pub into_number : (seats : Seats) (n d r : ℕ) → tree_into seats (tr.Number n) d r ≡ number_lines n d
+pub into_number : (seats : Seats) (n d r : ℕ) → tree_into seats (tr.Number n) d r ≡ number_by (seats.pinned n) n d
 into_number seats n d r = ap (λ x. tree_into seats x d r) (sym (rolls-Number n)) ∙ into_roll seats (tree.Number n) d r
 
-pub own_number : (seats : Seats) (n : ℕ) → own_register seats (tr.Number n) ≡ cond (eqb n 0) (Some 0) None
+pub own_number : (seats : Seats) (n : ℕ) → own_register seats (tr.Number n) ≡ cond (eqb n 0) (Some 0) (seats.pinned n)
 own_number seats n = ap (own_register seats) (sym (rolls-Number n)) ∙ own_roll seats (tree.Number n)
 
 pub literal_number : (n : ℕ) → literal (tr.Number n) ≡ Some n

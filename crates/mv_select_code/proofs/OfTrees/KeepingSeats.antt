@@ -1,8 +1,10 @@
--- A function's temporaries stand in registers of their own.
-use Rattle.std.proofs.Common.{◌≡◌, ℕ, zero, suc, ◌+◌, ◌-◌, ◌<◌, ◌≤◌, Bool, true, false, cond, ltb, Some, None, refl, sym, ap, ◌∙◌, subst, arith}
+-- A function's temporaries stand in registers of their own, and its numbers in such as these have.
+use Rattle.std.proofs.Common.{◌≡◌, ℕ, zero, suc, ◌+◌, ◌-◌, ◌<◌, ◌≤◌, Bool, true, false, cond, eqb, ltb, List, [], ◌∷◌, All, Some, None, refl, sym, ap, ◌∙◌, subst, arith}
 use Rattle.std.proofs.lemmas.Bool.{ltb-true, ne_eqb}
-use Rattle.mv_select_code.specs.Trees.TreeCode.{temp_register, register_of}
-use Rattle.mv_select_code.specs.Trees.View.{AreSeats}
+use Rattle.std.proofs.lemmas.List.Elements.{All-head, All-tail}
+use Rattle.mv_select_code.specs.Trees.TreeCode.{temp_register, register_of, pinned_in}
+use Rattle.mv_select_code.specs.Trees.View.{AreSeats, IsPin}
+use Rattle.mv_select_code.specs.declared.trees.places.Pin.{Pin}
 use Rattle.mv_select_code.specs.declared.trees.places.Keeping.{Keeping}
 use Rattle.mv_select_code.specs.declared.trees.places.Keeping.TheVariants.{Saved, Arguments}
 
@@ -44,8 +46,18 @@ keeping_seat k t q = by_keeping k
     by_keeping Saved e = by_test Saved 9 (temp_register t) (saved_seat t) (ltb t 9) refl e
     by_keeping Arguments e = by_test Arguments 8 (10 + t) (argument_seat t) (ltb t 8) refl e
 
-pub keeping_seats : (place : ℕ → ℕ) (k : Keeping) → AreSeats (record { place = place; register = register_of k })
-keeping_seats place k = record {
+pub pinned_seat : (pins : List Pin) → All IsPin pins → (n q : ℕ) → pinned_in pins n ≡ Some q → (9 ≤ q) × (q < 26)
+pinned_seat [] h n q e = absurd cc
+pinned_seat (p ∷ ps) h n q e = by_test (eqb p.number n) (pinned_seat ps (All-tail IsPin p ps h) n q) e
+  where
+    by_test : (is_it : Bool) → (pinned_in ps n ≡ Some q → (9 ≤ q) × (q < 26)) → cond is_it (Some p.register) (pinned_in ps n) ≡ Some q → (9 ≤ q) × (q < 26)
+    by_test true rest e = let same : p.register ≡ q = cc in subst (λ r. (9 ≤ r) × (r < 26)) same (All-head IsPin p ps h)
+    by_test false rest e = rest e
+
+pub keeping_seats : (place : ℕ → ℕ) (k : Keeping) (pins : List Pin) → All IsPin pins
+    → AreSeats (record { place = place; register = register_of k; pinned = pinned_in pins })
+keeping_seats place k pins are = record {
   seat = λ t q e. let seat = keeping_seat k t q e in (seat.low, seat.high);
   apart = λ t u q e f. (keeping_seat k t q e).number ∙ sym (keeping_seat k u q f).number;
+  pin = pinned_seat pins are;
 }

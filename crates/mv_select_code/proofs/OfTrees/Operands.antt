@@ -7,7 +7,7 @@ use Rattle.mv_ir.specs.declared.tree.Tree.TheFolds.{map-Tree}
 use Rattle.mv_ir.proofs.Induction.{TreeChildren, tree_ind}
 use Rattle.mv_select_code.specs.Trees.TreeCode.{Seats, keeps_words, own_layer, own_register, operand_register}
 use Rattle.mv_select_code.specs.Trees.View.{AreScratch, AreSeats}
-use Rattle.mv_select_code.proofs.OfTrees.Registers.{frame_outside, temp_in_frame}
+use Rattle.mv_select_code.proofs.OfTrees.Registers.{frame_outside, pin_in_frame, temp_in_frame}
 pub use Rattle.mv_select_code.proofs.OfTrees.Registers.{InFrame}
 use Rattle.mv_select_code.proofs.OfTrees.Rolls.{own_roll}
 
@@ -19,9 +19,13 @@ module _ (seats : Seats) (are : AreSeats seats) where
   own_in_frame : (t : Tree) → AreInFrame (own_register seats t)
   own_in_frame = tree_ind (λ t. AreInFrame (own_register seats t)) (λ x h. subst AreInFrame (sym (own_roll seats x)) (layer x h))
     where
-      by_test : (is_zero : Bool) → AreInFrame (cond is_zero (Some 0) None)
-      by_test true = inl (omega arith)
-      by_test false = tt
+      of_number : (n : ℕ) (own : Option ℕ) → seats.pinned n ≡ own → AreInFrame own
+      of_number n None e = tt
+      of_number n (Some q) e = pin_in_frame seats are n q e
+
+      by_test : (n : ℕ) (is_zero : Bool) → AreInFrame (cond is_zero (Some 0) (seats.pinned n))
+      by_test n true = inl (omega arith)
+      by_test n false = of_number n (seats.pinned n) refl
 
       by_kind : (keeps : Bool) (own : Option ℕ) → AreInFrame own → AreInFrame (cond keeps own None)
       by_kind true own h = h
@@ -32,7 +36,7 @@ module _ (seats : Seats) (are : AreSeats seats) where
       of_temp t (Some q) e = temp_in_frame seats are t q e
 
       layer : (x : Tree-F Tree) → TreeChildren (λ t. AreInFrame (own_register seats t)) x → AreInFrame (own_layer seats (map-Tree Tree (Option ℕ) (own_register seats) x))
-      layer (tree.Number n) h = by_test (eqb n 0)
+      layer (tree.Number n) h = by_test n (eqb n 0)
       layer (tree.Temp t) h = of_temp t (seats.register t) refl
       layer (tree.Global g) h = tt
       layer (tree.Function f) h = tt

@@ -113,14 +113,31 @@ frame_outside lo hi q (inl h) (inr k) = let a = h.1 in let b = k.0 in inr (omega
 frame_outside lo hi q (inr h) (inl k) = let a = h.0 in inl (omega arith)
 frame_outside lo hi q (inr h) (inr k) = let a = h.0 in let b = k.1 in inl (omega arith)
 
--- ---- the registers of temporaries
+-- ---- the registers of temporaries and of numbers
+
+module _ (q : ℕ) (seat : (9 ≤ q) × (q < 26)) where
+  apart_free : IsFree q
+  apart_free = let low = seat.0 in let high = seat.1 in free_above q (omega arith) (omega arith)
+
+  apart_in_frame : InFrame q
+  apart_in_frame = let low = seat.0 in let high = seat.1 in inr (omega arith, omega arith)
+
+module _ (s : Seats) (are : AreSeats s) (n q : ℕ) (e : s.pinned n ≡ Some q) where
+  pub pin_free : IsFree q
+  pin_free = apart_free q (are.pin n q e)
+
+  pub pin_in_frame : InFrame q
+  pin_in_frame = apart_in_frame q (are.pin n q e)
+
+  pub pin_outside : (lo hi : ℕ) → AreScratch lo hi → (q < lo) ⊎ (hi ≤ q)
+  pin_outside lo hi h = frame_outside lo hi q h pin_in_frame
 
 module _ (s : Seats) (are : AreSeats s) (t q : ℕ) (e : s.register t ≡ Some q) where
   pub seat_free : IsFree q
-  seat_free = let seat = are.seat t q e in let low = seat.0 in let high = seat.1 in free_above q (omega arith) (omega arith)
+  seat_free = apart_free q (are.seat t q e)
 
   pub temp_in_frame : InFrame q
-  temp_in_frame = let seat = are.seat t q e in let low = seat.0 in let high = seat.1 in inr (omega arith, omega arith)
+  temp_in_frame = apart_in_frame q (are.seat t q e)
 
   pub seat_outside : (lo hi : ℕ) → AreScratch lo hi → (q < lo) ⊎ (hi ≤ q)
   seat_outside lo hi h = frame_outside lo hi q h temp_in_frame

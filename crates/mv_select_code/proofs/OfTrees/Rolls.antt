@@ -8,7 +8,7 @@ use Rattle.mv_ir.specs.declared.tree.Tree.TheOpen as tree
 use Rattle.mv_ir.specs.declared.tree.Tree.TheViews.{roll-Tree}
 use Rattle.mv_ir.specs.declared.tree.Tree.TheFolds.{fold-roll-Tree, map-Tree}
 use Rattle.mv_ir.proofs.Induction.{TreeChildren, tree_ind}
-use Rattle.mv_select_code.specs.Trees.TreeCode.{Seats, one, number_lines, load_lines, read_temp, unary_lines, keeps_words, narrow_lines, own_layer, own_register, literal_layer, literal, right_of, operator_lines, unless, Code, ready, stands, into_layer, tree_layer, tree_code, tree_into, tree_lines, operand_lines, operand_register, immediate_of, temps_layer, temps_of, word_branch, number_branch, comparison, compare_or, branch_layer, branch_lines}
+use Rattle.mv_select_code.specs.Trees.TreeCode.{Seats, one, number_by, load_lines, read_temp, unary_lines, keeps_words, narrow_lines, own_layer, own_register, literal_layer, literal, right_of, operator_lines, unless, Code, ready, stands, into_layer, tree_layer, tree_code, tree_into, tree_lines, operand_lines, operand_register, immediate_of, temps_layer, temps_of, word_branch, number_branch, comparison, compare_or, branch_layer, branch_lines}
 use Rattle.mv_select_code.specs.Trees.View.{View, names_layer, is_in_view}
 
 pub code_roll : (seats : Seats) (x : Tree-F Tree) → tree_code seats (roll-Tree x) ≡ tree_layer seats (map-Tree Tree Code (tree_code seats) x)
@@ -69,7 +69,7 @@ module _ (seats : Seats) where
       same (tree.Narrow k a) = refl
 
   abbrev pub into_tree : Tree-F Tree → (d r : ℕ) → List Line
-  into_tree (tree.Number n) d r = number_lines n d
+  into_tree (tree.Number n) d r = number_by (seats.pinned n) n d
   into_tree (tree.Temp t) d r = one (read_temp seats t d)
   into_tree (tree.Global g) d r = load_lines (seats.place g) d
   into_tree (tree.Function f) d r = Entry d f ∷ []

@@ -11,7 +11,7 @@ use Rattle.mv_ir.specs.declared.tree.Tree.TheOpen.{Tree-F}
 use Rattle.mv_ir.specs.declared.tree.Tree.TheOpen as tree
 use Rattle.mv_ir.specs.declared.tree.Tree.TheViews.{roll-Tree}
 use Rattle.mv_ir.proofs.Induction.{TreeChildren, tree_ind}
-use Rattle.mv_select_code.specs.Trees.TreeCode.{Seats, one, two, upper_bits, lower_bits, near, number_lines, load_by, load_lines, read_from, read_temp, minus_one, unary_lines, binary_lines, immediate_lines, operator_lines, keeps_words, narrow_lines, own_register, unless, tree_into, tree_lines, operand_lines, operand_register, immediate_of}
+use Rattle.mv_select_code.specs.Trees.TreeCode.{Seats, one, two, upper_bits, lower_bits, near, number_lines, number_by, load_by, load_lines, read_from, read_temp, minus_one, unary_lines, binary_lines, immediate_lines, operator_lines, keeps_words, narrow_lines, own_register, unless, tree_into, tree_lines, operand_lines, operand_register, immediate_of}
 use Rattle.mv_select_code.specs.declared.trees.leaves.Based.{Based}
 use Rattle.mv_select_code.specs.Trees.Straight.{is_link}
 use Rattle.mv_select_code.proofs.OfTrees.Rolls.{into_tree, into_roll, lines_are}
@@ -40,6 +40,10 @@ module _
       by_length : (is_short : Bool) → Z (cond is_short (one (Addi d 0 (lower_bits n))) (two (Lui d (pos (upper_bits n))) (Addi d d (lower_bits n))))
       by_length true = word (Addi d 0 (lower_bits n)) refl
       by_length false = words (Lui d (pos (upper_bits n))) (Addi d d (lower_bits n)) refl refl
+
+  pub number_by_made : (own : Option ℕ) (n d : ℕ) → Z (number_by own n d)
+  number_by_made (Some q) n d = word (Addi d q (pos 0)) refl
+  number_by_made None n d = number_made n d
 
   pub load_made : (a d : ℕ) → Z (load_lines a d)
   unfolding load_lines
@@ -116,7 +120,7 @@ module _
         by_own (Some q) = none
 
     layer : (x : Tree-F Tree) → TreeChildren Made x → F (roll-Tree x) → (d r : ℕ) → Z (into_tree seats x d r)
-    layer (tree.Number n) h f d r = number_made n d
+    layer (tree.Number n) h f d r = number_by_made (seats.pinned n) n d
     layer (tree.Temp t) h f d r = word (read_temp seats t d) (temp_plain seats t d)
     layer (tree.Global g) h f d r = load_made (seats.place g) d
     layer (tree.Function g) h f d r = entry g d f

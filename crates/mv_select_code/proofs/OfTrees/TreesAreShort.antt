@@ -13,7 +13,7 @@ use Rattle.mv_ir.specs.declared.tree.Tree.TheFolds.{map-Tree}
 use Rattle.mv_ir.specs.Trees.{node_count, nodes}
 use Rattle.mv_ir.proofs.Induction.{TreeChildren, tree_ind}
 use Rattle.mv_ir.proofs.Rolls.{nodes_roll}
-use Rattle.mv_select_code.specs.Trees.TreeCode.{Seats, one, two, upper_bits, lower_bits, near, number_lines, load_by, load_lines, unary_lines, binary_lines, immediate_lines, operator_lines, keeps_words, narrow_lines, own_register, unless, tree_into, tree_lines, operand_lines, operand_register, immediate_of}
+use Rattle.mv_select_code.specs.Trees.TreeCode.{Seats, one, two, upper_bits, lower_bits, near, number_lines, number_by, load_by, load_lines, unary_lines, binary_lines, immediate_lines, operator_lines, keeps_words, narrow_lines, own_register, unless, tree_into, tree_lines, operand_lines, operand_register, immediate_of}
 use Rattle.mv_select_code.specs.declared.trees.leaves.Based.{Based}
 use Rattle.mv_select_code.specs.Trees.Laws.{TreesAreShort}
 use Rattle.mv_select_code.proofs.OfTrees.Rolls.{into_tree, into_roll, lines_are}
@@ -31,6 +31,10 @@ number_size n r = by_length (eqb (upper_bits n) 0)
     by_length : (is_short : Bool) → words (cond is_short (one (Addi r 0 (lower_bits n))) (two (Lui r (pos (upper_bits n))) (Addi r r (lower_bits n)))) ≤ 2
     by_length true = omega arith
     by_length false = omega arith
+
+number_by_size : (own : Option ℕ) (n r : ℕ) → words (number_by own n r) ≤ 2
+number_by_size (Some q) n r = omega arith
+number_by_size None n r = number_size n r
 
 pub load_size : (a r : ℕ) → words (load_lines a r) ≤ 2
 unfolding load_lines
@@ -104,7 +108,7 @@ module _ (seats : Seats) where
       by_own (Some q) = omega arith
 
   layer : (x : Tree-F Tree) → TreeChildren IsShort x → (d r : ℕ) → words (into_tree seats x d r) ≤ 2 * node_count (map-Tree Tree ℕ nodes x)
-  layer (tree.Number n) h d r = number_size n d
+  layer (tree.Number n) h d r = number_by_size (seats.pinned n) n d
   layer (tree.Temp t) h d r = omega arith
   layer (tree.Global g) h d r = load_size (seats.place g) d
   layer (tree.Function f) h d r = omega arith

@@ -20,11 +20,11 @@ use Rattle.mv_ir.specs.declared.tree.Tree.TheFolds.{map-Tree}
 use Rattle.mv_ir.specs.Trees.{node_depth, depth}
 use Rattle.mv_ir.proofs.Induction.{TreeChildren, tree_ind}
 use Rattle.mv_ir.proofs.Rolls.{depth_roll}
-use Rattle.mv_select_code.specs.Trees.TreeCode.{Seats, one, two, upper_bits, lower_bits, near, number_lines, load_by, load_lines, temp_register, temp_offset, read_from, read_temp, clear, minus_one, unary_lines, binary_lines, short_immediate, count_immediate, immediate, immediate_lines, operator_lines, literal, right_of, keeps_words, narrow_lines, own_register, unless, tree_into, tree_lines, operand_lines, operand_register, immediate_of, temps_layer, temps_of}
+use Rattle.mv_select_code.specs.Trees.TreeCode.{Seats, one, two, upper_bits, lower_bits, near, number_lines, number_by, load_by, load_lines, temp_register, temp_offset, read_from, read_temp, clear, minus_one, unary_lines, binary_lines, short_immediate, count_immediate, immediate, immediate_lines, operator_lines, literal, right_of, keeps_words, narrow_lines, own_register, unless, tree_into, tree_lines, operand_lines, operand_register, immediate_of, temps_layer, temps_of}
 use Rattle.mv_select_code.specs.Trees.View.{AreSeats}
 use Rattle.mv_select_code.specs.Trees.Laws.{TreesFit}
 use Rattle.mv_select_code.specs.declared.trees.leaves.Based.{Based}
-use Rattle.mv_select_code.proofs.OfTrees.Registers.{seat_free}
+use Rattle.mv_select_code.proofs.OfTrees.Registers.{pin_free, seat_free}
 use Rattle.mv_select_code.proofs.OfTrees.Near.{near_below, near_fits}
 use Rattle.mv_select_code.proofs.OfTrees.Rolls.{into_tree, into_roll, lines_are, immediate_is, temps_roll}
 use Rattle.mv_select_code.proofs.OfTrees.Operands.{operand_below}
@@ -90,6 +90,13 @@ load_fits a r h = by_base (near a) refl
     by_base : (base : Option Based) → near a ≡ base → AllFit (load_by base a r)
     by_base (Some n) e = one_fits (Lw r n.base n.offset) (h, near_below a n e, near_fits a n e)
     by_base None e = two_fit (Lui r (pos (upper_bits a))) (Lw r r (lower_bits a)) (h, upper_fits a) (h, h, lower_fits a)
+
+number_by_fits : (seats : Seats) → AreSeats seats → (n r : ℕ) → r < 32 → AllFit (number_by (seats.pinned n) n r)
+number_by_fits seats are n r h = by_place (seats.pinned n) refl
+  where
+    by_place : (own : Option ℕ) → seats.pinned n ≡ own → AllFit (number_by own n r)
+    by_place (Some q) e = one_fits (Addi r q (pos 0)) (h, (pin_free seats are n q e).below, small_fits 0 (omega arith))
+    by_place None e = number_fits n r h
 
 entry_fits : (r f : ℕ) → r < 32 → AllFit (Entry r f ∷ [])
 entry_fits r f h = All-cons LineFits (Entry r f) [] h (All-nil LineFits)
@@ -231,7 +238,7 @@ module _ (seats : Seats) (are : AreSeats seats) where
       by_own (Some x) = All-nil LineFits
 
   layer : (x : Tree-F Tree) → TreeChildren CodeFits x → (d r : ℕ) → d < 32 → r + node_depth (map-Tree Tree ℕ depth x) ≤ 32 → temps_layer (map-Tree Tree ℕ temps_of x) ≤ 507 → AllFit (into_tree seats x d r)
-  layer (tree.Number n) h d r l p q = number_fits n d l
+  layer (tree.Number n) h d r l p q = number_by_fits seats are n d l
   layer (tree.Temp t) h d r l p q = one_fits (read_temp seats t d) (read_fits seats are t d (omega arith) l)
   layer (tree.Global g) h d r l p q = load_fits (seats.place g) d l
   layer (tree.Function f) h d r l p q = entry_fits d f l

@@ -17,13 +17,13 @@ use Rattle.mv_ir.specs.declared.tree.Tree.TheFolds.{map-Tree}
 use Rattle.mv_ir.specs.Trees.{unary, binary, found, scalar, read_as, Value, tree_value, value, node_depth, depth}
 use Rattle.mv_ir.proofs.Induction.{TreeChildren, tree_ind}
 use Rattle.mv_ir.proofs.Rolls.{value_roll, depth_roll}
-use Rattle.mv_select_code.specs.Trees.TreeCode.{one, number_lines, load_lines, temp_offset, read_from, read_temp, unary_lines, binary_lines, immediate_lines, operator_lines, literal_layer, literal, right_of, keeps_words, narrow_lines, own_layer, own_register, unless, tree_into, tree_lines, operand_lines, operand_register, immediate_of}
+use Rattle.mv_select_code.specs.Trees.TreeCode.{one, number_by, load_lines, temp_offset, read_from, read_temp, unary_lines, binary_lines, immediate_lines, operator_lines, literal_layer, literal, right_of, keeps_words, narrow_lines, own_layer, own_register, unless, tree_into, tree_lines, operand_lines, operand_register, immediate_of}
 use Rattle.mv_select_code.specs.Trees.View.{View, view_value, names_layer, is_in_view, AreRegisters, AreScratch, Changes, HoldsTemps, HoldsNamed, Gives, Leaves}
 use Rattle.mv_select_code.specs.Trees.Laws.{TreesRun, TreesLeave, OperandsStand}
 use Rattle.mv_select_code.proofs.OfTrees.Rolls.{own_roll, literal_roll, immediate_is, into_tree, into_roll, lines_are, in_view_roll}
 use Rattle.mv_select_code.proofs.OfTrees.Operands.{operand_outside}
 use Rattle.mv_select_code.proofs.OfTrees.Words.{zero_add, add_word}
-use Rattle.mv_select_code.proofs.OfTrees.Registers.{IsFree, reg_zero, changes_none, changes_wider, held_word, scratch_part, scratch_free, frame_outside, seat_outside}
+use Rattle.mv_select_code.proofs.OfTrees.Registers.{IsFree, reg_zero, changes_none, changes_wider, held_word, scratch_part, scratch_free, frame_outside, pin_outside, seat_outside}
 use Rattle.mv_select_code.proofs.OfTrees.Instructions.{lw_sets, addi_sets}
 use Rattle.mv_select_code.proofs.OfTrees.Gives.{Within, leaves_alone, leaves_after, leaves_within, one_gives, number_gives, entry_gives, load_gives}
 use Rattle.mv_select_code.proofs.OfTrees.OperatorsGive.{unary_gives, binary_gives, immediate_gives, narrow_gives}
@@ -48,6 +48,7 @@ module _ {M : Type 0} (access : Access M) (m : M) (v : View) where
     seats = h.seats;
     words = h.words;
     in_register = λ t q lt e. l.others q (seat_outside v.seats h.seats t q e lo hi s) ∙ h.in_register t q lt e;
+    pinned = λ n q e. l.others q (pin_outside v.seats h.seats n q e lo hi s) ∙ h.pinned n q e;
     in_frame = λ t lt e. ap (λ x. access.load m (add x (temp_offset t)) 4) (l.others sp (frame_outside lo hi sp s (inl (omega arith)))) ∙ h.in_frame t lt e;
   }
 
@@ -65,6 +66,16 @@ module _ {M : Type 0} (access : Access M) (m : M) (v : View) where
       by_place None e =
           one_gives access m v.entry lo hi r (slice_index v.temps t) (Lw r sp (pos (temp_offset t))) regs are w (h.words t lt)
           (lw_sets access m r sp (pos (temp_offset t)) regs (add (reg regs sp) (temp_offset t)) (slice_index v.temps t) (add_word (reg regs sp) (temp_offset t)) (h.in_frame t lt e))
+
+  number_by_gives : (lo hi r n : ℕ) (regs : List ℕ) → HoldsTemps access m v regs → AreRegisters regs → n < 2 ^ 32 → Within lo hi r
+      → G lo hi r n (number_by (v.seats.pinned n) n r) regs
+  number_by_gives lo hi r n regs h are b w = by_place (v.seats.pinned n) refl
+    where
+      by_place : (own : Option ℕ) → v.seats.pinned n ≡ own → G lo hi r n (number_by own n r) regs
+      by_place (Some q) e =
+          one_gives access m v.entry lo hi r n (Addi r q (pos 0)) regs are w b
+          (addi_sets access m r q (pos 0) regs n 0 n (h.pinned n q e) (word_of_pos 0 (omega arith)) (zero_add n b))
+      by_place None e = number_gives access m v.entry lo hi r n regs are w b
 
   abbrev L : ℕ → ℕ → ℕ → ℕ → List Line → List ℕ → Type 0
   L = Leaves access m v.entry
@@ -85,9 +96,13 @@ module _ {M : Type 0} (access : Access M) (m : M) (v : View) where
     abbrev Own : Tree → Type 0
     Own t = is_in_view v t ≡ true → OwnHolds regs (own_register v.seats t) (view_value v t)
 
-    own_number : (n : ℕ) (is_zero : Bool) → eqb n 0 ≡ is_zero → OwnHolds regs (cond is_zero (Some 0) None) n
+    own_pin : (n : ℕ) (own : Option ℕ) → v.seats.pinned n ≡ own → OwnHolds regs own n
+    own_pin n (Some q) e = temps.pinned n q e
+    own_pin n None e = tt
+
+    own_number : (n : ℕ) (is_zero : Bool) → eqb n 0 ≡ is_zero → OwnHolds regs (cond is_zero (Some 0) (v.seats.pinned n)) n
     own_number n true e = reg_zero regs ∙ sym (eqb-true n 0 e)
-    own_number n false e = tt
+    own_number n false e = own_pin n (v.seats.pinned n) refl
 
     own_temp : (t : ℕ) → t < length v.temps → (own : Option ℕ) → v.seats.register t ≡ own → OwnHolds regs own (slice_index v.temps t)
     own_temp t lt (Some q) e = temps.in_register t q lt e
@@ -212,7 +227,7 @@ module _ {M : Type 0} (access : Access M) (m : M) (v : View) where
         → AreScratch r (r + node_depth (map-Tree Tree ℕ depth x)) → IsFree d
         → L r (r + node_depth (map-Tree Tree ℕ depth x)) d (tree_value v.numbers v.bound (map-Tree Tree Value (value v.numbers v.bound) x) v.temps v.globals) (into_tree v.seats x d r) regs
     layer (tree.Number n) h d r regs k are temps s free =
-        only r (r + 1) d n (number_lines n d) regs (number_gives access m v.entry d (d + 1) d n regs are (alone d free) (ltb-true n (2 ^ 32) k))
+        only r (r + 1) d n (number_by (v.seats.pinned n) n d) regs (number_by_gives d (d + 1) d n regs temps are (ltb-true n (2 ^ 32) k) (alone d free))
     layer (tree.Temp t) h d r regs k are temps s free =
         only r (r + 1) d (slice_index v.temps t) (one (read_temp v.seats t d)) regs (temp_gives d (d + 1) d t regs temps are (ltb-true t (length v.temps) k) (alone d free))
     layer (tree.Global g) h d r regs k are temps s free =

@@ -9,6 +9,7 @@ use Rattle.mv_ir.specs.declared.stm.Stm.TheOpen as stm
 use Rattle.mv_ir.specs.declared.stm.Stm.TheFolds.{fold-Stm}
 use Rattle.mv_ir.specs.Trees.{nodes_of_all}
 use Rattle.mv_ir.specs.Measures.{total, callee_trees, tree_nodes}
+use Rattle.mv_select_code.specs.Trees.View.{IsPin}
 use Rattle.mv_select_code.specs.Statements.Encoded.{IsCode}
 use Rattle.mv_select_code.specs.declared.control.enclosing.Enclosing.{Enclosing}
 use Rattle.mv_select_code.specs.declared.control.enclosing.Way.{Way}
@@ -58,6 +59,6 @@ pub record CallsAreEncoded (calls : CallLines) : Type 0 where
 -- If that is so, the code of statements has encodings and no more words, but for a jump at its end.
 abbrev pub FlowIsEncoded : Type 0
 FlowIsEncoded =
-    (layout : Layout) → All IsInFrame layout.arrays → (calls : CallLines) → CallsAreEncoded calls →
+    (layout : Layout) → All IsInFrame layout.arrays → All IsPin layout.pins → (calls : CallLines) → CallsAreEncoded calls →
     (code : List Stm) → are_small code ≡ true → (around : List Enclosing) (label : ℕ) (way : Way) →
     IsCode (most_words code + jumps way) ((code_of (plan_in layout calls) code).lines around label way)

@@ -34,7 +34,7 @@ IsInFrame space = space.at + 4 * space.size ≤ frame_limit
 
 abbrev pub plan_in : Layout → CallLines → Plan
 plan_in layout calls = record {
-  seats = seats_at layout.rooms layout.keeping;
+  seats = seats_at layout.rooms layout.keeping layout.pins;
   size = size_in layout.rooms;
   array_at = array_at_in layout.arrays;
   array_size = array_size_in layout.arrays;

@@ -112,13 +112,15 @@ module _ (s : Site) where
     pub shallow : depth t ≤ 4
 
   -- The registers that the code leaves alone, sp among them, are apart from x0, from those that it computes in, a0 among these, and from those of its
-  -- temporaries.
+  -- temporaries. No number stands in one of these or in a0.
   pub record LeavesAlone : Type 0 where
     pub stack : s.is_left sp ≡ true
     pub real : s.is_left x0 ≡ true → ⊥
     pub result : s.is_left a0 ≡ true → ⊥
     pub scratch : (q : ℕ) → s.is_left q ≡ true → AreScratch q (q + 1) → ⊥
     pub temps : (t q : ℕ) → t < s.temps → s.seats.register t ≡ Some q → s.is_left q ≡ true → ⊥
+    pub pinned : (t n q : ℕ) → t < s.temps → s.seats.register t ≡ Some q → s.seats.pinned n ≡ Some q → ⊥
+    pub pinned_result : (n : ℕ) → s.seats.pinned n ≡ Some a0 → ⊥
 
   module _ {M : Type 0} (access : Access M) where
     -- after a store of a word to a cell, which works where the cell can be loaded, it is read back, and the other cells are as they were
@@ -151,5 +153,6 @@ module _ (s : Site) where
       pub sizes : (a : Array) → length (elements a l) ≡ size_of a
       pub temp_words : (t q : ℕ) → t < s.temps → s.seats.register t ≡ Some q → slice_index l.temps t < 2 ^ 32
       pub in_register : (t q : ℕ) → t < s.temps → s.seats.register t ≡ Some q → reg regs q ≡ slice_index l.temps t
+      pub pinned : (n q : ℕ) → s.seats.pinned n ≡ Some q → reg regs q ≡ n
       pub words : (x : Cell) → IsThere x → content l x < 2 ^ 32
       pub in_memory : (x : Cell) → IsThere x → access.load m (address x) 4 ≡ Some (content l x)

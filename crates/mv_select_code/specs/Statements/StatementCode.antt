@@ -1,16 +1,16 @@
 -- The code of statements without control. Each tree of a statement is computed first, in written order; an operand that stands in a register already
--- stays there.
-use Rattle.std.specs.Prelude.{ℕ, ◌+◌, ◌*◌, ◌≤◌, cond, eqb, ltb, List, [], ◌∷◌, ◌++◌, ℤ, pos, Option, Some, None, unwrap_or, slice_index_or}
+-- stays there, and a temporary whose value stands in its register is set by no code.
+use Rattle.std.specs.Prelude.{ℕ, zero, suc, ◌+◌, ◌-◌, ◌*◌, ◌^◌, ◌≤◌, Bool, false, cond, eqb, ltb, List, [], ◌∷◌, ◌++◌, ℤ, pos, Option, Some, None, unwrap_or, slice_index_or}
 use Rattle.mv_bindings.specs.Traps as traps
 use Rattle.mv_isa.specs.declared.instr.Instr.{Instr}
-use Rattle.mv_isa.specs.declared.instr.Instr.TheVariants.{Lui, Lw, Sw, Addi, Slli, Add, Div, Divu, Rem, Remu}
+use Rattle.mv_isa.specs.declared.instr.Instr.TheVariants.{Lui, Lw, Sw, Addi, Andi, Slli, Srli, Add, Div, Divu, Rem, Remu}
 use Rattle.mv_isa.specs.declared.labelled.Line.{Line}
 use Rattle.mv_isa.specs.declared.labelled.Line.TheVariants.{Word, Branch}
 pub use Rattle.mv_isa.specs.Labels.{trap_label}
 use Rattle.mv_num.specs.Words.{add}
 use Rattle.mv_isa.specs.Registers.{x0, sp, a0, t0, t3, t4}
 use Rattle.mv_ir.specs.declared.tree.Tree.{Tree}
-use Rattle.mv_select_code.specs.Trees.TreeCode.{Seats, upper_bits, lower_bits, near, one, two, number_lines, load_lines, temp_offset, tree_into, literal, operand_lines, operand_register}
+use Rattle.mv_select_code.specs.Trees.TreeCode.{Seats, upper_bits, lower_bits, near, one, two, number_lines, load_lines, temp_offset, tree_into, literal, unless, own_register, operand_lines, operand_register}
 use Rattle.mv_select_code.specs.declared.trees.leaves.Based.{Based}
 use Rattle.mv_select_code.specs.declared.statements.elements.Home.{Home}
 use Rattle.mv_select_code.specs.declared.statements.elements.Home.TheVariants as home
@@ -45,9 +45,31 @@ keep_in None t = one (Sw sp first (pos (temp_offset t)))
 unfoldable pub keep_lines : Seats → ℕ → List Line
 keep_lines s t = keep_in (s.register t) t
 
+-- whether a temporary's register, if it has one, is that in which a value stands already
+abbrev pub is_seat : Option ℕ → Option ℕ → Bool
+is_seat None own = false
+is_seat (Some q) None = false
+is_seat (Some q) (Some p) = eqb q p
+
 -- a division of a by b into d, by its number; one that names none gives 0
 unfoldable pub division : (o d a b : ℕ) → Instr
 division o d a b = slice_index_or (Div d a b ∷ Divu d a b ∷ Rem d a b ∷ Remu d a b ∷ []) o (Addi d x0 (pos 0))
+
+-- ---- divisions of words by a power of two, which are one instruction with a number
+
+-- the k below a bound for which 2 ^ k is a number
+unfoldable pub power_below : (bound n : ℕ) → Option ℕ
+power_below zero n = None
+power_below (suc k) n = cond (eqb n (2 ^ k)) (Some k) (power_below k n)
+
+-- the k for which a written divisor is 2 ^ k, where a shift by k is the quotient without signs, or the last k bits, at most 11, are the remainder
+unfoldable pub power_of : (o : ℕ) → Option ℕ → Option ℕ
+power_of o None = None
+power_of o (Some n) = slice_index_or (None ∷ power_below 32 n ∷ None ∷ power_below 12 n ∷ []) o None
+
+-- that quotient or remainder of a into d
+unfoldable pub power_division : (o k d a : ℕ) → Instr
+power_division o k d a = cond (eqb o 1) (Srli d a (pos k)) (Andi d a (pos (2 ^ k - 1)))
 
 -- ---- elements: the place of one is its index times 4, and the place of the first
 
@@ -102,9 +124,11 @@ abbrev pub put_lines : Home → ℕ → List Line
 put_lines (home.Data at) q = store_lines at q
 put_lines (home.Frame at) q = one (Sw sp q (pos at))
 
--- a trap where the index in a register isn't below the number of elements
-abbrev pub test_lines : ℕ → ℕ → List Line
-test_lines size q = number_lines size third ++ (Branch 7 q third (trap_label traps.index_outside) ∷ [])
+-- a trap where the index in a register isn't below the number of elements, which may stand in a register
+abbrev pub test_lines : Seats → ℕ → ℕ → List Line
+test_lines s size q =
+    let own = s.pinned size in
+    unless own (number_lines size third) ++ (Branch 7 q (unwrap_or own third) (trap_label traps.index_outside) ∷ [])
 
 -- the addresses of the first of so many words of the frame, from a place on, and of their end into the first two registers
 abbrev pub bounds_lines : ℕ → ℕ → List Line
@@ -123,20 +147,25 @@ divisor_lines None q = Branch 0 q x0 (trap_label traps.division_by_zero) ∷ []
 
 module _ (s : Seats) where
   abbrev pub set_lines : ℕ → Tree → List Line
-  set_lines t v = tree_into s v (target s t) first ++ keep_lines s t
+  set_lines t v = cond (is_seat (s.register t) (own_register s v)) [] (tree_into s v (target s t) first ++ keep_lines s t)
 
   abbrev pub set_global_lines : ℕ → Tree → List Line
   set_global_lines g v = operand_lines s v first ++ store_lines (s.place g) (operand_register s v first)
 
-  abbrev pub divide_lines : ℕ → ℕ → Tree → Tree → List Line
-  divide_lines t o a b =
+  -- by a divisor that is such a power of two, and by another
+  abbrev pub divide_by : Option ℕ → ℕ → ℕ → Tree → Tree → List Line
+  divide_by None t o a b =
       let p = operand_register s a first in
       let q = operand_register s b second in
       operand_lines s a first ++ (operand_lines s b second ++ (divisor_lines (literal b) q ++ (Word (division o (target s t) p q) ∷ keep_lines s t)))
+  divide_by (Some k) t o a b = operand_lines s a first ++ (Word (power_division o k (target s t) (operand_register s a first)) ∷ keep_lines s t)
+
+  abbrev pub divide_lines : ℕ → ℕ → Tree → Tree → List Line
+  divide_lines t o a b = divide_by (power_of o (literal b)) t o a b
 
   -- of an index that isn't fixed, and of one that is
   abbrev pub check_by : Option ℕ → ℕ → Tree → List Line
-  check_by None size i = operand_lines s i first ++ test_lines size (operand_register s i first)
+  check_by None size i = operand_lines s i first ++ test_lines s size (operand_register s i first)
   check_by (Some n) size i = []
 
   abbrev pub check_lines : ℕ → Tree → List Line
@@ -145,7 +174,7 @@ module _ (s : Seats) where
   abbrev pub read_by : Option ℕ → ℕ → Home → ℕ → Tree → List Line
   read_by None t h size i =
       let q = operand_register s i first in
-      operand_lines s i first ++ (test_lines size q ++ (element_lines h q ++ (Word (Lw (target s t) first (element_offset h)) ∷ keep_lines s t)))
+      operand_lines s i first ++ (test_lines s size q ++ (element_lines h q ++ (Word (Lw (target s t) first (element_offset h)) ∷ keep_lines s t)))
   read_by (Some n) t h size i = fetch_lines (element_at h n) (target s t) ++ keep_lines s t
 
   abbrev pub read_lines : ℕ → Home → ℕ → Tree → List Line
@@ -155,7 +184,7 @@ module _ (s : Seats) where
   write_by None h size i v =
       let q = operand_register s i first in
       let store = one (Sw first (operand_register s v second) (element_offset h)) in
-      operand_lines s i first ++ (operand_lines s v second ++ (test_lines size q ++ (element_lines h q ++ store)))
+      operand_lines s i first ++ (operand_lines s v second ++ (test_lines s size q ++ (element_lines h q ++ store)))
   write_by (Some n) h size i v = operand_lines s v first ++ put_lines (element_at h n) (operand_register s v first)
 
   abbrev pub write_lines : Home → ℕ → Tree → Tree → List Line

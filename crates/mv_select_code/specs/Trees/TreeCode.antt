@@ -19,6 +19,7 @@ use Rattle.mv_select_code.specs.Trees.Rooms.{place_in}
 use Rattle.mv_select_code.specs.declared.trees.places.Keeping.{Keeping}
 use Rattle.mv_select_code.specs.declared.trees.places.Keeping.TheVariants.{Saved, Arguments}
 use Rattle.mv_select_code.specs.declared.trees.leaves.Based.{Based}
+use Rattle.mv_select_code.specs.declared.trees.places.Pin.{Pin}
 
 abbrev pub one : Instr → List Line
 one i = Word i ∷ []
@@ -67,13 +68,19 @@ unfoldable pub register_of : Keeping → ℕ → Option ℕ
 register_of Saved t = cond (ltb t 9) (Some (temp_register t)) None
 register_of Arguments t = cond (ltb t 8) (Some (a0 + t)) None
 
--- where values stand: the address of each global, and the register of each temporary that has one
+-- where values stand: the address of each global, and the register of each temporary and of each number that has one
 pub record Seats : Type 0 where
   pub place : ℕ → ℕ
   pub register : ℕ → Option ℕ
+  pub pinned : ℕ → Option ℕ
 
-abbrev pub seats_at : List Room → Keeping → Seats
-seats_at rooms keeping = record { place = place_in rooms; register = register_of keeping }
+-- the register of a number, by pins
+abbrev pub pinned_in : List Pin → ℕ → Option ℕ
+pinned_in [] n = None
+pinned_in (p ∷ ps) n = cond (eqb p.number n) (Some p.register) (pinned_in ps n)
+
+abbrev pub seats_at : List Room → Keeping → List Pin → Seats
+seats_at rooms keeping pins = record { place = place_in rooms; register = register_of keeping; pinned = pinned_in pins }
 
 -- the place of another in the frame, in bytes above sp
 unfoldable pub temp_offset : ℕ → ℕ
@@ -85,6 +92,11 @@ read_from None t r = Lw r sp (pos (temp_offset t))
 
 unfoldable pub read_temp : Seats → ℕ → ℕ → Instr
 read_temp s t r = read_from (s.register t) t r
+
+-- a number into a register, out of its own if it has one
+abbrev pub number_by : Option ℕ → (n r : ℕ) → List Line
+number_by (Some q) n r = one (Addi r q (pos 0))
+number_by None n r = number_lines n r
 
 -- ---- operators, by their numbers; one that names no operator gives 0
 
@@ -172,7 +184,7 @@ comparison false o = slice_index_or (None ∷ None ∷ None ∷ None ∷ None �
 -- ---- trees
 
 abbrev pub own_layer : Seats → Tree-F (Option ℕ) → Option ℕ
-own_layer s (tree.Number n) = cond (eqb n 0) (Some x0) None
+own_layer s (tree.Number n) = cond (eqb n 0) (Some x0) (s.pinned n)
 own_layer s (tree.Temp t) = s.register t
 own_layer s (tree.Global g) = None
 own_layer s (tree.Function f) = None
@@ -180,7 +192,7 @@ own_layer s (tree.Unary o a) = None
 own_layer s (tree.Binary o a b) = None
 own_layer s (tree.Narrow k a) = cond (keeps_words k) a None
 
--- the register in which a tree's value stands already: that of a temporary, or x0 for the number 0
+-- the register in which a tree's value stands already: that of a temporary or of a number, or x0 for the number 0
 unfoldable pub own_register : Seats → Tree → Option ℕ
 own_register s = fold-Tree (Option ℕ) (own_layer s)
 
@@ -227,7 +239,7 @@ abbrev pub stands : Code → ℕ → ℕ
 stands a r = unwrap_or a.own r
 
 abbrev pub into_layer : Seats → Tree-F Code → (d r : ℕ) → List Line
-into_layer s (tree.Number n) d r = number_lines n d
+into_layer s (tree.Number n) d r = number_by (s.pinned n) n d
 into_layer s (tree.Temp t) d r = one (read_temp s t d)
 into_layer s (tree.Global g) d r = load_lines (s.place g) d
 into_layer s (tree.Function f) d r = Entry d f ∷ []

@@ -12,6 +12,7 @@ use Rattle.mv_ir.specs.declared.tree.Tree.TheFolds.{fold-Tree}
 use Rattle.mv_ir.specs.Trees.{found, scalar, value}
 use Rattle.mv_select_code.specs.Trees.TreeCode.{Seats, temp_offset}
 use Rattle.mv_select_code.specs.Trees.Straight.{Straight}
+use Rattle.mv_select_code.specs.declared.trees.places.Pin.{Pin}
 
 -- `seats` says where globals and temporaries stand, and `is_read` which globals the code may read. `entry` is the address of each function, and `numbers`
 -- the number that stands for it in the intermediate code. `bound` has the values that switches are read as.
@@ -56,10 +57,15 @@ pub record AreRegisters (regs : List ℕ) : Type 0 where
 abbrev pub AreScratch : ℕ → ℕ → Type 0
 AreScratch lo hi = ((t0 ≤ lo) × (hi ≤ s1)) ⊎ ((t3 ≤ lo) × (hi ≤ 32))
 
--- temporaries stand in none of these, but in some of s1, a0 to a7 and s2 to s9, each in its own
+-- temporaries and numbers stand in none of these, but in some of s1, a0 to a7 and s2 to s9, each temporary in its own
 pub record AreSeats (s : Seats) : Type 0 where
   pub seat : (t q : ℕ) → s.register t ≡ Some q → (s1 ≤ q) × (q < s10)
   pub apart : (t u q : ℕ) → s.register t ≡ Some q → s.register u ≡ Some q → t ≡ u
+  pub pin : (n q : ℕ) → s.pinned n ≡ Some q → (s1 ≤ q) × (q < s10)
+
+-- a pin of this kind
+abbrev pub IsPin : Pin → Type 0
+IsPin p = (s1 ≤ p.register) × (p.register < s10)
 
 -- registers from lo to below hi may have changed, and no others
 pub record Changes (lo hi : ℕ) (regs regs' : List ℕ) : Type 0 where
@@ -69,11 +75,12 @@ pub record Changes (lo hi : ℕ) (regs regs' : List ℕ) : Type 0 where
 -- ---- the machine
 
 module _ {M : Type 0} (access : Access M) (m : M) where
-  -- temporaries stand in their registers, and those that have none in the frame
+  -- temporaries and numbers stand in their registers, and temporaries that have none in the frame
   pub record HoldsTemps (v : View) (regs : List ℕ) : Type 0 where
     pub seats : AreSeats v.seats
     pub words : (t : ℕ) → t < length v.temps → slice_index v.temps t < 2 ^ 32
     pub in_register : (t q : ℕ) → t < length v.temps → v.seats.register t ≡ Some q → reg regs q ≡ slice_index v.temps t
+    pub pinned : (n q : ℕ) → v.seats.pinned n ≡ Some q → reg regs q ≡ n
     pub in_frame : (t : ℕ) → t < length v.temps → v.seats.register t ≡ None → access.load m (add (reg regs sp) (temp_offset t)) 4 ≡ Some (slice_index v.temps t)
 
   -- memory holds the globals that are read, none of which is read as a bound value; a function's number is the address of its entry

@@ -24,7 +24,7 @@ pub fn push_check_of(
 ) -> Result<(), AllocError>
     requires arrays { All IsInFrame layout.now.arrays }
     requires index { is_small index.now ≡ true }
-    ensures { OnOk result (code.new ≡ code.old ++ check_lines (seats_at layout.now.rooms layout.now.keeping)
+    ensures { OnOk result (code.new ≡ code.old ++ check_lines (seats_at layout.now.rooms layout.now.keeping layout.now.pins)
         (size_of (size_in layout.now.rooms) (array_size_in layout.now.arrays) array) index.now) }
 {
     let rooms = layout.rooms.as_slice();
@@ -43,7 +43,7 @@ pub fn push_read_of(
     requires arrays { All IsInFrame layout.now.arrays }
     requires temp { temp < 507 }
     requires index { is_small index.now ≡ true }
-    ensures { OnOk result (code.new ≡ code.old ++ read_lines (seats_at layout.now.rooms layout.now.keeping) temp
+    ensures { OnOk result (code.new ≡ code.old ++ read_lines (seats_at layout.now.rooms layout.now.keeping layout.now.pins) temp
         (home_of (place_in layout.now.rooms) (array_at_in layout.now.arrays) array)
         (size_of (size_in layout.now.rooms) (array_size_in layout.now.arrays) array) index.now) }
 {
@@ -71,7 +71,7 @@ pub fn push_write_of(
     requires arrays { All IsInFrame layout.now.arrays }
     requires index { is_small index.now ≡ true }
     requires value { is_small value.now ≡ true }
-    ensures { OnOk result (code.new ≡ code.old ++ write_lines (seats_at layout.now.rooms layout.now.keeping)
+    ensures { OnOk result (code.new ≡ code.old ++ write_lines (seats_at layout.now.rooms layout.now.keeping layout.now.pins)
         (home_of (place_in layout.now.rooms) (array_at_in layout.now.arrays) array)
         (size_of (size_in layout.now.rooms) (array_size_in layout.now.arrays) array) index.now value.now) }
 {

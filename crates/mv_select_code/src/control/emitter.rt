@@ -113,7 +113,8 @@ impl Emitter {
         way: Way,
     ) -> Result<(), AllocError>
         requires value { is_small value.now ≡ true }
-        ensures { OnOk result (self.new ≡ emitted self.old (return_code (seats_at places.entry.rooms.now places.entry.keeping) end value.now) way) }
+        ensures { OnOk result (self.new ≡ emitted self.old
+            (return_code (seats_at places.entry.rooms.now places.entry.keeping places.entry.pins.now) end value.now) way) }
     {
         push_result(&mut self.lines, places, value)?;
         self.go_to(way, end)
@@ -178,7 +179,8 @@ impl Emitter {
         label: u32,
     ) -> Result<(), AllocError>
         requires test { is_small test.now ≡ true }
-        ensures { OnOk result (self.new ≡ with_lines self.old (branch_lines (seats_at places.entry.rooms.now places.entry.keeping) test.now sense first label)) }
+        ensures { OnOk result (self.new ≡ with_lines self.old
+            (branch_lines (seats_at places.entry.rooms.now places.entry.keeping places.entry.pins.now) test.now sense first label)) }
     {
         push_branch(&mut self.lines, places, test, sense, FIRST, label)
     }

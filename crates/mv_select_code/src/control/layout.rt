@@ -8,7 +8,7 @@ ghost use Rattle.mv_select_code.specs.Control.Layouts.{size_in, space_in, array_
 
 use crate::statements::elements::Home;
 use crate::trees::place_of;
-use crate::trees::places::{Keeping, Places};
+use crate::trees::places::{Keeping, Pin, Places};
 use mv_ir::body::Room;
 use mv_ir::stm::Array;
 use mv_num::list::List;
@@ -26,20 +26,24 @@ pub struct Layout {
     pub rooms: List<Room>,
     /// The registers of the temporaries.
     pub keeping: Keeping,
+    /// The numbers that stand in registers.
+    pub pins: List<Pin>,
     /// By the arrays' numbers.
     pub arrays: List<Space>,
     pub end: u32,
 }
 
 impl Layout {
-    /// Where the globals and the temporaries stand.
+    /// Where the globals, the temporaries and some numbers stand.
     pub(crate) fn places(&self) -> Places<'_>
         ensures rooms { result.rooms.now ≡ self.now.rooms }
         ensures keeping { result.keeping ≡ self.now.keeping }
+        ensures pins { result.pins.now ≡ self.now.pins }
     {
         Places {
             rooms: self.rooms.as_slice(),
             keeping: self.keeping,
+            pins: self.pins.as_slice(),
         }
     }
 }

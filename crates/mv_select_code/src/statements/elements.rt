@@ -6,7 +6,7 @@ ghost use Rattle.mv_select_code.specs.Trees.TreeCode.{near, seats_at, temps_of, 
 ghost use Rattle.mv_select_code.specs.Statements.StatementCode.{home_within, element_offset, base_by, element_lines, fixed, element_at, fetch_lines, store_lines, put_lines, test_lines, check_lines, read_by, read_lines, write_by, write_lines, bounds_lines, clear_lines};
 
 use crate::statements::instructions::{FIRST, SECOND, THIRD, push_keep, target};
-use crate::trees::places::Places;
+use crate::trees::places::{Places, pinned};
 use crate::trees::{
     literal, lower_bits, near, operand_register, push_load, push_number, push_one, push_operand,
     push_two, upper_bits,
@@ -180,11 +180,24 @@ fn push_put(code: &mut List<Line>, home: Home, register: u8) -> Result<(), Alloc
 }
 
 // A test of the index in a register: trap 2 where it isn't below the array's length.
-fn push_test(code: &mut List<Line>, size: u32, index: u8) -> Result<(), AllocError>
-    ensures { OnOk result (code.new ≡ code.old ++ test_lines size index) }
+fn push_test(
+    code: &mut List<Line>,
+    places: Places<'_>,
+    size: u32,
+    index: u8,
+) -> Result<(), AllocError>
+    ensures { OnOk result (code.new ≡ code.old ++ test_lines (seats_at places.entry.rooms.now places.entry.keeping places.entry.pins.now) size index) }
 {
-    push_number(code, size, THIRD)?;
-    code.push(Line::Branch(7, index, THIRD, TRAPS + u32::from(INDEX_OUTSIDE)))?;
+    let trap = TRAPS + u32::from(INDEX_OUTSIDE);
+    match pinned(places.pins, size) {
+        Some(register) => {
+            code.push(Line::Branch(7, index, register, trap))?;
+        }
+        None => {
+            push_number(code, size, THIRD)?;
+            code.push(Line::Branch(7, index, THIRD, trap))?;
+        }
+    }
     Ok(())
 }
 
@@ -197,13 +210,13 @@ pub fn push_check(
 ) -> Result<(), AllocError>
     requires depth { depth index.now ≤ 4 }
     requires temps { temps_of index.now ≤ 507 }
-    ensures { OnOk result (code.new ≡ code.old ++ check_lines (seats_at places.entry.rooms.now places.entry.keeping) size index.now) }
+    ensures { OnOk result (code.new ≡ code.old ++ check_lines (seats_at places.entry.rooms.now places.entry.keeping places.entry.pins.now) size index.now) }
 {
     if fixed(size, index).is_some() {
         return Ok(());
     }
     push_operand(code, places, index, FIRST)?;
-    push_test(code, size, operand_register(places, index, FIRST))
+    push_test(code, places, size, operand_register(places, index, FIRST))
 }
 
 // An element at an index that is computed, with a test.
@@ -219,11 +232,12 @@ fn push_computed_read(
     requires home { home_within home size 2032 }
     requires depth { depth index.now ≤ 4 }
     requires temps { temps_of index.now ≤ 507 }
-    ensures { OnOk result (code.new ≡ code.old ++ read_by (seats_at places.entry.rooms.now places.entry.keeping) None temp home size index.now) }
+    ensures { OnOk result (code.new ≡ code.old ++ read_by (seats_at places.entry.rooms.now places.entry.keeping places.entry.pins.now)
+        None temp home size index.now) }
 {
     push_operand(code, places, index, FIRST)?;
     let place = operand_register(places, index, FIRST);
-    push_test(code, size, place)?;
+    push_test(code, places, size, place)?;
     push_element(code, home, place)?;
     let load = Instr::Lw {
         rd: target(places, temp),
@@ -247,7 +261,8 @@ pub fn push_read(
     requires home { home_within home size 2032 }
     requires depth { depth index.now ≤ 4 }
     requires temps { temps_of index.now ≤ 507 }
-    ensures { OnOk result (code.new ≡ code.old ++ read_lines (seats_at places.entry.rooms.now places.entry.keeping) temp home size index.now) }
+    ensures { OnOk result (code.new ≡ code.old ++ read_lines (seats_at places.entry.rooms.now places.entry.keeping places.entry.pins.now)
+        temp home size index.now) }
 {
     match fixed(size, index) {
         Some(n) => {
@@ -272,12 +287,13 @@ fn push_computed_write(
     requires index_temps { temps_of index.now ≤ 507 }
     requires value_depth { depth value.now ≤ 4 }
     requires value_temps { temps_of value.now ≤ 507 }
-    ensures { OnOk result (code.new ≡ code.old ++ write_by (seats_at places.entry.rooms.now places.entry.keeping) None home size index.now value.now) }
+    ensures { OnOk result (code.new ≡ code.old ++ write_by (seats_at places.entry.rooms.now places.entry.keeping places.entry.pins.now)
+        None home size index.now value.now) }
 {
     push_operand(code, places, index, FIRST)?;
     push_operand(code, places, value, SECOND)?;
     let place = operand_register(places, index, FIRST);
-    push_test(code, size, place)?;
+    push_test(code, places, size, place)?;
     push_element(code, home, place)?;
     push_one(
         code,
@@ -303,7 +319,8 @@ pub fn push_write(
     requires index_temps { temps_of index.now ≤ 507 }
     requires value_depth { depth value.now ≤ 4 }
     requires value_temps { temps_of value.now ≤ 507 }
-    ensures { OnOk result (code.new ≡ code.old ++ write_lines (seats_at places.entry.rooms.now places.entry.keeping) home size index.now value.now) }
+    ensures { OnOk result (code.new ≡ code.old ++ write_lines (seats_at places.entry.rooms.now places.entry.keeping places.entry.pins.now)
+        home size index.now value.now) }
 {
     match fixed(size, index) {
         Some(n) => {

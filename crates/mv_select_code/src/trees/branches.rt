@@ -46,7 +46,8 @@ pub fn push_branch(
 ) -> Result<(), AllocError>
     requires registers { register + depth tree.now ≤ 32 }
     requires temps { temps_of tree.now ≤ 507 }
-    ensures { OnOk result (code.new ≡ code.old ++ branch_lines (seats_at places.entry.rooms.now places.entry.keeping) tree.now sense register label) }
+    ensures { OnOk result (code.new ≡ code.old ++ branch_lines (seats_at places.entry.rooms.now places.entry.keeping places.entry.pins.now)
+        tree.now sense register label) }
 {
     match tree {
         Tree::Number(n) => {
@@ -90,8 +91,8 @@ fn push_word_branch(
 ) -> Result<(), AllocError>
     requires registers { register + depth tree.now ≤ 32 }
     requires temps { temps_of tree.now ≤ 507 }
-    ensures { OnOk result (code.new ≡ code.old ++ (operand_lines (seats_at places.entry.rooms.now places.entry.keeping) tree.now register
-        ++ word_branch sense (operand_register (seats_at places.entry.rooms.now places.entry.keeping) tree.now register) label)) }
+    ensures { OnOk result (code.new ≡ code.old ++ (operand_lines (seats_at places.entry.rooms.now places.entry.keeping places.entry.pins.now) tree.now register
+        ++ word_branch sense (operand_register (seats_at places.entry.rooms.now places.entry.keeping places.entry.pins.now) tree.now register) label)) }
 {
     push_operand(code, places, tree, register)?;
     let funct3 = if sense { 1 } else { 0 };

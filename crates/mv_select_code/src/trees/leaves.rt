@@ -142,7 +142,7 @@ pub fn temp_offset(temp: u32) -> i32
 #[tactic(auto, unfolding(crate::specs::Trees::TreeCode::read_temp))]
 pub(crate) fn read_temp(places: Places<'_>, temp: u32, rd: u8) -> Instr
     requires { temp < 507 }
-    ensures { result ≡ read_temp (seats_at places.entry.rooms.now places.entry.keeping) temp rd }
+    ensures { result ≡ read_temp (seats_at places.entry.rooms.now places.entry.keeping places.entry.pins.now) temp rd }
 {
     match places.keeping.register(temp) {
         Some(rs1) => Instr::Addi { rd, rs1, imm: 0 },

@@ -1,7 +1,7 @@
 // Where values stand while code runs.
 
 ghost use Rattle.std.specs.Prelude.{◌≡◌};
-ghost use Rattle.mv_select_code.specs.Trees.TreeCode.{register_of};
+ghost use Rattle.mv_select_code.specs.Trees.TreeCode.{register_of, pinned_in};
 
 use crate::trees::leaves::temp_register;
 use mv_ir::body::Room;
@@ -36,11 +36,32 @@ impl Keeping {
     }
 }
 
-/// Where the globals and the temporaries of some code stand.
+/// A number that stands in a register.
+#[derive(Clone, Copy, PartialEq, Eq, Debug, Drop)]
+pub struct Pin {
+    pub number: u32,
+    pub register: u8,
+}
+
+/// Where the globals, the temporaries and some numbers stand.
 #[derive(Clone, Copy, Debug, Drop)]
 pub struct Places<'a> {
     /// The globals, at their addresses.
     pub rooms: &'a [Room],
     /// The temporaries.
     pub keeping: Keeping,
+    /// The numbers.
+    pub pins: &'a [Pin],
+}
+
+/// The register of a number, if it has one.
+pub fn pinned(pins: &[Pin], number: u32) -> Option<u8>
+    ensures { result ≡ pinned_in pins.now number }
+{
+    for pin in pins {
+        if pin.number == number {
+            return Some(pin.register);
+        }
+    }
+    None
 }

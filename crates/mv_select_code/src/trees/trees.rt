@@ -1,24 +1,31 @@
 ghost use Rattle.std.specs.Prelude.{◌≡◌, ◌+◌, ◌<◌, ◌≤◌, ◌++◌, OnOk};
 ghost use Rattle.mv_ir.specs.Trees.{depth};
-ghost use Rattle.mv_select_code.specs.Trees.TreeCode.{seats_at, temps_of, own_register, tree_into, tree_lines, operand_lines, operand_register};
+ghost use Rattle.mv_select_code.specs.Trees.TreeCode.{seats_at, pinned_in, number_by, temps_of, own_register, tree_into, tree_lines, operand_lines, operand_register};
 
 use crate::trees::immediates::{immediate_of, push_immediate};
 use crate::trees::leaves::{place_of, push_load, push_number, read_temp};
 use crate::trees::lines::push_one;
 use crate::trees::operators::{keeps_words, push_binary, push_narrow, push_unary};
-use crate::trees::places::Places;
+use crate::trees::places::{Places, pinned};
 use mv_ir::tree::Tree;
+use mv_isa::Instr;
 use mv_isa::labelled::Line;
 use mv_num::list::List;
 use std::alloc::AllocError;
 
-// The register in which a tree's value stands already.
+/// The register in which a tree's value stands already.
 #[tactic(auto, using(crate::proofs::OfTrees::Equations::trees))]
-fn own_register(places: Places<'_>, tree: &Tree) -> Option<u8>
-    ensures { result ≡ own_register (seats_at places.entry.rooms.now places.entry.keeping) tree.now }
+pub(crate) fn own_register(places: Places<'_>, tree: &Tree) -> Option<u8>
+    ensures { result ≡ own_register (seats_at places.entry.rooms.now places.entry.keeping places.entry.pins.now) tree.now }
 {
     match tree {
-        Tree::Number(n) => { if *n == 0 { Some(0) } else { None } }
+        Tree::Number(n) => {
+            if *n == 0 {
+                Some(0)
+            } else {
+                pinned(places.pins, *n)
+            }
+        }
         Tree::Temp(t) => places.keeping.register(*t),
         Tree::Narrow(kind, a) => {
             if keeps_words(*kind) {
@@ -31,10 +38,20 @@ fn own_register(places: Places<'_>, tree: &Tree) -> Option<u8>
     }
 }
 
+// Puts code at the end that leaves a number in a register, out of its own if it has one.
+fn push_pinned(code: &mut List<Line>, places: Places<'_>, n: u32, rd: u8) -> Result<(), AllocError>
+    ensures { OnOk result (code.new ≡ code.old ++ number_by (pinned_in places.entry.pins.now n) n rd) }
+{
+    match pinned(places.pins, n) {
+        Some(rs1) => push_one(code, Instr::Addi { rd, rs1, imm: 0 }),
+        None => push_number(code, n, rd),
+    }
+}
+
 /// The register in which an operand stands behind the code of `push_operand` for a register: its own one, if it has one.
 #[tactic(auto, unfolding(crate::specs::Trees::TreeCode::operand_register))]
 pub fn operand_register(places: Places<'_>, tree: &Tree, register: u8) -> u8
-    ensures { result ≡ operand_register (seats_at places.entry.rooms.now places.entry.keeping) tree.now register }
+    ensures { result ≡ operand_register (seats_at places.entry.rooms.now places.entry.keeping places.entry.pins.now) tree.now register }
 {
     own_register(places, tree).unwrap_or(register)
 }
@@ -51,7 +68,8 @@ pub fn push_operand(
 ) -> Result<(), AllocError>
     requires registers { register + depth tree.now ≤ 32 }
     requires temps { temps_of tree.now ≤ 507 }
-    ensures { OnOk result (code.new ≡ code.old ++ operand_lines (seats_at places.entry.rooms.now places.entry.keeping) tree.now register) }
+    ensures { OnOk result (code.new ≡ code.old ++ operand_lines (seats_at places.entry.rooms.now places.entry.keeping places.entry.pins.now)
+        tree.now register) }
 {
     match own_register(places, tree) {
         Some(_) => Ok(()),
@@ -72,10 +90,10 @@ pub fn push_into(
 ) -> Result<(), AllocError>
     requires registers { register + depth tree.now ≤ 32 }
     requires temps { temps_of tree.now ≤ 507 }
-    ensures { OnOk result (code.new ≡ code.old ++ tree_into (seats_at places.entry.rooms.now places.entry.keeping) tree.now rd register) }
+    ensures { OnOk result (code.new ≡ code.old ++ tree_into (seats_at places.entry.rooms.now places.entry.keeping places.entry.pins.now) tree.now rd register) }
 {
     match tree {
-        Tree::Number(n) => push_number(code, *n, rd),
+        Tree::Number(n) => push_pinned(code, places, *n, rd),
         Tree::Temp(t) => push_one(code, read_temp(places, *t, rd)),
         Tree::Global(g) => push_load(code, place_of(places.rooms, *g), rd),
         Tree::Function(f) => {
@@ -130,7 +148,7 @@ pub fn push_tree(
 ) -> Result<(), AllocError>
     requires registers { register + depth tree.now ≤ 32 }
     requires temps { temps_of tree.now ≤ 507 }
-    ensures { OnOk result (code.new ≡ code.old ++ tree_lines (seats_at places.entry.rooms.now places.entry.keeping) tree.now register) }
+    ensures { OnOk result (code.new ≡ code.old ++ tree_lines (seats_at places.entry.rooms.now places.entry.keeping places.entry.pins.now) tree.now register) }
 {
     push_into(code, places, tree, register, register)
 }

@@ -1,5 +1,5 @@
 -- Folded code names no more, but for the constants that it computes.
-use Rattle.std.proofs.Common.{◌≡◌, ℕ, zero, suc, Bool, true, false, cond, List, [], ◌∷◌, ◌++◌, map, Option, None, Some, sym, subst, refl, ◌∙◌}
+use Rattle.std.proofs.Common.{◌≡◌, ℕ, zero, suc, ◌<◌, Bool, true, false, cond, List, [], ◌∷◌, ◌++◌, map, Option, None, Some, sym, subst, refl, ◌∙◌}
 use Rattle.mv_num.specs.declared.kind.Kind.{Kind}
 use Rattle.mv_num.specs.Words as word
 use Rattle.mv_ast.specs.declared.program.Known.{Known}
@@ -30,12 +30,13 @@ use Rattle.mv_fold.proofs.NeededEquations.{needed_stm_roll}
 use Rattle.mv_fold.proofs.Shortening.{shortened_is}
 use Rattle.mv_select.proofs.OfBodies.Naming.{TreeNames, StmNames, CodeNames, TreeParts, tree_in, tree_out, CalleeNames, StmParts, stm_in, stm_out}
 
--- what operators compute of such constants is such a constant
+-- what operators compute of such constants is such a constant, and so is how far a word may be shifted
 pub record IsClosed (C : ℕ → Type 0) : Type 0 where
   pub one : (o n : ℕ) → C n → C (unary o n)
   pub two : (o n m : ℕ) → C n → C m → C (binary o n m)
   pub narrowed : (k : Kind) (n : ℕ) → C n → C (word.narrow k n)
   pub divided : (o n d : ℕ) → C n → C (suc d) → C (divide o n (suc d))
+  pub shift : (k : ℕ) → k < 32 → C k
 
 module _ (F : ℕ → Type 0) (K : Known → Type 0) (C : ℕ → Type 0) (closed : IsClosed C) where
   -- ---- trees

@@ -1,9 +1,7 @@
 -- What holds of the body of which a function's own code is made.
-use Rattle.std.proofs.Common.{arith, ◌≡◌, ℕ, ◌+◌, ◌*◌, ◌/◌, ◌<◌, ◌≤◌, List, map, ◌⊎◌, inl, inr, sym, ◌∙◌, ap, subst, Contains}
-use Rattle.mv_ir.specs.declared.tree.Tree.{Tree}
+use Rattle.std.proofs.Common.{arith, ◌≡◌, ℕ, ◌<◌, ◌≤◌, List, map, ◌⊎◌, inl, inr, sym, ◌∙◌, ap, subst, Contains}
 use Rattle.mv_ir.specs.declared.stm.Stm.{Stm}
 use Rattle.mv_ir.specs.declared.stm.Stm.TheOpen.{Stm-F}
-use Rattle.mv_ir.specs.declared.stm.Stm.TheOpen as stm
 use Rattle.mv_ir.specs.declared.body.Body.{Body}
 use Rattle.mv_ir.specs.Keeps.{KeepsBody}
 use Rattle.mv_ir.specs.Live.{most_intervals}
@@ -15,7 +13,8 @@ use Rattle.mv_tidy.specs.Tidied.{IsTidied}
 use Rattle.mv_variants.specs.Bound.General.{IsGeneral}
 use Rattle.mv_variants.specs.Bound.Names.{NamesNoMore}
 use Rattle.mv_variants.proofs.OfBound.Meant.{MayTidy, may_tidy}
-use Rattle.mv_variants.proofs.OfBound.Measures.{Measure, tidied_same, renamed_same}
+use Rattle.mv_variants.proofs.OfBound.Measures.{Measure, renamed_same}
+use Rattle.mv_variants.proofs.OfBound.TidiedMeasures.{CountsCalls, tidied_same}
 use Rattle.mv_variants.proofs.OfBound.NamesKept.{renaming_names}
 use Rattle.mv_variants.proofs.OfBound.Variants.{frame_less, names_after, renamed_counts_no_more, tidy_names, tidy_no_more}
 
@@ -74,10 +73,10 @@ module _ (body result : Body) (m : IsGeneral body result) where
     pub general_no_more : all result.code ≤ all body.code
     general_no_more = omega (arith, tidy_no_more of body m.tidied tidied_or_not, renamed_counts_no_more of m.tidied result m.is_renamed)
 
-    -- it is the same where a value that is put into a temporary counts nothing
-    module _ (free : (t : ℕ) (v : Tree) → layer (stm.Set t v) ≡ 0) where
+    -- it is the same where nothing but calls counts
+    module _ (calls : CountsCalls layer) where
       same_tidied : IsTidied body m.tidied ⊎ (m.tidied ≡ body) → all m.tidied.code ≡ all body.code
-      same_tidied (inl t) = tidied_same of free body.temps body.code m.tidied.code t.code
+      same_tidied (inl t) = tidied_same of calls body.temps body.code m.tidied.code t.code
       same_tidied (inr e) = ap (λ (b : Body). all b.code) e
 
       pub general_same : all result.code ≡ all body.code

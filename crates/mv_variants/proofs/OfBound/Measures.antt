@@ -21,8 +21,6 @@ use Rattle.mv_carry.specs.declared.facts.Fact.{Fact}
 use Rattle.mv_carry.specs.declared.facts.Reach.TheVariants.{Knowing}
 use Rattle.mv_carry.specs.Carrying.{carried_tree, carried_callee, outermost, carried_code}
 use Rattle.mv_carry.proofs.Structure.{IsClosed, carried_is}
-use Rattle.mv_tidy.specs.Tidying.{IsOne, divided, fetched, called, asked, carried, stored, written, IsTidiedCode}
-use Rattle.mv_tidy.proofs.Structure as tidying
 use Rattle.mv_fold.specs.Simple.{constant, simple_tree, jumps, ended, simple_callee, alone, division, choice, simple_layer, simple_stm, simple_code}
 use Rattle.mv_fold.specs.Opened.{leave, from_outside}
 use Rattle.mv_fold.proofs.Opening.{Opens, blocked_is, looped_is}
@@ -49,8 +47,9 @@ SameGoal (callee.Through t) (callee.Through u) = Unit {0}
 SameGoal (callee.Switched g) (callee.Switched h) = g ≡ h
 SameGoal _ _ = ⊥
 
--- what a statement counts, by what its parts count: it is the same whatever its trees, temporaries and globals, and no more with parts that count no more,
--- with the parts of a choice, a loop or a block alone, and with a value in place of a division
+-- What a statement counts, by what its parts count: it is the same whatever its trees, temporaries and globals, and no more with parts that count no more,
+-- with the parts of a loop or a block alone, and with a value in place of a division. A choice counts what its sides do and the same besides, and a jump out of
+-- a block or to the start of a loop no more than a set.
 pub record Measure (layer : Stm-F ℕ → ℕ) (m : Stm → ℕ) : Type 0 where
   pub roll : (x : Stm-F Stm) → m (roll-Stm x) ≡ layer (map-Stm Stm ℕ m x)
   pub set : (t u : ℕ) (v w : Tree) → layer (stm.Set t v) ≡ layer (stm.Set u w)
@@ -60,21 +59,17 @@ pub record Measure (layer : Stm-F ℕ → ℕ) (m : Stm → ℕ) : Type 0 where
   pub check : (r s : Array) (i j : Tree) → layer (stm.Check r i) ≡ layer (stm.Check s j)
   pub read : (t u : ℕ) (r s : Array) (i j : Tree) → layer (stm.Read t r i) ≡ layer (stm.Read u s j)
   pub write : (r s : Array) (i j v w : Tree) → layer (stm.Write r i v) ≡ layer (stm.Write s j w)
-  pub branch : (t u : Tree) (a b c d : List ℕ) → total a ≤ total c → total b ≤ total d → layer (stm.If t a b) ≤ layer (stm.If u c d)
-  pub chosen : (t : Tree) (a b : List ℕ) → total a + total b ≤ layer (stm.If t a b)
+  pub branch : (t u : Tree) (a b : List ℕ) → layer (stm.If t a b) ≡ layer (stm.If u [] []) + (total a + total b)
   pub loop : (a b : List ℕ) → total a ≤ total b → layer (stm.Loop a) ≤ layer (stm.Loop b)
   pub block : (a b : List ℕ) → total a ≤ total b → layer (stm.Block a) ≤ layer (stm.Block b)
   pub looped : (a : List ℕ) → total a ≤ layer (stm.Loop a)
   pub blocked : (a : List ℕ) → total a ≤ layer (stm.Block a)
   pub break : (n k : ℕ) → layer (stm.Break n) ≡ layer (stm.Break k)
+  pub jump : (n t : ℕ) (v : Tree) → layer (stm.Break n) ≤ layer (stm.Set t v)
+  pub back : (n t : ℕ) (v : Tree) → layer (stm.Back n) ≤ layer (stm.Set t v)
   pub call : (r s : Option ℕ) (f g : Callee) (xs ys : List Tree) → SameGoal f g → layer (stm.Call r f xs) ≡ layer (stm.Call s g ys)
   pub known : (r s : Option ℕ) (k : Known) (xs ys : List Tree) → layer (stm.Known r k xs) ≡ layer (stm.Known s k ys)
   pub return : (v w : Tree) → layer (stm.Return v) ≡ layer (stm.Return w)
-
-same_goal : (f : Callee) → SameGoal f f
-same_goal (callee.Direct f) = refl
-same_goal (callee.Through t) = tt
-same_goal (callee.Switched g) = refl
 
 bound_goal : (ps : List (ℕ × ℕ)) (f : Callee) → SameGoal (bound_callee ps f) f
 bound_goal ps (callee.Direct f) = refl
@@ -95,19 +90,22 @@ module _ {layer : Stm-F ℕ → ℕ} {m : Stm → ℕ} (of : Measure layer m) wh
   abbrev all : List Stm → ℕ
   all code = total (map m code)
 
-  all_append : (xs ys : List Stm) → all (xs ++ ys) ≡ all xs + all ys
+  pub all_append : (xs ys : List Stm) → all (xs ++ ys) ≡ all xs + all ys
   all_append xs ys = ap total (map_append m xs ys) ∙ total_append (map m xs) (map m ys)
 
   abbrev own : Stm-F Stm → ℕ
   own x = layer (map-Stm Stm ℕ m x)
 
-  branch_same : (t u : Tree) (a b c d : List ℕ) → total a ≡ total c → total b ≡ total d → layer (stm.If t a b) ≡ layer (stm.If u c d)
-  branch_same t u a b c d h k = omega (arith, of.branch t u a b c d (omega (arith, h)) (omega (arith, k)), of.branch u t c d a b (omega (arith, h)) (omega (arith, k)))
+  branch_less : (t u : Tree) (a b c d : List ℕ) → total a ≤ total c → total b ≤ total d → layer (stm.If t a b) ≤ layer (stm.If u c d)
+  branch_less t u a b c d h k = omega (arith, h, k, of.branch t u a b, of.branch u u c d)
 
-  loop_same : (a b : List ℕ) → total a ≡ total b → layer (stm.Loop a) ≡ layer (stm.Loop b)
+  pub branch_same : (t u : Tree) (a b c d : List ℕ) → total a ≡ total c → total b ≡ total d → layer (stm.If t a b) ≡ layer (stm.If u c d)
+  branch_same t u a b c d h k = omega (arith, h, k, of.branch t u a b, of.branch u u c d)
+
+  pub loop_same : (a b : List ℕ) → total a ≡ total b → layer (stm.Loop a) ≡ layer (stm.Loop b)
   loop_same a b h = omega (arith, of.loop a b (omega (arith, h)), of.loop b a (omega (arith, h)))
 
-  block_same : (a b : List ℕ) → total a ≡ total b → layer (stm.Block a) ≡ layer (stm.Block b)
+  pub block_same : (a b : List ℕ) → total a ≡ total b → layer (stm.Block a) ≡ layer (stm.Block b)
   block_same a b h = omega (arith, of.block a b (omega (arith, h)), of.block b a (omega (arith, h)))
 
   -- ---- one statement for another
@@ -195,7 +193,7 @@ module _ {layer : Stm-F ℕ → ℕ} {m : Stm → ℕ} (of : Measure layer m) wh
     read = λ fs t r i. twin (stm.Read t r i) (stm.Read t r (carried_tree fs i)) (of.read _ _ _ _ _ _);
     write = λ fs r i v. twin (stm.Write r i v) (stm.Write r (carried_tree fs i) (carried_tree fs v)) (of.write _ _ _ _ _ _);
     zeroed = λ l. omega arith;
-    branch = λ fs t a a' b b' h k. pair (stm.If t a b) (stm.If (carried_tree fs t) a' b') (of.branch _ _ _ _ _ _ h k);
+    branch = λ fs t a a' b b' h k. pair (stm.If t a b) (stm.If (carried_tree fs t) a' b') (branch_less _ _ _ _ _ _ h k);
     loop = λ b b' h. pair (stm.Loop b) (stm.Loop b') (of.loop _ _ h);
     block = λ b b' h. pair (stm.Block b) (stm.Block b') (of.block _ _ h);
     break = λ n. omega arith;
@@ -246,9 +244,9 @@ module _ {layer : Stm-F ℕ → ℕ} {m : Stm → ℕ} (of : Measure layer m) wh
   division_no_more None None t k a b c d = lone (stm.Divide t k a b) _ (of.divide _ _ _ _ _ _ _ _)
 
   choice_no_more : (o : Option ℕ) (t u : Tree) (a b : List Stm) (c d : List ℕ) → all a ≤ total c → all b ≤ total d → all (choice o t a b) ≤ layer (stm.If u c d)
-  choice_no_more None t u a b c d h k = less (stm.If t a b) _ (of.branch _ _ _ _ _ _ h k)
-  choice_no_more (Some zero) t u a b c d h k = omega (arith, of.chosen u c d, k)
-  choice_no_more (Some (suc n)) t u a b c d h k = omega (arith, of.chosen u c d, h)
+  choice_no_more None t u a b c d h k = less (stm.If t a b) _ (branch_less _ _ _ _ _ _ h k)
+  choice_no_more (Some zero) t u a b c d h k = omega (arith, of.branch u u c d, k)
+  choice_no_more (Some (suc n)) t u a b c d h k = omega (arith, of.branch u u c d, h)
 
   abbrev NoMore : List Stm → List Stm → Type 0
   NoMore xs ys = all ys ≤ all xs
@@ -322,7 +320,7 @@ module _ {layer : Stm-F ℕ → ℕ} {m : Stm → ℕ} (of : Measure layer m) wh
     layer_needed (stm.Read t r i) h = lone (stm.Read t r i) _ refl
     layer_needed (stm.Write r i v) h = lone (stm.Write r i v) _ refl
     layer_needed (stm.Zero l) h = lone (stm.Zero l) _ refl
-    layer_needed (stm.If t a b) h = less (stm.If t (needed_code needed a) (needed_code needed b)) _ (of.branch _ _ _ _ _ _ (many (needed_stm needed) a h.0) (many (needed_stm needed) b h.1))
+    layer_needed (stm.If t a b) h = less (stm.If t (needed_code needed a) (needed_code needed b)) _ (branch_less _ _ _ _ _ _ (many (needed_stm needed) a h.0) (many (needed_stm needed) b h.1))
     layer_needed (stm.Loop b) h = less (stm.Loop (needed_code needed b)) _ (of.loop _ _ (many (needed_stm needed) b h))
     layer_needed (stm.Block b) h = less (stm.Block (needed_code needed b)) _ (of.block _ _ (many (needed_stm needed) b h))
     layer_needed (stm.Break n) h = lone (stm.Break n) _ refl
@@ -336,66 +334,3 @@ module _ {layer : Stm-F ℕ → ℕ} {m : Stm → ℕ} (of : Measure layer m) wh
 
     pub folded_no_more : (temps : ℕ) (code : List Stm) → all (needed_code needed (simple_body temps code)) ≤ all code
     folded_no_more temps code = omega (arith, needed_no_more (simple_body temps code), short_no_more temps (simple_code code), simple_no_more code)
-
-  -- two statements that are one count as much as one of them
-  one_no_more : (gone : ℕ → Type 0) (s n z : Stm) → IsOne gone s n z → CountsNoMore (s ∷ n ∷ []) (z ∷ [])
-  one_no_more gone s n z (divided t x o a b g) = let e = twin (stm.Divide t o a b) (stm.Divide x o a b) (of.divide _ _ _ _ _ _ _ _) in omega (arith, e)
-  one_no_more gone s n z (fetched t x r i g) = let e = twin (stm.Read t r i) (stm.Read x r i) (of.read _ _ _ _ _ _) in omega (arith, e)
-  one_no_more gone s n z (called t x f args g) = let e = twin (stm.Call (Some t) f args) (stm.Call (Some x) f args) (of.call _ _ _ _ _ _ (same_goal f)) in omega (arith, e)
-  one_no_more gone s n z (asked t x k args g) = let e = twin (stm.Known (Some t) k args) (stm.Known (Some x) k args) (of.known _ _ _ _ _) in omega (arith, e)
-  one_no_more gone s n z (carried t x e v w g k) = let h = twin (stm.Set x v) (stm.Set x w) (of.set _ _ _ _) in omega (arith, h)
-  one_no_more gone s n z (stored t x e v w g k) = let h = twin (stm.SetGlobal x v) (stm.SetGlobal x w) (of.store _ _ _ _) in omega (arith, h)
-  one_no_more gone s n z (written t r e i v w g unread k) = let h = twin (stm.Write r i v) (stm.Write r i w) (of.write _ _ _ _ _ _) in omega (arith, h)
-
-  tidied_closed : tidying.IsClosed CountsNoMore
-  tidied_closed = record {
-    itself = λ xs. omega arith;
-    both = λ xs xs' ys ys' h k. omega (arith, all_append xs ys, all_append xs' ys', h, k);
-    trans = λ xs ys zs h k. omega (arith, h, k);
-    pair = one_no_more;
-    branch = λ t a a' b b' h k. pair (stm.If t a b) (stm.If t a' b') (of.branch _ _ _ _ _ _ h k);
-    loop = λ b b' h. pair (stm.Loop b) (stm.Loop b') (of.loop _ _ h);
-    enclose = λ b b' h. pair (stm.Block b) (stm.Block b') (of.block _ _ h);
-  }
-
-  pub tidied_no_more : (temps : ℕ) (code result : List Stm) → IsTidiedCode temps code result → all result ≤ all code
-  tidied_no_more temps = tidying.tidied_is temps CountsNoMore tidied_closed
-
-  -- ---- where a value that is put into a temporary counts nothing
-
-  module _ (free : (t : ℕ) (v : Tree) → layer (stm.Set t v) ≡ 0) where
-    abbrev CountsSame : List Stm → List Stm → Type 0
-    CountsSame xs ys = all ys ≡ all xs
-
-    moved : (x y z : Stm-F Stm) → own z ≡ own x → own y ≡ 0 → CountsSame (roll-Stm x ∷ roll-Stm y ∷ []) (roll-Stm z ∷ [])
-    moved x y z e none = omega (arith, of.roll x, of.roll y, of.roll z, e, none)
-
-    taken : (x y z : Stm-F Stm) → own z ≡ own y → own x ≡ 0 → CountsSame (roll-Stm x ∷ roll-Stm y ∷ []) (roll-Stm z ∷ [])
-    taken x y z e none = omega (arith, of.roll x, of.roll y, of.roll z, e, none)
-
-    one_same : (gone : ℕ → Type 0) (s n z : Stm) → IsOne gone s n z → CountsSame (s ∷ n ∷ []) (z ∷ [])
-    one_same gone s n z (divided t x o a b g) = moved (stm.Divide t o a b) (stm.Set x (temp t)) (stm.Divide x o a b) (of.divide _ _ _ _ _ _ _ _) (free x (temp t))
-    one_same gone s n z (fetched t x r i g) = moved (stm.Read t r i) (stm.Set x (temp t)) (stm.Read x r i) (of.read _ _ _ _ _ _) (free x (temp t))
-    one_same gone s n z (called t x f args g) =
-        moved (stm.Call (Some t) f args) (stm.Set x (temp t)) (stm.Call (Some x) f args) (of.call _ _ _ _ _ _ (same_goal f)) (free x (temp t))
-    one_same gone s n z (asked t x k args g) = moved (stm.Known (Some t) k args) (stm.Set x (temp t)) (stm.Known (Some x) k args) (of.known _ _ _ _ _) (free x (temp t))
-    one_same gone s n z (carried t x e v w g k) = taken (stm.Set t e) (stm.Set x v) (stm.Set x w) (of.set _ _ _ _) (free t e)
-    one_same gone s n z (stored t x e v w g k) = taken (stm.Set t e) (stm.SetGlobal x v) (stm.SetGlobal x w) (of.store _ _ _ _) (free t e)
-    one_same gone s n z (written t r e i v w g unread k) = taken (stm.Set t e) (stm.Write r i v) (stm.Write r i w) (of.write _ _ _ _ _ _) (free t e)
-
-    lone_same : (x y : Stm-F Stm) → own y ≡ own x → CountsSame (alone x) (alone y)
-    lone_same x y e = omega (arith, of.roll x, of.roll y, e)
-
-    same_closed : tidying.IsClosed CountsSame
-    same_closed = record {
-      itself = λ xs. refl;
-      both = λ xs xs' ys ys' h k. omega (arith, all_append xs ys, all_append xs' ys', h, k);
-      trans = λ xs ys zs h k. k ∙ h;
-      pair = one_same;
-      branch = λ t a a' b b' h k. lone_same (stm.If t a b) (stm.If t a' b') (branch_same _ _ _ _ _ _ h k);
-      loop = λ b b' h. lone_same (stm.Loop b) (stm.Loop b') (loop_same _ _ h);
-      enclose = λ b b' h. lone_same (stm.Block b) (stm.Block b') (block_same _ _ h);
-    }
-
-    pub tidied_same : (temps : ℕ) (code result : List Stm) → IsTidiedCode temps code result → all result ≡ all code
-    tidied_same temps = tidying.tidied_is temps CountsSame same_closed

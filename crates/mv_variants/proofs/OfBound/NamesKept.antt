@@ -1,5 +1,5 @@
 -- Binding, carrying, tidying and folding name no more.
-use Rattle.std.proofs.Common.{ℕ, List, [], sym, subst, Contains}
+use Rattle.std.proofs.Common.{arith, ℕ, List, [], sym, subst, Contains}
 use Rattle.std.proofs.lemmas.List.Elements.{All-contains, All-contains_itself}
 use Rattle.mv_ir.specs.declared.stm.Stm.{Stm}
 use Rattle.mv_select_code.specs.Control.Labels.{functions}
@@ -24,10 +24,10 @@ use Rattle.mv_ir.proofs.Common.{each_is_all}
 use Rattle.mv_select.proofs.OfBodies.Lists.{each_all}
 
 anything_closed : IsClosed AnyNumber
-anything_closed = record { one = λ o n h. tt; two = λ o n m h k. tt; narrowed = λ k n h. tt; divided = λ o n d h k. tt }
+anything_closed = record { one = λ o n h. tt; two = λ o n m h k. tt; narrowed = λ k n h. tt; divided = λ o n d h k. tt; shift = λ k h. tt }
 
 words_closed : IsClosed IsWord
-words_closed = record { one = λ o n h. unary_word o n; two = λ o n m h k. binary_word o n m h k; narrowed = λ k n h. narrow_word k n h; divided = λ o n d h k. divide_word o n d h k }
+words_closed = record { one = λ o n h. unary_word o n; two = λ o n m h k. binary_word o n m h k; narrowed = λ k n h. narrow_word k n h; divided = λ o n d h k. divide_word o n d h k; shift = λ k h. omega (arith, h) }
 
 module _ (code result : List Stm) where
   -- of code that names what this names
@@ -64,7 +64,7 @@ carrying_names temps code =
 
 pub tidying_names : TidyingNamesNoMore
 tidying_names temps code tidied k =
-    no_more code tidied (tidied_names (Contains (functions code)) (Contains (knowns code)) AnyNumber temps code tidied k) (tidied_names AnyNumber IsOrder IsWord temps code tidied k)
+    no_more code tidied (tidied_names (Contains (functions code)) (Contains (knowns code)) AnyNumber anything_closed temps code tidied k) (tidied_names AnyNumber IsOrder IsWord words_closed temps code tidied k)
 
 pub folding_names : FoldingNamesNoMore
 folding_names temps code folded (needed, is, e) =

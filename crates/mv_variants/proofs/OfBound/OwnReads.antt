@@ -1,5 +1,5 @@
 -- What a variant reads are no switches of its function.
-use Rattle.std.proofs.Common.{arith, ◌≡◌, ℕ, Bool, true, false, cond, eqb, ◌||◌, List, [], ◌∷◌, length, Some, None, refl, sym, ◌∙◌, subst, Contains, nat_eq}
+use Rattle.std.proofs.Common.{arith, ◌≡◌, ℕ, Bool, true, false, cond, eqb, ◌||◌, List, [], ◌∷◌, length, Some, None, refl, sym, ◌∙◌, Contains, nat_eq}
 use Rattle.std.specs.List.{zip}
 use Rattle.std.proofs.lemmas.Bool.{eq-eqb, eqb-true}
 use Rattle.std.proofs.lemmas.List.{length-map}
@@ -10,7 +10,7 @@ use Rattle.mv_ir.specs.Measures.{scalars_read, arrays_read}
 use Rattle.mv_ir.specs.Trees.{found}
 use Rattle.mv_lower_spec.specs.Functions.{lower_function}
 use Rattle.mv_variants.specs.Bound.Reads.{VariantsReadNoSwitch}
-use Rattle.mv_variants.proofs.OfBound.Meant.{tidy, made}
+use Rattle.mv_variants.proofs.OfBound.Meant.{reads_array, made}
 
 -- what has no value is none of the switches
 not_among : (ss vs : List ℕ) (k : ℕ) → length vs ≡ length ss → found (zip ss vs) k ≡ None → is_among k ss ≡ false
@@ -30,10 +30,5 @@ read_no_switch p g reads vs many result m =
     let as_many : length vs ≡ length body.switches = many ∙ sym (length-map g.switches (switch_global p)) in
     record {
       scalars = All-weaker (λ k. found (zip body.switches vs) k ≡ None) (λ k. is_among k body.switches ≡ false) (λ k. not_among body.switches vs k as_many) (scalars_read result.code) variant.free;
-      arrays = All-weaker (Contains (arrays_read result.code)) (λ k. is_among k body.switches ≡ false) (λ k c. All-contains (λ i. is_among i body.switches ≡ false) (arrays_read body.code) k reads.switches (was_read k c)) (arrays_read result.code) (All-contains_itself (arrays_read result.code));
+      arrays = All-weaker (Contains (arrays_read result.code)) (λ k. is_among k body.switches ≡ false) (λ k c. All-contains (λ i. is_among i body.switches ≡ false) (arrays_read body.code) k reads.switches (reads_array (zip body.switches vs) body result m k c)) (arrays_read result.code) (All-contains_itself (arrays_read result.code));
     }
-  where
-    was_read : (k : ℕ) → Contains (arrays_read result.code) k → Contains (arrays_read (lower_function p g).code) k
-    was_read k c =
-        let in_folded = subst (λ l. Contains l k) m.is_renamed.arrays c in
-        subst (λ l. Contains l k) m.is_bound.arrays (m.is_carried.smaller.arrays k ((tidy (zip (lower_function p g).switches vs) (lower_function p g) result m).smaller.arrays k (m.is_folded.smaller.arrays k in_folded)))

@@ -1,5 +1,5 @@
--- A body that is bound, with numbers carried, tidied, folded and renamed counts no more by a measure of statements, and is one that code can be selected for.
-use Rattle.std.proofs.Common.{arith, ◌≡◌, ℕ, ◌+◌, ◌*◌, ◌/◌, ◌<◌, ◌≤◌, true, None, List, length, map, sym, ap, subst, ◌⊎◌, inl, inr, Contains}
+-- A body that is tidied, bound, with numbers carried, folded and renamed counts no more by a measure of statements, and is one that code can be selected for.
+use Rattle.std.proofs.Common.{arith, ◌≡◌, ℕ, ◌+◌, ◌*◌, ◌/◌, ◌<◌, ◌≤◌, true, None, List, length, map, sym, ap, subst, ◌⊎◌, inl, inr}
 use Rattle.mv_ir.specs.declared.stm.Stm.{Stm}
 use Rattle.mv_ir.specs.declared.stm.Stm.TheOpen.{Stm-F}
 use Rattle.mv_ir.specs.declared.body.Body.{Body}
@@ -15,9 +15,10 @@ use Rattle.mv_regalloc.specs.Intervals.{IsRenamed}
 use Rattle.mv_variants.specs.Bound.Meant.{IsMadeUnder}
 use Rattle.mv_variants.specs.Bound.Names.{NamesNoMore}
 use Rattle.mv_variants.specs.Bound.Variants.{MadeNameNoMore, MadeCallNoMore, MadeAreInProgram, MadeFramesAreNoLarger}
-use Rattle.mv_variants.proofs.OfBound.Meant.{tidy, made}
+use Rattle.mv_variants.proofs.OfBound.Meant.{reads_array, made}
 use Rattle.mv_variants.proofs.OfBound.NamesKept.{binding_names, carrying_names, tidying_names, folding_names, renaming_names}
-use Rattle.mv_variants.proofs.OfBound.Measures.{Measure, bound_no_more, carried_no_more, tidied_no_more, folded_no_more, renamed_no_more}
+use Rattle.mv_variants.proofs.OfBound.Measures.{Measure, bound_no_more, carried_no_more, folded_no_more, renamed_no_more}
+use Rattle.mv_variants.proofs.OfBound.TidiedMeasures.{tidied_no_more}
 use Rattle.mv_variants.proofs.OfBound.Weights.{weights}
 use Rattle.mv_num.proofs.Lists.{contains_all}
 
@@ -36,14 +37,15 @@ tidy_names body result (inr e) = subst (λ (b : Body). NamesNoMore body.code b.c
 
 pub made_names : MadeNameNoMore
 made_names ps body result words m =
-    let first : NamesNoMore body.code m.bound.code = subst (NamesNoMore body.code) (sym m.is_bound.code) (binding_names ps words body.code) in
-    let second : NamesNoMore m.bound.code m.carried.code = subst (NamesNoMore m.bound.code) (sym m.is_carried.code) (carrying_names m.bound.temps m.bound.code) in
-    let third = tidy_names m.carried m.tidied m.is_tidied in
-    let fourth = folding_names m.tidied.temps m.tidied.code m.folded.code m.is_folded.code in
-    let fifth : NamesNoMore m.folded.code result.code = subst (NamesNoMore m.folded.code) (sym (ap (λ (b : Body). b.code) m.is_renamed.changes)) (renaming_names m.is_renamed.numbers m.folded.code) in
-    let bound_and_carried = names_after body.code m.bound.code m.carried.code first second in
-    let and_tidied = names_after body.code m.carried.code m.tidied.code bound_and_carried third in
-    names_after body.code m.folded.code result.code (names_after body.code m.tidied.code m.folded.code and_tidied fourth) fifth
+    let w = m.worked in
+    let first = tidy_names body m.tidied m.is_tidied in
+    let second : NamesNoMore m.tidied.code w.bound.code = subst (NamesNoMore m.tidied.code) (sym w.is_bound.code) (binding_names ps words m.tidied.code) in
+    let third : NamesNoMore w.bound.code w.carried.code = subst (NamesNoMore w.bound.code) (sym w.is_carried.code) (carrying_names w.bound.temps w.bound.code) in
+    let fourth = folding_names w.carried.temps w.carried.code w.folded.code w.is_folded.code in
+    let fifth : NamesNoMore w.folded.code result.code = subst (NamesNoMore w.folded.code) (sym (ap (λ (b : Body). b.code) w.is_renamed.changes)) (renaming_names w.is_renamed.numbers w.folded.code) in
+    let tidied_and_bound = names_after body.code m.tidied.code w.bound.code first second in
+    let and_carried = names_after body.code w.bound.code w.carried.code tidied_and_bound third in
+    names_after body.code w.folded.code result.code (names_after body.code w.carried.code w.folded.code and_carried fourth) fifth
 
 -- ---- what a measure counts
 
@@ -69,11 +71,12 @@ module _ {layer : Stm-F ℕ → ℕ} {m : Stm → ℕ} (of : Measure layer m) wh
 
   pub made_no_more : (ps : List (ℕ × ℕ)) (body result : Body) → IsMadeUnder ps body result → all result.code ≤ all body.code
   made_no_more ps body result h =
-      let first : all h.bound.code ≤ all body.code = subst (λ c. all c ≤ all body.code) (sym h.is_bound.code) (bound_no_more of ps body.code) in
-      let second : all h.carried.code ≤ all h.bound.code =
-      subst (λ c. all c ≤ all h.bound.code) (sym h.is_carried.code) (carried_no_more of h.bound.temps h.bound.code)
+      let w = h.worked in
+      let first : all w.bound.code ≤ all h.tidied.code = subst (λ c. all c ≤ all h.tidied.code) (sym w.is_bound.code) (bound_no_more of ps h.tidied.code) in
+      let second : all w.carried.code ≤ all w.bound.code =
+      subst (λ c. all c ≤ all w.bound.code) (sym w.is_carried.code) (carried_no_more of w.bound.temps w.bound.code)
       in
-      omega (arith, first, second, tidy_no_more h.carried h.tidied h.is_tidied, worked_no_more h.tidied h.folded result h.is_folded h.is_renamed)
+      omega (arith, tidy_no_more body h.tidied h.is_tidied, first, second, worked_no_more w.carried w.folded result w.is_folded w.is_renamed)
 
 pub made_calls : MadeCallNoMore
 made_calls direct through = made_no_more (weights direct through)
@@ -93,12 +96,6 @@ made_frames ps body own result is_own m =
     omega (arith, less, first, second)
 
 -- ---- in a program
-
--- the passes leave the arrays that are read, or fewer
-arrays_less : (ps : List (ℕ × ℕ)) (body result : Body) (m : IsMadeUnder ps body result) (g : ℕ) → Contains (arrays_read result.code) g → Contains (arrays_read body.code) g
-arrays_less ps body result m g c =
-    let in_folded = subst (λ l. Contains l g) m.is_renamed.arrays c in
-    subst (λ l. Contains l g) m.is_bound.arrays (m.is_carried.smaller.arrays g ((tidy ps body result m).smaller.arrays g (m.is_folded.smaller.arrays g in_folded)))
 
 pub made_in_program : MadeAreInProgram
 made_in_program y setting ps body result of no_elements words m =
@@ -121,5 +118,5 @@ made_in_program y setting ps body result of no_elements words m =
       knowns = contains_all (λ k. y.may_ask k ≡ true) (knowns body.code) (knowns result.code) names.knowns of.knowns;
       functions = contains_all (λ f. f < length setting.numbers) (functions body.code) (functions result.code) names.functions of.functions;
       free = variant.free;
-      arrays = contains_all (λ g. found ps g ≡ None) (arrays_read body.code) (arrays_read result.code) (arrays_less ps body result m) no_elements;
+      arrays = contains_all (λ g. found ps g ≡ None) (arrays_read body.code) (arrays_read result.code) (reads_array ps body result m) no_elements;
     }

@@ -4,10 +4,12 @@ use Rattle.mv_ir.specs.declared.stm.Callee.{Callee}
 use Rattle.mv_ir.specs.declared.stm.Callee.TheVariants as callee
 use Rattle.mv_ir.specs.declared.stm.Stm.{Stm}
 use Rattle.mv_ir.specs.declared.stm.Stm.TheOpen.{Stm-F}
+use Rattle.mv_ir.specs.declared.stm.Stm.TheOpen as stm
 use Rattle.mv_ir.specs.declared.stm.Stm.TheViews.{roll-Stm}
 use Rattle.mv_ir.specs.declared.stm.Stm.TheFolds.{map-Stm, fold-roll-Stm}
 use Rattle.mv_lower_spec.specs.Shape.Calls.{callee_weight, layer_weight, stm_weight, callee_through, layer_through, stm_through}
 use Rattle.mv_variants.proofs.OfBound.Measures.{SameGoal, Measure}
+use Rattle.mv_variants.proofs.OfBound.TidiedMeasures.{CountsCalls}
 
 module _ (direct : ℕ → ℕ) (through : ℕ) where
   pub w_roll : (x : Stm-F Stm) → stm_weight direct through (roll-Stm x) ≡ layer_weight direct through (map-Stm Stm ℕ (stm_weight direct through) x)
@@ -35,17 +37,25 @@ module _ (direct : ℕ → ℕ) (through : ℕ) where
     check = λ r s i j. refl;
     read = λ t u r s i j. refl;
     write = λ r s i j v w. refl;
-    branch = λ t u a b c d h k. omega (arith, h, k);
-    chosen = λ t a b. omega arith;
+    branch = λ t u a b. omega arith;
     loop = λ a b h. h;
     block = λ a b h. h;
     looped = λ a. omega arith;
     blocked = λ a. omega arith;
     break = λ n k. refl;
+    jump = λ n t v. omega arith;
+    back = λ n t v. omega arith;
     call = λ r s f g xs ys e. same_weight f g e;
     known = λ r s k xs ys. refl;
     return = λ v w. refl;
   }
+
+  pub weights_of_calls : CountsCalls (layer_weight direct through)
+  weights_of_calls (stm.If t a b) e = e
+  weights_of_calls (stm.Loop b) e = e
+  weights_of_calls (stm.Block b) e = e
+  weights_of_calls (stm.Call r f args) e = absurd (omega (arith, e))
+  weights_of_calls _ e = refl
 
 module _ (counts : ℕ → Bool) where
   pub through_roll : (x : Stm-F Stm) → stm_through counts (roll-Stm x) ≡ layer_through counts (map-Stm Stm ℕ (stm_through counts) x)
@@ -68,14 +78,22 @@ module _ (counts : ℕ → Bool) where
     check = λ r s i j. refl;
     read = λ t u r s i j. refl;
     write = λ r s i j v w. refl;
-    branch = λ t u a b c d h k. omega (arith, h, k);
-    chosen = λ t a b. omega arith;
+    branch = λ t u a b. omega arith;
     loop = λ a b h. h;
     block = λ a b h. h;
     looped = λ a. omega arith;
     blocked = λ a. omega arith;
     break = λ n k. refl;
+    jump = λ n t v. omega arith;
+    back = λ n t v. omega arith;
     call = λ r s f g xs ys e. same_through f g e;
     known = λ r s k xs ys. refl;
     return = λ v w. refl;
   }
+
+  pub throughs_of_calls : CountsCalls (layer_through counts)
+  throughs_of_calls (stm.If t a b) e = e
+  throughs_of_calls (stm.Loop b) e = e
+  throughs_of_calls (stm.Block b) e = e
+  throughs_of_calls (stm.Call r f args) e = absurd (omega (arith, e))
+  throughs_of_calls _ e = refl

@@ -1,4 +1,4 @@
--- What a body means and has that comes of another by binding its switches, carrying numbers, tidying, folding and renaming.
+-- What a body means and has that comes of another by tidying it, binding its switches, carrying numbers, folding and renaming.
 use Rattle.std.specs.Prelude.{ℕ, ◌≡◌, ◌≤◌, ◌⊎◌, List, All, None}
 use Rattle.std.specs.List.{zip}
 use Rattle.mv_ast.specs.declared.program.Program.{Program}
@@ -19,24 +19,21 @@ use Rattle.mv_regalloc.specs.Rename.{renamed_code}
 use Rattle.mv_regalloc.specs.Intervals.{IsRenamed}
 use Rattle.mv_lower_spec.specs.Functions.{lower_function}
 
--- a body folded and then renamed
-pub record IsWorked (body result : Body) : Type 0 where
-  pub folded : Body
-  pub is_folded : IsFolded body folded
-  pub is_renamed : IsRenamed folded result
-
--- A body bound to the values of its switches, then with numbers carried through its temporaries, then tidied, then folded, then with its temporaries renamed. It
--- isn't tidied where it would need more temporaries by that than the first body does.
-pub record IsMadeUnder (ps : List (ℕ × ℕ)) (body result : Body) : Type 0 where
+-- a body bound to the values of its switches, then with numbers carried through its temporaries, then folded, then with its temporaries renamed
+pub record IsWorked (ps : List (ℕ × ℕ)) (body result : Body) : Type 0 where
   pub bound : Body
   pub carried : Body
-  pub tidied : Body
   pub folded : Body
   pub is_bound : IsBound ps body bound
   pub is_carried : IsCarried bound carried
-  pub is_tidied : IsTidied carried tidied ⊎ (tidied ≡ carried)
-  pub is_folded : IsFolded tidied folded
+  pub is_folded : IsFolded carried folded
   pub is_renamed : IsRenamed folded result
+
+-- A body tidied, and then worked under these values. It isn't tidied where it would need more temporaries by that than it does as it is.
+pub record IsMadeUnder (ps : List (ℕ × ℕ)) (body result : Body) : Type 0 where
+  pub tidied : Body
+  pub is_tidied : IsTidied body tidied ⊎ (tidied ≡ body)
+  pub worked : IsWorked ps tidied result
   pub temps : result.temps ≤ most_intervals body
 
 -- Whatever numbers temporaries get, code that has the folded form has it with them.

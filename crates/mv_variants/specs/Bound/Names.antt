@@ -9,7 +9,7 @@ use Rattle.mv_clone.specs.Bind.{bound_code}
 use Rattle.mv_carry.specs.declared.facts.Reach.TheVariants.{Knowing}
 use Rattle.mv_carry.specs.Carrying.{outermost, carried_code}
 use Rattle.mv_fold.specs.Folded.{IsFoldedCode}
-use Rattle.mv_tidy.specs.Tidying.{IsTidiedCode}
+use Rattle.mv_tidy.specs.Tidied.{IsTidiedCode}
 
 -- The second code names no functions and known functions that the first doesn't; and its constants are words, and its orders fit, where those of the first are and do.
 pub record NamesNoMore (code result : List Stm) : Type 0 where

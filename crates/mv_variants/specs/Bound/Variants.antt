@@ -1,4 +1,4 @@
--- What selection asks of a body that is bound, folded and renamed, and how many calls it has.
+-- What selection asks of a body that is tidied, bound, folded and renamed, and how many calls it has.
 use Rattle.std.specs.Prelude.{ℕ, ◌≡◌, ◌<◌, ◌≤◌, true, List, All, length, None}
 use Rattle.mv_ir.specs.declared.body.Body.{Body}
 use Rattle.mv_ir.specs.World as ir
@@ -15,7 +15,7 @@ use Rattle.mv_regalloc.specs.Intervals.{IsRenamed}
 use Rattle.mv_variants.specs.Bound.Meant.{IsMadeUnder}
 use Rattle.mv_variants.specs.Bound.Names.{NamesNoMore, ReadAsWords}
 
--- A body whose code names no more comes of binding, folding and renaming.
+-- A body whose code names no more comes of tidying, binding, folding and renaming.
 abbrev pub MadeNameNoMore : Type 0
 MadeNameNoMore = (ps : List (ℕ × ℕ)) (body result : Body) → ReadAsWords ps → IsMadeUnder ps body result → NamesNoMore body.code result.code
 

@@ -27,8 +27,8 @@ push_statements-requires-clause-small c =
 pub push_statements-requires-clause-labels : goal.push_statements-requires-clause-labels
 push_statements-requires-clause-labels c =
     let body = c.args.body.now in
-    let same = over_same c.args.attributed body c.in_ok-layout.layout c.in_ok-layout.layout.keeping c.as_slice-2.result.now c.as_slice-3.result.now c.in_ok-layout.ensures
-    (ap (λ (y : Layout). y.keeping) c.in_ok-layout.ensures) c.as_slice-2.ensures c.as_slice-3.ensures in
+    let same = over_same c.args.attributed body c.in_ok-layout.layout c.in_ok-layout.layout.keeping c.as_slice-4.result.now c.as_slice-3.result.now c.as_slice-5.result.now c.in_ok-layout.ensures
+    (ap (λ (y : Layout). y.keeping) c.in_ok-layout.ensures) (c.as_slice-4.ensures ∙ ap (λ (y : Layout). y.pins) c.in_ok-layout.ensures) c.as_slice-3.ensures c.as_slice-5.ensures in
     let few = labels_fit c.args.attributed body c.requires.suitable in
     omega (arith, c.new-emitter.ensures.free, few, ap (λ e. e.labels) same)
 
@@ -40,10 +40,12 @@ returns c =
     let layout = c.in_ok-layout.layout in
     let fits = subst (λ n. n ≤ 2032) c.requires.bytes c.requires.few in
     let of_keeping = ap (λ (y : Layout). y.keeping) c.in_ok-layout.ensures in
-    let same = over_same attributed body layout layout.keeping c.as_slice-2.result.now c.as_slice-3.result.now c.in_ok-layout.ensures of_keeping c.as_slice-2.ensures c.as_slice-3.ensures in
-    let shape = shaped attributed body layout.keeping c.as_slice.result.now of_keeping c.as_slice.ensures in
+    let of_pins = ap (λ (y : Layout). y.pins) c.in_ok-layout.ensures in
+    let same = over_same attributed body layout layout.keeping c.as_slice-4.result.now c.as_slice-3.result.now c.as_slice-5.result.now c.in_ok-layout.ensures of_keeping (c.as_slice-4.ensures ∙ of_pins) c.as_slice-3.ensures
+    c.as_slice-5.ensures in
+    let shape = shaped attributed body layout.keeping c.as_slice.result.now c.as_slice-2.result.now of_keeping c.as_slice.ensures (c.as_slice-2.ensures ∙ of_pins) in
     let done = c.in_ok-push_statements.ensures in
-    let items = put_together attributed body (shape_with attributed layout.keeping body c.as_slice.result.now) c.new-emitter.result.free c.new-emitter.result.around _ c.new-emitter.result.lines
+    let items = put_together attributed body (shape_with attributed layout.keeping body c.as_slice.result.now c.as_slice-2.result.now) c.new-emitter.result.free c.new-emitter.result.around _ c.new-emitter.result.lines
     c.push_entry.new.code c.push_statements.new.emitter.lines c.push.new.self c.push_return.new.code shape c.new-emitter.ensures.free c.new-emitter.ensures.around same c.new-emitter.ensures.lines
     c.in_ok-push_entry.ensures (ap (λ (e : Emitter). e.lines) done) c.in_ok-push.ensures.ok c.in_ok-push_return.ensures in
     let free = ap (λ (e : Emitter). e.free) done in

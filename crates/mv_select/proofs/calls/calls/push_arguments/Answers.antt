@@ -8,6 +8,6 @@ pub loop-index-preserved : goal.loop-index-preserved
 loop-index-preserved c =
     let i = c.loop-index.index in
     let ts = c.args.arguments.now in
-    argument_next (seats_at c.args.places.rooms.now c.args.places.keeping) i ts c.index-arguments-index.result c.loop-index.code c.push_into.new.code _
+    argument_next (seats_at c.args.places.rooms.now c.args.places.keeping c.args.places.pins.now) i ts c.index-arguments-index.result c.loop-index.code c.push_into.new.code _
     (drop_more ts i c.index-arguments-index.result (omega (arith, c.loop-index-test.true)) ∙ ap (λ t. t ∷ drop (i + 1) ts) (sym c.index-arguments-index.is))
     (c.in_ok-push_into.ensures) c.loop-index.invariant

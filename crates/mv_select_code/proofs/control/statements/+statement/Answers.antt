@@ -177,7 +177,7 @@ push_statement-returns-in-Return g t c =
     let s = c.args.statement.now in
     let v = c.in-Return.v in
     on_ok_weaker c.push_return.result (as_kind plan e s (at.Return v) c.in-Return.is c.args.way (return_code plan.seats plan.end v) c.push_return.new.self (code_return plan v))
-    (subst (λ s. OnOk c.push_return.result (c.push_return.new.self ≡ emitted e (return_code s plan.end v) c.args.way)) (seats_same c.places-places.ensures.rooms c.places-places.ensures.keeping) c.push_return.ensures)
+    (subst (λ s. OnOk c.push_return.result (c.push_return.new.self ≡ emitted e (return_code s plan.end v) c.args.way)) (seats_same c.places-places.ensures.rooms c.places-places.ensures.keeping c.places-places.ensures.pins) c.push_return.ensures)
 
 pub push_statement-returns : goal.push_statement-returns
 push_statement-returns g t c =
@@ -185,7 +185,7 @@ push_statement-returns g t c =
     let e = c.args.emitter.now in
     let s = c.args.statement.now in
     let way = c.args.way in
-    let seats = seats_same c.places-places.ensures.rooms c.places-places.ensures.keeping in
+    let seats = seats_same c.places-places.ensures.rooms c.places-places.ensures.keeping c.places-places.ensures.pins in
     on_ok_weaker c.go_on.result
     (λ h. elim c.match-statement.branch [
       | push_statement-in-Set+in_ok-push_set-in-Set w ↦ as_plain plan e s (at.Set w.in-Set.t w.in-Set.v) w.in-Set.is way (set_lines plan.seats w.in-Set.t w.in-Set.v) w.push_set.new.code c.go_on.new.self (code_set plan w.in-Set.t w.in-Set.v) (subst (λ s. w.push_set.new.code ≡ e.lines ++ set_lines s w.in-Set.t w.in-Set.v) seats w.in_ok-push_set-in-Set.ensures) (h ∙ ap (λ x. with_lines x (go_on way)) w.emitter-is)

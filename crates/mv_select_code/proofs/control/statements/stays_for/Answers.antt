@@ -1,7 +1,5 @@
-use Rattle.std.proofs.Common.{◌≡◌, inl, inr, true, false, cond, List, None, Some, IfSome, sym, ap, ◌∙◌, subst}
+use Rattle.std.proofs.Common.{◌≡◌, cond, None, Some, sym, ap, ◌∙◌}
 use Rattle.std.proofs.lemmas.Option.{IfSome_then}
-use Rattle.mv_ir.specs.declared.stm.Stm.{Stm}
-use Rattle.mv_ir.specs.declared.stm.Stm as at
 use Rattle.mv_select_code.specs.Control.FlowCode.{staying}
 use Rattle.mv_select_code.specs.Control.Staying.{tested_of}
 use Rattle.mv_select_code.proofs.OfControl.Emitting.{unstaying, stays_by, chosen, branches_to}

@@ -8,13 +8,13 @@ use Rattle.mv_select_code.proofs.trees.branches.+push_branch.Goals as goal
 
 pub returns-else-is_taken : goal.returns-else-is_taken
 returns-else-is_taken t c =
-    let p = seats_at c.args.places.rooms.now c.args.places.keeping in
+    let p = seats_at c.args.places.rooms.now c.args.places.keeping c.args.places.pins.now in
     let none = passed_number p c.args.sense c.args.register c.args.label c.in-Number.n c.args.tree.now c.in-Number.is (sym c.is_taken.ensures ∙ c.if-is_taken.false) in
     sym (ap (λ l. c.args.code.now ++ l) none ∙ append-nil c.args.code.now)
 
 pub returns-in_ok-push-in-Some : goal.returns-in_ok-push-in-Some
 returns-in_ok-push-in-Some t c =
-    let p = seats_at c.args.places.rooms.now c.args.places.keeping in
+    let p = seats_at c.args.places.rooms.now c.args.places.keeping c.args.places.pins.now in
     let r = c.args.register in
     let o = c.in-Binary.operator in
     let ls = branch_lines p c.args.tree.now c.args.sense r c.args.label in

@@ -9,7 +9,7 @@ use Rattle.mv_select_code.proofs.trees.trees.+into.Goals as goal
 
 pub push_into-returns-in_ok-push_operand-in-Unary : goal.push_into-returns-in_ok-push_operand-in-Unary
 push_into-returns-in_ok-push_operand-in-Unary t c =
-    let p = seats_at c.args.places.rooms.now c.args.places.keeping in
+    let p = seats_at c.args.places.rooms.now c.args.places.keeping c.args.places.pins.now in
     let r = c.args.register in
     let ls = tree_into p c.args.tree.now c.args.rd r in
     let la = operand_lines p c.get.result.now r in
@@ -19,7 +19,7 @@ push_into-returns-in_ok-push_operand-in-Unary t c =
 
 pub push_into-returns-in_ok-push_operand-in-Narrow : goal.push_into-returns-in_ok-push_operand-in-Narrow
 push_into-returns-in_ok-push_operand-in-Narrow t c =
-    let p = seats_at c.args.places.rooms.now c.args.places.keeping in
+    let p = seats_at c.args.places.rooms.now c.args.places.keeping c.args.places.pins.now in
     let r = c.args.register in
     let k = c.in-Narrow.kind in
     let a = c.in-Narrow.a in
@@ -34,7 +34,7 @@ push_into-returns-in_ok-push_operand-in-Narrow t c =
 
 pub push_into-returns-in-Some : goal.push_into-returns-in-Some
 push_into-returns-in-Some t c =
-    let p = seats_at c.args.places.rooms.now c.args.places.keeping in
+    let p = seats_at c.args.places.rooms.now c.args.places.keeping c.args.places.pins.now in
     let r = c.args.register in
     let d = c.args.rd in
     let o = c.in-Binary.operator in
@@ -55,7 +55,7 @@ push_into-returns-in-Some t c =
 
 pub push_into-returns-in_ok-push_operand-in-None : goal.push_into-returns-in_ok-push_operand-in-None
 push_into-returns-in_ok-push_operand-in-None t c =
-    let p = seats_at c.args.places.rooms.now c.args.places.keeping in
+    let p = seats_at c.args.places.rooms.now c.args.places.keeping c.args.places.pins.now in
     let r = c.args.register in
     let d = c.args.rd in
     let o = c.in-Binary.operator in

@@ -1,6 +1,6 @@
 use Rattle.std.proofs.lemmas.Result.{IfOk-weaker}
 use Rattle.mv_tidy.proofs.Walked.{body_left}
-use Rattle.mv_tidy.proofs.tidied.Goals as goal
+use Rattle.mv_tidy.proofs.in_one.Goals as goal
 
 pub returns : goal.returns
 returns c =
