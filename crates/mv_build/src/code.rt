@@ -3,6 +3,7 @@
 ghost use Rattle.std.specs.Prelude.{◌≡◌, map, length, All, IfErr, IfOk, OnOk};
 ghost use Rattle.mv_lower_spec.specs.Functions.{lower_function};
 ghost use Rattle.mv_select.specs.Bodies.SelectedBodies.{HasWords};
+ghost use Rattle.mv_variants.specs.Bound.Shorts.{AreShortsOf};
 ghost use Rattle.mv_parts.specs.Codes.{FramesFit};
 ghost use Rattle.mv_build.specs.Compiled.{AreVaried, IsCode, IsSound, OnRefusal, PassesVarying};
 ghost use Rattle.mv_build.specs.Verdicts.{IsWithin, PassesAt, PassesLimit};
@@ -17,7 +18,9 @@ use mv_linker::PartFunction;
 use mv_lower::lower_each;
 use mv_num::list::List;
 use mv_num::regions;
-use mv_parts::{attributed_numbers, codes_of, generics_of, part_functions, size_of, tables_of};
+use mv_parts::{
+    attributed_numbers, codes_of, generics_of, part_functions, shorts_of, size_of, tables_of,
+};
 use mv_select::bodies::code_has_words;
 use mv_variants::Variant;
 use mv_variants::size::Size;
@@ -52,14 +55,21 @@ pub(crate) fn code_of(alloc: Global, program: &Program) -> Result<Coded, BuildEr
     ensures err { IfErr result (λ e. OnRefusal e (PassesLimit program.now)) }
 {
     let lowered = lower_each(alloc, program)?;
-    let generics = generics_of(alloc, program, &lowered.bodies)?;
+    let shorts = shorts_of(alloc, program, &lowered.bodies)?;
+    let generics = generics_of(alloc, program, shorts.as_slice(), &lowered.bodies)?;
     let functions = codes_of(alloc, program, &generics)?;
     let size = size_of(program, functions.as_slice());
     test_size(program, size)?;
     let Varied {
         variants,
         attributed,
-    } = attributed_code(alloc, program, lowered.bodies.as_slice(), size)?;
+    } = attributed_code(
+        alloc,
+        program,
+        shorts.as_slice(),
+        lowered.bodies.as_slice(),
+        size,
+    )?;
     have_words(generics.as_slice());
     Ok(Coded {
         generics,
@@ -93,18 +103,20 @@ fn test_size(program: &Program, size: Size) -> Result<(), BuildError>
 fn attributed_code(
     alloc: Global,
     program: &Program,
+    shorts: &[Option<Body>],
     lowered: &[Body],
     size: Size,
 ) -> Result<Varied, BuildError>
     requires sound { IsSound program.now }
     requires lowered { lowered.now ≡ map (lower_function program.now) program.now.functions }
+    requires shorts { AreShortsOf program.now shorts.now }
     requires frames { FramesFit program.now (length program.now.functions) }
     requires within { IsWithin program.now size }
     ensures ok { IfOk result (λ v. AreVaried program.now size v) }
     ensures err { IfErr result (λ e. OnRefusal e (PassesVarying program.now size)) }
 {
     let numbers = attributed_numbers(alloc, program)?;
-    let variants = tables_of(alloc, program, numbers.as_slice(), lowered, size)?;
+    let variants = tables_of(alloc, program, numbers.as_slice(), shorts, lowered, size)?;
     let attributed = part_functions(alloc, program, numbers.as_slice(), variants.as_slice())?;
     Ok(Varied {
         variants,

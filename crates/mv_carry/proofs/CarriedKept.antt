@@ -166,6 +166,7 @@ module _ (temps : ℕ) (setting : Setting) (frame : Frame) where
   callee_in fs r q (callee.Direct f) = refl
   callee_in fs r q (callee.Through t) = tree_in fs r t
   callee_in fs r q (callee.Switched g) = refl
+  callee_in fs r q callee.Expanded = tt
 
   set_shared : (t v v' : ℕ) (fs : List Fact) (xs ys : List ℕ) → Others t fs → v ≡ v' → Shared fs xs ys → Shared fs (slice_set xs t v) (slice_set ys t v')
   set_shared t v v' fs xs ys o e h = record {

@@ -82,6 +82,7 @@ module _ (fs : List Fact) where
   callee_less (callee.Direct f) = less_refl _
   callee_less (callee.Through t) = one_less t
   callee_less (callee.Switched g) = less_refl _
+  callee_less callee.Expanded = less_refl _
 
   call_less : (f : Callee) (ts : List Tree) → TreesLess (callee_trees (carried_callee fs f) ++ map (carried_tree fs) ts) (callee_trees f ++ ts)
   call_less f ts =
@@ -94,6 +95,7 @@ module _ (fs : List Fact) where
   callee_among (callee.Direct f) = none_among []
   callee_among (callee.Through t) = none_among []
   callee_among (callee.Switched g) = λ k c. c
+  callee_among callee.Expanded = none_among []
 
   -- ---- what it reads
 
@@ -135,6 +137,7 @@ module _ (fs : List Fact) where
   callee_reads (callee.Direct f) t e = (e, refl)
   callee_reads (callee.Through x) t e = one_reads x t e
   callee_reads (callee.Switched g) t e = (e, refl)
+  callee_reads callee.Expanded t e = (e, refl)
 
   call_reads : (f : Callee) (ts : List Tree) → ReadsLess every (callee_trees f ++ ts) (callee_trees (carried_callee fs f) ++ map (carried_tree fs) ts)
   call_reads f ts t e = (
@@ -150,6 +153,7 @@ module _ (fs : List Fact) where
   callee_same (callee.Direct f) = refl
   callee_same (callee.Through t) = refl
   callee_same (callee.Switched g) = refl
+  callee_same callee.Expanded = refl
 
   same_length : (args : List Tree) → length args ≡ length (map (carried_tree fs) args)
   same_length args = sym (length_map (carried_tree fs) args)

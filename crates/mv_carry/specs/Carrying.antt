@@ -46,6 +46,7 @@ abbrev pub carried_callee : List Fact → Callee → Callee
 carried_callee fs (callee.Direct f) = callee.Direct f
 carried_callee fs (callee.Through t) = callee.Through (carried_tree fs t)
 carried_callee fs (callee.Switched g) = callee.Switched g
+carried_callee fs callee.Expanded = callee.Expanded
 
 -- ---- what is written
 

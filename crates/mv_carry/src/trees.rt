@@ -70,5 +70,6 @@ pub fn carry_callee(alloc: Global, reach: &Reach, callee: &Callee) -> Result<Cal
         Callee::Direct(f) => Ok(Callee::Direct(*f)),
         Callee::Through(t) => Ok(Callee::Through(carry_tree(alloc, reach, t)?)),
         Callee::Switched(g) => Ok(Callee::Switched(*g)),
+        Callee::Expanded => Ok(Callee::Expanded),
     }
 }

@@ -55,6 +55,7 @@ module _ (ps : List (ℕ × ℕ)) where
   callee_named_bound (callee.Direct f) = refl
   callee_named_bound (callee.Through t) = refl
   callee_named_bound (callee.Switched g) = refl
+  callee_named_bound callee.Expanded = refl
 
   named_blind : (x : Stm-F (List Array)) → layer_named (bound_layer ps x) ≡ layer_named x
   named_blind (stm.Set t v) = refl

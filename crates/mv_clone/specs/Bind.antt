@@ -41,6 +41,7 @@ abbrev pub bound_callee : List (ℕ × ℕ) → Callee → Callee
 bound_callee ps (callee.Direct f) = callee.Direct f
 bound_callee ps (callee.Through t) = callee.Through (bound_tree ps t)
 bound_callee ps (callee.Switched g) = callee.Switched g
+bound_callee ps callee.Expanded = callee.Expanded
 
 abbrev pub bound_layer : {A : Type 0} → List (ℕ × ℕ) → Stm-F A → Stm-F A
 bound_layer ps (stm.Set t v) = stm.Set t (bound_tree ps v)

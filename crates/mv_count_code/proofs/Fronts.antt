@@ -15,14 +15,13 @@ use Rattle.mv_isa.specs.declared.labelled.Line.TheVariants.{Word, Label, Jump, B
 use Rattle.mv_isa.specs.Code.{greatest_words, least_words}
 use Rattle.mv_ir.specs.declared.body.Body.{Body}
 use Rattle.mv_source_forms.specs.WellFormed.{IsWellFormed}
-use Rattle.mv_lower_spec.specs.Functions.{lower_function}
 use Rattle.mv_linker.specs.Linked.{stub_lines}
 use Rattle.mv_select.specs.Selected.{selected_lines}
 use Rattle.mv_variants.specs.Bound.Slots.{AtMost, sites}
-use Rattle.mv_variants.specs.Sizes.{body_sites, body_words, IsMadeAndSelected, line_sites, lines_sites, lines_words}
-use Rattle.mv_count_code.specs.Sizes.{bound, LinesAreShort, words_of}
+use Rattle.mv_variants.specs.Sizes.{body_sites, body_words, line_sites, lines_sites, lines_words}
+use Rattle.mv_count_code.specs.Sizes.{IsBodyOf, bound, LinesAreShort, words_of}
 use Rattle.mv_count_code.specs.Texts.{HaveCode, IsCodeOf, SitesAreFew, SlotsAreFewInCode}
-use Rattle.mv_count_code.specs.Fronts.{AreCounted, FrontsAreCounted, HaveVariantBodies}
+use Rattle.mv_count_code.specs.Fronts.{AreCounted, FrontsAreCounted, HaveVariantBodies, IsCodedOf}
 use Rattle.mv_count_code.proofs.Sites.{at_most, one_of}
 use Rattle.mv_count_code.proofs.Texts.{all_words, code_words, functions_short, variant_words, words}
 use Rattle.mv_num.proofs.Lists.{sum_cons}
@@ -139,16 +138,19 @@ unmapped n (bodies ∷ lists) (suc i) m e = unmapped n lists i m e
 -- ---- a program
 
 module _ (short : LinesAreShort) (few_slots : SlotsAreFewInCode) (p : Program) (formed : IsWellFormed p) where
-  body_short : (f : ℕ) (g : Function) → slice_get p.functions f ≡ Some g → (b : Body) → IsMadeAndSelected (lower_function p g) b → body_words b ≤ words_of g
+  coded_body : (g : Function) (b : Body) → IsCodedOf p g b → IsBodyOf p g b
+  coded_body g b m = bound m.coded.values (record { shorts = m.shorts; known = m.known; made = m.coded.made })
+
+  body_short : (f : ℕ) (g : Function) → slice_get p.functions f ≡ Some g → (b : Body) → IsCodedOf p g b → body_words b ≤ words_of g
   body_short f g there b m =
-      let all = short p f g (record { formed = formed; there = there }) b (bound m.values m.made) m.suitable m.frame true in
+      let all = short p f g (record { formed = formed; there = there }) b (coded_body g b m) m.coded.suitable m.coded.frame true in
       let here = least (selected_lines true b) in
       omega (arith, all, here)
 
-  body_slots : (f : ℕ) (g : Function) → slice_get p.functions f ≡ Some g → (b : Body) → IsMadeAndSelected (lower_function p g) b → body_sites b ≤ call_sites p g
+  body_slots : (f : ℕ) (g : Function) → slice_get p.functions f ≡ Some g → (b : Body) → IsCodedOf p g b → body_sites b ≤ call_sites p g
   body_slots f g there b m =
       let code : Labelled = record { items = selected_lines true b; labels = 0 } in
-      let of : IsCodeOf p g code = record { body = b; of = bound m.values m.made; suitable = m.suitable; fits = m.frame; attributed = true; items = refl } in
+      let of : IsCodeOf p g code = record { body = b; of = coded_body g b m; suitable = m.coded.suitable; fits = m.coded.frame; attributed = true; items = refl } in
       let few = few_slots p f g (record { formed = formed; there = there }) code of in
       let same = sites_counted (selected_lines true b) in
       omega (arith, few, same)
@@ -156,12 +158,12 @@ module _ (short : LinesAreShort) (few_slots : SlotsAreFewInCode) (p : Program) (
   module _ (lists : List (List Body)) (have : HaveVariantBodies p lists) where
     -- the bodies of a function together, where each has no more than so many
     together : (n : Body → ℕ) (limit : Function → ℕ) →
-        ((f : ℕ) (g : Function) → slice_get p.functions f ≡ Some g → (b : Body) → IsMadeAndSelected (lower_function p g) b → n b ≤ limit g) →
+        ((f : ℕ) (g : Function) → slice_get p.functions f ≡ Some g → (b : Body) → IsCodedOf p g b → n b ≤ limit g) →
         (i : ℕ) (g : Function) (m : ℕ) → slice_get (attributed_functions p) i ≡ Some g → slice_get (map (sum_by n) lists) i ≡ Some m → m ≤ assignments p g * limit g
     together n limit each i g m nth is =
         let (bodies, at, same) = unmapped (sum_by n) lists i m is in
         let (f, there) = one_of p.functions i g nth in
-        let all = All-weaker (IsMadeAndSelected (lower_function p g)) (λ b. n b ≤ limit g) (each f g there) bodies (have.each i g bodies nth at) in
+        let all = All-weaker (IsCodedOf p g) (λ b. n b ≤ limit g) (each f g there) bodies (have.each i g bodies nth at) in
         let sum = most n (limit g) bodies all in
         let less = mul-le-mul_right (limit g) (have.each_few i g bodies nth at) in
         omega (arith, sum, less, same)

@@ -21,9 +21,9 @@ use Rattle.mv_num.proofs.Lists.{sum_cons}
 
 module _ (often : LoweredCallAsOften) (general_few : GeneralSlotsAreFew) (folded_few : OwnSlotsAreFew) (bound_few : SlotsAreFew) where
   body_slots : (p : Program) (f : ℕ) (g : Function) → IsFunctionOf p f g → (b : Body) → IsBodyOf p g b → (attributed : Bool) → sites (selected_lines attributed b) ≤ call_sites p g
-  body_slots p f g h b (general m) attributed = general_few p g (often p f g h) b m (place_in b.rooms) (size_in b.rooms) (shape_of attributed b)
+  body_slots p f g h b (general m) attributed = general_few p g (often p f g h) m.shorts b m.general (place_in b.rooms) (size_in b.rooms) (shape_of attributed b)
   body_slots p f g h b (folded body i r) attributed = folded_few p g (often p f g h) body b i r (place_in b.rooms) (size_in b.rooms) (shape_of attributed b)
-  body_slots p f g h b (bound ps m) attributed = bound_few p g (often p f g h) ps b m (place_in b.rooms) (size_in b.rooms) (shape_of attributed b)
+  body_slots p f g h b (bound ps m) attributed = bound_few p g (often p f g h) m.shorts ps b m.made (place_in b.rooms) (size_in b.rooms) (shape_of attributed b)
 
   pub code_slots : SlotsAreFewInCode
   code_slots p f g h code c = subst (λ lines. sites lines ≤ call_sites p g) (sym c.items) (body_slots p f g h c.body c.of c.attributed)

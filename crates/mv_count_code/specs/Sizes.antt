@@ -7,6 +7,7 @@ use Rattle.mv_ast.specs.Counts.{nodes, depth, declared_words}
 use Rattle.mv_isa.specs.Code.{greatest_words}
 use Rattle.mv_ir.specs.declared.body.Body.{Body}
 use Rattle.mv_ir.specs.Live.{most_intervals}
+use Rattle.mv_ir.specs.Shorts.{Shorts}
 use Rattle.mv_select.specs.Calls.Convention.{frame_limit}
 use Rattle.mv_select.specs.Functions.FunctionCode.{frame_bytes}
 use Rattle.mv_lower_spec.specs.Functions.{lower_function}
@@ -17,18 +18,18 @@ use Rattle.mv_merge.specs.declared.rows.Domain.{Domain}
 use Rattle.mv_merge.specs.declared.rows.Bound.{Bound}
 use Rattle.mv_merge.specs.declared.rows.Variants.{Variants}
 use Rattle.mv_merge.specs.Guards.{IsMerged}
-use Rattle.mv_variants.specs.Bound.Meant.{IsMadeUnder}
-use Rattle.mv_variants.specs.Bound.General.{IsGeneral}
+use Rattle.mv_variants.specs.Bound.Shorts.{AreShortsOf}
+use Rattle.mv_variants.specs.Bound.Programs.{IsGeneralOf, IsMadeOf}
 use Rattle.mv_variants.specs.Bound.Led.{AreMade}
 use Rattle.mv_select.specs.Selected.{IsSuitable, FitsFrame, PassesFrame, selected_lines}
 use Rattle.mv_select.specs.Laws.{greatest_length}
 
--- What a function's code is selected for: what it is lowered to, tidied or not and with its temporaries renamed; or with constants folded before, with its switches
--- bound before that or not.
+-- What a function's code is selected for: what it is lowered to, with short bodies in place of calls and tidied, or not, and with its temporaries renamed; or with
+-- constants folded before, with its switches bound before that or not.
 pub data IsBodyOf (p : Program) (g : Function) (b : Body) : Type 0 where
-  general : IsGeneral (lower_function p g) b → IsBodyOf p g b
+  general : IsGeneralOf p g b → IsBodyOf p g b
   folded : (body : Body) → IsFolded (lower_function p g) body → IsRenamed body b → IsBodyOf p g b
-  bound : (ps : List (ℕ × ℕ)) → IsMadeUnder ps (lower_function p g) b → IsBodyOf p g b
+  bound : (ps : List (ℕ × ℕ)) → IsMadeOf p g ps b → IsBodyOf p g b
 
 -- forty words for each node of a function, and forty for its entry and return
 abbrev pub words_of : Function → ℕ
@@ -47,7 +48,8 @@ LinesAreShort =
 abbrev pub VariantsAreShort : Type 0
 VariantsAreShort =
     (p : Program) (f : ℕ) (g : Function) → IsFunctionOf p f g → (own : Body) → IsBodyOf p g own →
-    (domains : List Domain) (rows : List Bound) (variants : Variants) → IsMerged domains rows variants → AreMade (lower_function p g) rows →
+    (domains : List Domain) (rows : List Bound) (variants : Variants) → IsMerged domains rows variants →
+    (shorts : Shorts) → AreShortsOf p shorts → AreMade shorts (lower_function p g) rows →
     greatest_length own + sum_by greatest_length variants.bodies ≤ words_of g * (1 + length rows)
 
 -- the declared words of a function, and eight for each level of its depth

@@ -1,5 +1,5 @@
 -- The slots of a body are the calls of attributed functions in it.
-use Rattle.std.proofs.Common.{arith, ◌≡◌, ℕ, zero, suc, ◌+◌, ◌≤◌, Bool, true, false, cond, eqb, ◌&&◌, List, [], ◌∷◌, map, refl, sym, ap, ◌∙◌, subst}
+use Rattle.std.proofs.Common.{arith, ◌≡◌, ℕ, zero, suc, ◌+◌, ◌≤◌, Bool, true, false, cond, eqb, ◌&&◌, List, [], ◌∷◌, map, Some, refl, sym, ap, ◌∙◌, subst}
 use Rattle.std.specs.Prelude.{slice_get, nat_eq}
 use Rattle.std.proofs.lemmas.Bool.{eq-eqb, or_right, or_left, and_from}
 use Rattle.std.proofs.lemmas.List.Sums.{sum_by-cons}
@@ -10,18 +10,21 @@ use Rattle.mv_num.specs.Lists.{is_among}
 use Rattle.mv_isa.specs.declared.labelled.Line.{Line}
 use Rattle.mv_isa.specs.declared.labelled.Line.TheVariants.{Slot}
 use Rattle.mv_ir.specs.declared.body.Body.{Body}
+use Rattle.mv_ir.specs.Shorts.{Shorts}
 use Rattle.mv_ir.proofs.Induction.{Each}
 use Rattle.mv_select_code.specs.Trees.Rooms.{place_in}
 use Rattle.mv_select_code.specs.Control.Layouts.{size_in}
 use Rattle.mv_select.specs.Calls.CallCode.{is_marked}
 use Rattle.mv_select.specs.Functions.Functions.{shape_of}
 use Rattle.mv_lower_spec.specs.Functions.{functions_called, marked_from, lower_function}
-use Rattle.mv_lower_spec.specs.Shape.Calls.{code_weight, attributed_once}
+use Rattle.mv_lower_spec.specs.Shape.Calls.{layer_weight, code_weight, attributed_once}
 use Rattle.mv_lower_spec.specs.Shape.Law.{LoweredCallAsOften}
+use Rattle.mv_variants.specs.Bound.Shorts.{AreShortsOf}
 use Rattle.mv_variants.specs.Bound.Slots.{slots, one_each, SlotsAreCalls}
 use Rattle.mv_variants.proofs.OfBound.FewSlots.{Among, marked_attributed}
 use Rattle.mv_variants.proofs.OfBound.Meant.{made}
 use Rattle.mv_variants.proofs.OfBound.Generals.{kept, general_no_more, general_same}
+use Rattle.mv_variants.proofs.OfBound.ExpandedMeasures.{ShortsCountNothing}
 use Rattle.mv_variants.proofs.OfBound.Weights.{weights, weights_of_calls}
 use Rattle.mv_variants.proofs.OfBound.Variants.{made_calls, worked_no_more}
 use Rattle.mv_select.specs.Selected.{selected_lines}
@@ -109,6 +112,12 @@ module _ (p : Program) (g : Function) where
       let none = no_other (λ f. 1) in
       omega (arith, all, none, fewer)
 
+-- ---- a function with a short body isn't attributed
+
+pub short_plain : (p : Program) (shorts : Shorts) → AreShortsOf p shorts → (f : ℕ) (b : Body) → slice_get shorts f ≡ Some (Some b) →
+    is_attributed (slice_get p.functions f) ≡ false
+short_plain p shorts known f b there = let short = known f b there in ap is_attributed short.there ∙ short.plain
+
 -- ---- laws
 
 module _ (are_calls : SlotsAreCalls) where
@@ -123,10 +132,16 @@ module _ (are_calls : SlotsAreCalls) where
       marked_slots attributed b ∙ ap (λ fs. marked_calls fs b.code) marked ∙ same_calls p g b (fewer (one_other p g))
 
   pub attributed_slots : AttributedCallsHaveSlots
-  attributed_slots p g b (general r) = slots_of p g b (kept (lower_function p g) b r).marked (λ direct. general_no_more (lower_function p g) b r (weights direct 0))
+  attributed_slots p g b (general r) =
+      slots_of p g b (kept r.shorts (lower_function p g) b r.general).marked
+      (λ direct. general_no_more r.shorts (lower_function p g) b r.general (weights direct 0) (weights_of_calls direct 0))
   attributed_slots p g b (folded body i r) = slots_of p g b (ap (λ (x : Body). x.marked) r.changes ∙ i.marked) (λ direct. worked_no_more (weights direct 0) (lower_function p g) body b i r)
-  attributed_slots p g b (bound ps m) = slots_of p g b (made ps (lower_function p g) b m).marked (λ direct. made_calls direct 0 ps (lower_function p g) b m)
+  attributed_slots p g b (bound ps m) =
+      slots_of p g b (made m.shorts ps (lower_function p g) b m.made).marked (λ direct. made_calls direct 0 m.shorts ps (lower_function p g) b m.made)
 
   pub source_slots : LoweredCallAsOften → SourceCallsHaveSlots
   source_slots often p f g h b r attributed =
-      attributed_slots p g b (general r) attributed ∙ general_same (lower_function p g) b r (weights (attributed_once p) 0) (weights_of_calls (attributed_once p) 0) ∙ (often p f g h).attributed
+      let once = attributed_once p in
+      let free : ShortsCountNothing (layer_weight once 0) r.shorts = λ k short there to args. ap (λ a. cond a 1 0) (short_plain p r.shorts r.known k short there) in
+      attributed_slots p g b (general r) attributed
+      ∙ general_same r.shorts (lower_function p g) b r.general (weights once 0) (weights_of_calls once 0) free ∙ (often p f g h).attributed

@@ -33,14 +33,14 @@ use Rattle.mv_count_slots.proofs.Through.{same_through}
 -- ---- what each body of a function keeps
 
 pub rooms_kept : (p : Program) (g : Function) (b : Body) → IsBodyOf p g b → b.rooms ≡ (lower_function p g).rooms
-rooms_kept p g b (general r) = (kept (lower_function p g) b r).rooms
+rooms_kept p g b (general r) = (kept r.shorts (lower_function p g) b r.general).rooms
 rooms_kept p g b (folded body i r) = ap (λ (x : Body). x.rooms) r.changes ∙ i.rooms
-rooms_kept p g b (bound ps m) = (made ps (lower_function p g) b m).rooms
+rooms_kept p g b (bound ps m) = (made m.shorts ps (lower_function p g) b m.made).rooms
 
 pub no_more : (p : Program) (g : Function) (b : Body) → IsBodyOf p g b → CountsNoMore (lower_function p g) b
-no_more p g b (general r) layer m of = general_no_more (lower_function p g) b r of
-no_more p g b (folded body i r) layer m of = worked_no_more of (lower_function p g) body b i r
-no_more p g b (bound ps made_under) layer m of = made_no_more of ps (lower_function p g) b made_under
+no_more p g b (general r) layer m of calls = general_no_more r.shorts (lower_function p g) b r.general of calls
+no_more p g b (folded body i r) layer m of calls = worked_no_more of (lower_function p g) body b i r
+no_more p g b (bound ps h) layer m of calls = made_no_more of calls h.shorts ps (lower_function p g) b h.made
 
 -- ---- calls through the pointer switch at a place
 
@@ -115,6 +115,6 @@ pointers_have_slots are_calls often well_formed p f g h attributed x pointed =
     let calls = calls_are p g h.formed (often p f g h) (well_formed p f g h) x pointed in
     let points = points_are p g h.formed (often p f g h) (well_formed p f g h) x pointed are_calls attributed in
     let at = at_place p g h.formed (often p f g h) (well_formed p f g h) x pointed in (
-      λ b r. points b (general r) ∙ (general_same (lower_function p g) b r (throughs at) (throughs_of_calls at) ∙ calls),
-      λ b of none. omega (arith, points b of, no_more p g b of _ _ (throughs at), calls, none),
+      λ b r. points b (general r) ∙ (general_same r.shorts (lower_function p g) b r.general (throughs at) (throughs_of_calls at) (λ k short there to args. refl) ∙ calls),
+      λ b of none. omega (arith, points b of, no_more p g b of _ _ (throughs at) (throughs_of_calls at), calls, none),
     )

@@ -28,6 +28,7 @@ module _ (one other : ℕ → Bool) (N : Array → Type 0) (agree : (g : ℕ) �
   callee_same (callee.Direct f) z = refl
   callee_same (callee.Through t) z = refl
   callee_same (callee.Switched g) z = ap (λ b. if b then 1 else 0) (agree g z.0)
+  callee_same callee.Expanded z = refl
 
   layer_same : (x : Stm-F Stm) → StmChildren Same x → Each N (layer_named (map-Stm Stm (List Array) stm_named x)) →
       layer_through one (map-Stm Stm ℕ (stm_through one) x) ≡ layer_through other (map-Stm Stm ℕ (stm_through other) x)

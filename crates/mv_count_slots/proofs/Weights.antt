@@ -32,6 +32,7 @@ module _ (a b c : ℕ → ℕ) where
   callee_adds (callee.Direct f) z = z.0
   callee_adds (callee.Through t) z = omega arith
   callee_adds (callee.Switched g) z = omega arith
+  callee_adds callee.Expanded z = omega arith
 
   layer_adds : (x : Stm-F Stm) → StmChildren Adds x → Each AddUp (layer_called (map-Stm Stm (List ℕ) stm_called x)) →
       layer_weight a 0 (map-Stm Stm ℕ (stm_weight a 0) x) ≡ layer_weight b 0 (map-Stm Stm ℕ (stm_weight b 0) x) + layer_weight c 0 (map-Stm Stm ℕ (stm_weight c 0) x)

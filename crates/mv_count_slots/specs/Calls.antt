@@ -7,10 +7,9 @@ use Rattle.mv_ir.specs.declared.stm.Stm.{Stm}
 use Rattle.mv_ir.specs.declared.body.Body.{Body}
 use Rattle.mv_select.specs.Calls.CallCode.{is_marked}
 use Rattle.mv_select_code.specs.Trees.Rooms.{place_in}
-use Rattle.mv_lower_spec.specs.Functions.{lower_function}
 use Rattle.mv_lower_spec.specs.Shape.Calls.{code_weight, function_weight, attributed_once}
 use Rattle.mv_lower_spec.specs.Shape.Law.{IsFunctionOf}
-use Rattle.mv_variants.specs.Bound.General.{IsGeneral}
+use Rattle.mv_variants.specs.Bound.Programs.{IsGeneralOf}
 use Rattle.mv_variants.specs.Bound.Slots.{one_each, points_where, slot_weight}
 use Rattle.mv_select.specs.Selected.{selected_lines}
 use Rattle.mv_linker.specs.Tables.{slot_count}
@@ -36,7 +35,7 @@ AttributedCallsHaveSlots =
 -- That of its own body, neither bound nor folded, has one for each such call in the source.
 abbrev pub SourceCallsHaveSlots : Type 0
 SourceCallsHaveSlots =
-    (p : Program) (f : ℕ) (g : Function) → IsFunctionOf p f g → (b : Body) → IsGeneral (lower_function p g) b →
+    (p : Program) (f : ℕ) (g : Function) → IsFunctionOf p f g → (b : Body) → IsGeneralOf p g b →
     (attributed : Bool) → slot_count (selected_lines attributed b) ≡ calls p g
 
 -- one for each direct call of a function
@@ -46,7 +45,7 @@ once_for callee f = if f == callee then 1 else 0
 -- Of each attributed function it has as many slots as the source has direct calls of it.
 abbrev pub CalleesHaveSlots : Type 0
 CalleesHaveSlots =
-    (p : Program) (f : ℕ) (g : Function) → IsFunctionOf p f g → (b : Body) → IsGeneral (lower_function p g) b → (attributed : Bool) →
+    (p : Program) (f : ℕ) (g : Function) → IsFunctionOf p f g → (b : Body) → IsGeneralOf p g b → (attributed : Bool) →
     (callee : ℕ) → is_attributed (slice_get p.functions callee) ≡ true → slot_weight (once_for callee) (selected_lines attributed b) ≡ function_weight (once_for callee) 0 g
 
 -- It has as many slots of four words through the pointer at an address as the source has calls through the pointer switch that stands there, and that of each
@@ -54,5 +53,5 @@ CalleesHaveSlots =
 abbrev pub PointersHaveSlots : Type 0
 PointersHaveSlots =
     (p : Program) (f : ℕ) (g : Function) → IsFunctionOf p f g → (attributed : Bool) (x : ℕ) → is_pointer p x ≡ true →
-    ((b : Body) → IsGeneral (lower_function p g) b → points_where (eqb (place_in b.rooms x)) (selected_lines attributed b) ≡ calls_through (nat_eq x) g)
+    ((b : Body) → IsGeneralOf p g b → points_where (eqb (place_in b.rooms x)) (selected_lines attributed b) ≡ calls_through (nat_eq x) g)
     × ((b : Body) → IsBodyOf p g b → calls_through (nat_eq x) g ≡ 0 → points_where (eqb (place_in b.rooms x)) (selected_lines attributed b) ≡ 0)

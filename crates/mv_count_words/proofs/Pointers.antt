@@ -30,7 +30,7 @@ use Rattle.mv_lower_spec.specs.Functions.{names_global, lower_function}
 use Rattle.mv_lower_spec.specs.Shape.Calls.{code_through}
 use Rattle.mv_lower_spec.specs.Shape.Law.{IsFunctionOf}
 use Rattle.mv_lower_spec.proofs.OfShape.OfPrograms.{often, well_formed}
-use Rattle.mv_variants.specs.Bound.General.{IsGeneral}
+use Rattle.mv_variants.specs.Bound.Programs.{IsGeneralOf}
 use Rattle.mv_variants.proofs.OfBound.Generals.{general_same}
 use Rattle.mv_variants.specs.Bound.Slots.{points_where}
 use Rattle.mv_variants.specs.declared.variant.Variant.{Variant}
@@ -133,11 +133,11 @@ module _ (p : Program) (formed : IsWellFormed p) (below : AreBelow p) where
           ∙ points_are_calls (place_in b.rooms) (size_in b.rooms) (is_marked b.marked) (shape_of attributed b) b.code (λ a. eqb a at)
           ∙ ap (λ rooms. code_through (λ k. eqb (place_in rooms k) at) b.code) (rooms_kept p g b is)
 
-      own_points : (b : Body) → IsGeneral lowered b → (attributed : Bool) → points_through at (selected_lines attributed b) ≡ calls_through (nat_eq x) g
-      own_points b r attributed = in_body b (general r) attributed ∙ general_same lowered b r (throughs here) (throughs_of_calls here) ∙ counted
+      own_points : (b : Body) → IsGeneralOf p g b → (attributed : Bool) → points_through at (selected_lines attributed b) ≡ calls_through (nat_eq x) g
+      own_points b r attributed = in_body b (general r) attributed ∙ general_same r.shorts lowered b r.general (throughs here) (throughs_of_calls here) (λ k short there to args. refl) ∙ counted
 
       most_points : (b : Body) → IsBodyOf p g b → (attributed : Bool) → points_through at (selected_lines attributed b) ≤ calls_through (nat_eq x) g
-      most_points b is attributed = omega (arith, in_body b is attributed, no_more p g b is _ _ (throughs here), counted)
+      most_points b is attributed = omega (arith, in_body b is attributed, no_more p g b is _ _ (throughs here) (throughs_of_calls here), counted)
 
 -- ---- the code of a program
 
@@ -222,8 +222,9 @@ module _ (p : Program) (formed : IsWellFormed p) (bodies : List Body) (tables : 
           let body : Body = variant.0.body in
           let is = parted.each j variant.0 v variant.1 e in
           let at = subst (λ (bs : List Body). slice_get bs j ≡ Some body) all.grouped.bodies (map_at (λ (w : Variant). w.body) variants j variant.0 variant.1) in
-          let made = bodies_made (domains_in p (switch_kind p) g) all.rows all.merged all.is_merged (lower_function p g) all.made j body at in
-          let most = most_points p formed are_below x pointer f g (record { formed = formed; there = there }) body (bound (zip (lower_function p g).switches made.0.assignment.values) made.2) true in
+          let made = bodies_made (domains_in p (switch_kind p) g) all.rows all.merged all.is_merged all.shorts (lower_function p g) all.made j body at in
+          let of = bound (zip (lower_function p g).switches made.0.assignment.values) (record { shorts = all.shorts; known = all.known; made = made.2 }) in
+          let most = most_points p formed are_below x pointer f g (record { formed = formed; there = there }) body of true in
           let items = ap (points_through address) is.code.selected.items in
           omega (arith, most, items, no_calls f g there)
 

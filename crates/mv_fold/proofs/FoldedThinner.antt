@@ -243,6 +243,7 @@ callee_less : (f : Callee) → Less (callee_trees f) (callee_trees (simple_calle
 callee_less (callee.Direct f) t e = (e, refl)
 callee_less (callee.Through x) t e = one_less x t e
 callee_less (callee.Switched g) t e = (e, refl)
+callee_less callee.Expanded t e = (e, refl)
 
 call_less : (f : Callee) (ts : List Tree) → Less (callee_trees f ++ ts) (callee_trees (simple_callee f) ++ map simple_tree ts)
 call_less f ts t e = (

@@ -125,6 +125,7 @@ callee_less : (f : Callee) → TreesLess (callee_trees (simple_callee f)) (calle
 callee_less (callee.Direct f) = less_refl _
 callee_less (callee.Through t) = one_less t
 callee_less (callee.Switched g) = less_refl _
+callee_less callee.Expanded = less_refl _
 
 call_less : (f : Callee) (ts : List Tree) → TreesLess (callee_trees (simple_callee f) ++ map simple_tree ts) (callee_trees f ++ ts)
 call_less f ts =
@@ -228,6 +229,7 @@ callee_among : (f : Callee) → Among (callee_read (simple_callee f)) (callee_re
 callee_among (callee.Direct f) = none_among []
 callee_among (callee.Through t) = none_among []
 callee_among (callee.Switched g) = λ k c. c
+callee_among callee.Expanded = none_among []
 
 -- the statements of a loop or block alone, with a jump at their end or none
 end_within : (front : List Stm) (end : Option ℕ) → Within (front ++ leave end) (front ++ leave (from_outside end))

@@ -119,6 +119,9 @@ uses_through t = append-nil (tree_uses None t)
 pub uses_switched : (g : ℕ) → trees_uses (callee_trees (callee.Switched g)) ≡ []
 uses_switched g = refl
 
+pub uses_expanded : trees_uses (callee_trees callee.Expanded) ≡ []
+uses_expanded = refl
+
 -- ---- what is kept
 
 pub kept_set : (needed : ℕ → Bool) (t : ℕ) (v : Tree) → needed t ≡ true → needed_stm needed (at.Set t v) ≡ at.Set t v ∷ []
@@ -171,7 +174,7 @@ kept_return needed v = ap (needed_stm needed) (sym (rolls-Return v)) ∙ needed_
 
 pub ruleset uses_of_trees = (append_assoc, append-nil, uses_number, uses_temp, uses_global, uses_function, uses_unary, uses_binary, uses_narrow)
 
-pub ruleset uses_of_callees = (append-nil, uses_direct, uses_through, uses_switched)
+pub ruleset uses_of_callees = (append-nil, uses_direct, uses_through, uses_switched, uses_expanded)
 
 pub ruleset uses_of_stms = (append_assoc, append-nil, uses_set_stm, uses_setglobal_stm, uses_divide_stm, uses_check_stm, uses_read_stm, uses_write_stm, uses_zero_stm, uses_if_stm, uses_loop_stm, uses_block_stm, uses_break_stm, uses_back_stm, uses_call_stm, uses_known_stm, uses_return_stm)
 

@@ -40,7 +40,7 @@ use Rattle.mv_fold.proofs.Closing.{Among, Closed, left, right, among, for_body, 
 -- ---- values
 
 -- temporaries that agree where a tree reads them
-abbrev AgreeFor : Tree → List ℕ → List ℕ → Type 0
+abbrev pub AgreeFor : Tree → List ℕ → List ℕ → Type 0
 AgreeFor x xs ys = (t : ℕ) → reads_temp t x ≡ true → slice_index xs t ≡ slice_index ys t
 
 module _ (numbers : List ℕ) (bound : List (ℕ × ℕ)) (xs ys : List ℕ) (globals : List (List ℕ)) where
@@ -61,7 +61,7 @@ module _ (numbers : List ℕ) (bound : List (ℕ × ℕ)) (xs ys : List ℕ) (gl
       ap (binary o (value numbers bound x ys globals)) (h.1 (λ t r. a t (reads_temp_roll t (tree.Binary o x y) ∙ or_right _ _ r))) ∙ sym (here (tree.Binary o x y) ys)
   value_layer (tree.Narrow k x) h a = here (tree.Narrow k x) xs ∙ ap (word.narrow k) (h (λ t r. a t (reads_temp_roll t (tree.Narrow k x) ∙ r))) ∙ sym (here (tree.Narrow k x) ys)
 
-  value_same : (x : Tree) → SameValue x
+  pub value_same : (x : Tree) → SameValue x
   value_same = tree_ind SameValue value_layer
 
 -- ---- statements
@@ -120,6 +120,7 @@ module _ (setting : Setting) (frame : Frame) (needed : ℕ → Bool) where
   callee_in (callee.Direct f) h = refl
   callee_in (callee.Through t) h = same_in t (for_body needed t (left needed (tree_uses None t) [] h))
   callee_in (callee.Switched g) h = refl
+  callee_in callee.Expanded h = tt
 
   puts : (r : Option ℕ) → Puts setting frame Agree q r r
   puts None = keeps

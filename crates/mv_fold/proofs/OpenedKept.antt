@@ -8,8 +8,8 @@ use Rattle.mv_ir.specs.declared.stm.Stm.TheViews.{roll-Stm}
 use Rattle.mv_ir.specs.declared.stm.Stm.TheFolds.{map-Stm}
 use Rattle.mv_ir.specs.World.{Setting, Frame}
 use Rattle.mv_ir.specs.Trees.{divide}
-use Rattle.mv_ir.specs.Outcome.{State, End, Returned, Trapped, More, Stuck, Outcome, Next, Leaves, Restarts, Ends, Run, Bound, Meaning, now, goes_on, then_do, in_order, block_end, block, turn_end, turn, loop}
-use Rattle.mv_ir.specs.Meaning.{meaning, code_meaning, elements, with_temp, with_elements, traps, call_end, Goal, Nowhere, Null, At, of_tree, goal, made_call, within, call_to}
+use Rattle.mv_ir.specs.Outcome.{State, End, Returned, Trapped, More, Stuck, Outcome, Next, Leaves, Restarts, Ends, Run, Call, Bound, Meaning, now, goes_on, then_do, in_order, block_end, block, turn_end, turn, loop}
+use Rattle.mv_ir.specs.Meaning.{meaning, code_meaning, elements, with_temp, with_elements, traps, call_end, Goal, Nowhere, Null, At, Inside, of_tree, goal, made_call, within, call_to}
 use Rattle.mv_ir.specs.Keeps.{KeepsRun}
 use Rattle.mv_ir.proofs.Induction.{Each, StmChildren, stm_ind, stms_ind}
 use Rattle.mv_ir.proofs.Keeping.{run_refl, run_trans, in_order_append, map_append, meaning_roll, layer_means, one_meaning, Between, between_many}
@@ -77,6 +77,14 @@ within_call d (At f) depth live r args bound s = within_either d (ltb depth 512)
     by : (bound : Bound) → Within d (within bound (λ calls. made_call r s (calls f args depth live s.world)) s).outcome
     by [] = tt
     by (calls ∷ below) = within_end d r s (calls f args depth live s.world).end
+within_call d Inside depth live r args bound s = within_either d (ltb depth 512) (within bound (λ calls. made_call r s nothing) s) (now (traps 4 s)) (by bound) tt
+  where
+    nothing : Call
+    nothing = record { cost = 0; end = Returned None s.world }
+
+    by : (bound : Bound) → Within d (within bound (λ calls. made_call r s nothing) s).outcome
+    by [] = tt
+    by (calls ∷ below) = within_end d r s nothing.end
 
 -- ---- of statements
 

@@ -51,6 +51,7 @@ module _ (temps : ℕ) (setting : Setting) (frame : Frame) where
   callee_in (callee.Direct f) = refl
   callee_in (callee.Through t) = same_in t
   callee_in (callee.Switched g) = refl
+  callee_in callee.Expanded = tt
 
   keeps : (xs ys : List ℕ) → Long xs ys → Long xs ys
   keeps xs ys e = e

@@ -76,7 +76,7 @@ covers_mark (true ∷ ms) (x ∷ xs) (y ∷ ys) h (suc i) e = covers_mark ms xs 
 covers_mark (false ∷ ms) [] ys h i e = absurd h
 covers_mark (false ∷ ms) (x ∷ xs) ys h i e = covers_mark ms xs ys h i e
 
-covers_any : (ms xs ys : List Bool) → Covers ms xs ys → any_of ys ≡ true → any_of xs ≡ true
+pub covers_any : (ms xs ys : List Bool) → Covers ms xs ys → any_of ys ≡ true → any_of xs ≡ true
 covers_any [] [] [] h e = e
 covers_any [] [] (y ∷ ys) h e = absurd h
 covers_any [] (x ∷ xs) ys h e = absurd h
@@ -204,7 +204,7 @@ module _ (needed : ℕ → Bool) where
     marks = λ r. (ap (λ l. marks_in_order l r) (map_append (flow t) xs ys) ∙ marks_append (map (flow t) xs) (map (flow t) ys) r) i;
   }
 
-  fits_after : (t : ℕ) (r r' : Around) (b b' : Bool) → FitsAround t r r' → Implies t b b' → FitsAround t (with_after r b) (with_after r' b')
+  pub fits_after : (t : ℕ) (r r' : Around) (b b' : Bool) → FitsAround t r r' → Implies t b b' → FitsAround t (with_after r b) (with_after r' b')
   fits_after t r r' b b' h k = record { next = k; leaves = h.leaves; restarts = h.restarts }
 
   pub thinner_append : (xs xs' ys ys' : List Stm) → IsThinner xs xs' → IsThinner ys ys' → IsThinner (xs ++ ys) (xs' ++ ys')
@@ -278,10 +278,10 @@ module _ (needed : ℕ → Bool) where
   at_place_implies t b b' f f' h k zero = h
   at_place_implies t b b' f f' h k (suc n) = k n
 
-  fits_loop : (t : ℕ) (r r' : Around) (b b' : Bool) → FitsAround t r r' → Implies t b b' → FitsAround t (around_loop r b) (around_loop r' b')
+  pub fits_loop : (t : ℕ) (r r' : Around) (b b' : Bool) → FitsAround t r r' → Implies t b b' → FitsAround t (around_loop r b) (around_loop r' b')
   fits_loop t r r' b b' h k = record { next = k; leaves = at_place_implies t _ _ _ _ h.next h.leaves; restarts = at_place_implies t _ _ _ _ k h.restarts }
 
-  fits_block : (t : ℕ) (r r' : Around) → FitsAround t r r' → FitsAround t (around_block r) (around_block r')
+  pub fits_block : (t : ℕ) (r r' : Around) → FitsAround t r r' → FitsAround t (around_block r) (around_block r')
   fits_block t r r' h = record { next = h.next; leaves = at_place_implies t _ _ _ _ h.next h.leaves; restarts = at_place_implies t _ _ _ _ (λ v. from_falsity v) h.restarts }
 
   pub loop_thins : (b b' : List Stm) → IsThinner b b' → IsThinner (roll-Stm (stm.Loop b) ∷ []) (roll-Stm (stm.Loop b') ∷ [])

@@ -1,5 +1,5 @@
 -- Folding keeps bodies well formed.
-use Rattle.std.proofs.Common.{arith, ◌≡◌, ℕ, zero, suc, Bool, true, false, cond, ◌&&◌, List, [], ◌∷◌, ◌++◌, length, map, Option, Some, None, refl, sym, ◌∙◌, ap, subst, Contains, nat_lt, nat_eq}
+use Rattle.std.proofs.Common.{arith, ◌≡◌, ℕ, zero, suc, ◌+◌, ◌^◌, ◌≤◌, Bool, true, false, cond, ◌&&◌, List, [], ◌∷◌, ◌++◌, length, map, Option, Some, None, refl, sym, ◌∙◌, ap, subst, Contains, nat_lt, nat_eq}
 use Rattle.std.proofs.lemmas.Bool.{lt-ltb, ltb-true}
 use Rattle.mv_ir.specs.declared.tree.Tree.{Tree}
 use Rattle.mv_ir.specs.declared.stm.Array.{Array}
@@ -11,7 +11,7 @@ use Rattle.mv_ir.specs.declared.stm.Stm.TheOpen as stm
 use Rattle.mv_ir.specs.declared.stm.Stm.TheViews.{roll-Stm}
 use Rattle.mv_ir.specs.declared.stm.Stm.TheFolds.{map-Stm}
 use Rattle.mv_ir.specs.declared.body.Body.{Body}
-use Rattle.mv_ir.specs.Measures.{joined}
+use Rattle.mv_ir.specs.Measures.{joined, scalars_read, statements, tree_nodes}
 use Rattle.mv_ir.specs.Live.{HasTemps}
 use Rattle.mv_ir.specs.WellFormed.{all_true, all_around, layer_targets, stm_targets, callee_named, layer_named, stm_named, named, has_room, is_there, known_arguments, layer_arguments, stm_arguments, IsWellFormed}
 use Rattle.mv_ir.proofs.Induction.{Each, StmChildren}
@@ -135,7 +135,7 @@ kept_one x y h = subst (λ a. Keep a (facts (alone y))) (sym (facts_one x)) (sub
 kept_many : (x : Stm-F Stm) (ys : List Stm) → Keep (layer_facts x) (facts ys) → Kept (roll-Stm x ∷ []) ys
 kept_many x ys h = subst (λ a. Keep a (facts ys)) (sym (facts_one x)) h
 
-kept_nothing : (xs : List Stm) → Kept xs []
+pub kept_nothing : (xs : List Stm) → Kept xs []
 kept_nothing xs = record { targets = λ r e. refl; arguments = λ e. refl; named = λ p e. refl }
 
 -- two layers that ask the same
@@ -208,6 +208,7 @@ callee_named_simple : (f : Callee) → callee_named (simple_callee f) ≡ callee
 callee_named_simple (callee.Direct f) = refl
 callee_named_simple (callee.Through t) = refl
 callee_named_simple (callee.Switched g) = refl
+callee_named_simple callee.Expanded = refl
 
 -- seen from around a loop or block
 abbrev inside : Bool → Facts → Facts
@@ -327,18 +328,24 @@ true_all : (p : ℕ → Bool) (ys : List ℕ) → ((y : ℕ) → Contains ys y �
 true_all p [] h = refl
 true_all p (y ∷ ys) h = ap (λ b. b && all_true (map p ys)) (h y (cons_head y ys y refl)) ∙ true_all p ys (λ z c. h z (cons_tail y ys z c))
 
--- code in which no jump loses its target, no name its room and no call its arguments, with no more of all that is counted
-pub code_well_formed : (b : Body) (code : List Stm) → Kept b.code code → (HasTemps b → HasTemps (record b { code = code })) → IsNoGreater b.code code → IsWellFormed b → IsWellFormed (record b { code = code })
-code_well_formed b code kept temps less w =
+-- code in which no jump loses its target, no name its room and no call its arguments, that reads no other globals, and isn't too large
+pub kept_well_formed : (b : Body) (temps : ℕ) (code : List Stm) → Kept b.code code → HasTemps (record b { temps = temps; code = code }) → ((g : ℕ) → Contains (scalars_read code) g → Contains (scalars_read b.code) g) → statements code + tree_nodes code ≤ 2 ^ 30 →
+    IsWellFormed b → IsWellFormed (record b { temps = temps; code = code })
+kept_well_formed b temps code kept has scalars size w =
     record {
-      temps = temps w.temps;
+      temps = has;
       params = w.params;
       targets = kept.targets (false ∷ []) w.targets;
       named = kept.named (is_there b.rooms b.arrays) w.named;
-      read = true_all (has_room b.rooms) _ (λ g c. true_of (has_room b.rooms) _ w.read g (less.scalars g c));
+      read = true_all (has_room b.rooms) _ (λ g c. true_of (has_room b.rooms) _ w.read g (scalars g c));
       arguments = kept.arguments w.arguments;
-      size = omega (arith, w.size, less.statements, less.tree_nodes);
+      size = size;
     }
+
+-- the same where there is no more of all that is counted
+pub code_well_formed : (b : Body) (code : List Stm) → Kept b.code code → (HasTemps b → HasTemps (record b { code = code })) → IsNoGreater b.code code → IsWellFormed b → IsWellFormed (record b { code = code })
+code_well_formed b code kept temps less w =
+    kept_well_formed b b.temps code kept (temps w.temps) less.scalars (omega (arith, w.size, less.statements, less.tree_nodes)) w
 
 pub folded_well_formed : (b : Body) (needed : ℕ → Bool) → (HasTemps b → HasTemps (record b { code = needed_code needed (simple_body b.temps b.code) })) → IsNoGreater b.code (needed_code needed (simple_body b.temps b.code)) →
     IsWellFormed b → IsWellFormed (record b { code = needed_code needed (simple_body b.temps b.code) })

@@ -45,5 +45,6 @@ pub fn copy_callee(alloc: Global, callee: &Callee) -> Result<Callee, AllocError>
         Callee::Direct(f) => Ok(Callee::Direct(*f)),
         Callee::Through(t) => Ok(Callee::Through(copy_tree(alloc, t)?)),
         Callee::Switched(g) => Ok(Callee::Switched(*g)),
+        Callee::Expanded => Ok(Callee::Expanded),
     }
 }

@@ -51,6 +51,7 @@ fn add_callee(callee: &Callee, uses: &mut List<Use>) -> Result<(), AllocError>
         Callee::Direct(_) => Ok(()),
         Callee::Through(t) => add_tree(None, t, uses),
         Callee::Switched(_) => Ok(()),
+        Callee::Expanded => Ok(()),
     }
 }
 

@@ -12,7 +12,7 @@ use Rattle.mv_ir.specs.declared.stm.Stm.TheOpen as stm
 use Rattle.mv_ir.specs.World.{Setting, Frame}
 use Rattle.mv_ir.specs.Trees.{Value, value, nodes, nodes_of_all, divide}
 use Rattle.mv_ir.specs.Outcome.{State, Returned, Outcome, Next, Ends, Meaning, in_order}
-use Rattle.mv_ir.specs.Meaning.{elements, with_temp, with_world, with_global, with_elements, traps, At, goal_of, goal, callee_nodes, call_to, known_end, statement}
+use Rattle.mv_ir.specs.Meaning.{elements, with_temp, with_world, with_global, with_elements, traps, At, goal_of, goal, callee_nodes, call_cost, call_to, known_end, statement}
 use Rattle.mv_ir.specs.Keeps.{KeepsRun, KeepsMeaning}
 use Rattle.mv_ir.proofs.Keeping.{run_refl, run_equal, spend_keeps, loop_keeps, block_keeps, either_keeps}
 
@@ -38,6 +38,7 @@ module _ (setting : Setting) (depth live : ℕ) (bound bound' : List (ℕ × ℕ
   SameCallee (callee.Direct f) (callee.Direct f') = f ≡ f'
   SameCallee (callee.Through t) (callee.Through t') = Same t t'
   SameCallee (callee.Switched g) (callee.Switched g') = g ≡ g'
+  SameCallee callee.Expanded callee.Expanded = Unit {0}
   SameCallee _ _ = ⊥
 
   abbrev F : Frame
@@ -129,19 +130,29 @@ module _ (setting : Setting) (depth live : ℕ) (bound bound' : List (ℕ × ℕ
   same_goal (callee.Direct f) (callee.Direct f') s h = ap At h
   same_goal (callee.Through t) (callee.Through t') s h = ap (λ v. goal_of setting.numbers (v s.temps s.world.globals)) h.value
   same_goal (callee.Switched g) (callee.Switched g') s h = ap (λ k. goal_of setting.numbers (setting.switched k s.world)) h
+  same_goal callee.Expanded callee.Expanded s h = refl
   same_goal _ _ s h = absurd h
 
   smaller_callee : (f f' : Callee) → SameCallee f f' → callee_nodes setting F' f' ≤ callee_nodes setting F f
   smaller_callee (callee.Direct f) (callee.Direct f') h = omega arith
   smaller_callee (callee.Through t) (callee.Through t') h = h.smaller
   smaller_callee (callee.Switched g) (callee.Switched g') h = omega arith
+  smaller_callee callee.Expanded callee.Expanded h = omega arith
   smaller_callee _ _ h = absurd h
+
+  same_cost : (f f' : Callee) → SameCallee f f' → call_cost f' ≡ call_cost f
+  same_cost (callee.Direct f) (callee.Direct f') h = refl
+  same_cost (callee.Through t) (callee.Through t') h = refl
+  same_cost (callee.Switched g) (callee.Switched g') h = refl
+  same_cost callee.Expanded callee.Expanded h = refl
+  same_cost _ _ h = absurd h
 
   pub call_alike : (r : Option ℕ) (f f' : Callee) (args args' : List Tree) → SameCallee f f' → SameTrees args args' → KeepsMeaning (act (stm.Call r f args)) (act' (stm.Call r f' args'))
   call_alike r f f' args args' hf h b s =
       let less = smaller_trees args args' h in
       let less_callee = smaller_callee f f' hf in
-      spend_keeps (60 + 3 * (callee_nodes setting F f + nodes_of_all args)) (60 + 3 * (callee_nodes setting F' f' + nodes_of_all args')) _ _ (omega (arith, less, less_callee))
+      let cost = same_cost f f' hf in
+      spend_keeps (call_cost f + 3 * (callee_nodes setting F f + nodes_of_all args)) (call_cost f' + 3 * (callee_nodes setting F' f' + nodes_of_all args')) _ _ (omega (arith, less, less_callee, cost))
       (run_equal _ _ (ap (λ g. call_to g depth live r (values args s) b s) (same_goal f f' s hf) ∙ ap (λ l. call_to (goal setting F' f' s) depth live r l b s) (same_values args args' s h)))
 
   -- ---- of parts

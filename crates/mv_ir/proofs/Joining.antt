@@ -1,6 +1,6 @@
 -- Measures of lists that are put together, of a tree, and of what a body begins with.
 use Rattle.std.proofs.Common.{◌≡◌, ℕ, zero, suc, ◌+◌, ◌-◌, ◌<◌, ◌≤◌, Bool, List, [], ◌∷◌, ◌++◌, length, map, max, refl, sym, ◌∙◌, ap, subst, arith, append_assoc, ◌⊎◌, inl, inr}
-use Rattle.std.specs.Prelude.{◌||◌}
+use Rattle.std.specs.Prelude.{◌||◌, slice_index}
 use Rattle.std.proofs.Math.Bool.{or_assoc}
 use Rattle.std.proofs.lemmas.Bool.{cases_lt}
 use Rattle.std.proofs.lemmas.List.{length-append}
@@ -103,3 +103,15 @@ items_count (suc n) f = ap suc (items_count n (λ i. f (suc i)))
 
 pub temps_enough : (f : ℕ → ℕ) (n : ℕ) (args : List ℕ) → n ≤ length (first_temps f n args)
 temps_enough f n args = omega (arith, items_count (n - length args) f, length-append args (first_items (n - length args) f))
+
+item_at : (n k t : ℕ) (f : ℕ → ℕ) → t < n → t < k → slice_index (first_items n f) t ≡ slice_index (first_items k f) t
+item_at zero k t f h l = absurd (omega (arith, h))
+item_at (suc n) zero t f h l = absurd (omega (arith, l))
+item_at (suc n) (suc k) zero f h l = refl
+item_at (suc n) (suc k) (suc t) f h l = item_at n k t (λ i. f (suc i)) (omega (arith, h)) (omega (arith, l))
+
+-- two frames that begin with the same arguments and contents agree as far as both go
+pub argument_at : (args : List ℕ) (n k t : ℕ) (f : ℕ → ℕ) → t < length args + n → t < length args + k → slice_index (args ++ first_items n f) t ≡ slice_index (args ++ first_items k f) t
+argument_at [] n k t f h l = item_at n k t f (omega (arith, h)) (omega (arith, l))
+argument_at (x ∷ args) n k zero f h l = refl
+argument_at (x ∷ args) n k (suc t) f h l = argument_at args n k t f (omega (arith, h)) (omega (arith, l))

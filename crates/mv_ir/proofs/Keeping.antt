@@ -127,7 +127,7 @@ module _ (setting : Setting) (frame frame' : Frame) where
   abbrev B : List Stm → List Stm → Type 0
   B = Between setting frame frame'
 
-  joined_runs : (f : Frame) (xs ys : List Stm) (bound : Bound) (s : State) → code_meaning setting f (xs ++ ys) bound s ≡ then_do (code_meaning setting f xs bound s) (code_meaning setting f ys bound)
+  pub joined_runs : (f : Frame) (xs ys : List Stm) (bound : Bound) (s : State) → code_meaning setting f (xs ++ ys) bound s ≡ then_do (code_meaning setting f xs bound s) (code_meaning setting f ys bound)
   joined_runs f xs ys bound s = ap (λ l. in_order l bound s) (map_append (meaning setting f) xs ys) ∙ in_order_append (map (meaning setting f) xs) (map (meaning setting f) ys) bound s
 
   pub between_append : (xs xs' ys ys' : List Stm) → B xs xs' → B ys ys' → B (xs ++ ys) (xs' ++ ys')

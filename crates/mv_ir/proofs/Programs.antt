@@ -7,8 +7,8 @@ use Rattle.mv_ir.specs.declared.stm.Stm.TheOpen as stm
 use Rattle.mv_ir.specs.declared.stm.Stm.TheFolds.{map-Stm}
 use Rattle.mv_ir.specs.declared.body.Body.{Body}
 use Rattle.mv_ir.specs.World.{World, Setting, Frame}
-use Rattle.mv_ir.specs.Outcome.{State, Call, Bound, Meaning, in_order, block_end, block, loop}
-use Rattle.mv_ir.specs.Meaning.{Goal, Nowhere, Null, At, call_end, made_call, within, call_to, statement, meaning, code_meaning, of_tree, body_end, entry_state, cleared, body_meaning}
+use Rattle.mv_ir.specs.Outcome.{State, Returned, Call, Bound, Meaning, in_order, block_end, block, loop}
+use Rattle.mv_ir.specs.Meaning.{Goal, Nowhere, Null, At, Inside, call_end, made_call, within, call_to, statement, meaning, code_meaning, of_tree, body_end, entry_state, cleared, body_meaning}
 use Rattle.mv_ir.specs.Keeps.{KeepsRun, KeepsCall}
 use Rattle.mv_ir.specs.KeptPrograms.{KeepsFunction, KeepsFunctions, KeepsBound}
 use Rattle.mv_ir.specs.Levels.{Code, called, levels, frame_of_call}
@@ -44,6 +44,16 @@ within_keeps r f args depth live s (c ∷ b) (c' ∷ b') k =
 call_monotone : (g : Goal) (depth live : ℕ) (r : Option ℕ) (args : List ℕ) → IsMonotone (call_to g depth live r args)
 call_monotone Nowhere depth live r args b b' k s = run_refl _
 call_monotone Null depth live r args b b' k s = run_refl _
+call_monotone Inside depth live r args b b' k s = either_keeps (ltb depth 512) _ _ _ _ (inside b b' k) (run_refl _)
+  where
+    nothing : Call
+    nothing = record { cost = 0; end = Returned None s.world }
+
+    inside : (b b' : Bound) → KeepsBound b b' → KeepsRun (within b (λ calls. made_call r s nothing) s) (within b' (λ calls. made_call r s nothing) s)
+    inside [] [] k = run_refl _
+    inside [] (c' ∷ b') k = absurd k
+    inside (c ∷ b) [] k = absurd k
+    inside (c ∷ b) (c' ∷ b') k = run_refl _
 call_monotone (At f) depth live r args b b' k s = either_keeps (ltb depth 512) _ _ _ _ (within_keeps r f args depth live s b b' k) (run_refl _)
 
 module _ (setting : Setting) (frame : Frame) where

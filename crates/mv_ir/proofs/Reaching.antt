@@ -10,10 +10,10 @@ use Rattle.mv_ir.specs.declared.stm.Stm.TheOpen as stm
 use Rattle.mv_ir.specs.declared.stm.Stm.TheFolds.{map-Stm}
 use Rattle.mv_ir.specs.declared.body.Body.{Body}
 use Rattle.mv_ir.specs.World.{World, Setting, Frame}
-use Rattle.mv_ir.specs.Outcome.{State, End, Returned, Trapped, More, Stuck, Outcome, Next, Leaves, Restarts, Ends, Run, Calls, Bound, Meaning, now, goes_on, in_order, block_end, turn_end, loop}
+use Rattle.mv_ir.specs.Outcome.{State, End, Returned, Trapped, More, Stuck, Outcome, Next, Leaves, Restarts, Ends, Run, Call, Calls, Bound, Meaning, now, goes_on, in_order, block_end, turn_end, loop}
 use Rattle.mv_ir.specs.KnownFunctions.{known_answer}
 use Rattle.mv_ir.specs.Trees.{divide}
-use Rattle.mv_ir.specs.Meaning.{elements, with_temp, with_world, with_elements, traps, put, call_end, Goal, Nowhere, Null, At, made_call, within, call_to, goal, of_tree, statement, meaning, code_meaning, body_end, body_meaning}
+use Rattle.mv_ir.specs.Meaning.{elements, with_temp, with_world, with_elements, traps, put, call_end, Goal, Nowhere, Null, At, Inside, made_call, within, call_to, goal, of_tree, statement, meaning, code_meaning, body_end, body_meaning}
 use Rattle.mv_ir.specs.Levels.{Code, frame_of_call, called, levels, program_meaning}
 use Rattle.mv_ir.specs.Programs.{setting_of}
 use Rattle.mv_ir.proofs.Induction.{Each, StmChildren, stm_ind, stms_ind}
@@ -123,6 +123,15 @@ goal_reaches : (g : Goal) (depth live : ℕ) (result : Option ℕ) (args : List 
     → Reaches s.world (call_to g depth live result args bound s).outcome
 goal_reaches Nowhere depth live result args bound b s = tt
 goal_reaches Null depth live result args bound b s = trap_reached 3 s (omega arith) (omega arith)
+goal_reaches Inside depth live result args bound b s =
+    run_choice s.world (ltb depth 512) (within bound (λ calls. made_call result s nothing) s) (now (traps 4 s)) (inside bound) (trap_reached 4 s (omega arith) (omega arith))
+  where
+    nothing : Call
+    nothing = record { cost = 0; end = Returned None s.world }
+
+    inside : (bound : Bound) → Reaches s.world (within bound (λ calls. made_call result s nothing) s).outcome
+    inside [] = refl
+    inside (calls ∷ below) = call_reached result s (Returned None s.world) refl
 goal_reaches (At f) depth live result args bound b s =
     run_choice s.world (ltb depth 512) (within bound (λ calls. made_call result s (calls f args depth live s.world)) s) (now (traps 4 s))
     (within_reaches f args depth live result bound b s) (trap_reached 4 s (omega arith) (omega arith))

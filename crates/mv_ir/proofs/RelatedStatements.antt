@@ -12,8 +12,8 @@ use Rattle.mv_ir.specs.declared.stm.Stm.TheOpen.{Stm-F}
 use Rattle.mv_ir.specs.declared.stm.Stm.TheOpen as stm
 use Rattle.mv_ir.specs.World.{World, Setting, Frame, Answer}
 use Rattle.mv_ir.specs.Trees.{Value, value, nodes, nodes_of_all, divide}
-use Rattle.mv_ir.specs.Outcome.{End, Returned, Trapped, More, Stuck, Outcome, Next, Run, Bound, Meaning, spend, in_order}
-use Rattle.mv_ir.specs.Meaning.{elements, with_global, with_elements, put, call_end, Goal, Nowhere, Null, At, goal_of, goal, callee_nodes, made_call, within, call_to, statement}
+use Rattle.mv_ir.specs.Outcome.{End, Returned, Trapped, More, Stuck, Outcome, Next, Run, Call, Bound, Meaning, spend, in_order}
+use Rattle.mv_ir.specs.Meaning.{elements, with_global, with_elements, put, call_end, Goal, Nowhere, Null, At, Inside, goal_of, goal, callee_nodes, call_cost, made_call, within, call_to, statement}
 use Rattle.mv_ir.proofs.Relating.{Rel, StateRel, Places, OutcomeRel, RunRel, MeaningRel}
 
 -- from states that differ in the temporaries alone
@@ -125,7 +125,7 @@ module _ (setting : Setting) (frame : Frame) where
     pub return_rel : (v v' : Tree) → SameIn p v v' → MeaningRel p q (act (stm.Return v)) (act (stm.Return v'))
     return_rel v v' hv = from_temps p q _ _ (λ bound xs ys arrays world h. record { outcome = ap (λ x. Returned (Some x) world) (hv.value xs ys world.globals h); cheaper = omega (arith, hv.smaller) })
 
-    either_rel : (c c' : Bool) (r1 r1' r2 r2' : Run) → c ≡ c' → RunRel q r1 r1' → RunRel q r2 r2' → RunRel q (cond c r1 r2) (cond c' r1' r2')
+    pub either_rel : (c c' : Bool) (r1 r1' r2 r2' : Run) → c ≡ c' → RunRel q r1 r1' → RunRel q r2 r2' → RunRel q (cond c r1 r2) (cond c' r1' r2')
     either_rel c c' r1 r1' r2 r2' e h k = subst (λ d. RunRel q (cond c r1 r2) (cond d r1' r2')) e (by c)
       where
         by : (d : Bool) → RunRel q (cond d r1 r2) (cond d r1' r2')
@@ -146,7 +146,7 @@ module _ (setting : Setting) (frame : Frame) where
     SameTreesIn (t ∷ ts) [] = ⊥
     SameTreesIn (t ∷ ts) (t' ∷ ts') = SameIn p t t' × SameTreesIn ts ts'
 
-    same_values : (ts ts' : List Tree) (xs ys : List ℕ) (globals : List (List ℕ)) → SameTreesIn ts ts' → p xs ys → map (λ t. val t xs globals) ts ≡ map (λ t. val t ys globals) ts'
+    pub same_values : (ts ts' : List Tree) (xs ys : List ℕ) (globals : List (List ℕ)) → SameTreesIn ts ts' → p xs ys → map (λ t. val t xs globals) ts ≡ map (λ t. val t ys globals) ts'
     same_values [] [] xs ys globals h e = refl
     same_values [] (t' ∷ ts') xs ys globals h e = absurd h
     same_values (t ∷ ts) [] xs ys globals h e = absurd h
@@ -186,19 +186,29 @@ module _ (setting : Setting) (frame : Frame) where
     SameCalleeIn (callee.Direct f) (callee.Direct f') = f ≡ f'
     SameCalleeIn (callee.Through t) (callee.Through t') = SameIn p t t'
     SameCalleeIn (callee.Switched g) (callee.Switched g') = g ≡ g'
+    SameCalleeIn callee.Expanded callee.Expanded = Unit {0}
     SameCalleeIn _ _ = ⊥
 
     same_goal : (f f' : Callee) (xs ys : List ℕ) (arrays : List (List ℕ)) (w : World) → SameCalleeIn f f' → p xs ys → goal setting frame f (record { temps = xs; arrays = arrays; world = w }) ≡ goal setting frame f' (record { temps = ys; arrays = arrays; world = w })
     same_goal (callee.Direct f) (callee.Direct f') xs ys arrays w h e = ap At h
     same_goal (callee.Through t) (callee.Through t') xs ys arrays w h e = ap (goal_of setting.numbers) (h.value xs ys w.globals e)
     same_goal (callee.Switched g) (callee.Switched g') xs ys arrays w h e = ap (λ k. goal_of setting.numbers (setting.switched k w)) h
+    same_goal callee.Expanded callee.Expanded xs ys arrays w h e = refl
     same_goal _ _ xs ys arrays w h e = absurd h
 
     smaller_callee : (f f' : Callee) → SameCalleeIn f f' → callee_nodes setting frame f' ≤ callee_nodes setting frame f
     smaller_callee (callee.Direct f) (callee.Direct f') h = omega arith
     smaller_callee (callee.Through t) (callee.Through t') h = h.smaller
     smaller_callee (callee.Switched g) (callee.Switched g') h = omega arith
+    smaller_callee callee.Expanded callee.Expanded h = omega arith
     smaller_callee _ _ h = absurd h
+
+    same_cost : (f f' : Callee) → SameCalleeIn f f' → call_cost f' ≡ call_cost f
+    same_cost (callee.Direct f) (callee.Direct f') h = refl
+    same_cost (callee.Through t) (callee.Through t') h = refl
+    same_cost (callee.Switched g) (callee.Switched g') h = refl
+    same_cost callee.Expanded callee.Expanded h = refl
+    same_cost _ _ h = absurd h
 
     -- what a callee's end gives
     end_rel : (r r' : Option ℕ) (xs ys : List ℕ) (arrays : List (List ℕ)) (w : World) (e : End) → Puts r r' → p xs ys → OutcomeRel q (call_end r (record { temps = xs; arrays = arrays; world = w }) e) (call_end r' (record { temps = ys; arrays = arrays; world = w }) e)
@@ -222,14 +232,23 @@ module _ (setting : Setting) (frame : Frame) where
         inside : (bound : Bound) → RunRel q (within bound (λ calls. made_call r (record { temps = xs; arrays = arrays; world = w }) (calls f values frame.depth frame.live w)) (record { temps = xs; arrays = arrays; world = w })) (within bound (λ calls. made_call r' (record { temps = ys; arrays = arrays; world = w }) (calls f values frame.depth frame.live w)) (record { temps = ys; arrays = arrays; world = w }))
         inside [] = record { outcome = refl; cheaper = omega arith }
         inside (calls ∷ below) = record { outcome = end_rel r r' xs ys arrays w (calls f values frame.depth frame.live w).end k h; cheaper = omega arith }
+    to_rel Inside r r' values xs ys arrays w bound k h = either_rel (ltb frame.depth 512) (ltb frame.depth 512) _ _ _ _ refl (inside bound) (record { outcome = refl; cheaper = omega arith })
+      where
+        nothing : Call
+        nothing = record { cost = 0; end = Returned None w }
+
+        inside : (bound : Bound) → RunRel q (within bound (λ calls. made_call r (record { temps = xs; arrays = arrays; world = w }) nothing) (record { temps = xs; arrays = arrays; world = w })) (within bound (λ calls. made_call r' (record { temps = ys; arrays = arrays; world = w }) nothing) (record { temps = ys; arrays = arrays; world = w }))
+        inside [] = record { outcome = refl; cheaper = omega arith }
+        inside (calls ∷ below) = record { outcome = end_rel r r' xs ys arrays w (Returned None w) k h; cheaper = omega arith }
 
     pub call_rel : (r r' : Option ℕ) (f f' : Callee) (args args' : List Tree) → SameCalleeIn f f' → SameTreesIn args args' → Puts r r' → MeaningRel p q (act (stm.Call r f args)) (act (stm.Call r' f' args'))
     call_rel r r' f f' args args' hf ha hp = from_temps p q _ _ (λ bound xs ys arrays world h.
         let less = smaller_trees args args' ha in
         let less_callee = smaller_callee f f' hf in
+        let cost = same_cost f f' hf in
         let here = map (λ t. val t xs world.globals) args in
         let there = goal setting frame f (record { temps = xs; arrays = arrays; world = world }) in
-        let second : Goal → List ℕ → Run = λ g l. spend (60 + 3 * (callee_nodes setting frame f' + nodes_of_all args')) (call_to g frame.depth frame.live r' l bound (record { temps = ys; arrays = arrays; world = world })) in
+        let second : Goal → List ℕ → Run = λ g l. spend (call_cost f' + 3 * (callee_nodes setting frame f' + nodes_of_all args')) (call_to g frame.depth frame.live r' l bound (record { temps = ys; arrays = arrays; world = world })) in
         let inner = to_rel there r r' here xs ys arrays world bound hp h in
-        let start : RunRel q (act (stm.Call r f args) bound (record { temps = xs; arrays = arrays; world = world })) (second there here) = record { outcome = inner.outcome; cheaper = omega (arith, inner.cheaper, less, less_callee) } in
+        let start : RunRel q (act (stm.Call r f args) bound (record { temps = xs; arrays = arrays; world = world })) (second there here) = record { outcome = inner.outcome; cheaper = omega (arith, inner.cheaper, less, less_callee, cost) } in
         subst (RunRel q (act (stm.Call r f args) bound (record { temps = xs; arrays = arrays; world = world }))) (ap (λ g. second g here) (same_goal f f' xs ys arrays world hf h) ∙ ap (second (goal setting frame f' (record { temps = ys; arrays = arrays; world = world }))) (same_values args args' xs ys world.globals ha h)) start)

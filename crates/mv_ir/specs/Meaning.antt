@@ -55,11 +55,12 @@ call_end result s Stuck = Ends Stuck
 
 -- ---- calls
 
--- where a call through a number goes: nowhere for null, else to the function that has the number, where one has it
+-- Where a call goes. Through a number: nowhere for null, else to the function that has the number, where one has it. An expanded one stays inside the function.
 pub data Goal : Type 0 where
   Nowhere : Goal
   Null : Goal
   At : ℕ → Goal
+  Inside : Goal
 
 -- the place of a number in a list, counted on from another place
 abbrev pub place : List ℕ → ℕ → ℕ → Option ℕ
@@ -85,6 +86,15 @@ call_to Nowhere depth live result args bound s = now (Ends Stuck)
 call_to Null depth live result args bound s = now (traps trap.null_call s)
 call_to (At f) depth live result args bound s =
     cond (ltb depth trap.depth_limit) (within bound (λ calls. made_call result s (calls f args depth live s.world)) s) (now (traps trap.call_too_deep s))
+call_to Inside depth live result args bound s =
+    cond (ltb depth trap.depth_limit) (within bound (λ calls. made_call result s (record { cost = 0; end = Returned None s.world })) s) (now (traps trap.call_too_deep s))
+
+-- 60 for a call, and 8 for what is left of one that is expanded
+abbrev pub call_cost : Callee → ℕ
+call_cost (callee.Direct f) = 60
+call_cost (callee.Through t) = 60
+call_cost (callee.Switched g) = 60
+call_cost callee.Expanded = 8
 
 -- ---- statements
 
@@ -96,11 +106,13 @@ module _ (setting : Setting) (frame : Frame) where
   goal (callee.Direct f) s = At f
   goal (callee.Through t) s = goal_of setting.numbers (of_tree t s)
   goal (callee.Switched g) s = goal_of setting.numbers (setting.switched g s.world)
+  goal callee.Expanded s = Inside
 
   abbrev pub callee_nodes : Callee → ℕ
   callee_nodes (callee.Direct f) = 0
   callee_nodes (callee.Through t) = nodes t
   callee_nodes (callee.Switched g) = 0
+  callee_nodes callee.Expanded = 0
 
   abbrev pub known_end : Option ℕ → State → Answer → Run
   known_end result s a = record { cost = a.cost; outcome = Next (put result a.value (with_world s a.world)) }
@@ -134,7 +146,7 @@ module _ (setting : Setting) (frame : Frame) where
   statement (stm.Break n) bound s = step 0 (Leaves n s)
   statement (stm.Back n) bound s = step 0 (Restarts n s)
   statement (stm.Call result f args) bound s =
-      spend (60 + 3 * (callee_nodes f + nodes_of_all args)) (call_to (goal f s) frame.depth frame.live result (map (λ t. of_tree t s) args) bound s)
+      spend (call_cost f + 3 * (callee_nodes f + nodes_of_all args)) (call_to (goal f s) frame.depth frame.live result (map (λ t. of_tree t s) args) bound s)
   statement (stm.Known result k args) bound s =
       spend (30 + 3 * nodes_of_all args) (known_end result s (setting.known k (map (λ t. of_tree t s) args) frame.live s.world))
   statement (stm.Return v) bound s = step (nodes v) (Ends (Returned (Some (of_tree v s)) s.world))

@@ -45,6 +45,7 @@ abbrev pub callee_named : Callee → List Array
 callee_named (callee.Direct f) = []
 callee_named (callee.Through t) = []
 callee_named (callee.Switched g) = array.Global g ∷ []
+callee_named callee.Expanded = []
 
 -- the arrays that a statement names, and the scalars that it stores to and the pointer switches that it calls through, as arrays of one element
 abbrev pub layer_named : Stm-F (List Array) → List Array

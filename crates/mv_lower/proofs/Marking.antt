@@ -161,7 +161,10 @@ names_through t m = ap (λ l. marked (names_of l [] []) m) (one t)
 pub names_switched : (g : ℕ) (m : Flags) → marked (callee_names (callee.Switched g)) m ≡ marked (global_names g) m
 names_switched g m = refl
 
-pub ruleset callees = (names_direct, names_through, names_switched)
+pub names_expanded : (m : Flags) → marked (callee_names callee.Expanded) m ≡ m
+names_expanded m = none_named m
+
+pub ruleset callees = (names_direct, names_through, names_switched, names_expanded)
 
 -- ---- lists, one item more
 

@@ -85,6 +85,7 @@ fn mark_callee(callee: &Callee, marks: &mut Marks)
         Callee::Direct(f) => mark_function(*f, marks),
         Callee::Through(tree) => mark_tree(tree, marks),
         Callee::Switched(g) => mark_global(*g, marks),
+        Callee::Expanded => {}
     }
 }
 

@@ -55,6 +55,7 @@ module _ (test : ℕ → Bool) where
   layer (stm.Call r (callee.Direct f) args) h = refl
   layer (stm.Call r (callee.Through t) args) h = refl
   layer (stm.Call r (callee.Switched g) args) h = omega arith
+  layer (stm.Call r callee.Expanded args) h = refl
   layer (stm.Known r k args) h = refl
   layer (stm.Return v) h = refl
 

@@ -2,7 +2,7 @@
 use Rattle.std.proofs.Common.{◌≡◌, ℕ, suc, ◌+◌, ◌*◌, ◌<◌, ◌≤◌, Bool, true, false, cond, eqb, ltb, List, [], ◌∷◌, ◌++◌, map, Option, Some, None, refl, sym, ◌∙◌, subst, ap, arith}
 use Rattle.std.specs.Prelude.{slice_index_or, length}
 use Rattle.mv_ast.specs.Switches.{word_at}
-use Rattle.mv_ir.specs.Meaning.{code_meaning, with_temp, with_world, traps, call_end, made_call, within, call_to, Goal, Null, At, goal, goal_of, goal_at, place, callee_nodes, known_end}
+use Rattle.mv_ir.specs.Meaning.{code_meaning, with_temp, with_world, traps, call_end, made_call, within, call_to, Goal, Null, At, goal, goal_of, goal_at, place, callee_nodes, call_cost, known_end}
 use Rattle.std.proofs.lemmas.List.{get_or-set_same, length-map}
 use Rattle.mv_source_forms.specs.Names.{is_callable, is_void}
 use Rattle.mv_ir.specs.declared.tree.Tree.{Tree}
@@ -222,7 +222,7 @@ module _ (scene : Scene) (bound : Bound) where
 
   -- what the statement itself costs
   abbrev price : Callee → List Tree → ℕ
-  price t trees = 60 + 3 * (callee_nodes scene.setting scene.frame t + nodes_of_all trees)
+  price t trees = call_cost t + 3 * (callee_nodes scene.setting scene.frame t + nodes_of_all trees)
 
   -- the statement, where depth is left
   enters : (result : Option ℕ) (t : Callee) (g : ℕ) (trees : List Tree) (vs : List ℕ) (f : Frame) (w : World) (s : State) → Shows scene f w s → map (λ t. val scene t s) trees ≡ vs → goal scene.setting scene.frame t s ≡ At g → ltb scene.frame.depth 512 ≡ true →

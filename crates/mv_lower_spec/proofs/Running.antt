@@ -14,7 +14,7 @@ use Rattle.mv_ir.specs.Outcome.{State, End, Next, Ends, Run, Bound, spend, then_
 use Rattle.mv_ir.specs.Outcome as ir
 use Rattle.mv_ir.specs.Trees as ir_tree
 use Rattle.mv_ir.specs.Trees.{nodes, nodes_of_all}
-use Rattle.mv_ir.specs.Meaning.{code_meaning, meaning, with_temp, with_world, with_global, with_elements, elements, traps, goal, callee_nodes, call_to, known_end}
+use Rattle.mv_ir.specs.Meaning.{code_meaning, meaning, with_temp, with_world, with_global, with_elements, elements, traps, goal, callee_nodes, call_cost, call_to, known_end}
 use Rattle.mv_ir.proofs.Keeping.{map_append, in_order_append, one_meaning}
 use Rattle.mv_ir.proofs.Rolls.{value_roll, nodes_roll}
 use Rattle.mv_lower_spec.specs.Lowered as lowered
@@ -108,7 +108,7 @@ module _ (scene : Scene) (bound : Bound) where
 
   pub runs_call : (t : Option ℕ) (f : Callee) (args : List Tree) (s : State) →
       code_meaning scene.setting scene.frame (call t f args ∷ []) bound s ≡
-      spend (60 + 3 * (callee_nodes scene.setting scene.frame f + nodes_of_all args)) (call_to (goal scene.setting scene.frame f s) scene.frame.depth scene.frame.live t (map (λ a. val scene a s) args) bound s)
+      spend (call_cost f + 3 * (callee_nodes scene.setting scene.frame f + nodes_of_all args)) (call_to (goal scene.setting scene.frame f s) scene.frame.depth scene.frame.live t (map (λ a. val scene a s) args) bound s)
   runs_call t f args s = one_meaning scene.setting scene.frame (stm.Call t f args) bound s
 
   pub runs_known : (t : ℕ) (k : Known) (args : List Tree) (s : State) →

@@ -56,6 +56,7 @@ abbrev pub callee_called : Callee → List ℕ
 callee_called (callee.Direct f) = f ∷ []
 callee_called (callee.Through t) = []
 callee_called (callee.Switched g) = []
+callee_called callee.Expanded = []
 
 abbrev pub layer_called : Stm-F (List ℕ) → List ℕ
 layer_called (stm.If t a b) = joined a ++ joined b

@@ -5,6 +5,7 @@ use Rattle.mv_ast.specs.Counts.{is_attributed}
 use Rattle.mv_isa.specs.declared.labelled.Labelled.{Labelled}
 use Rattle.mv_ir.specs.declared.body.Body.{Body}
 use Rattle.mv_ir.specs.Measures.{deepest}
+use Rattle.mv_ir.specs.Shorts.{Shorts}
 use Rattle.mv_ir.specs.WellFormed as ir
 use Rattle.mv_lower_spec.specs.Functions.{lower_function}
 use Rattle.mv_lower_spec.specs.Shape.Law.{LoweredAreShallow, LoweredAreWellFormed}
@@ -15,6 +16,7 @@ use Rattle.mv_select.specs.declared.error.SelectError.{SelectError}
 use Rattle.mv_select.specs.declared.error.SelectError.TheVariants.{Frame, Memory}
 use Rattle.mv_select.specs.Selected as selecting
 use Rattle.mv_select.specs.Selected.{IsSuitable, IsSelected, OnFrame}
+use Rattle.mv_variants.specs.Bound.General.{IsGeneral}
 use Rattle.mv_variants.proofs.OfBound.Generals.{frame_past, frame_within, kept}
 use Rattle.mv_parts.specs.Codes.{IsGeneric, HasCode, PassesFrame, greatest_count}
 
@@ -25,18 +27,24 @@ module _ (shallow : LoweredAreShallow) (formed : LoweredAreWellFormed) (p : Prog
   abbrev lowered : Body
   lowered = lower_function p g
 
+  abbrev shorts : Shorts
+  shorts = generic.general.shorts
+
+  abbrev made : IsGeneral shorts lowered body
+  made = generic.general.general
+
   formed_body : ir.IsWellFormed body
-  formed_body = (kept lowered body generic.general).well_formed (formed p f g (record { formed = well; there = generic.there }))
+  formed_body = (kept shorts lowered body made).well_formed (formed p f g (record { formed = well; there = generic.there }))
 
   shallow_body : deepest body.code ≤ 4
-  shallow_body = let few = shallow p g in omega (arith, (kept lowered body generic.general).deepest, few)
+  shallow_body = (kept shorts lowered body made).deepest (shallow p g)
 
   pub suitable : IsSuitable body
   suitable = record { formed = formed_body; shallow = shallow_body; orders = words.orders }
 
   pub passes : (named bytes : ℕ) → selecting.PassesFrame f body named bytes → PassesFrame p f named bytes
   passes named bytes h =
-      let same = frame_past lowered body generic.general h.past in
+      let same = frame_past shorts lowered body made h.past in
       record {
         function = g;
         there = generic.there;
@@ -56,5 +64,5 @@ module _ (shallow : LoweredAreShallow) (formed : LoweredAreWellFormed) (p : Prog
         function = g;
         there = generic.there;
         is_code = record { suitable = suitable; selected = subst (λ b. IsSelected b body code) own selected };
-        frame = frame_within lowered body generic.general selected.frame;
+        frame = frame_within shorts lowered body made selected.frame;
       }

@@ -10,11 +10,10 @@ use Rattle.mv_ast.specs.Switches.{attributed_functions}
 use Rattle.mv_isa.specs.declared.labelled.Labelled.{Labelled}
 use Rattle.mv_ir.specs.declared.body.Body.{Body}
 use Rattle.mv_ir_worlds.proofs.Functions.{attributed_at as nth_attributed}
-use Rattle.mv_lower_spec.specs.Functions.{lower_function}
 use Rattle.mv_variants.specs.Bound.Tables.{GroupsFit}
 use Rattle.mv_variants.specs.declared.size.Size.{Size}
 use Rattle.mv_variants.specs.declared.variant.Variant.{Variant}
-use Rattle.mv_variants.specs.Sizes.{body_sites, body_words, IsMadeAndSelected}
+use Rattle.mv_variants.specs.Sizes.{body_sites, body_words}
 use Rattle.mv_variants.specs.Variants.{bodies_of}
 use Rattle.mv_count_code.specs.Fronts as source
 use Rattle.mv_count_code.specs.Sizes.{general}
@@ -56,7 +55,7 @@ module _ (p : Program) where
   module _ (fit : GroupsFit) (tables : List (List Variant)) (bodies : List Body) (front : IsFront p tables bodies) where
     record IsList (n : ℕ) (list : List Body) (g : Function) : Type 0 where
       few : length list ≤ assignments p g
-      each : All (IsMadeAndSelected (lower_function p g)) list
+      each : All (source.IsCodedOf p g) list
 
     abbrev Each : ℕ → List Body → Type 0
     Each n list = (g : Function) → slice_get (attributed_functions p) n ≡ Some g → IsList n list g

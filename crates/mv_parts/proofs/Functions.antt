@@ -1,32 +1,76 @@
 -- The bodies of functions and their code, one by one.
-use Rattle.std.proofs.Common.{◌≡◌, ℕ, ◌<◌, ◌≤◌, List, [], ◌∷◌, ◌++◌, Some, length, map, slice_get, get_or, sym, ◌∙◌, ap, subst, arith}
+use Rattle.std.proofs.Common.{◌≡◌, ℕ, ◌<◌, ◌≤◌, false, List, [], ◌∷◌, ◌++◌, Option, None, Some, length, map, slice_get, get_or, refl, sym, ◌∙◌, ap, subst, arith}
+use Rattle.std.specs.Prelude.{IfSome}
 use Rattle.std.proofs.lemmas.List.{length-map}
 use Rattle.std.proofs.lemmas.Option.{slice_get-get_or, same_Some}
 use Rattle.mv_ast.specs.declared.program.Program.{Program}
 use Rattle.mv_ast.specs.declared.program.Function.{Function}
+use Rattle.mv_ast.specs.Counts.{is_attributed}
 use Rattle.mv_isa.specs.declared.labelled.Labelled.{Labelled}
 use Rattle.mv_ir.specs.declared.body.Body.{Body}
+use Rattle.mv_ir.specs.Keeps.{KeepsBody}
 use Rattle.mv_ir.specs.Live.{IsWhole}
+use Rattle.mv_ir.specs.Shorts.{Shorts}
 use Rattle.mv_ir.specs.WellFormed as ir
 use Rattle.mv_select.specs.Calls.Convention.{frame_limit}
 use Rattle.mv_lower_spec.specs.Functions.{lower_function}
 use Rattle.mv_lower_spec.specs.Shape.Law.{LoweredAreWhole, LoweredAreWellFormed}
 use Rattle.mv_source_forms.specs.WellFormed.{IsWellFormed}
+use Rattle.mv_expand.specs.Straight.{AllShort}
+use Rattle.mv_variants.specs.Bound.Shorts.{AreShortsOf, IsShortOf, IsShortened, ShortsHaveWords}
 use Rattle.mv_variants.specs.Bound.General.{IsGeneral}
+use Rattle.mv_variants.specs.Bound.Programs.{IsGeneralOf}
 use Rattle.mv_select.specs.declared.error.SelectError.{SelectError}
 use Rattle.mv_select.specs.declared.error.SelectError.TheVariants.{Frame, Memory}
 use Rattle.mv_select.specs.Selected.{OnFrame}
-use Rattle.mv_parts.specs.Codes.{AreGenerics, IsGeneric, HasCode, FramesFit, PassesFrame, PassesFirstFrame, frame_size}
+use Rattle.mv_parts.specs.Codes.{AreGenerics, IsGeneric, IsLowered, HasCode, FramesFit, PassesFrame, PassesFirstFrame, frame_size}
 use Rattle.mv_parts.proofs.Lists.{each_push, map_at}
 use Rattle.mv_num.proofs.Lists.{there_at}
 
--- ---- bodies
+-- ---- short bodies
 
--- a body is what the function with a number is lowered to
-pub record IsLowered (p : Program) (f : ℕ) (body : Body) : Type 0 where
-  pub function : Function
-  pub there : slice_get p.functions f ≡ Some function
-  pub is : body ≡ lower_function p function
+pub shorts_have_words : (p : Program) (shorts : Shorts) → AreShortsOf p shorts → ShortsHaveWords shorts
+shorts_have_words p shorts known f b there = let short = known f b there in (short.short, short.words)
+
+pub all_short : (p : Program) (shorts : Shorts) → AreShortsOf p shorts → AllShort shorts
+all_short p shorts known f b there = (known f b there).short
+
+module _ (p : Program) where
+  pub none_known : (shorts : Shorts) → shorts ≡ [] → AreShortsOf p shorts
+  none_known shorts none f b there = let bad : None ≡ Some (Some b) = ap (λ (xs : Shorts). slice_get xs f) (sym none) ∙ there in absurd (cc bad)
+
+  -- one that is none, or a short body of the function with a number
+  abbrev IfShort : ℕ → Option Body → Type 0
+  IfShort i short = (b : Body) → short ≡ Some b → IsShortOf p i b
+
+  pub shorts_push : (shorts : Shorts) → AreShortsOf p shorts → (i : ℕ) → length shorts ≡ i → (short : Option Body) → IfSome short (IsShortOf p i) → AreShortsOf p (shorts ++ short ∷ [])
+  shorts_push shorts known i count short is f b there = each_push IfShort shorts short before last f (Some b) there b refl
+    where
+      before : (k : ℕ) (o : Option Body) → slice_get shorts k ≡ Some o → IfShort k o
+      before k o at c e = known k c (at ∙ ap Some e)
+
+      last : IfShort (length shorts) short
+      last c e = subst (λ k. IsShortOf p k c) (sym count) (by short is e)
+        where
+          by : (o : Option Body) → IfSome o (IsShortOf p i) → o ≡ Some c → IsShortOf p i c
+          by None h f = absurd (let bad : ⊥ = cc in bad)
+          by (Some d) h f = subst (IsShortOf p i) (same_Some d c f) h
+
+  -- what is short of a body is short of the function that it is lowered from, where that isn't attributed
+  pub short_is : (i : ℕ) (body : Body) → IsLowered p i body → is_attributed (slice_get p.functions i) ≡ false → (short : Option Body) → IfSome short (IsShortened body) →
+      IfSome short (IsShortOf p i)
+  short_is i body lowered plain None h = tt
+  short_is i body lowered plain (Some b) h = record {
+    function = lowered.function;
+    there = lowered.there;
+    plain = sym (ap is_attributed lowered.there) ∙ plain;
+    params = h.params ∙ ap (λ (x : Body). x.params) lowered.is;
+    keeps = subst (λ (x : Body). KeepsBody x b) lowered.is h.keeps;
+    short = h.short;
+    words = h.words;
+  }
+
+-- ---- bodies
 
 module _ (p : Program) where
   pub lowered_at : (bodies : List Body) (i : ℕ) (body : Body) → bodies ≡ map (lower_function p) p.functions → i < length bodies → body ≡ get_or bodies i body → IsLowered p i body
@@ -45,14 +89,14 @@ module _ (p : Program) where
 
   -- each of some bodies is that of its function
   abbrev pub EachGeneral : List Body → Type 0
-  EachGeneral bodies = (f : ℕ) (g : Function) (body : Body) → slice_get p.functions f ≡ Some g → slice_get bodies f ≡ Some body → IsGeneral (lower_function p g) body
+  EachGeneral bodies = (f : ℕ) (g : Function) (body : Body) → slice_get p.functions f ≡ Some g → slice_get bodies f ≡ Some body → IsGeneralOf p g body
 
-  pub general_push : (bodies : List Body) → EachGeneral bodies → (i : ℕ) → length bodies ≡ i → (body other : Body) → IsLowered p i body → IsGeneral body other →
-      EachGeneral (bodies ++ other ∷ [])
-  general_push bodies each i count body other lowered general f g b there is = each_push P bodies other before last f b is g there
+  pub general_push : (bodies : List Body) → EachGeneral bodies → (i : ℕ) → length bodies ≡ i → (body other : Body) → IsLowered p i body → (shorts : Shorts) →
+      AreShortsOf p shorts → IsGeneral shorts body other → EachGeneral (bodies ++ other ∷ [])
+  general_push bodies each i count body other lowered shorts known general f g b there is = each_push P bodies other before last f b is g there
     where
       P : ℕ → Body → Type 0
-      P k y = (h : Function) → slice_get p.functions k ≡ Some h → IsGeneral (lower_function p h) y
+      P k y = (h : Function) → slice_get p.functions k ≡ Some h → IsGeneralOf p h y
 
       before : (k : ℕ) (y : Body) → slice_get bodies k ≡ Some y → P k y
       before k y at h here = each k h y here at
@@ -60,7 +104,7 @@ module _ (p : Program) where
       last : P (length bodies) other
       last h here =
           let same = same_Some lowered.function h (sym lowered.there ∙ (ap (λ k. slice_get p.functions k) (sym count) ∙ here)) in
-          subst (λ (x : Function). IsGeneral (lower_function p x) other) same (subst (λ x. IsGeneral x other) lowered.is general)
+          subst (λ (x : Function). IsGeneralOf p x other) same (record { shorts = shorts; known = known; general = subst (λ x. IsGeneral shorts x other) lowered.is general })
 
   -- ---- code
 

@@ -30,8 +30,8 @@ use Rattle.mv_select.specs.Functions.Functions.{shape_of}
 use Rattle.mv_num.specs.Regions.{data_limit}
 use Rattle.mv_select.specs.Bodies.Lines.{NamesThese, IsGoal, IsCalled, LinesAreNamed}
 use Rattle.mv_select.proofs.OfBodies.SamePlaces.{known_arrays}
-use Rattle.mv_variants.specs.Bound.Meant.{IsMadeUnder, MadeAreVariants}
-use Rattle.mv_variants.specs.Bound.General.{IsGeneral}
+use Rattle.mv_variants.specs.Bound.Meant.{MadeAreVariants}
+use Rattle.mv_variants.specs.Bound.Programs.{IsGeneralOf, IsMadeOf}
 use Rattle.mv_variants.specs.Bound.Names.{ReadAsWords}
 use Rattle.mv_variants.specs.Bound.Variants.{MadeNameNoMore}
 use Rattle.mv_variants.specs.Bound.Slots.{points_where}
@@ -39,7 +39,7 @@ use Rattle.mv_variants.proofs.OfBound.FewSlots.{marked_attributed}
 use Rattle.mv_variants.proofs.OfBound.Slots.{points_are_calls}
 use Rattle.mv_variants.proofs.OfBound.Variants.{CountsNoMore, made_no_more}
 use Rattle.mv_variants.proofs.OfBound.Generals.{kept, general_no_more}
-use Rattle.mv_variants.proofs.OfBound.Weights.{throughs}
+use Rattle.mv_variants.proofs.OfBound.Weights.{throughs, throughs_of_calls}
 use Rattle.mv_select.specs.Laws.{SelectedIsEncoded, SelectedLabelsAreOwn, IsPlain, SelectedOpens}
 use Rattle.mv_select.specs.Selected.{selected_lines, selected_labels}
 use Rattle.mv_linker.specs.Linked.{IsFunction, IsEntryLabel, IsTarget, NamesAreThere}
@@ -48,6 +48,7 @@ use Rattle.mv_linker.specs.Tables.{is_point, is_slot, pointer_address, pointer_a
 use Rattle.mv_parts.specs.Codes.{IsCodeOf}
 use Rattle.mv_parts.specs.Numbers.{attributed_numbers}
 use Rattle.mv_parts.specs.Switches.{part_pointers}
+use Rattle.mv_parts.proofs.Functions.{shorts_have_words}
 use Rattle.mv_parts.proofs.LinkedNumbers.{number_of}
 use Rattle.mv_parts.proofs.Lists.{all_by_index}
 use Rattle.mv_parts.proofs.PointedLines.{all_both, all_through, calls_known, is_elsewhere, is_here, none_elsewhere, place_is, pointer_here, word_below}
@@ -107,28 +108,34 @@ module _ (laws : Laws) (p : Program) (few : data_words p ≤ data_limit) (f : �
       in
       let of_lowered = points_are_calls place sizes is_attributed shape lowered.code other in
       let of_body = points_are_calls place sizes is_attributed shape b.code other in
-      let less : code_through (λ x. other (place x)) b.code ≤ code_through (λ x. other (place x)) lowered.code = no_more _ _ (throughs (λ x. other (place x))) in
+      let less : code_through (λ x. other (place x)) b.code ≤ code_through (λ x. other (place x)) lowered.code =
+      no_more _ _ (throughs (λ x. other (place x))) (throughs_of_calls (λ x. other (place x)))
+      in
       omega (arith, none, of_lowered, of_body, less)
 
   marks : (b : Body) → b.marked ≡ (lower_function p g).marked → (k : ℕ) → is_marked b.marked k ≡ true → is_attributed (slice_get p.functions k) ≡ true
   marks b same k e = marked_attributed p g k (subst (λ (ms : List ℕ). is_marked ms k ≡ true) same e)
 
-  pub general_names : (b : Body) → IsGeneral (lower_function p g) b → NamesProgram p b
-  general_names b general =
-      let same = kept (lower_function p g) b general in record {
-        functions = contains_all (λ k. k < length p.functions) (functions (lower_function p g).code) (functions b.code) same.names.functions (laws.there p f g of_program);
+  pub general_names : (b : Body) → IsGeneralOf p g b → NamesProgram p b
+  general_names b h =
+      let same = kept h.shorts (lower_function p g) b h.general in
+      let names = same.names (shorts_have_words p h.shorts h.known) in
+      record {
+        functions = contains_all (λ k. k < length p.functions) (functions (lower_function p g).code) (functions b.code) names.functions (laws.there p f g of_program);
         marked = marks b same.marked;
-        points = points_here b same.rooms (λ layer m of. general_no_more (lower_function p g) b general of);
+        points = points_here b same.rooms (λ layer m of calls. general_no_more h.shorts (lower_function p g) b h.general of calls);
       }
 
-  pub made_names : (ps : List (ℕ × ℕ)) → ReadAsWords ps → (b : Body) → IsMadeUnder ps (lower_function p g) b → NamesProgram p b
-  made_names ps words b made =
-      let less = laws.name_no_more ps (lower_function p g) b words made in record {
+  pub made_names : (ps : List (ℕ × ℕ)) → ReadAsWords ps → (b : Body) → IsMadeOf p g ps b → NamesProgram p b
+  made_names ps words b h =
+      let less = laws.name_no_more h.shorts ps (lower_function p g) b (shorts_have_words p h.shorts h.known) words h.made in
+      let variant = laws.made h.shorts ps (lower_function p g) b h.made in
+      record {
         functions =
             All-weaker (Contains (functions b.code)) (λ k. k < length p.functions) (λ k is. All-contains (λ n. n < length p.functions) (functions (lower_function p g).code) k (laws.there p f g of_program) (less.functions k is))
             (functions b.code) (All-contains_itself (functions b.code));
-        marked = marks b (laws.made ps (lower_function p g) b made).marked;
-        points = points_here b (laws.made ps (lower_function p g) b made).rooms (λ layer m of. made_no_more of ps (lower_function p g) b made);
+        marked = marks b variant.marked;
+        points = points_here b variant.rooms (λ layer m of calls. made_no_more of calls h.shorts ps (lower_function p g) b h.made);
       }
 
 -- ---- the code of a body

@@ -7,8 +7,7 @@ use Rattle.mv_ast.specs.declared.program.Function.{Function}
 use Rattle.mv_ast.specs.Switches.{attributed_functions}
 use Rattle.mv_isa.specs.declared.labelled.Labelled.{Labelled}
 use Rattle.mv_ir.specs.declared.body.Body.{Body}
-use Rattle.mv_lower_spec.specs.Functions.{lower_function}
-use Rattle.mv_variants.specs.Bound.General.{IsGeneral}
+use Rattle.mv_variants.specs.Bound.Programs.{IsGeneralOf}
 use Rattle.mv_linker.specs.declared.parts.PartFunction.{PartFunction}
 use Rattle.mv_linker.specs.declared.parts.PartVariant.{PartVariant}
 use Rattle.mv_variants.specs.declared.variant.Variant.{Variant}
@@ -26,7 +25,7 @@ pub record IsOwnCode (p : Program) (f : ℕ) (code : Labelled) : Type 0 where
   pub function : Function
   pub there : slice_get p.functions f ≡ Some function
   pub body : Body
-  pub general : IsGeneral (lower_function p function) body
+  pub general : IsGeneralOf p function body
   pub is_code : IsCodeOf function.attributed body code
 
 -- an attributed function that is linked, by its place among these, and its variants

@@ -18,7 +18,7 @@ use Rattle.mv_merge.specs.declared.rows.Domain.{Domain}
 use Rattle.mv_merge.specs.declared.rows.Bound.{Bound}
 use Rattle.mv_merge.specs.Guards.{domain_values, all_values, AreValues}
 use Rattle.mv_variants.specs.Bound.Led.{BodiesAreMade}
-use Rattle.mv_variants.specs.Bound.Meant.{IsMadeUnder}
+use Rattle.mv_variants.specs.Bound.Programs.{IsMadeOf}
 use Rattle.mv_variants.specs.Bound.Names.{ReadAsWords}
 use Rattle.mv_variants.specs.Bound.Rows.{groups, GroupedIsLed}
 use Rattle.mv_variants.specs.Bound.Switches.{domains_in, DomainsAreWords}
@@ -60,7 +60,7 @@ values_are p (s ∷ ss) = ap (λ l. switch_domain p s ∷ l) (values_are p ss)
 pub record IsMadeVariant (p : Program) (g : Function) (v : Variant) : Type 0 where
   pub values : List (ℕ × ℕ)
   pub words : ReadAsWords values
-  pub made : IsMadeUnder values (lower_function p g) v.body
+  pub made : IsMadeOf p g values v.body
 
 module _ (p : Program) (g : Function) (variants : List Variant) (are : AreVariants p g variants) where
   abbrev domains : List Domain
@@ -77,10 +77,14 @@ module _ (p : Program) (g : Function) (variants : List Variant) (are : AreVarian
 
   pub made_variant : BodiesAreMade → (j : ℕ) (v : Variant) → slice_get variants j ≡ Some v → IsMadeVariant p g v
   made_variant bodies j v at =
-      let (r, row, made) = bodies domains are.rows are.merged are.is_merged (lower_function p g) are.made j v.body (body_at j v at) in
+      let (r, row, made) = bodies domains are.rows are.merged are.is_merged are.shorts (lower_function p g) are.made j v.body (body_at j v at) in
       let vs = r.assignment.values in
       let c = are.all.only vs (in_map (λ (x : Bound). x.assignment.values) are.rows r row) in
-      record { values = zip (lower_function p g).switches vs; words = read_as_words (lower_function p g).switches vs (words_in p g.switches vs are.words c); made = made }
+      record {
+        values = zip (lower_function p g).switches vs;
+        words = read_as_words (lower_function p g).switches vs (words_in p g.switches vs are.words c);
+        made = record { shorts = are.shorts; known = are.known; made = made };
+      }
 
   -- where there is an assignment there is a variant
   pub some_variant : GroupedIsLed → 1 ≤ assignments p g → 1 ≤ length variants

@@ -9,20 +9,27 @@ use Rattle.mv_lower_spec.specs.Functions.{lower_function}
 use Rattle.mv_select.specs.Calls.Convention.{frame_limit}
 use Rattle.mv_select.specs.Functions.FunctionCode.{frame_bytes}
 use Rattle.mv_select.specs.Selected.{IsSuitable, IsSelected}
-use Rattle.mv_variants.specs.Bound.General.{IsGeneral}
+use Rattle.mv_variants.specs.Bound.Programs.{IsGeneralOf}
 
 -- ---- bodies
 
--- The bodies of all functions in their order. Each is what its function is lowered to, tidied or not, with temporaries that are never in use together in one place.
+-- a body is what the function with a number is lowered to
+pub record IsLowered (p : Program) (f : ℕ) (body : Body) : Type 0 where
+  pub function : Function
+  pub there : slice_get p.functions f ≡ Some function
+  pub is : body ≡ lower_function p function
+
+-- The bodies of all functions in their order. Each is what its function is lowered to, with short bodies in place of calls and tidied, or not, with temporaries
+-- that are never in use together in one place.
 pub record AreGenerics (p : Program) (bodies : List Body) : Type 0 where
   pub one_each : length bodies ≡ length p.functions
-  pub each : (f : ℕ) (g : Function) (body : Body) → slice_get p.functions f ≡ Some g → slice_get bodies f ≡ Some body → IsGeneral (lower_function p g) body
+  pub each : (f : ℕ) (g : Function) (body : Body) → slice_get p.functions f ≡ Some g → slice_get bodies f ≡ Some body → IsGeneralOf p g body
 
 -- a body is made of what the function with a number is lowered to
 pub record IsGeneric (p : Program) (f : ℕ) (body : Body) : Type 0 where
   pub function : Function
   pub there : slice_get p.functions f ≡ Some function
-  pub general : IsGeneral (lower_function p function) body
+  pub general : IsGeneralOf p function body
 
 -- ---- frames
 

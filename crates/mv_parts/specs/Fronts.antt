@@ -5,12 +5,12 @@ use Rattle.mv_ast.specs.declared.program.Program.{Program}
 use Rattle.mv_ast.specs.declared.program.Function.{Function}
 use Rattle.mv_isa.specs.declared.labelled.Labelled.{Labelled}
 use Rattle.mv_ir.specs.declared.body.Body.{Body}
-use Rattle.mv_lower_spec.specs.Functions.{lower_function}
+use Rattle.mv_count_code.specs.Fronts.{IsCodedOf}
 use Rattle.mv_linker.specs.Linked.{stub_lines}
 use Rattle.mv_variants.specs.declared.size.Size.{Size}
 use Rattle.mv_variants.specs.declared.variant.Variant.{Variant}
 use Rattle.mv_variants.specs.Fronts.{AreFirstBodies}
-use Rattle.mv_variants.specs.Sizes.{Fits, IsMadeAndSelected, IsWith, lines_sites, lines_words, up_to_greatest}
+use Rattle.mv_variants.specs.Sizes.{Fits, IsWith, lines_sites, lines_words, up_to_greatest}
 use Rattle.mv_variants.specs.Variants.{AreVariantsOf, bodies_of}
 use Rattle.mv_parts.specs.Numbers.{attributed_numbers}
 
@@ -41,7 +41,7 @@ AreFirstTables p tables = (n f : ℕ) (variants : List Variant) → slice_get (a
 abbrev pub AreCoded : Program → List (List Variant) → Type 0
 AreCoded p tables =
     (n f : ℕ) (g : Function) (variants : List Variant) → slice_get (attributed_numbers p) n ≡ Some f → slice_get p.functions f ≡ Some g → slice_get tables n ≡ Some variants →
-    All (IsMadeAndSelected (lower_function p g)) (bodies_of variants)
+    All (IsCodedOf p g) (bodies_of variants)
 
 -- behind code of some size there is room for theirs
 pub record HaveRoom (p : Program) (size : Size) (tables : List (List Variant)) : Type 0 where
@@ -59,7 +59,7 @@ pub record IsFront (p : Program) (tables : List (List Variant)) (bodies : List B
   pub nth : slice_get (attributed_numbers p) (length tables) ≡ Some number
   pub there : slice_get p.functions number ≡ Some function
   pub first_bodies : AreFirstBodies p function bodies
-  pub each : All (IsMadeAndSelected (lower_function p function)) bodies
+  pub each : All (IsCodedOf p function) bodies
 
 -- behind code of some size there is no room for the last of them, and there is for those before it
 pub record PassesFront (p : Program) (size over : Size) : Type 0 where

@@ -7,6 +7,7 @@ ghost use Rattle.mv_ir.specs.Measures.{deepest};
 ghost use Rattle.mv_ir.specs.WellFormed as ir;
 ghost use Rattle.mv_select.specs.Selected.{FitsFrame};
 ghost use Rattle.mv_parts.specs.Numbers as spec;
+ghost use Rattle.mv_variants.specs.Bound.Shorts.{AreShortsOf};
 ghost use Rattle.mv_variants.specs.Sizes.{Fits, OnLimit};
 ghost use Rattle.mv_parts.specs.Codes.{FramesFit, IsCodeOf};
 ghost use Rattle.mv_parts.specs.Fronts.{HaveRoom, PassesFront};
@@ -53,18 +54,20 @@ fn push_number(numbers: &mut List<u32>, function: &Function, number: u32) -> Res
     Ok(())
 }
 
-/// The variants of each attributed function, behind code of some size, given the numbers of these functions and the body that each function is lowered to. `Limit`
-/// comes with the first variant whose code there is no room for.
+/// The variants of each attributed function, behind code of some size, given the numbers of these functions, short bodies and the body that each function is
+/// lowered to. `Limit` comes with the first variant whose code there is no room for.
 pub fn tables_of(
     alloc: Global,
     program: &Program,
     numbers: &[u32],
+    shorts: &[Option<Body>],
     lowered: &[Body],
     size: Size,
 ) -> Result<List<List<Variant>>, VariantError>
     requires formed { IsWellFormed program.now }
     requires numbers { numbers.now ≡ spec.attributed_numbers program.now }
     requires lowered { lowered.now ≡ map (lower_function program.now) program.now.functions }
+    requires shorts { AreShortsOf program.now shorts.now }
     requires frames { FramesFit program.now (length program.now.functions) }
     requires room { Fits size }
     ensures tables { IfOk result (λ tables. AreTables program.now tables) }
@@ -75,7 +78,7 @@ pub fn tables_of(
     let mut tables = List::new(alloc);
     for number in numbers {
         let body = &lowered[*number as usize];
-        let measured = variants_of(alloc, program, *number, body, with)?;
+        let measured = variants_of(alloc, program, *number, shorts, body, with)?;
         with = measured.size;
         tables.push(measured.variants)?;
     }

@@ -1,11 +1,12 @@
 //! The bodies of functions, and their code.
 
-ghost use Rattle.std.specs.Prelude.{◌≡◌, map, slice_get, IfErr, IfOk};
+ghost use Rattle.std.specs.Prelude.{◌≡◌, map, slice_get, IfErr, IfOk, IfSome};
 ghost use Rattle.mv_ast.specs.Counts.{is_attributed};
 ghost use Rattle.mv_lower_spec.specs.Functions.{lower_function};
 ghost use Rattle.mv_source_forms.specs.WellFormed.{IsWellFormed};
 ghost use Rattle.mv_select.specs.Selected.{OnFrame};
-ghost use Rattle.mv_parts.specs.Codes.{AreGenerics, IsGeneric, HasCode, HaveCode, PassesFirstFrame, PassesFrame};
+ghost use Rattle.mv_variants.specs.Bound.Shorts.{AreShortsOf, IsShortOf};
+ghost use Rattle.mv_parts.specs.Codes.{AreGenerics, IsGeneric, IsLowered, HasCode, HaveCode, PassesFirstFrame, PassesFrame};
 
 use mv_ast::program::Program;
 use mv_ir::body::Body;
@@ -16,23 +17,63 @@ use mv_select::bodies::code_has_words;
 use mv_select::error::SelectError;
 use mv_select::select;
 use mv_variants::general::general;
+use mv_variants::shorts::short_of;
 use std::alloc::{AllocError, Global};
 
-/// The body from which each function's code is made, in their order: what it is lowered to, tidied or not, where temporaries that are never in use together share
-/// a place.
+/// A short body of each function that has one and isn't attributed, in their order.
+pub fn shorts_of(
+    alloc: Global,
+    program: &Program,
+    lowered: &List<Body>,
+) -> Result<List<Option<Body>>, AllocError>
+    requires formed { IsWellFormed program.now }
+    requires lowered { lowered.now ≡ map (lower_function program.now) program.now.functions }
+    ensures { IfOk result (AreShortsOf program.now) }
+{
+    lowered_forms_are_right();
+    let mut shorts = List::new(alloc);
+    for (number, body) in lowered.as_slice().iter().enumerate() {
+        shorts.push(own_short(alloc, program, number as u32, body)?)?;
+    }
+    Ok(shorts)
+}
+
+// A short body of the function with a number, given what it is lowered to.
+fn own_short(
+    alloc: Global,
+    program: &Program,
+    number: u32,
+    body: &Body,
+) -> Result<Option<Body>, AllocError>
+    requires formed { IsWellFormed program.now }
+    requires lowered { IsLowered program.now number body.now }
+    ensures { IfOk result (λ short. IfSome short (IsShortOf program.now number)) }
+{
+    lowered_forms_are_right();
+    if is_attributed(program, number) {
+        Ok(None)
+    } else {
+        short_of(alloc, body)
+    }
+}
+
+/// The body from which each function's code is made, in their order: what it is lowered to, with short bodies in place of calls and tidied, or not, where
+/// temporaries that are never in use together share a place.
 pub fn generics_of(
     alloc: Global,
     program: &Program,
+    shorts: &[Option<Body>],
     lowered: &List<Body>,
 ) -> Result<List<Body>, AllocError>
     requires formed { IsWellFormed program.now }
     requires lowered { lowered.now ≡ map (lower_function program.now) program.now.functions }
+    requires shorts { AreShortsOf program.now shorts.now }
     ensures { IfOk result (λ bodies. AreGenerics program.now bodies) }
 {
     lowered_forms_are_right();
     let mut generics = List::new(alloc);
     for body in lowered.as_slice() {
-        generics.push(general(alloc, body)?)?;
+        generics.push(general(alloc, shorts, body)?)?;
     }
     Ok(generics)
 }

@@ -1,7 +1,8 @@
 //! What is linked of a program: the code of its functions, and for each attributed one its variants with their code and the rows that lead to them.
 //!
-//! - `generics_of`: of each function of a well-formed program the body that it is lowered to, tidied or not, with its temporaries renamed
-//!   (`AreGenerics`).
+//! - `shorts_of`: of each function that has one a short body, which can stand in place of calls of it (`AreShortsOf`).
+//! - `generics_of`: of each function of a well-formed program the body that it is lowered to, with short bodies in place of calls and tidied, or not, and
+//!   with its temporaries renamed (`AreGenerics`).
 //! - `codes_of`: the code that is selected for each of these bodies (`HaveCode`); all their frames then have at most 2,032
 //!   bytes. `Frame` comes where one has more, with the first such function and its bytes (`PassesFirstFrame`).
 //! - `attributed_numbers`: the numbers of the attributed functions, ascending, exactly as `specs/Numbers.antt` defines
@@ -9,7 +10,7 @@
 //!   `Limit` comes with the first that there is none for, with how much code there is up to it (`PassesFront`), and no
 //!   other is made. `part_functions`: each with its name, its number, its switches, and of each variant the code of its
 //!   body, the two words that stand in place of a call exactly where its body has such, and its guard rows
-//!   (`ArePartFunctions`). No frame of a variant is larger than its function's, so none is refused.
+//!   (`ArePartFunctions`). The frame of a variant is small enough where its function's is, so none is refused.
 //! - `part_switches`: the name, the word, the type and the domain of each switch; `part_pointers`: the name and the word of
 //!   each pointer switch; `part_targets`: the names of all functions where there is a pointer switch; exactly as
 //!   `specs/Switches.antt` defines them.
@@ -31,6 +32,6 @@ mod switches;
 
 pub use attributed::{attributed_numbers, part_functions, tables_of};
 pub use counts::{Counted, labels_fit, site_count, size_of};
-pub use generics::{codes_of, generics_of};
+pub use generics::{codes_of, generics_of, shorts_of};
 pub use laws::parts_law;
 pub use switches::{part_pointers, part_switches, part_targets};

@@ -1,5 +1,6 @@
 pub mod Frames
 pub mod Called
+pub mod Filled
 pub mod Entries
 pub mod Pointed
 pub mod AllFunctions

@@ -125,6 +125,8 @@ module _ (show_free : FreeFunctionsShow) (show_bound : BoundFunctionsShow) (attr
   patched : IsPatched y (machine_text attributed image) W closed p numbers f g
   patched = record {
     body = t.body;
+    shorts = t.shorts;
+    known = t.known;
     keeps = t.keeps;
     params = t.params;
     reach = t.reach;

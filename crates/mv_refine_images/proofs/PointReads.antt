@@ -48,6 +48,7 @@ module _ (P : ℕ → Type 0) where
   layer (stm.Call r (callee.Direct f) args) h all = All-nil P
   layer (stm.Call r (callee.Through t) args) h all = All-nil P
   layer (stm.Call r (callee.Switched g) args) h all = all
+  layer (stm.Call r callee.Expanded args) h all = All-nil P
   layer (stm.Known r k args) h all = All-nil P
   layer (stm.Return v) h all = All-nil P
 

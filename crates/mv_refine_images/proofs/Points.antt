@@ -154,13 +154,15 @@ module _ (p : Program) (image : Fields) (basis : Basis p image) where
         let below = slice_get_within a.variants j part there in there_at table.0 j (omega (arith, one_each, below))
 
     -- values that lead to it
-    values : (vs : List ℕ) × IsVariantOf (zip (lower_function p own_function.function).switches vs) (lower_function p own_function.function) variant.0.body
+    are : AreVariants p own_function.function table.0
+    are = built.are.codes.are_tables.each n a.function table.0 number table.1 own_function.function own_function.there
+
+    values : (vs : List ℕ) × IsVariantOf are.shorts (zip (lower_function p own_function.function).switches vs) (lower_function p own_function.function) variant.0.body
     values =
         let g = own_function.function in
-        let are : AreVariants p g table.0 = built.are.codes.are_tables.each n a.function table.0 number table.1 g own_function.there in
         let kept = subst (λ (bs : List Body). slice_get bs j ≡ Some variant.0.body) are.grouped.bodies (map_at (λ (x : Variant). x.body) table.0 j variant.0 variant.1) in
-        let r = bodies_made _ are.rows are.merged are.is_merged (lower_function p g) are.made j variant.0.body kept in
-        (r.0.assignment.values, meant.made (zip (lower_function p g).switches r.0.assignment.values) (lower_function p g) variant.0.body r.2)
+        let r = bodies_made _ are.rows are.merged are.is_merged are.shorts (lower_function p g) are.made j variant.0.body kept in
+        (r.0.assignment.values, meant.made are.shorts (zip (lower_function p g).switches r.0.assignment.values) (lower_function p g) variant.0.body r.2)
 
     variant_opens : OpensEach part.code (is_closed_to_variants_of p (slice_get p.functions a.function))
     variant_opens =
@@ -168,7 +170,7 @@ module _ (p : Program) (image : Fields) (basis : Basis p image) where
         let coded =
         laws.variant_code p built.bodies built.tables parts y numbers (laid_out p image basis) n a.function j g variant.0
         (record { number = number; there = own_function.there; variants = table.0; table = table.1; at = variant.1 }) in
-        let c = coded.2 values.0 values.1 in
+        let c = coded.2 are.shorts are.known values.0 values.1 in
         let function_is : coded.1.function ≡ a = same_Some coded.1.function a (sym coded.1.there ∙ here) in
         let part_is : coded.0 ≡ part = same_Some coded.0 part (sym coded.1.at ∙ ap (λ (b : PartFunction). slice_get b.variants j) function_is ∙ there) in
         subst (λ (o : Option Function). OpensEach part.code (is_closed_to_variants_of p o)) (sym own_function.there)

@@ -15,6 +15,7 @@ use Rattle.mv_image.specs.Spelling.{Fields}
 use Rattle.mv_image.specs.Patched.{variants_before}
 use Rattle.mv_ir.specs.Combinations.{IsCombination}
 use Rattle.mv_ir.specs.Programs.{setting_of}
+use Rattle.mv_ir.specs.Shorts.{Shorts}
 use Rattle.mv_lower_spec.specs.Functions.{lower_function}
 use Rattle.mv_select.specs.Calls.CallCode.{is_marked}
 use Rattle.mv_select.specs.Calls.Laws as calls
@@ -28,6 +29,7 @@ use Rattle.mv_linker.specs.declared.parts.PartFunction.{PartFunction}
 use Rattle.mv_linker.specs.declared.parts.PartVariant.{PartVariant}
 use Rattle.mv_linker.specs.Linked.{codes, linked_lines}
 use Rattle.mv_variants.specs.Bound.Meant.{IsVariantOf}
+use Rattle.mv_variants.specs.Bound.Shorts.{AreShortsOf}
 use Rattle.mv_variants.specs.declared.variant.Variant.{Variant}
 use Rattle.mv_parts.specs.Numbers as source
 use Rattle.mv_parts.proofs.Lists.{map_at}
@@ -96,6 +98,8 @@ module _ (p : Program) (image : Fields) (basis : Basis p image) where
     is_plain =
         let fits = laws.bodies_are_functions y (setting_of numbers p) false [] is_own.body in_program in record {
           body = is_own.body;
+          shorts = is_own.shorts;
+          known = is_own.known;
           keeps = is_own.keeps;
           params = is_own.params;
           reach = reach_of y is_own.body;
@@ -168,7 +172,7 @@ module _ (p : Program) (image : Fields) (basis : Basis p image) where
       is_at : IsVariantAt p built.tables n f led.place g v
       is_at = record { number = table.1.number; there = here; variants = table.0; table = table.1.table; at = led.there }
 
-      abbrev coded : (part : PartVariant) × IsLinkedVariant parts n led.place part × ((values : List ℕ) → IsVariantOf (zip (lower_function p g).switches values) (lower_function p g) v.body → IsVariantCode p y numbers g values v.body part)
+      abbrev coded : (part : PartVariant) × IsLinkedVariant parts n led.place part × ((shorts : Shorts) → AreShortsOf p shorts → (values : List ℕ) → IsVariantOf shorts (zip (lower_function p g).switches values) (lower_function p g) v.body → IsVariantCode p y numbers g values v.body part)
       coded = laws.variant_code p built.bodies built.tables parts y numbers (laid_out p image basis) n f led.place g v is_at
 
       abbrev part : PartVariant
@@ -178,7 +182,7 @@ module _ (p : Program) (image : Fields) (basis : Basis p image) where
       own_part = coded.1
 
       abbrev c : IsVariantCode p y numbers g vs v.body part
-      c = coded.2 vs led.is_variant
+      c = coded.2 led.shorts led.known vs led.is_variant
 
       abbrev k : ℕ
       k = variant_number parts n led.place
@@ -202,6 +206,8 @@ module _ (p : Program) (image : Fields) (basis : Basis p image) where
           let fits = laws.bodies_are_functions y (setting_of numbers p) true (zip (lower_function p g).switches vs) v.body c.in_program in record {
             address = at k;
             body = v.body;
+            shorts = c.shorts;
+            known = c.known;
             keeps = c.keeps;
             params = c.params;
             reach = reach_of y v.body;
@@ -246,6 +252,8 @@ module _ (p : Program) (image : Fields) (basis : Basis p image) where
     in_tables =
         let fits = laws.bodies_are_functions y (setting_of numbers p) true [] is_generic.body generic_in_program in record {
           body = is_generic.body;
+          shorts = is_generic.shorts;
+          known = is_generic.known;
           keeps = is_generic.keeps;
           params = is_generic.params;
           reach = reach_of y is_generic.body;

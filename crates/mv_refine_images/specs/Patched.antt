@@ -15,8 +15,8 @@ use Rattle.mv_image.specs.Patched.{ShowsAt, variant_under, entry_at}
 use Rattle.mv_ir.specs.declared.tree.Tree.{Tree}
 use Rattle.mv_ir.specs.declared.body.Body.{Body}
 use Rattle.mv_ir.specs.Combinations.{IsCombination}
-use Rattle.mv_ir.specs.Keeps.{KeepsBody}
 use Rattle.mv_ir.specs.Programs.{setting_of}
+use Rattle.mv_ir.specs.Shorts.{Shorts, KeepsBodyWith}
 use Rattle.mv_lower_spec.specs.Functions.{lower_function}
 use Rattle.mv_source_forms.specs.WellFormed.{IsWellFormed}
 use Rattle.mv_select_code.specs.Control.Placed.{Placed}
@@ -25,6 +25,7 @@ use Rattle.mv_select.specs.Calls.Laws.{IsLinked}
 use Rattle.mv_select.specs.Functions.FunctionCode.{bytes_of, later_lines}
 use Rattle.mv_select.specs.Functions.Functions.{IsAmple, IsFunction, IsOpen, shape_of}
 use Rattle.mv_select.specs.Inline.InlineOf.{inline_of}
+use Rattle.mv_variants.specs.Bound.Shorts.{AreShortsOf}
 use Rattle.mv_refine_images.specs.Tables.Rows.{RowShows}
 use Rattle.mv_refine_machine.specs.Assembled.{HasWords}
 use Rattle.mv_refine_machine.specs.MachineRuns.{machine_text, image_word, called_at}
@@ -76,7 +77,9 @@ module _ (attributed : List ℕ) (image : Fields) (closed : (pc address : ℕ) �
 
   pub record IsInTables : Type 0 where
     pub body : Body
-    pub keeps : KeepsBody (lower_function p g) body
+    pub shorts : Shorts
+    pub known : AreShortsOf p shorts
+    pub keeps : KeepsBodyWith shorts (lower_function p g) body
     pub params : body.params ≡ g.params
     pub reach : Reach
     pub ample : IsAmple y reach

@@ -85,6 +85,7 @@ module _ (c : ℕ → ℕ) where
   callee_trees_renamed (callee.Direct f) = refl
   callee_trees_renamed (callee.Through t) = refl
   callee_trees_renamed (callee.Switched g) = refl
+  callee_trees_renamed callee.Expanded = refl
 
   trees_layer : (x : Stm-F Stm) → StmChildren HasTrees x → layer_trees (map-Stm Stm (List Tree) stm_trees (renamed_layer c (map-Stm Stm Stm (renamed_stm c) x))) ≡ map (renamed_tree c) (layer_trees (map-Stm Stm (List Tree) stm_trees x))
   trees_layer (stm.Set t v) h = refl
@@ -181,6 +182,7 @@ module _ (c : ℕ → ℕ) where
   callee_read_renamed (callee.Direct f) = refl
   callee_read_renamed (callee.Through t) = refl
   callee_read_renamed (callee.Switched g) = refl
+  callee_read_renamed callee.Expanded = refl
 
   blind_arrays : (x : Stm-F (List ℕ)) → layer_arrays (renamed_layer c x) ≡ layer_arrays x
   blind_arrays (stm.Set t v) = refl
@@ -224,6 +226,7 @@ module _ (c : ℕ → ℕ) where
   callee_named_renamed (callee.Direct f) = refl
   callee_named_renamed (callee.Through t) = refl
   callee_named_renamed (callee.Switched g) = refl
+  callee_named_renamed callee.Expanded = refl
 
   blind_named : (x : Stm-F (List Array)) → layer_named (renamed_layer c x) ≡ layer_named x
   blind_named (stm.Set t v) = refl

@@ -51,6 +51,7 @@ fn read_callee(temps: &mut List<u32>, callee: &Callee) -> Result<(), AllocError>
         Callee::Direct(_) => Ok(()),
         Callee::Through(t) => read_tree(temps, t),
         Callee::Switched(_) => Ok(()),
+        Callee::Expanded => Ok(()),
     }
 }
 

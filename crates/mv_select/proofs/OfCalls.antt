@@ -4,6 +4,7 @@ pub mod CallerShown
 pub mod Transfers
 pub mod Closing
 pub mod PointCalls
+pub mod DepthTest
 pub mod Guarded
 pub mod FunctionCalls
 pub mod KnownCalls

@@ -1,8 +1,10 @@
 // Code that calls nothing.
 ghost use Rattle.std.specs.Prelude.{◌≡◌};
 ghost use Rattle.mv_select.specs.Functions.FunctionCode.{is_silent, calls_nothing};
+ghost use Rattle.mv_select_code.specs.Control.FlowCode.{only_tests};
 
-use mv_ir::stm::Stm;
+use mv_ir::stm::{Callee, Stm};
+use mv_ir::tree::Tree;
 use mv_num::list::List;
 
 /// Whether some code calls nothing, neither a function nor a known one.
@@ -18,6 +20,16 @@ pub(crate) fn calls_nothing(code: &List<Stm>) -> bool
     true
 }
 
+// Whether a call is what is left of one whose statements stand behind it.
+fn only_tests(callee: &Callee, args: &List<Tree>) -> bool
+    ensures { result ≡ only_tests callee.now args.now }
+{
+    match callee {
+        Callee::Expanded => args.as_slice().is_empty(),
+        _ => false,
+    }
+}
+
 #[cycle(silent)]
 #[tactic(auto, using(crate::proofs::OfFunctions::Silent::silent))]
 fn is_silent(statement: &Stm) -> bool
@@ -27,7 +39,7 @@ fn is_silent(statement: &Stm) -> bool
         Stm::If(_, first, second) => calls_nothing(first) && calls_nothing(second),
         Stm::Loop(body) => calls_nothing(body),
         Stm::Block(body) => calls_nothing(body),
-        Stm::Call(_, _, _) => false,
+        Stm::Call(_, callee, args) => only_tests(callee, args),
         Stm::Known(_, _, _) => false,
         Stm::Set(_, _) => true,
         Stm::SetGlobal(_, _) => true,

@@ -192,6 +192,7 @@ fn add_callee(w: u32, callee: &Callee, uses: &mut List<Use>) -> Result<(), Alloc
         Callee::Direct(_) => Ok(()),
         Callee::Through(tree) => add_value(w, tree, uses),
         Callee::Switched(_) => Ok(()),
+        Callee::Expanded => Ok(()),
     }
 }
 

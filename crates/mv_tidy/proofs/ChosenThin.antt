@@ -18,7 +18,8 @@ use Rattle.mv_fold.proofs.Thinner.{FitsAround, nowhere_fits}
 use Rattle.mv_fold.proofs.FoldedThinner.{every}
 use Rattle.mv_tidy.specs.Tidying.{lives}
 use Rattle.mv_tidy.specs.Choosing.{is_jump, taken, IsUnread, Chosen}
-use Rattle.mv_tidy.proofs.Thinning.{any_marked, marked_any, any_left, any_right, Fits, live_in, marks_in, fits_after, fits_loop, fits_block, same_thin, or_both, settled}
+use Rattle.mv_fold.proofs.Marks.{any_marked, marked_any, any_left, any_right}
+use Rattle.mv_tidy.proofs.Thinning.{Fits, live_in, marks_in, fits_after, fits_loop, fits_block, same_thin, or_both, settled}
 use Rattle.mv_tidy.proofs.ChosenSteps.{IsStepwise, steps_is, live_at_jump, by_jump}
 
 either : {a b c : Bool} → (a ≡ true → c ≡ true) → (b ≡ true → c ≡ true) → (a || b) ≡ true → c ≡ true

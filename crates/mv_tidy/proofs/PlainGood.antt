@@ -53,6 +53,7 @@ module _ (setting : Setting) (frame : Frame) where
   itself_alike (callee.Direct f) = refl
   itself_alike (callee.Through t) = same t t (itself t)
   itself_alike (callee.Switched g) = refl
+  itself_alike callee.Expanded = tt
 
   callee_alike : (f g : Callee) → IsPlainerCallee f g → AlikeCallee f g
   callee_alike f g (same_callee x) = itself_alike x

@@ -8,43 +8,16 @@ use Rattle.mv_ir.specs.declared.stm.Stm.{Stm, out-Stm}
 use Rattle.mv_ir.specs.declared.stm.Stm.TheOpen as stm
 use Rattle.mv_ir.specs.declared.stm.Stm.TheViews.{roll-Stm, roll-out-Stm}
 use Rattle.mv_ir.specs.declared.body.Body.{Body}
-use Rattle.mv_ir.specs.Live.{reads_temp, any_reads, is, Around, Flow, with_after, around_block, around_loop, at_place, live_in_order, marks_in_order, live_at_loop, plain, goes_next, flow, nowhere, live_at_start, all_marks, mark_at, IsWhole, HasTemps}
+use Rattle.mv_ir.specs.Live.{reads_temp, any_reads, is, Around, Flow, with_after, around_block, around_loop, at_place, live_in_order, marks_in_order, live_at_loop, plain, goes_next, flow, nowhere, live_at_start, all_marks, IsWhole, HasTemps}
 use Rattle.mv_ir.specs.Rolled.{temp, set, choose, repeat, enclosed}
 use Rattle.mv_ir.proofs.Rolls.{same_functions, flow_roll, flow_of_layer}
-use Rattle.mv_ir.proofs.Joining.{any_append}
 use Rattle.mv_fold.specs.Simple.{layer_jumps, jumps}
-use Rattle.mv_fold.proofs.Thinner.{Covers, covers_mark, place, Implies, FitsAround, nowhere_fits}
+use Rattle.mv_fold.proofs.Marks.{any_marked, marked_any, any_left, any_right, any_cases, any_both}
+use Rattle.mv_fold.proofs.Thinner.{covers_any, Implies, FitsAround, nowhere_fits}
 use Rattle.mv_fold.proofs.FoldedThinner.{every, same as stays}
 use Rattle.mv_tidy.specs.Tidying.{IsOne, lives, before, in_loop, in_block, Left, Becomes, none, put, one, dropped, idle, ended, same, choice, turns, block, IsJoinedCode}
 use Rattle.mv_tidy.proofs.Equations.{itself_read}
 use Rattle.mv_tidy.proofs.Pairs.{Pair, pair_of, pair_live}
-
--- ---- marks
-
-pub any_marked : (xs : List Bool) → any_of xs ≡ true → (i : ℕ) × (mark_at xs i ≡ true)
-any_marked [] e = from_falsity e
-any_marked (x ∷ xs) e = by (any_marked xs) (or_cases x (any_of xs) e)
-  where
-    by : (any_of xs ≡ true → (i : ℕ) × (mark_at xs i ≡ true)) → (x ≡ true) ⊎ (any_of xs ≡ true) → (i : ℕ) × (mark_at (x ∷ xs) i ≡ true)
-    by k (inl h) = (0, h)
-    by k (inr h) = let further = k h in (suc further.0, further.1)
-
-pub marked_any : (xs : List Bool) (i : ℕ) → mark_at xs i ≡ true → any_of xs ≡ true
-marked_any [] i e = e
-marked_any (x ∷ xs) zero e = or_left x (any_of xs) e
-marked_any (x ∷ xs) (suc i) e = or_right x (any_of xs) (marked_any xs i e)
-
-pub any_left : (xs ys : List Bool) → any_of xs ≡ true → any_of (xs ++ ys) ≡ true
-any_left xs ys e = any_append xs ys ∙ or_left (any_of xs) (any_of ys) e
-
-pub any_right : (xs ys : List Bool) → any_of ys ≡ true → any_of (xs ++ ys) ≡ true
-any_right xs ys e = any_append xs ys ∙ or_right (any_of xs) (any_of ys) e
-
-any_cases : (xs ys : List Bool) → any_of (xs ++ ys) ≡ true → (any_of xs ≡ true) ⊎ (any_of ys ≡ true)
-any_cases xs ys e = or_cases (any_of xs) (any_of ys) (sym (any_append xs ys) ∙ e)
-
-covered_any : (mask xs ys : List Bool) → Covers mask xs ys → any_of ys ≡ true → any_of xs ≡ true
-covered_any mask xs ys c e = let found = any_marked ys e in marked_any xs (place mask found.0) (covers_mark mask xs ys c found.0 found.1)
 
 -- ---- jumps
 
@@ -232,7 +205,7 @@ module _ (temps t : ℕ) where
       let (mask, k) = stays s in
       record {
         live = λ r' f e. (k.live t r r' f e).0;
-        marks = λ r' f e. bare (covered_any mask _ _ (k.marks t r r' f) (any_left ((flow t s).marks r') [] e));
+        marks = λ r' f e. bare (covers_any mask _ _ (k.marks t r r' f) (any_left ((flow t s).marks r') [] e));
       }
     where
       bare : any_of ((flow t s).marks r ++ []) ≡ true → any_of ((flow t s).marks r) ≡ true
@@ -276,13 +249,6 @@ module _ (temps t : ℕ) where
       by : (c ≡ true) ⊎ (d ≡ true) → (a || b) ≡ true
       by (inl x) = or_left a b (h x)
       by (inr y) = or_right a b (k y)
-
-  pub any_both : (a b c d : List Bool) → (any_of c ≡ true → any_of a ≡ true) → (any_of d ≡ true → any_of b ≡ true) → any_of (c ++ d) ≡ true → any_of (a ++ b) ≡ true
-  any_both a b c d h k e = by (any_cases c d e)
-    where
-      by : (any_of c ≡ true) ⊎ (any_of d ≡ true) → any_of (a ++ b) ≡ true
-      by (inl x) = any_left a b (h x)
-      by (inr y) = any_right a b (k y)
 
   choice_thin : (r : Around) (x : Tree) (a a' b b' : List Stm) (p q : Bool) → IsThin r a p a' → IsThin r b q b' → ThinStm r (choose x a b) (choose x a' b')
   choice_thin r x a a' b b' p q ha hb =

@@ -142,6 +142,7 @@ module _ (temps : ℕ) (setting : Setting) (frame : Frame) where
   callee_in l q (callee.Direct f) h = refl
   callee_in l q (callee.Through t) h = same_in l t (first_live l t [] h)
   callee_in l q (callee.Switched g) h = refl
+  callee_in l q callee.Expanded h = tt
 
   -- ---- one statement
 

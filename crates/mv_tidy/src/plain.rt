@@ -332,6 +332,7 @@ fn plain_callee(alloc: Global, callee: &Callee) -> Result<Callee, AllocError>
         Callee::Direct(f) => Ok(Callee::Direct(*f)),
         Callee::Through(t) => Ok(Callee::Through(plain_tree(alloc, t)?)),
         Callee::Switched(g) => Ok(Callee::Switched(*g)),
+        Callee::Expanded => Ok(Callee::Expanded),
     }
 }
 

@@ -4,6 +4,7 @@ pub mod Rows
 pub mod Sizes
 pub mod Worked
 pub mod Tidied
+pub mod Counted
 pub mod Fronts
 pub mod Grouped
 pub mod Whole

@@ -7,10 +7,12 @@ pub mod FoldedNames
 pub mod CarriedNames
 pub mod PlainNames
 pub mod TidiedNames
+pub mod ExpandedNames
 pub mod RenamedNames
 pub mod NamesKept
 pub mod Measures
 pub mod TidiedMeasures
+pub mod ExpandedMeasures
 pub mod Weights
 pub mod Variants
 pub mod Generals

@@ -6,6 +6,7 @@ use Rattle.std.proofs.lemmas.Bool.{cases_lt}
 use Rattle.std.proofs.Math.Seq.{get_or-append_seam}
 use Rattle.mv_ir.specs.declared.body.Body.{Body}
 use Rattle.mv_ir.specs.declared.body.Assignment.{Assignment}
+use Rattle.mv_ir.specs.Shorts.{Shorts}
 use Rattle.mv_ir.specs.Combinations.{In, IsCombination, values_of}
 use Rattle.mv_ir.proofs.Keeping.{map_append}
 use Rattle.mv_merge.specs.declared.rows.Bound.{Bound}
@@ -27,33 +28,34 @@ in_push x y xs h = by (cases_lt h.0 (length xs))
         let last : h.0 ≡ length xs = omega (arith, past, h.1, length-append xs (y ∷ [])) in
         inr (sym (get_or-append_seam xs y [] x) ∙ subst (λ k. get_or (xs ++ y ∷ []) k x ≡ x) last (h.2 x))
 
-made_push : (body : Body) (rows : List Bound) (row : Bound) → AreMade body rows → IsMadeUnder (zip body.switches row.assignment.values) body row.body → AreMade body (rows ++ row ∷ [])
-made_push body rows row made here r at = by (in_push r row rows at)
+made_push : (shorts : Shorts) (body : Body) (rows : List Bound) (row : Bound) → AreMade shorts body rows → IsMadeUnder shorts (zip body.switches row.assignment.values) body row.body →
+    AreMade shorts body (rows ++ row ∷ [])
+made_push shorts body rows row made here r at = by (in_push r row rows at)
   where
-    by : In r rows ⊎ (row ≡ r) → IsMadeUnder (zip body.switches r.assignment.values) body r.body
+    by : In r rows ⊎ (row ≡ r) → IsMadeUnder shorts (zip body.switches r.assignment.values) body r.body
     by (inl before) = made r before
-    by (inr same) = subst (λ (x : Bound). IsMadeUnder (zip body.switches x.assignment.values) body x.body) same here
+    by (inr same) = subst (λ (x : Bound). IsMadeUnder shorts (zip body.switches x.assignment.values) body x.body) same here
 
-pub none_merged : (body : Body) (variants : Variants) → variants.bodies ≡ [] → variants.guards ≡ [] → NoRowsAreGrouped → AreMergedUnder body [] variants
-none_merged body variants bodies guards none = record {
+pub none_merged : (shorts : Shorts) (body : Body) (variants : Variants) → variants.bodies ≡ [] → variants.guards ≡ [] → NoRowsAreGrouped → AreMergedUnder shorts body [] variants
+none_merged shorts body variants bodies guards none = record {
   rows = [];
   under = record { values = refl; made = λ r at. absurd (omega (arith, at.1)) };
   grouped = subst (λ (bs : List Body). IsGrouped [] bs variants.guards) (sym bodies) (subst (IsGrouped [] []) (sym guards) none);
 }
 
-module _ (body : Body) (all : List Assignment) (k : ℕ) (a : Assignment) (below : k < length all) (at : a ≡ get_or all k a) (row : Bound) (is : IsRowUnder body a row) where
-  row_push : (rows : List Bound) → AreRowsUnder body (take k all) rows → AreRowsUnder body (take (k + 1) all) (rows ++ row ∷ [])
+module _ (shorts : Shorts) (body : Body) (all : List Assignment) (k : ℕ) (a : Assignment) (below : k < length all) (at : a ≡ get_or all k a) (row : Bound) (is : IsRowUnder shorts body a row) where
+  row_push : (rows : List Bound) → AreRowsUnder shorts body (take k all) rows → AreRowsUnder shorts body (take (k + 1) all) (rows ++ row ∷ [])
   row_push rows are =
       let more : take (k + 1) all ≡ take k all ++ a ∷ [] = take_more all k a below ∙ ap (λ x. take k all ++ x ∷ []) (sym at) in
       record {
         values =
             map_append (λ (r : Bound). r.assignment.values) rows (row ∷ []) ∙ ap (λ vs. vs ++ row.assignment.values ∷ []) are.values ∙
             ap (λ v. values_of (take k all) ++ v ∷ []) is.values ∙ sym (map_append (λ (x : Assignment). x.values) (take k all) (a ∷ [])) ∙ ap values_of (sym more);
-        made = made_push body rows row are.made (subst (λ vs. IsMadeUnder (zip body.switches vs) body row.body) (sym is.values) is.made);
+        made = made_push shorts body rows row are.made (subst (λ vs. IsMadeUnder shorts (zip body.switches vs) body row.body) (sym is.values) is.made);
       }
 
-  pub merged_push : (variants new : Variants) → AddingKeepsGroups → AreMergedUnder body (take k all) variants → IsAdded variants.bodies variants.guards row new.bodies new.guards →
-      AreMergedUnder body (take (k + 1) all) new
+  pub merged_push : (variants new : Variants) → AddingKeepsGroups → AreMergedUnder shorts body (take k all) variants → IsAdded variants.bodies variants.guards row new.bodies new.guards →
+      AreMergedUnder shorts body (take (k + 1) all) new
   merged_push variants new keeps are added = record {
     rows = are.rows ++ row ∷ [];
     under = row_push are.rows are.under;

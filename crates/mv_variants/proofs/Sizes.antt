@@ -3,10 +3,9 @@ use Rattle.std.proofs.Common.{arith, ◌≡◌, ◌⊎◌, inl, inr, ℕ, ◌<�
 use Rattle.std.proofs.lemmas.List.Elements.{All-push}
 use Rattle.std.proofs.lemmas.List.Sums.{sum_by-append}
 use Rattle.mv_ir.specs.declared.body.Body.{Body}
-use Rattle.mv_ir.specs.Live.{most_intervals}
-use Rattle.mv_ir.specs.Measures.{deepest, total}
+use Rattle.mv_ir.specs.Shorts.{Shorts}
+use Rattle.mv_ir.specs.Measures.{deepest}
 use Rattle.mv_ir.specs.WellFormed.{IsWellFormed}
-use Rattle.mv_select.specs.Functions.FunctionCode.{frame_bytes}
 use Rattle.mv_merge.specs.declared.rows.Bound.{Bound}
 use Rattle.mv_merge.specs.declared.rows.Guarded.{Guarded}
 use Rattle.mv_merge.specs.Grouping.{IsAdded}
@@ -14,7 +13,7 @@ use Rattle.mv_variants.specs.Bound.Meant.{IsMadeUnder, IsVariantOf, MadeAreVaria
 use Rattle.mv_variants.specs.declared.size.Size.{Size}
 use Rattle.mv_variants.specs.Fronts.{AreMeasured, IsFirstOver}
 use Rattle.mv_variants.specs.Sizes.{body_sites, body_words, Fits, HasSmallFrame, IfNew, IsMadeAndSelected, IsSelectable, IsWith, IsWithBody, IsWithNew}
-use Rattle.mv_variants.proofs.OfBound.Variants.{frame_less}
+use Rattle.mv_variants.proofs.OfBound.Variants.{room_fits}
 
 -- ---- sizes
 
@@ -35,12 +34,11 @@ with_less a b c xs ys first all = record {
 
 -- ---- bodies that are made
 
-pub made_selectable : MadeAreVariants → (ps : List (ℕ × ℕ)) (body b : Body) → IsWellFormed body → deepest body.code ≤ 4 → HasSmallFrame body → IsMadeUnder ps body b → IsSelectable b
-made_selectable made ps body b formed shallow small m =
-    let variant : IsVariantOf ps body b = made ps body b m in
-    let less = frame_less b.temps (most_intervals body) (total body.arrays) variant.temps in
-    let same : frame_bytes b.temps b.arrays ≡ frame_bytes b.temps body.arrays = ap (frame_bytes b.temps) variant.sizes in
-    record { formed = variant.well_formed formed; shallow = omega (arith, variant.deepest, shallow); frame = omega (arith, less, same, small) }
+pub made_selectable : MadeAreVariants → (shorts : Shorts) (ps : List (ℕ × ℕ)) (body b : Body) → IsWellFormed body → deepest body.code ≤ 4 → HasSmallFrame body →
+    IsMadeUnder shorts ps body b → IsSelectable b
+made_selectable made shorts ps body b formed shallow small m =
+    let variant : IsVariantOf shorts ps body b = made shorts ps body b m in
+    record { formed = variant.well_formed formed; shallow = variant.deepest shallow; frame = room_fits body b variant.sizes variant.room small }
 
 -- ---- one body more
 
@@ -76,28 +74,28 @@ module _ (bodies : List Body) (guards : List Guarded) (row : Bound) (bodies' : L
       by (inl e) = subst (IfNew IsSelectable) (sym (same_behind e)) tt
       by (inr g) = subst (IfNew IsSelectable) (sym (new_behind g.0)) h
 
-  module _ (body : Body) (ps : List (ℕ × ℕ)) (made : IsMadeUnder ps body row.body) (first size with : Size) (measured : AreMeasured body first bodies size)
+  module _ (shorts : Shorts) (body : Body) (ps : List (ℕ × ℕ)) (made : IsMadeUnder shorts ps body row.body) (first size with : Size) (measured : AreMeasured shorts body first bodies size)
       (new : IsWithNew size (slice_get bodies' (length bodies)) with) where
-    each_new : IsWithBody size row.body with → All (IsMadeAndSelected body) (bodies ++ row.body ∷ [])
+    each_new : IsWithBody size row.body with → All (IsMadeAndSelected shorts body) (bodies ++ row.body ∷ [])
     each_new w =
-        All-push (IsMadeAndSelected body) bodies row.body measured.each (record { values = ps; made = made; suitable = w.suitable; frame = w.frame })
+        All-push (IsMadeAndSelected shorts body) bodies row.body measured.each (record { values = ps; made = made; suitable = w.suitable; frame = w.frame })
 
-    pub measured_more : Fits with → AreMeasured body first bodies' with
+    pub measured_more : Fits with → AreMeasured shorts body first bodies' with
     measured_more fits = by added.grown
       where
-        by : Grown → AreMeasured body first bodies' with
+        by : Grown → AreMeasured shorts body first bodies' with
         by (inl e) =
             let same : with ≡ size = subst (λ o. IsWithNew size o with) (same_behind e) new in
-            subst (λ (bs : List Body). AreMeasured body first bs with) (sym e) (subst (AreMeasured body first bodies) (sym same) measured)
+            subst (λ (bs : List Body). AreMeasured shorts body first bs with) (sym e) (subst (AreMeasured shorts body first bodies) (sym same) measured)
         by (inr g) =
             let w : IsWithBody size row.body with = subst (λ o. IsWithNew size o with) (new_behind g.0) new in
-            subst (λ (bs : List Body). AreMeasured body first bs with) (sym g.0) (record { each = each_new w; is = with_more first size with bodies (row.body ∷ []) measured.is w.is; fits = fits })
+            subst (λ (bs : List Body). AreMeasured shorts body first bs with) (sym g.0) (record { each = each_new w; is = with_more first size with bodies (row.body ∷ []) measured.is w.is; fits = fits })
 
     -- where there is no room for it, it is new
-    pub new_over : (Fits with → ⊥) → (bodies' ≡ bodies ++ row.body ∷ []) × IsFirstOver body first bodies row.body with
+    pub new_over : (Fits with → ⊥) → (bodies' ≡ bodies ++ row.body ∷ []) × IsFirstOver shorts body first bodies row.body with
     new_over past = by added.grown
       where
-        by : Grown → (bodies' ≡ bodies ++ row.body ∷ []) × IsFirstOver body first bodies row.body with
+        by : Grown → (bodies' ≡ bodies ++ row.body ∷ []) × IsFirstOver shorts body first bodies row.body with
         by (inl e) =
             let same : with ≡ size = subst (λ o. IsWithNew size o with) (same_behind e) new in
             absurd (past (subst Fits (sym same) measured.fits))

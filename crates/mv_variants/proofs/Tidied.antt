@@ -1,40 +1,73 @@
--- What a function's own code is made of, tidied or not.
-use Rattle.std.proofs.Common.{arith, ◌≡◌, ℕ, ◌+◌, ◌≤◌, List, inl, inr, refl, ap}
+-- What a function's own code is made of, made ready or not, and what is short.
+use Rattle.std.proofs.Common.{arith, ◌≡◌, ℕ, ◌+◌, ◌≤◌, List, [], ◌∷◌, inl, inr, refl, ap, subst}
+use Rattle.mv_num.specs.Limits.{slot_limit}
 use Rattle.mv_ir.specs.declared.body.Body.{Body}
 use Rattle.mv_ir.specs.Live.{most_intervals}
 use Rattle.mv_ir.specs.Measures.{total}
+use Rattle.mv_ir.specs.Shorts.{Shorts, AreShorts}
+use Rattle.mv_ir.specs.World.{Setting}
+use Rattle.mv_ir.specs.Outcome as outcome
 use Rattle.mv_select.specs.Bodies.SelectedBodies.{HasWords}
-use Rattle.mv_select.specs.Calls.Convention.{frame_limit}
-use Rattle.mv_select.specs.Functions.FunctionCode.{frame_bytes}
+use Rattle.mv_select_code.specs.Control.Encoded.{most_words}
+use Rattle.mv_expand.specs.Straight.{AllShort, IsShort}
+use Rattle.mv_expand.specs.Expanded.{IsExpanded}
 use Rattle.mv_tidy.specs.Tidied.{IsTidied}
 use Rattle.mv_regalloc.specs.Intervals.{IsRenamed}
 use Rattle.mv_variants.specs.Bound.General.{IsGeneral}
+use Rattle.mv_variants.specs.Bound.Shorts as way
+use Rattle.mv_variants.specs.Bound.Shorts.{IsReady, IsShortened}
+use Rattle.mv_variants.specs.Sizes.{HasSmallFrame}
+use Rattle.mv_variants.proofs.OfBound.Generals.{IsKept, kept}
+use Rattle.mv_variants.proofs.OfBound.Variants.{few_fit}
 
-pub plain_general : (body plain : Body) → HasWords body.code → IsRenamed body plain → IsGeneral body plain
-plain_general body plain words renamed = record {
+pub expanded_ready : (shorts : Shorts) (body expanded tidied : Body) → IsExpanded shorts body expanded → IsTidied expanded tidied → most_words tidied.code ≤ most_words body.code →
+    IsReady shorts body tidied
+expanded_ready shorts body expanded tidied e t fewer = way.expanded expanded e t fewer
+
+pub tidied_ready : (shorts : Shorts) (body tidied : Body) → IsTidied body tidied → IsReady shorts body tidied
+tidied_ready shorts body tidied t = way.tidied t
+
+pub plain_general : (shorts : Shorts) (body plain : Body) → HasWords body.code → IsRenamed body plain → IsGeneral shorts body plain
+plain_general shorts body plain words renamed = record {
   words = words;
-  tidied = body;
-  is_tidied = inr refl;
+  ready = body;
+  is_ready = inr refl;
   is_renamed = renamed;
-  temps = omega (arith, renamed.temps);
+  room = inl (omega (arith, renamed.temps));
 }
 
-pub tidied_general : (body plain tidied made : Body) → HasWords body.code → IsRenamed body plain → frame_bytes plain.temps plain.arrays ≤ frame_limit → IsTidied body tidied →
-    IsRenamed tidied made → made.temps ≤ plain.temps → IsGeneral body made
-tidied_general body plain tidied made words other frame is_tidied renamed fewer = record {
+pub ready_general : (shorts : Shorts) (body plain ready made : Body) → HasWords body.code → IsRenamed body plain → plain.temps + total plain.arrays ≤ slot_limit → IsReady shorts body ready →
+    IsRenamed ready made → made.temps + total made.arrays ≤ slot_limit → IsGeneral shorts body made
+ready_general shorts body plain ready made words other few is_ready renamed fits = record {
   words = words;
-  tidied = tidied;
-  is_tidied = inl (is_tidied, small);
+  ready = ready;
+  is_ready = inl (is_ready, small);
   is_renamed = renamed;
-  temps = omega (arith, fewer, other.temps);
+  room = inr fits;
 }
   where
-    small : frame_bytes (most_intervals body) body.arrays ≤ frame_limit
+    small : HasSmallFrame body
     small =
-        let temps = ap (λ t. frame_bytes t body.arrays) other.temps in
-        let sizes = ap (λ (b : Body). frame_bytes plain.temps b.arrays) other.changes in
-        omega (arith, frame, temps, sizes)
+        let sizes = ap (λ (b : Body). total b.arrays) other.changes in
+        few_fit (most_intervals body) body.arrays (omega (arith, few, other.temps, sizes))
 
--- temporaries and words of arrays that fit a frame in any case
-pub frame_fits : (temps : ℕ) (sizes : List ℕ) (left : ℕ) → left + temps + total sizes ≡ 480 → frame_bytes temps sizes ≤ frame_limit
-frame_fits temps sizes left few = omega (arith, few)
+-- ---- short bodies
+
+-- of none nothing is to be known
+pub none_short : (shorts : Shorts) → shorts ≡ [] → AllShort shorts
+none_short shorts e f b there = cc
+
+none_known : (setting : Setting) (bound : outcome.Bound) → AreShorts setting [] bound
+none_known setting [] = tt
+none_known setting (calls ∷ below) = (λ f b there. absurd cc, none_known setting below)
+
+pub is_shortened : (shorts : Shorts) (body b : Body) → shorts ≡ [] → IsGeneral shorts body b → IsShort b → HasWords b.code → IsShortened body b
+is_shortened shorts body b e general short words = record {
+  params = same.params;
+  keeps = λ setting frame contents args bound w. same.keeps setting frame contents args bound w (none_known setting bound);
+  short = short;
+  words = words;
+}
+  where
+    same : IsKept [] body b
+    same = kept [] body b (subst (λ ss. IsGeneral ss body b) e general)

@@ -8,6 +8,7 @@ use Rattle.mv_ast.specs.Counts.{product_of}
 use Rattle.mv_clone.specs.Assignments as clone
 use Rattle.mv_ir.specs.declared.body.Body.{Body}
 use Rattle.mv_ir.specs.declared.body.Assignment.{Assignment}
+use Rattle.mv_ir.specs.Shorts.{Shorts}
 use Rattle.mv_ir.specs.Combinations.{AreDomains, AreAllCombinations, combinations, values_of}
 use Rattle.mv_ir.specs.Live.{IsWhole}
 use Rattle.mv_ir.specs.Measures.{deepest}
@@ -19,6 +20,7 @@ use Rattle.mv_merge.specs.declared.rows.Bound.{Bound}
 use Rattle.mv_merge.specs.declared.rows.Variants.{Variants}
 use Rattle.mv_merge.specs.Guards.{domain_values, all_values}
 use Rattle.mv_merge.specs.Laws.{GroupedAreMerged}
+use Rattle.mv_variants.specs.Bound.Shorts.{AreShortsOf}
 use Rattle.mv_variants.specs.Bound.Led.{AreMade, HaveWords}
 use Rattle.mv_variants.specs.Bound.Switches.{domains_in}
 use Rattle.mv_variants.specs.declared.variant.Variant.{Variant}
@@ -71,7 +73,7 @@ module _ (p : Program) (formed : IsWellFormed p) (f : ℕ) (a : IsAttributed p f
     pub all_few : length all ≤ 64
     all_few = omega (arith, count, product, few_assignments p formed f g a.there a.attributed)
 
-    module _ (body : Body) (lowered : IsLoweredFrom p f body) (merged : Variants) (are : AreMergedUnder body all merged) where
+    module _ (shorts : Shorts) (known : AreShortsOf p shorts) (body : Body) (lowered : IsLoweredFrom p f body) (merged : Variants) (are : AreMergedUnder shorts body all merged) where
       abbrev rows : List Bound
       rows = are.rows
 
@@ -89,34 +91,38 @@ module _ (p : Program) (formed : IsWellFormed p) (f : ℕ) (a : IsAttributed p f
           let same : g ≡ h = let here = a.there in cc in
           subst (λ (x : Function). AreVariants p x variants) same (record {
             words = words_of p g.switches (subst HaveWords (ds.is ∙ own) ds.words);
+            shorts = shorts;
+            known = known;
             rows = rows;
             count = rows_count ∙ sym (assignments_are p formed f g a.there a.attributed);
             all = combinations_are;
-            made = subst (λ (b : Body). AreMade b rows) (lowered g a.there) are.under.made;
+            made = subst (λ (b : Body). AreMade shorts b rows) (lowered g a.there) are.under.made;
             merged = merged;
             is_merged = law (domains_in p (switch_kind p) g) rows merged rows_are_all are.grouped;
             grouped = grouped;
           })
 
     -- the bodies under the first assignments
-    pub first_bodies : (order : values_of all ≡ combinations (clone.domains_of p f)) (body : Body) → IsLoweredFrom p f body → (size over : Size) → PassesUnder body all size over →
-        PassesWithinOf p f size over
-    first_bodies order body lowered size over h k there =
+    pub first_bodies : (order : values_of all ≡ combinations (clone.domains_of p f)) (shorts : Shorts) → AreShortsOf p shorts → (body : Body) → IsLoweredFrom p f body → (size over : Size) →
+        PassesUnder shorts body all size over → PassesWithinOf p f size over
+    first_bodies order shorts known body lowered size over h k there =
         let same : g ≡ k = let here = a.there in cc in
         let is = lowered g a.there in
         subst (λ (x : Function). PassesWithin p x size over) same (record {
           earlier = h.earlier;
           last = h.last;
           first = record {
+            shorts = shorts;
+            known = known;
             rows = h.merged.rows;
             count = h.count;
             first = h.merged.under.values ∙ sym (take-map (λ (x : Assignment). x.values) h.count all) ∙ ap (take h.count) (order ∙ ap combinations clone_domains);
-            made = subst (λ (b : Body). AreMade b h.merged.rows) is h.merged.under.made;
+            made = subst (λ (b : Body). AreMade shorts b h.merged.rows) is h.merged.under.made;
             guards = h.guards;
             grouped = h.merged.grouped;
             few = omega (arith, h.few, count, product, assignments_are p formed f g a.there a.attributed);
           };
-          passes = subst (λ (b : Body). IsFirstOver b size h.earlier h.last over) is h.passes;
+          passes = subst (λ (b : Body). IsFirstOver shorts b size h.earlier h.last over) is h.passes;
         })
 
   -- ---- the body

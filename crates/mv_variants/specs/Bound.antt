@@ -1,7 +1,9 @@
 pub mod Rows
 pub mod Tables
+pub mod Shorts
 pub mod Meant
 pub mod General
+pub mod Programs
 pub mod Names
 pub mod Variants
 pub mod Reads

@@ -6,6 +6,7 @@ use Rattle.mv_isa.specs.declared.labelled.Line.{Line}
 use Rattle.mv_isa.specs.declared.labelled.Line.TheVariants.{Slot, Point}
 use Rattle.mv_isa.specs.Code.{least_words}
 use Rattle.mv_ir.specs.declared.body.Body.{Body}
+use Rattle.mv_ir.specs.Shorts.{Shorts}
 use Rattle.mv_ir.specs.Live.{most_intervals}
 use Rattle.mv_ir.specs.Measures.{deepest}
 use Rattle.mv_ir.specs.WellFormed.{IsWellFormed}
@@ -69,9 +70,9 @@ pub record IsSelectable (b : Body) : Type 0 where
   pub frame : FitsFrame b
 
 -- it was made of another, and has code
-pub record IsMadeAndSelected (body b : Body) : Type 0 where
+pub record IsMadeAndSelected (shorts : Shorts) (body b : Body) : Type 0 where
   pub values : List (ℕ × ℕ)
-  pub made : IsMadeUnder values body b
+  pub made : IsMadeUnder shorts values body b
   pub suitable : IsSuitable b
   pub frame : FitsFrame b
 

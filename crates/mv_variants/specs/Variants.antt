@@ -5,6 +5,7 @@ use Rattle.mv_ast.specs.declared.program.Function.{Function}
 use Rattle.mv_ast.specs.Switches.{switch_domain}
 use Rattle.mv_ast.specs.Counts.{assignments}
 use Rattle.mv_ir.specs.declared.body.Body.{Body}
+use Rattle.mv_ir.specs.Shorts.{Shorts}
 use Rattle.mv_ir.specs.Combinations.{AreAllCombinations}
 use Rattle.mv_descriptors.specs.declared.rows.GuardRow.{GuardRow}
 use Rattle.mv_lower_spec.specs.Functions.{lower_function}
@@ -13,6 +14,7 @@ use Rattle.mv_merge.specs.declared.rows.Guarded.{Guarded}
 use Rattle.mv_merge.specs.declared.rows.Variants.{Variants}
 use Rattle.mv_merge.specs.Guards.{all_values, IsMerged}
 use Rattle.mv_variants.specs.Bound.Rows.{groups_from, groups}
+use Rattle.mv_variants.specs.Bound.Shorts.{AreShortsOf}
 use Rattle.mv_variants.specs.Bound.Led.{AreMade}
 use Rattle.mv_variants.specs.Bound.Switches.{domains_in, DomainsAreWords}
 use Rattle.mv_variants.specs.declared.variant.Variant.{Variant}
@@ -39,13 +41,15 @@ pub record AreGrouped (merged : Variants) (variants : List Variant) : Type 0 whe
   pub guards : guards_of variants ≡ groups merged
 
 -- The variants of a function: there is a row for each combination of its switches' values, with a body that is made of the function's lowered one under
--- them; these rows are merged, and each body stands with the rows that lead to it. The values are words of 32 bits.
+-- them, with short bodies of the program; these rows are merged, and each body stands with the rows that lead to it. The values are words of 32 bits.
 pub record AreVariants (p : Program) (g : Function) (variants : List Variant) : Type 0 where
   pub words : DomainsAreWords p g.switches
+  pub shorts : Shorts
+  pub known : AreShortsOf p shorts
   pub rows : List Bound
   pub count : length rows ≡ assignments p g
   pub all : AreAllCombinations (map (switch_domain p) g.switches) (all_values rows)
-  pub made : AreMade (lower_function p g) rows
+  pub made : AreMade shorts (lower_function p g) rows
   pub merged : Variants
   pub is_merged : IsMerged (domains_in p (switch_kind p) g) rows merged
   pub grouped : AreGrouped merged variants

@@ -1,11 +1,12 @@
 //! What holds of the bodies of attributed functions under values of their switches: which of them a table's rows lead to, and what they mean.
 //!
-//! Laws on bodies of attributed functions that are tidied, bound to values of their switches, with numbers carried, folded, renamed and merged.
+//! Laws on bodies of attributed functions with short bodies in place of calls, tidied, bound to values of their switches, with numbers carried, folded, renamed and
+//! merged.
 //!
 //! - `rows_lead_to_variants`: the guard rows of an image, grouped by variant, lead from a combination of the domains to
 //!   the body that came with it, and from other values to none.
-//! - `made_bodies_are_variants`: a body that is tidied, bound, with numbers carried, folded and renamed means under these values what the function
-//!   means, reads none of the switches, and is no greater.
+//! - `made_bodies_are_variants`: a body that is made so means under these values what the function means, over callees that do what the short bodies
+//!   do, and reads none of the switches.
 //! - `passes_name_no_more`, `variants_can_be_selected`: it names no function and no known function that the first
 //!   doesn't, calls none more often, and code can be selected for it where it can for the first, but for the number of
 //!   temporaries.
@@ -20,7 +21,7 @@ ghost use Rattle.mv_variants.specs.Bound.Rows.{FittingIsLed, GroupedIsLed};
 ghost use Rattle.mv_variants.specs.Bound.Slots.{AllSlotsAreFew, GeneralSlotsAreFew, OwnSlotsAreFew, PointsAreCalls, SlotsAreCalls, SlotsAreFew, SlotsArePatchable, SlotsWeighAsCalls, VariantSlotsAreFew};
 ghost use Rattle.mv_variants.specs.Bound.Switches.{FunctionsAreLed};
 ghost use Rattle.mv_variants.specs.Bound.Tables.{GroupsFit, VariantsAreLed};
-ghost use Rattle.mv_variants.specs.Bound.Variants.{MadeAreInProgram, MadeCallNoMore, MadeFramesAreNoLarger, MadeNameNoMore};
+ghost use Rattle.mv_variants.specs.Bound.Variants.{MadeAreInProgram, MadeCallNoMore, MadeFramesFit, MadeNameNoMore};
 
 /// The rows that a merge gives, grouped by the bodies that they lead to, lead from the values of the switches to the body that came with them.
 /// The call does nothing: its contract is the law.
@@ -39,8 +40,9 @@ pub fn rows_lead_to_variants()
     ensures bodies { BodiesAreMade }
 {}
 
-/// A body that is tidied, bound to values of its switches, with numbers carried through its temporaries, folded and renamed means under these values what the
-/// first means, reads none of the switches, has the folded form, and is no greater. The call does nothing: its contract is the law.
+/// A body with short bodies in place of calls, tidied, bound to values of its switches, with numbers carried through its temporaries, folded and renamed means under
+/// these values what the first means, over callees that do what the short bodies do, reads none of the switches, and has the folded form. There is room for its
+/// temporaries. The call does nothing: its contract is the law.
 pub fn made_bodies_are_variants()
     ensures form { RenamingKeepsForm }
     ensures all { MadeAreVariants }
@@ -55,14 +57,14 @@ pub fn passes_name_no_more()
     ensures fold { FoldingNamesNoMore }
 {}
 
-/// A body that is tidied, bound to words, with numbers carried, folded and renamed names no more than the first and has no more calls of each function; and it
-/// is one that code can be selected for, where the first is but for its temporaries. Its frame is no larger than that of the first body renamed. The call does
-/// nothing: its contract is the law.
+/// A body with short bodies in place of calls, tidied, bound to words, with numbers carried, folded and renamed names no more than the first and has no more calls
+/// of each function; and it is one that code can be selected for, where the first is but for its temporaries. Its frame is small enough where that of the first
+/// body renamed alone is. The call does nothing: its contract is the law.
 pub fn variants_can_be_selected()
     ensures names { MadeNameNoMore }
     ensures calls { MadeCallNoMore }
     ensures selected { MadeAreInProgram }
-    ensures frames { MadeFramesAreNoLarger }
+    ensures frames { MadeFramesFit }
 {}
 
 /// A variant of a function of a well-formed program reads none of the function's switches, neither as a scalar nor as an array, and calls through none. The call

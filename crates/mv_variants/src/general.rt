@@ -1,71 +1,78 @@
 //! The body of which a function's own code is made, whose switches aren't bound.
 //!
-//! - `general`: the body tidied, and then with its temporaries renamed (`IsGeneral`). It isn't tidied where it would have more temporaries by that, and only
-//!   where its frame is small enough without: so each count of a frame is that of the body with its temporaries renamed alone, where it passes the limit.
+//! - `general`: the body with short bodies in place of calls, tidied, and then with its temporaries renamed (`IsGeneral`). Where its frame may be too large by
+//!   that, or that of the body as it is, the temporaries are renamed alone: so each count of a frame that passes the limit is that of the body as it is.
 
-ghost use Rattle.std.specs.Prelude.{◌≡◌, ◌≤◌, true, IfOk};
+ghost use Rattle.std.specs.Prelude.{◌≡◌, ◌+◌, ◌≤◌, true, IfOk};
+ghost use Rattle.mv_num.specs.Limits.{slot_limit};
 ghost use Rattle.mv_ir.specs.Live.{IsWhole};
+ghost use Rattle.mv_ir.specs.Measures.{total};
 ghost use Rattle.mv_ir.specs.WellFormed.{IsWellFormed};
+ghost use Rattle.mv_expand.specs.Straight.{AllShort};
 ghost use Rattle.mv_regalloc.specs.Intervals.{IsRenamed};
 ghost use Rattle.mv_select.specs.Bodies.SelectedBodies.{HasWords};
-ghost use Rattle.mv_select.specs.Calls.Convention.{frame_limit};
-ghost use Rattle.mv_select.specs.Functions.FunctionCode.{frame_bytes};
 ghost use Rattle.mv_variants.specs.Bound.General.{IsGeneral};
 
+use crate::ready::ready;
 use mv_ir::body::Body;
 use mv_regalloc::rename::rename;
 use mv_select::bodies::code_has_words;
-use mv_tidy::tidy;
 use std::alloc::{AllocError, Global};
 
 /// How many temporaries and words of arrays fit a frame in any case.
 const MOST: u32 = 480;
 
-/// The body of which a function's own code is made.
+/// The body of which a function's own code is made, given short bodies of functions by their numbers.
 #[tactic(auto, using(crate::proofs::Tidied::plain_general))]
-pub fn general(alloc: Global, body: &Body) -> Result<Body, AllocError>
+pub fn general(alloc: Global, shorts: &[Option<Body>], body: &Body) -> Result<Body, AllocError>
     requires formed { IsWellFormed body.now }
     requires whole { IsWhole body.now }
-    ensures { IfOk result (IsGeneral body.now) }
+    requires short { AllShort shorts.now }
+    ensures { IfOk result (IsGeneral shorts.now body.now) }
 {
     code_has_words(&body.code);
     let plain = rename(alloc, body)?;
-    if fits_frame(plain.temps, plain.arrays.as_slice()) {
-        shorter(alloc, body, plain)
+    if fits_frame(&plain) {
+        shorter(alloc, shorts, body, plain)
     } else {
         Ok(plain)
     }
 }
 
-// The body tidied and renamed, if it has no more temporaries than renamed alone.
-#[tactic(auto, using(crate::proofs::Tidied::plain_general, crate::proofs::Tidied::tidied_general))]
-fn shorter(alloc: Global, body: &Body, plain: Body) -> Result<Body, AllocError>
+// The body made ready and renamed, if its frame is small enough.
+#[tactic(auto, using(crate::proofs::Tidied::plain_general, crate::proofs::Tidied::ready_general))]
+fn shorter(
+    alloc: Global,
+    shorts: &[Option<Body>],
+    body: &Body,
+    plain: Body,
+) -> Result<Body, AllocError>
     requires formed { IsWellFormed body.now }
     requires whole { IsWhole body.now }
+    requires short { AllShort shorts.now }
     requires words { HasWords body.now.code }
     requires renamed { IsRenamed body.now plain }
-    requires frame { frame_bytes plain.temps plain.arrays ≤ frame_limit }
-    ensures { IfOk result (IsGeneral body.now) }
+    requires few { plain.temps + total plain.arrays ≤ slot_limit }
+    ensures { IfOk result (IsGeneral shorts.now body.now) }
 {
-    let tidied = tidy(alloc, body)?;
-    let made = rename(alloc, &tidied)?;
-    if made.temps <= plain.temps {
+    let ready = ready(alloc, shorts, body)?;
+    let made = rename(alloc, &ready)?;
+    if fits_frame(&made) {
         Ok(made)
     } else {
         Ok(plain)
     }
 }
 
-// Whether a frame with so many temporaries and these arrays is small enough in any case.
-#[tactic(auto, using(crate::proofs::Tidied::frame_fits))]
-fn fits_frame(temps: u32, arrays: &[u32]) -> bool
-    ensures { result ≡ true → frame_bytes temps arrays.now ≤ frame_limit }
+/// Whether a body has so few temporaries and words of arrays that they fit a frame in any case.
+pub(crate) fn fits_frame(body: &Body) -> bool
+    ensures { result ≡ true → body.now.temps + total body.now.arrays ≤ slot_limit }
 {
-    if temps > MOST {
+    if body.temps > MOST {
         return false;
     }
-    let mut left = MOST - temps;
-    for size in arrays {
+    let mut left = MOST - body.temps;
+    for size in body.arrays.as_slice() {
         if *size > left {
             return false;
         }

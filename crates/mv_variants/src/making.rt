@@ -6,7 +6,9 @@ ghost use Rattle.mv_ir.specs.declared.body.Assignment.{Assignment};
 ghost use Rattle.mv_ir.specs.Live.{IsWhole, most_intervals};
 ghost use Rattle.mv_ir.specs.Measures.{deepest};
 ghost use Rattle.mv_ir.specs.WellFormed.{IsWellFormed};
-ghost use Rattle.mv_tidy.specs.Tidied.{IsTidied};
+ghost use Rattle.mv_ir.specs.Shorts.{Shorts};
+ghost use Rattle.mv_expand.specs.Straight.{AllShort};
+ghost use Rattle.mv_variants.specs.Bound.Shorts.{IsReady};
 ghost use Rattle.mv_variants.specs.Bound.Meant.{IsMadeUnder, IsWorked};
 ghost use Rattle.mv_variants.specs.Fronts.{AreMeasured, PassesUnder};
 ghost use Rattle.mv_variants.specs.Rows.{AreMergedUnder, IsRowUnder};
@@ -14,6 +16,8 @@ ghost use Rattle.mv_variants.specs.Sizes.{Fits, HasSmallFrame, IfNew, IsSelectab
 
 use crate::bound::made_bodies_are_variants;
 use crate::error::VariantError;
+use crate::general::fits_frame;
+use crate::ready::ready;
 use crate::size::{Size, fits, with_lines};
 use mv_carry::carry;
 use mv_clone::bind::bind;
@@ -26,7 +30,6 @@ use mv_regalloc::rename::rename;
 use mv_select::bodies::code_has_words;
 use mv_select::error::SelectError;
 use mv_select::select;
-use mv_tidy::tidy;
 use std::alloc::{AllocError, Global};
 
 /// The bodies that are kept of a function, with their rows.
@@ -40,33 +43,35 @@ pub(crate) struct Making {
 /// whose code there is no room for, no other is made.
 pub(crate) fn merged_under(
     alloc: Global,
+    shorts: &[Option<Body>],
     body: &Body,
     assignments: &[Assignment],
     size: Size,
 ) -> Result<Making, VariantError>
     requires formed { IsWellFormed body.now }
     requires whole { IsWhole body.now }
+    requires short { AllShort shorts.now }
     requires shallow { deepest body.now.code ≤ 4 }
     requires frame { HasSmallFrame body.now }
     requires values { (k : ℕ) (d : Assignment) → k < length assignments.now → length body.now.switches ≡ length (slice_index_or assignments.now k d).values }
     requires switches { length body.now.switches ≤ 6 }
     requires few { length assignments.now ≤ 64 }
     requires room { Fits size }
-    ensures merged { IfOk result (λ made. AreMergedUnder body.now assignments.now made.variants) }
-    ensures measured { IfOk result (λ made. AreMeasured body.now size made.variants.bodies made.size) }
-    ensures limit { IfErr result (λ e. OnLimit e (PassesUnder body.now assignments.now size)) }
+    ensures merged { IfOk result (λ made. AreMergedUnder shorts.now body.now assignments.now made.variants) }
+    ensures measured { IfOk result (λ made. AreMeasured shorts.now body.now size made.variants.bodies made.size) }
+    ensures limit { IfErr result (λ e. OnLimit e (PassesUnder shorts.now body.now assignments.now size)) }
 {
     added_rows_are_merged();
     made_bodies_are_variants();
     let most = rename(alloc, body)?.temps;
-    let tidied = tidy(alloc, body)?;
+    let ready = ready(alloc, shorts, body)?;
     let mut with = size;
     let mut variants = Variants {
         bodies: List::new(alloc),
         guards: List::new(alloc),
     };
     for assignment in assignments {
-        let row = row_under(alloc, body, &tidied, most, assignment)?;
+        let row = row_under(alloc, body, &ready, most, assignment)?;
         let before = variants.bodies.len();
         add(&mut variants, row)?;
         let grown = with_new(alloc, with, variants.bodies.as_slice(), before)?;
@@ -105,22 +110,25 @@ fn with_body(alloc: Global, size: Size, body: &Body) -> Result<Size, AllocError>
     }
 }
 
-// The body under an assignment, beside it.
+// The body under an assignment, beside it, whatever short bodies it was made ready with.
+#[tactic(auto, using(crate::proofs::Worked::row_made))]
 fn row_under(
     alloc: Global,
     body: &Body,
-    tidied: &Body,
+    ready: &Body,
     most: u32,
     assignment: &Assignment,
 ) -> Result<Bound, AllocError>
     requires formed { IsWellFormed body.now }
     requires whole { IsWhole body.now }
-    requires tidied { IsTidied body.now tidied.now }
+    requires ready_formed { IsWellFormed ready.now }
+    requires ready_whole { IsWhole ready.now }
+    requires same { ready.now.switches ≡ body.now.switches }
     requires most { most ≤ most_intervals body.now }
     requires values { length body.now.switches ≡ length assignment.now.values }
-    ensures { IfOk result (λ row. IsRowUnder body.now assignment.now row) }
+    ensures { IfOk result (λ row. (shorts : Shorts) → IsReady shorts body.now ready.now → IsRowUnder shorts body.now assignment.now row) }
 {
-    let made = made_under(alloc, body, tidied, most, assignment)?;
+    let made = made_under(alloc, body, ready, most, assignment)?;
     let values = assignment.values.copied(alloc)?;
     Ok(Bound {
         assignment: Assignment { values },
@@ -128,25 +136,29 @@ fn row_under(
     })
 }
 
-// What is made of the body under an assignment, given the body tidied. The body as it was is taken where the other would have more temporaries than a number of
-// which the given body needs as many.
-#[tactic(auto, using(crate::proofs::Worked::tidied_values, crate::proofs::Worked::tidied_made))]
+// What is made of the body under an assignment, given the body made ready. The body as it was is taken where the frame of the other may be too large: where it
+// would have more temporaries than a number of which the given body needs as many, and wouldn't fit in any case.
+#[tactic(auto, using(crate::proofs::Worked::ready_values))]
 fn made_under(
     alloc: Global,
     body: &Body,
-    tidied: &Body,
+    ready: &Body,
     most: u32,
     assignment: &Assignment,
 ) -> Result<Body, AllocError>
     requires formed { IsWellFormed body.now }
     requires whole { IsWhole body.now }
-    requires tidied { IsTidied body.now tidied.now }
+    requires ready_formed { IsWellFormed ready.now }
+    requires ready_whole { IsWhole ready.now }
+    requires same { ready.now.switches ≡ body.now.switches }
     requires most { most ≤ most_intervals body.now }
     requires values { length body.now.switches ≡ length assignment.now.values }
-    ensures { IfOk result (λ made. IsMadeUnder (zip body.now.switches assignment.now.values) body.now made) }
+    ensures { IfOk result (λ made.
+        (shorts : Shorts) → IsReady shorts body.now ready.now → IsMadeUnder shorts (zip body.now.switches assignment.now.values) body.now made
+        ) }
 {
-    let made = worked(alloc, tidied, assignment)?;
-    if made.temps <= most {
+    let made = worked(alloc, ready, assignment)?;
+    if made.temps <= most || fits_frame(&made) {
         Ok(made)
     } else {
         worked(alloc, body, assignment)

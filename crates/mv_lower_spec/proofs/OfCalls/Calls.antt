@@ -1,23 +1,26 @@
 -- Calls that are the source's own do what they do in the source.
-use Rattle.std.proofs.Common.{◌≡◌, ℕ, zero, suc, ◌+◌, ◌*◌, Bool, true, false, cond, List, length, Option, Some, None, refl, sym, ◌∙◌, subst, ap, arith, if◌then◌else◌, nat_eq}
+use Rattle.std.proofs.Common.{◌≡◌, ◌⊎◌, inl, inr, ℕ, zero, suc, ◌+◌, ◌*◌, Bool, true, false, cond, List, length, Option, Some, None, refl, sym, ◌∙◌, subst, ap, arith, if◌then◌else◌, nat_eq}
 use Rattle.std.specs.Prelude.{slice_get}
 use Rattle.std.proofs.lemmas.Bool.{eq-eqb}
 use Rattle.mv_ast.specs.declared.program.Program.{Program}
 use Rattle.mv_ast.specs.declared.program.Function.{Function}
 use Rattle.mv_bindings.specs.declared.stop.Stop.{Stop}
+use Rattle.mv_bindings.specs.declared.stop.Stop.TheVariants as stops
 use Rattle.mv_bindings.specs.Bindings.{same_truth}
 use Rattle.mv_ast.specs.Worlds.{World, Outcome, Came, Stopped}
 use Rattle.mv_meaning.specs.declared.state.Frame.{Frame}
 use Rattle.mv_meaning.specs.declared.state.Flow.{Flow}
 use Rattle.mv_meaning.specs.Meaning.{flow_of_all, frame_of, deeper, back_in, call_of}
 use Rattle.mv_ir.specs.World as code_world
-use Rattle.mv_ir.specs.Outcome.{End, Stuck, Call}
+use Rattle.mv_ir.specs.Outcome.{End, Returned, Stuck, Call, Calls}
 use Rattle.mv_ir.specs.KnownFunctions.{seen}
 use Rattle.mv_source_forms.specs.Names.{is_void, takes}
 use Rattle.mv_lower_spec.specs.Correct.{CallShown, end_of, is_astray}
 use Rattle.mv_lower_spec.specs.Law.{strict_context}
 use Rattle.mv_source_forms.specs.WellFormed.{IsWellFormedFunction}
 use Rattle.mv_lower_spec.proofs.OfPrograms.Knot.{Agreed, lowered_calls, all_agreed}
+use Rattle.mv_lower_spec.specs.Lowered.{unless_void}
+use Rattle.mv_lower_spec.specs.Calls.Laws.{AreAsSource}
 use Rattle.mv_lower_spec.specs.Calls.SourceCalls.{meaningless, as_call, any_frame, call_by_source, source_call}
 use Rattle.mv_num.proofs.Booleans.{and_cases, from_falsity}
 use Rattle.mv_bindings.proofs.Common.{truth_told}
@@ -25,6 +28,10 @@ use Rattle.mv_bindings.proofs.Common.{truth_told}
 -- how a call ends that stops
 pub stopped_end : (why : Stop) (w : World) (z : Bool) → is_astray why ≡ z → cond (is_astray why) Stuck (end_of why (seen w)) ≡ cond z Stuck (end_of why (seen w))
 stopped_end why w z e = ap (λ a. cond a Stuck (end_of why (seen w))) e
+
+not_stuck : {A : Type 0} (why : Stop) (w : World) → end_of why (seen w) ≡ Stuck → A
+not_stuck (stops.Trapped code) w e = absurd cc
+not_stuck stops.Unfinished w e = absurd cc
 
 -- the frame of the caller doesn't matter
 any_caller : (void : Bool) (f : Frame) (w : World) (o : Outcome Frame Flow) → as_call void (back_in any_frame w o) ≡ as_call void (back_in f w o)
@@ -65,3 +72,18 @@ module _ (p : Program) (numbers : List ℕ) where
       subst (λ (x : Call). CallShown p frame own void x f w o)
       (sym (ap (λ d. source_call p numbers k g vs d frame.live (seen w)) (sym hd) ∙ ap (λ l. source_call p numbers k g vs w.depth l (seen w)) (sym hl) ∙ fitting_call_is k g void vs f w (slice_get p.functions g) can))
       (source_shown frame own void (lowered_calls p numbers formed k g vs frame.depth frame.live (seen w)) f w o (all_agreed p numbers formed (suc k) frame own lively g void vs f w can hf hd hl globals))
+
+  -- nothing is said of a call without a meaning
+  alike_shown : (frame : code_world.Frame) (own : ℕ) (void : Bool) (x source : Call) (f : Frame) (w : World) (o : Outcome Frame ℕ) → (source.end ≡ Stuck) ⊎ (x ≡ source) →
+      CallShown p frame own void source f w o → CallShown p frame own void x f w o
+  alike_shown frame own void x source f w o (inr e) h = subst (λ (c : Call). CallShown p frame own void c f w o) (sym e) h
+  alike_shown frame own void x source f w (Came v f2 w2 work) (inl stuck) h = let e : Returned (unless_void void v) (seen w2) ≡ Stuck = sym h.ends ∙ stuck in absurd cc
+  alike_shown frame own void x source f w (Stopped why w2 work) (inl stuck) h =
+      record { cost = h.cost; ends = λ ne. not_stuck why w2 (sym (ap (λ (c : Call). c.end) (h.ends ne)) ∙ stuck); paid = h.paid }
+
+  -- So do calls that are as the source's.
+  pub alike_agreed : (formed : (f : ℕ) (g : Function) → slice_get p.functions f ≡ Some g → IsWellFormedFunction p f g) (calls : ℕ → Calls) → AreAsSource p numbers calls → (k : ℕ) → Agreed p numbers formed calls k
+  alike_agreed formed calls alike zero = all_agreed p numbers formed zero
+  alike_agreed formed calls alike (suc k) = λ frame own lively g void vs f w can hf hd hl globals.
+      alike_shown frame own void (calls k g vs frame.depth frame.live (seen w)) (source_call p numbers k g vs frame.depth frame.live (seen w)) f w (call_of p (strict_context p numbers k) g (slice_get p.functions g) vs f w)
+      (alike k g vs frame.depth frame.live (seen w) globals) (source_agreed formed (suc k) frame own lively g void vs f w can hf hd hl globals)

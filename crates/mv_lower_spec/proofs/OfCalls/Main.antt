@@ -11,29 +11,29 @@ use Rattle.mv_lower_spec.specs.Functions.{lower_function, lower_program}
 use Rattle.mv_lower_spec.specs.Programs.Laws.{IsExecution}
 use Rattle.mv_lower_spec.proofs.OfPrograms.Programs as programs
 use Rattle.mv_lower_spec.proofs.OfPrograms.Programs.{EndAlike}
-use Rattle.mv_lower_spec.specs.Calls.SourceCalls.{source_call, source_levels}
+use Rattle.mv_lower_spec.specs.Statements.{levels}
 use Rattle.mv_lower_spec.specs.Calls.Laws.{MainIsRight, MainEndsAlike}
-use Rattle.mv_lower_spec.proofs.OfCalls.Calls.{source_agreed}
+use Rattle.mv_lower_spec.proofs.OfCalls.Calls.{alike_agreed}
 
 pub main_right : AnyNumberingServes → StraysDoNotShow → MainIsRight
-main_right any strays p numbers formed numbering hart input actions bound fit contents main here =
+main_right any strays p numbers calls alike_source formed numbering hart input actions bound fit contents main here =
     let same : formed.typed.entry.main ≡ main = let e : Some formed.typed.entry.main ≡ Some main = sym formed.typed.entry.defined ∙ here in cc in
     subst
     (λ (g : Function).
     let first = seen (first_world_under p numbers hart input actions) in
-    let c = body_from (setting_of numbers p) (record { depth = 0; live = 0; bound = [] }) contents (lower_function p g) [] (source_levels p numbers bound) first in
+    let c = body_from (setting_of numbers p) (record { depth = 0; live = 0; bound = [] }) contents (lower_function p g) [] (levels calls bound) first in
     IsExecution (hart_mean p hart input actions bound) (execution_of first c.cost c.end))
-    same (programs.main_is_right p numbers formed numbering hart input actions bound any strays fit (source_call p numbers) (λ i up. source_agreed p numbers formed.functions i) contents)
+    same (programs.main_is_right p numbers formed numbering hart input actions bound any strays fit calls (λ i up. alike_agreed p numbers formed.functions calls alike_source i) contents)
 
 pub main_alike : AnyNumberingServes → StraysDoNotShow → MainEndsAlike
-main_alike any strays p numbers formed numbering hart input actions bound fit contents main here = (alike.same, alike.valued)
+main_alike any strays p numbers calls alike_source formed numbering hart input actions bound fit contents main here = (alike.same, alike.valued)
   where
     same : formed.typed.entry.main ≡ main
     same = let e : Some formed.typed.entry.main ≡ Some main = sym formed.typed.entry.defined ∙ here in cc
 
-    alike : EndAlike (body_from (setting_of numbers p) (record { depth = 0; live = 0; bound = [] }) contents (lower_function p main) [] (source_levels p numbers bound) (seen (first_world_under p numbers hart input actions)))
+    alike : EndAlike (body_from (setting_of numbers p) (record { depth = 0; live = 0; bound = [] }) contents (lower_function p main) [] (levels calls bound) (seen (first_world_under p numbers hart input actions)))
         (run_of_main numbers (lower_program p) hart input actions bound)
     alike = subst
-        (λ (g : Function). EndAlike (body_from (setting_of numbers p) (record { depth = 0; live = 0; bound = [] }) contents (lower_function p g) [] (source_levels p numbers bound) (seen (first_world_under p numbers hart input actions)))
+        (λ (g : Function). EndAlike (body_from (setting_of numbers p) (record { depth = 0; live = 0; bound = [] }) contents (lower_function p g) [] (levels calls bound) (seen (first_world_under p numbers hart input actions)))
         (run_of_main numbers (lower_program p) hart input actions bound))
-        same (programs.main_ends_alike p numbers formed numbering hart input actions bound any strays fit (source_call p numbers) (λ i up. source_agreed p numbers formed.functions i) contents)
+        same (programs.main_ends_alike p numbers formed numbering hart input actions bound any strays fit calls (λ i up. alike_agreed p numbers formed.functions calls alike_source i) contents)

@@ -37,7 +37,7 @@ use Rattle.mv_lower_spec.proofs.OfShape.StatementTops.{body_top}
 use Rattle.mv_lower_spec.proofs.OfShape.Rooms.{scalars_have_rooms, named_are_there}
 use Rattle.mv_lower_spec.proofs.OfShape.Intervals.{marked_none, few_intervals, total_is}
 use Rattle.mv_lower_spec.proofs.OfShape.PointerStatements.{function_calls}
-use Rattle.mv_lower_spec.proofs.OfShape.SameCounts.{all_calls, attributed_calls}
+use Rattle.mv_lower_spec.proofs.OfShape.SameCounts.{attributed_calls}
 use Rattle.mv_num.proofs.Booleans.{from_falsity}
 use Rattle.mv_lower_spec.proofs.ExpressionDepths.{deepest_up}
 
@@ -164,7 +164,7 @@ module _ (p : Program) (globals : Globals) (g : Function) (asked : IsAsked p glo
 
   pub lowered_calls : CallsAsOften program g b
   lowered_calls = record {
-    all = sym (all_calls b.code) ∙ (counting each_once 1).made.weight;
+    all = (counting each_once 1).made.weighed ∙ (counting each_once 1).made.weight;
     attributed = (counting (attributed_once p) 0).made.weight ∙ attributed_calls p g;
     counted = λ direct through. (counting direct through).made.weight;
     pointers = λ test. function_calls test program g;

@@ -32,37 +32,37 @@ module _ (a : Allowed) where
   MayName r = a.named r ≡ true
 
   pub plain_set : (t : ℕ) (v : Tree) → a.temps t ≡ true → IsPlain a (stm.Set t v) (v ∷ []) (Some t) 0 1 1
-  plain_set t v h = record { flows = λ u. refl; trees = refl; units = omega arith; allowed = omega arith; calls = refl; arguments = refl; targets = λ r. refl; named = tt; arrays = tt; written = h }
+  plain_set t v h = record { flows = λ u. refl; weighed = refl; trees = refl; units = omega arith; allowed = omega arith; calls = refl; arguments = refl; targets = λ r. refl; named = tt; arrays = tt; written = h }
 
   pub plain_set_global : (g : ℕ) (v : Tree) → MayName (array.Global g) → IsPlain a (stm.SetGlobal g v) (v ∷ []) None 0 1 2
-  plain_set_global g v h = record { flows = λ u. refl; trees = refl; units = omega arith; allowed = omega arith; calls = refl; arguments = refl; targets = λ r. refl; named = (h, tt); arrays = tt; written = tt }
+  plain_set_global g v h = record { flows = λ u. refl; weighed = refl; trees = refl; units = omega arith; allowed = omega arith; calls = refl; arguments = refl; targets = λ r. refl; named = (h, tt); arrays = tt; written = tt }
 
   pub plain_divide : (t o : ℕ) (x y : Tree) → a.temps t ≡ true → IsPlain a (stm.Divide t o x y) (x ∷ y ∷ []) (Some t) 0 1 4
-  plain_divide t o x y h = record { flows = λ u. refl; trees = refl; units = omega arith; allowed = omega arith; calls = refl; arguments = refl; targets = λ r. refl; named = tt; arrays = tt; written = h }
+  plain_divide t o x y h = record { flows = λ u. refl; weighed = refl; trees = refl; units = omega arith; allowed = omega arith; calls = refl; arguments = refl; targets = λ r. refl; named = tt; arrays = tt; written = h }
 
   pub plain_check : (r : Array) (i : Tree) → MayName r → IsPlain a (stm.Check r i) (i ∷ []) None 0 1 4
-  plain_check r i h = record { flows = λ u. refl; trees = refl; units = omega arith; allowed = omega arith; calls = refl; arguments = refl; targets = λ r. refl; named = (h, tt); arrays = tt; written = tt }
+  plain_check r i h = record { flows = λ u. refl; weighed = refl; trees = refl; units = omega arith; allowed = omega arith; calls = refl; arguments = refl; targets = λ r. refl; named = (h, tt); arrays = tt; written = tt }
 
   pub plain_read : (t : ℕ) (r : Array) (i : Tree) → a.temps t ≡ true → MayName r → AllMay a.arrays (array_read r) → IsPlain a (stm.Read t r i) (i ∷ []) (Some t) 0 1 9
-  plain_read t r i h k m = record { flows = λ u. refl; trees = refl; units = omega arith; allowed = omega arith; calls = refl; arguments = refl; targets = λ r. refl; named = (k, tt); arrays = m; written = h }
+  plain_read t r i h k m = record { flows = λ u. refl; weighed = refl; trees = refl; units = omega arith; allowed = omega arith; calls = refl; arguments = refl; targets = λ r. refl; named = (k, tt); arrays = m; written = h }
 
   pub plain_write : (r : Array) (i v : Tree) → MayName r → IsPlain a (stm.Write r i v) (i ∷ v ∷ []) None 0 1 8
-  plain_write r i v h = record { flows = λ u. refl; trees = refl; units = omega arith; allowed = omega arith; calls = refl; arguments = refl; targets = λ r. refl; named = (h, tt); arrays = tt; written = tt }
+  plain_write r i v h = record { flows = λ u. refl; weighed = refl; trees = refl; units = omega arith; allowed = omega arith; calls = refl; arguments = refl; targets = λ r. refl; named = (h, tt); arrays = tt; written = tt }
 
   pub plain_zero : (l : ℕ) → MayName (array.Local l) → IsPlain a (stm.Zero l) [] None 0 1 7
-  plain_zero l h = record { flows = λ u. refl; trees = refl; units = omega arith; allowed = omega arith; calls = refl; arguments = refl; targets = λ r. refl; named = (h, tt); arrays = tt; written = tt }
+  plain_zero l h = record { flows = λ u. refl; weighed = refl; trees = refl; units = omega arith; allowed = omega arith; calls = refl; arguments = refl; targets = λ r. refl; named = (h, tt); arrays = tt; written = tt }
 
   pub plain_call : (t : Option ℕ) (f : ℕ) (args : List Tree) → IsAllowed a t → nat_lt (length args) 9 ≡ true → IsPlain a (stm.Call t (callee.Direct f) args) args t (a.direct f) 4 16
-  plain_call t f args h k = record { flows = λ u. refl; trees = refl; units = omega arith; allowed = omega arith; calls = refl; arguments = k; targets = λ r. refl; named = tt; arrays = tt; written = h }
+  plain_call t f args h k = record { flows = λ u. refl; weighed = refl; trees = refl; units = omega arith; allowed = omega arith; calls = refl; arguments = k; targets = λ r. refl; named = tt; arrays = tt; written = h }
 
   pub plain_through : (t : Option ℕ) (f : Tree) (args : List Tree) → IsAllowed a t → nat_lt (length args) 9 ≡ true → IsPlain a (stm.Call t (callee.Through f) args) (f ∷ args) t a.through 4 16
-  plain_through t f args h k = record { flows = λ u. refl; trees = refl; units = omega arith; allowed = omega arith; calls = refl; arguments = k; targets = λ r. refl; named = tt; arrays = tt; written = h }
+  plain_through t f args h k = record { flows = λ u. refl; weighed = refl; trees = refl; units = omega arith; allowed = omega arith; calls = refl; arguments = k; targets = λ r. refl; named = tt; arrays = tt; written = h }
 
   pub plain_switched : (t : Option ℕ) (g : ℕ) (args : List Tree) → IsAllowed a t → MayName (array.Global g) → a.arrays g ≡ true → nat_lt (length args) 9 ≡ true → IsPlain a (stm.Call t (callee.Switched g) args) args t a.through 4 16
-  plain_switched t g args h k m few = record { flows = λ u. refl; trees = refl; units = omega arith; allowed = omega arith; calls = refl; arguments = few; targets = λ r. refl; named = (k, tt); arrays = (m, tt); written = h }
+  plain_switched t g args h k m few = record { flows = λ u. refl; weighed = refl; trees = refl; units = omega arith; allowed = omega arith; calls = refl; arguments = few; targets = λ r. refl; named = (k, tt); arrays = (m, tt); written = h }
 
   pub plain_known : (t : ℕ) (f : Known) (args : List Tree) → a.temps t ≡ true → nat_eq (length args) (known_arguments f) ≡ true → IsPlain a (stm.Known (Some t) f args) args (Some t) 0 4 7
-  plain_known t f args h k = record { flows = λ u. refl; trees = refl; units = omega arith; allowed = omega arith; calls = refl; arguments = k; targets = λ r. refl; named = tt; arrays = tt; written = h }
+  plain_known t f args h k = record { flows = λ u. refl; weighed = refl; trees = refl; units = omega arith; allowed = omega arith; calls = refl; arguments = k; targets = λ r. refl; named = tt; arrays = tt; written = h }
 
 -- ---- trees
 

@@ -16,7 +16,7 @@ use Rattle.mv_ir.proofs.Induction.{Each}
 use Rattle.mv_lower_spec.specs.Lowered.{temp, global, choose}
 use Rattle.mv_lower_spec.specs.Statements.{return_with, break, repeat, enclosed}
 use Rattle.mv_lower_spec.specs.Shape.Allowances.{layer_allowance, stm_allowance}
-use Rattle.mv_lower_spec.specs.Shape.Calls.{layer_weight, stm_weight}
+use Rattle.mv_lower_spec.specs.Shape.Calls.{layer_weight, stm_weight, each_once}
 
 -- what code may name and read, and the weights of its calls
 pub record Allowed : Type 0 where
@@ -50,7 +50,7 @@ abbrev pub IsAllowed : Allowed → Option ℕ → Type 0
 IsAllowed a None = Unit {0}
 IsAllowed a (Some t) = a.temps t ≡ true
 
--- a statement without others in it that goes on, with what it reads, what it writes, the weight of its call, what it
+-- a statement without others in it that goes on, with what it reads, what it writes, the weight of its call, which has one where it is a call, what it
 -- counts as, where a call is as much as four other statements, and the words that it is allowed
 pub record IsPlain (a : Allowed) (x : Stm-F Stm) (reads : List Tree) (writes : Option ℕ) (weight measure words : ℕ) : Type 0 where
   pub flows : (t : ℕ) → layer_flow t (map-Stm Stm Flow (flow t) x) ≡ plain t reads writes goes_next
@@ -58,6 +58,7 @@ pub record IsPlain (a : Allowed) (x : Stm-F Stm) (reads : List Tree) (writes : O
   pub units : layer_size (map-Stm Stm ℕ stm_size x) + 3 * layer_calls (map-Stm Stm ℕ stm_calls x) ≤ measure
   pub allowed : layer_allowance (map-Stm Stm ℕ stm_allowance x) ≤ words
   pub calls : layer_weight a.direct a.through (map-Stm Stm ℕ (stm_weight a.direct a.through) x) ≡ weight
+  pub weighed : layer_calls (map-Stm Stm ℕ stm_calls x) ≡ layer_weight each_once 1 (map-Stm Stm ℕ (stm_weight each_once 1) x)
   pub arguments : layer_arguments (map-Stm Stm Bool stm_arguments x) ≡ true
   pub targets : (around : List Bool) → layer_targets (map-Stm Stm (List Bool → Bool) stm_targets x) around ≡ true
   pub named : Each (λ r. a.named r ≡ true) (layer_named (map-Stm Stm (List Array) stm_named x))

@@ -24,6 +24,7 @@ module _ (direct : ℕ → ℕ) (through : ℕ) where
   callee_weight (callee.Direct f) = direct f
   callee_weight (callee.Through t) = through
   callee_weight (callee.Switched g) = through
+  callee_weight callee.Expanded = 0
 
   abbrev pub layer_weight : Stm-F ℕ → ℕ
   layer_weight (stm.If t a b) = total a + total b
@@ -69,6 +70,7 @@ module _ (counts : (global : ℕ) → Bool) where
   callee_through (callee.Direct f) = 0
   callee_through (callee.Through t) = 0
   callee_through (callee.Switched g) = if counts g then 1 else 0
+  callee_through callee.Expanded = 0
 
   abbrev pub layer_through : Stm-F ℕ → ℕ
   layer_through (stm.If t a b) = total a + total b

@@ -4,10 +4,10 @@ ghost use Rattle.mv_lower_spec.specs.Calls.Laws.{BodiesAreRight, CallsKeepBindin
 
 use mv_meaning_numbering::numbering_law;
 
-/// The lowered body of a function does what the function does by the source's meaning, if its callees do (C11 6.5.2.2): at each bound, under each
-/// numbering of the functions, in each world, and whatever its temporaries and arrays hold when it begins, it ends in the same way, at a cost of at most
-/// 20 and 100 for one of work. Nothing is said of a call that goes, through a pointer, to no function that fits. The call does nothing: its contract
-/// is the law.
+/// The lowered body of a function does what the function does by the source's meaning, if its callees do, wherever what they do has a meaning (C11
+/// 6.5.2.2): at each bound, under each numbering of the functions, in each world, and whatever its temporaries and arrays hold when it begins, it ends in
+/// the same way, at a cost of at most 20 and 100 for one of work. Nothing is said of a call that goes, through a pointer, to no function that fits. The
+/// call does nothing: its contract is the law.
 pub fn bodies_are_right()
     ensures { BodiesAreRight }
 {}
@@ -24,10 +24,10 @@ pub fn calls_keep_bindings()
     ensures { CallsKeepBindings }
 {}
 
-/// The lowered body of `main` does what the program means, if its callees do what they do by the source's meaning (C11 5.1.2.3): under each
-/// numbering of the functions, on each input, with all actions of the operator that fit, at each bound, and whatever its temporaries and arrays hold
-/// when it begins, it has the same output, bytes taken, end, bindings and log, at a cost of at most 20 and 100 for one of work. The call does nothing:
-/// its contract is the law.
+/// The lowered body of `main` does what the program means, if its callees do what they do by the source's meaning, wherever that says anything (C11
+/// 5.1.2.3): under each numbering of the functions, on each input, with all actions of the operator that fit, at each bound, and whatever its temporaries
+/// and arrays hold when it begins, it has the same output, bytes taken, end, bindings and log, at a cost of at most 20 and 100 for one of work. The call
+/// does nothing: its contract is the law.
 pub fn main_is_right()
     ensures { MainIsRight }
 {

@@ -9,11 +9,15 @@ use Rattle.mv_isa.specs.declared.labelled.Labelled.{Labelled}
 use Rattle.mv_ir.specs.declared.body.Body.{Body}
 use Rattle.mv_ir.specs.Measures.{scalars_read, arrays_read}
 use Rattle.mv_ir.specs.Programs.{setting_of}
+use Rattle.mv_ir.specs.Shorts.{Shorts}
 use Rattle.mv_ir.specs.Trees.{found}
 use Rattle.mv_lower_spec.specs.Functions.{names_global, lower_function, lower_function_code}
 use Rattle.mv_source_forms.specs.Uses.{known_is_there}
 use Rattle.mv_lower_spec.specs.Shape.Law.{IsFunctionOf}
 use Rattle.mv_variants.specs.Bound.General.{IsGeneral}
+use Rattle.mv_variants.specs.Bound.Programs.{IsGeneralOf}
+use Rattle.mv_variants.specs.Bound.Names.{NamesNoMore}
+use Rattle.mv_variants.specs.Bound.Shorts.{AreShortsOf, ShortsHaveWords}
 use Rattle.mv_variants.proofs.OfBound.Generals.{IsKept, kept}
 use Rattle.mv_select_code.specs.Control.Labels.{functions}
 use Rattle.mv_select.specs.Calls.CallCode.{is_marked}
@@ -29,6 +33,10 @@ use Rattle.mv_refine_images.proofs.OfBodies.Facts.{Laws}
 use Rattle.mv_refine_images.proofs.OfBodies.ReadGlobals.{reads_no_more}
 use Rattle.mv_refine_images.proofs.OfBodies.Rooms.{rooms_are}
 use Rattle.mv_num.proofs.Lists.{contains_all, there_at}
+
+-- the constants of a program's short bodies are words
+pub have_words : (p : Program) (shorts : Shorts) → AreShortsOf p shorts → ShortsHaveWords shorts
+have_words p shorts known f b e = let s = known f b e in (s.short, s.words)
 
 -- the code that is selected for a body is within the limits of selection
 pub is_within : (attributed : Bool) (body : Body) (code : Labelled) → IsCodeOf attributed body code → IsWithin attributed body
@@ -70,11 +78,23 @@ module _ (laws : Laws) (p : Program) (bodies : List Body) (tables : List (List V
   abbrev body : Body
   body = own.0
 
-  general : IsGeneral (lower_function p g) body
-  general = out.parts_are.codes.generics.each f g body there own.1
+  made : IsGeneralOf p g body
+  made = out.parts_are.codes.generics.each f g body there own.1
 
-  same : IsKept (lower_function p g) body
-  same = kept (lower_function p g) body general
+  abbrev shorts : Shorts
+  shorts = made.shorts
+
+  abbrev known : AreShortsOf p shorts
+  known = made.known
+
+  general : IsGeneral shorts (lower_function p g) body
+  general = made.general
+
+  same : IsKept shorts (lower_function p g) body
+  same = kept shorts (lower_function p g) body general
+
+  names : NamesNoMore (lower_function p g).code body.code
+  names = same.names (have_words p shorts known)
 
   own_words : HasWords body.code
   own_words = one_of_all (λ (b : Body). HasWords b.code) bodies out.words f body own.1
@@ -96,8 +116,8 @@ module _ (laws : Laws) (p : Program) (bodies : List Body) (tables : List (List V
     within = within;
     rooms = own_rooms;
     constants = own_words.constants;
-    knowns = contains_all (IsIn y.may_ask) (knowns (lower_function p g).code) (knowns body.code) same.names.knowns may_ask;
-    functions = contains_all IsThere (functions (lower_function p g).code) (functions body.code) same.names.functions functions_there;
+    knowns = contains_all (IsIn y.may_ask) (knowns (lower_function p g).code) (knowns body.code) names.knowns may_ask;
+    functions = contains_all IsThere (functions (lower_function p g).code) (functions body.code) names.functions functions_there;
     free = unbound (scalars_read body.code);
     arrays = unbound (arrays_read body.code);
   }
@@ -105,6 +125,8 @@ module _ (laws : Laws) (p : Program) (bodies : List Body) (tables : List (List V
   own_code : (code : Labelled) → IsCodeOf g.attributed body code → IsOwnCode p y numbers g code
   own_code code is = record {
     body = body;
+    shorts = shorts;
+    known = known;
     keeps = same.keeps;
     params = same.params;
     in_program = in_program (is_within g.attributed body code is);

@@ -6,6 +6,7 @@ use Rattle.std.proofs.lemmas.List.Elements.{All-nil, All-cons, All-head, All-tai
 use Rattle.mv_num.specs.Lists.{is_among}
 use Rattle.mv_ir.specs.declared.body.Body.{Body}
 use Rattle.mv_ir.specs.Measures.{scalars_read, arrays_read}
+use Rattle.mv_ir.specs.Shorts.{Shorts}
 use Rattle.mv_ir.specs.Trees.{found}
 use Rattle.mv_select.specs.Bodies.SelectedBodies.{globals_read}
 use Rattle.mv_variants.proofs.OfBound.Meant.{reads_scalar, reads_array}
@@ -68,5 +69,5 @@ module _ (body result : Body) (scalars : (k : ℕ) → Contains (scalars_read re
   pub reads_no_more : (x : ℕ) → is_among x (globals_read result.code) ≡ true → is_among x (globals_read body.code) ≡ true
   reads_no_more x e = among_all Among (globals_read result.code) x (All-append Among (scalars_read result.code) (arrays_read result.code) scalars_among arrays_among) e
 
-pub made_reads_no_more : (ps : List (ℕ × ℕ)) (body result : Body) → IsMadeUnder ps body result → (x : ℕ) → is_among x (globals_read result.code) ≡ true → is_among x (globals_read body.code) ≡ true
-made_reads_no_more ps body result m = reads_no_more body result (reads_scalar ps body result m) (reads_array ps body result m)
+pub made_reads_no_more : (shorts : Shorts) (ps : List (ℕ × ℕ)) (body result : Body) → IsMadeUnder shorts ps body result → (x : ℕ) → is_among x (globals_read result.code) ≡ true → is_among x (globals_read body.code) ≡ true
+made_reads_no_more shorts ps body result m = reads_no_more body result (reads_scalar shorts ps body result m) (reads_array shorts ps body result m)

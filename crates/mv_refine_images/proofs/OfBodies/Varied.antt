@@ -11,6 +11,7 @@ use Rattle.mv_ast.specs.Switches.{switch_domain}
 use Rattle.mv_ir.specs.declared.body.Body.{Body}
 use Rattle.mv_ir.specs.Measures.{scalars_read, arrays_read}
 use Rattle.mv_ir.specs.Programs.{setting_of}
+use Rattle.mv_ir.specs.Shorts.{Shorts}
 use Rattle.mv_ir.specs.Trees.{found}
 use Rattle.mv_lower_spec.specs.Functions.{lower_function}
 use Rattle.mv_select_code.specs.Control.Labels.{functions}
@@ -21,6 +22,7 @@ use Rattle.mv_merge.specs.declared.rows.Bound.{Bound}
 use Rattle.mv_variants.specs.Bound.Meant.{IsMadeUnder, IsVariantOf}
 use Rattle.mv_variants.specs.Bound.Names.{NamesNoMore}
 use Rattle.mv_variants.specs.Bound.Reads as read
+use Rattle.mv_variants.specs.Bound.Shorts.{AreShortsOf}
 use Rattle.mv_variants.specs.Bound.Switches.{domains_in}
 use Rattle.mv_linker.specs.declared.parts.Parts.{Parts}
 use Rattle.mv_linker.specs.declared.parts.PartFunction.{PartFunction}
@@ -36,7 +38,7 @@ use Rattle.mv_parts.proofs.LinkedVariants.{made_variant}
 use Rattle.mv_parts.proofs.Lists.{map_at}
 use Rattle.mv_refine_images.specs.Bodies.ProgramBodies.{AreLaidOut, IsLinkedVariant, IsVariantAt, IsVariantCode}
 use Rattle.mv_refine_images.proofs.OfBodies.Facts.{VariantLaws}
-use Rattle.mv_refine_images.proofs.OfBodies.Own.{functions_there, is_within, is_written, may_ask, of_program, rooms, words}
+use Rattle.mv_refine_images.proofs.OfBodies.Own.{functions_there, have_words, is_within, is_written, may_ask, of_program, rooms, words}
 use Rattle.mv_refine_images.proofs.OfBodies.Places.{code_of_variant}
 use Rattle.mv_refine_images.proofs.OfBodies.ReadGlobals.{among_all, made_reads_no_more, not_found}
 use Rattle.mv_num.proofs.Lists.{there_at, contains_all}
@@ -45,7 +47,8 @@ use Rattle.mv_num.proofs.Lists.{there_at, contains_all}
 record IsMade (p : Program) (g : Function) (result : Body) : Type 0 where
   pub values : List ℕ
   pub many : length values ≡ length g.switches
-  pub made : IsMadeUnder (zip (lower_function p g).switches values) (lower_function p g) result
+  pub shorts : Shorts
+  pub made : IsMadeUnder shorts (zip (lower_function p g).switches values) (lower_function p g) result
 
 module _ (laws : VariantLaws) (p : Program) (bodies : List Body) (tables : List (List Variant)) (parts : Parts) (y : Layout) (numbers : List ℕ)
     (out : AreLaidOut p bodies tables parts y numbers) (n f j : ℕ) (g : Function) (v : Variant) (at : IsVariantAt p tables n f j g v) where
@@ -77,22 +80,24 @@ module _ (laws : VariantLaws) (p : Program) (bodies : List Body) (tables : List 
   made =
       let kept : slice_get are.merged.bodies j ≡ Some v.body =
       subst (λ (bs : List Body). slice_get bs j ≡ Some v.body) are.grouped.bodies (map_at (λ (x : Variant). x.body) at.variants j v at.at) in
-      let r = laws.bodies_made (domains_in p (switch_kind p) g) are.rows are.merged are.is_merged (lower_function p g) are.made j v.body kept in
+      let r = laws.bodies_made (domains_in p (switch_kind p) g) are.rows are.merged are.is_merged are.shorts (lower_function p g) are.made j v.body kept in
       let values = r.0.assignment.values in
       let combination = are.all.only values (in_map (λ (x : Bound). x.assignment.values) are.rows r.0 r.1) in record {
         values = values;
         many = combination_length (map (switch_domain p) g.switches) values combination ∙ length-map g.switches (switch_domain p);
+        shorts = are.shorts;
         made = r.2;
       }
 
   names : NamesNoMore (lower_function p g).code v.body.code
-  names = let m = made_variant p g at.variants are laws.bodies_made j v at.at in laws.name_no_more m.values (lower_function p g) v.body m.words m.made
+  names = let m = made_variant p g at.variants are laws.bodies_made j v at.at in
+      laws.name_no_more m.made.shorts m.values (lower_function p g) v.body (have_words p m.made.shorts m.made.known) m.words m.made.made
 
   has_words : HasWords v.body.code
   has_words = names.words (words laws.lowered p bodies tables parts y numbers out f g at.there)
 
   no_switches : read.ReadsNoSwitch (lower_function p g).switches v.body
-  no_switches = laws.no_switch p g (laws.reads p f g (of_program laws.lowered p bodies tables parts y numbers out f g at.there)) made.values made.many v.body made.made
+  no_switches = laws.no_switch p g (laws.reads p f g (of_program laws.lowered p bodies tables parts y numbers out f g at.there)) made.values made.many made.shorts v.body made.made
 
   abbrev IsNoSwitch : ℕ → Type 0
   IsNoSwitch k = is_among k (lower_function p g).switches ≡ false
@@ -103,7 +108,7 @@ module _ (laws : VariantLaws) (p : Program) (bodies : List Body) (tables : List 
 
   -- ---- under values of its switches
 
-  module _ (values : List ℕ) (variant : IsVariantOf (zip (lower_function p g).switches values) (lower_function p g) v.body) where
+  module _ (shorts : Shorts) (known : AreShortsOf p shorts) (values : List ℕ) (variant : IsVariantOf shorts (zip (lower_function p g).switches values) (lower_function p g) v.body) where
     own_rooms : AreRooms y v.body.rooms
     own_rooms = subst (AreRooms y) (sym variant.rooms) (rooms laws.lowered p bodies tables parts y numbers out f g at.there)
 
@@ -121,15 +126,17 @@ module _ (laws : VariantLaws) (p : Program) (bodies : List Body) (tables : List 
 
     variant_code : IsVariantCode p y numbers g values v.body part.0
     variant_code = record {
+      shorts = shorts;
+      known = known;
       keeps = variant.keeps;
       params = variant.params;
       in_program = in_program;
-      reads = made_reads_no_more (zip (lower_function p g).switches made.values) (lower_function p g) v.body made.made;
+      reads = made_reads_no_more made.shorts (zip (lower_function p g).switches made.values) (lower_function p g) v.body made.made;
       no_switch = reads_none;
       written = is_written laws.lowered y true v.body part.0.code is_part.code own_rooms;
       inline = is_part.inline ∙ ap encoded (laws.same_inline y v.body is_part.code.suitable.formed own_rooms);
     }
 
   pub has_variant_code : (x : PartVariant) × IsLinkedVariant parts n j x
-      × ((values : List ℕ) → IsVariantOf (zip (lower_function p g).switches values) (lower_function p g) v.body → IsVariantCode p y numbers g values v.body x)
+      × ((shorts : Shorts) → AreShortsOf p shorts → (values : List ℕ) → IsVariantOf shorts (zip (lower_function p g).switches values) (lower_function p g) v.body → IsVariantCode p y numbers g values v.body x)
   has_variant_code = (part.0, linked, variant_code)

@@ -1,5 +1,5 @@
 -- All functions of a program keep the calling convention, by induction on the bound.
-use Rattle.std.proofs.Common.{◌≡◌, ◌⊎◌, inl, inr, ℕ, zero, suc, ◌+◌, ◌≤◌, Bool, true, false, List, [], map, length, Option, Some, None, refl, sym, ap, subst, ◌∙◌, arith}
+use Rattle.std.proofs.Common.{◌≡◌, ◌⊎◌, inl, inr, ℕ, zero, suc, ◌+◌, ◌≤◌, Bool, true, false, List, [], ◌∷◌, map, length, Option, Some, None, refl, sym, ap, subst, ◌∙◌, arith}
 use Rattle.std.specs.Prelude.{slice_get, nat_eq, if◌then◌else◌}
 use Rattle.std.specs.List.{zip}
 use Rattle.std.proofs.lemmas.Bool.{eqb-true}
@@ -15,6 +15,7 @@ use Rattle.mv_isa.specs.Execution.{Access, reg}
 use Rattle.mv_isa.specs.Registers.{ra as link_register}
 use Rattle.mv_ir.specs.Combinations.{IsCombination}
 use Rattle.mv_ir.specs.Meaning.{cleared}
+use Rattle.mv_ir.specs.Shorts.{Shorts}
 use Rattle.mv_ir.specs.KnownFunctions.{seen_from}
 use Rattle.mv_ir.specs.World.{World}
 use Rattle.mv_ir.specs.Outcome.{Stuck, Bound, Call}
@@ -23,6 +24,7 @@ use Rattle.mv_ir_worlds.specs.Functions.{IsFreeIn, IsBoundIn}
 use Rattle.mv_ir_worlds.specs.Laws.{FunctionsAreFreeOrBound, PointersAreFreeOrBound, FramesOfFree, FramesOfBound}
 use Rattle.mv_source_forms.specs.Names.{is_void}
 use Rattle.mv_lower_spec.specs.Functions.{lower_function}
+use Rattle.mv_lower_spec.specs.Statements.{levels as levels_of}
 use Rattle.mv_lower_spec.specs.Law.{strict_context}
 use Rattle.mv_select_code.specs.Control.Runs.{Machine, outside}
 use Rattle.mv_select.specs.Calls.Convention.{Layout, IsTarget, Stands, Enters, Answers, entry_cost, slot_cost, Convention, PointsKeep, Conventions}
@@ -35,8 +37,10 @@ use Rattle.mv_select.specs.Slots.Laws as narrow
 use Rattle.mv_select.specs.Slots.Points.{ArrivalsFollow, PointsUnder}
 use Rattle.mv_lower_spec.specs.Calls.SourceCalls.{as_call, any_frame, meaningless, call_by_source, source_call, source_levels}
 use Rattle.mv_lower_spec.specs.Calls.Laws.{BodiesAreRight, CallsKeepBindings}
+use Rattle.mv_variants.specs.Bound.Shorts.{AreShortsOf}
 use Rattle.mv_refine_images.specs.Programs.Hosts.{IsVariant, IsPatched, IsLoaded, SlotShows}
 use Rattle.mv_refine_images.proofs.OfPrograms.Called.{called}
+use Rattle.mv_refine_images.proofs.OfPrograms.Filled.{filled_call, filled_conventions, within_numbers}
 use Rattle.mv_refine_images.proofs.OfPrograms.Frames.{leaves_true}
 use Rattle.mv_refine_images.proofs.OfPrograms.Pointed.{NextKeeps, points_keep}
 use Rattle.mv_refine_images.proofs.OfPrograms.Entries.{nothing_open, slot_in, plain_answers, free_answers, variant_promises, variant_answers, bound_answers, promised}
@@ -65,7 +69,18 @@ module _ {M : Type 0} (access : Access M) (y : Layout) (machine : Machine M) (wo
     (loaded : IsLoaded access y machine words closed budget far p numbers) (known : Known M) where
   open loaded use {host}
 
-  module _ (k : ℕ) (below : Conventions access y machine budget far (setting_of numbers p) (source_levels p numbers k)) where
+  points : (bound : Bound) → NextKeeps access y machine budget far (length numbers) bound → PointsKeep access y machine budget far (setting_of numbers p) bound
+  points = points_keep access y machine words closed budget far p numbers loaded known.points known.arrivals known.told known.pointers
+
+  -- at calls that do what short bodies do
+  abbrev pub Filled : ℕ → Type 0
+  Filled k = (shorts : Shorts) → AreShortsOf p shorts → Conventions access y machine budget far (setting_of numbers p) (levels_of (filled_call p numbers shorts budget) k)
+
+  below_filled : (k : ℕ) → Conventions access y machine budget far (setting_of numbers p) (source_levels p numbers k) → Filled k
+  below_filled k below shorts are =
+      filled_conventions p numbers shorts budget access y machine far (within_numbers p numbers shorts budget known.right loaded.formed are host.count) (λ calls lower keeps. points (calls ∷ lower) keeps) k below
+
+  module _ (k : ℕ) (filled : Filled k) where
     open called access y machine budget far p numbers k use {setting, levels, FC}
 
     abbrev Source : ℕ → (depth frames : ℕ) → List ℕ → World → Call
@@ -98,16 +113,16 @@ module _ {M : Type 0} (access : Access M) (y : Layout) (machine : Machine M) (wo
         where
           attributed : (g : Function) (here : slice_get p.functions f ≡ Some g) (count : length args ≡ g.params) → g.attributed ≡ true → Bindings g w → FC spare i back (Source f depth frames args w).end
           attributed g here count is (inl free) =
-              free_answers access y machine words closed budget far p numbers loaded known.right k below f depth frames args g here count is known.later known.firsts known.told known.frames_free back i target ra spare w free
+              free_answers access y machine words closed budget far p numbers loaded known.right k filled f depth frames args g here count is known.later known.firsts known.told known.frames_free back i target ra spare w free
               stands enters paid asked
           attributed g here count is (inr b) =
-              bound_answers access y machine words closed budget far p numbers loaded known.right k below f depth frames args g here count is b.0 b.2 b.3 known.each known.jumps known.told known.frames_bound
+              bound_answers access y machine words closed budget far p numbers loaded known.right k filled f depth frames args g here count is b.0 b.2 b.3 known.each known.jumps known.told known.frames_bound
               back i target ra spare w b.1 stands enters paid asked
 
           fitted : (g : Function) (here : slice_get p.functions f ≡ Some g) (count : length args ≡ g.params) (z : Bool) → g.attributed ≡ z → FC spare i back (Source f depth frames args w).end
           fitted g here count true is = attributed g here count is (bindings_of g here is (y.entry f) i w stands)
           fitted g here count false not =
-              plain_answers access y machine words closed budget far p numbers loaded known.right k below f depth frames args g here count not known.each back i target ra spare w stands enters paid asked
+              plain_answers access y machine words closed budget far p numbers loaded known.right k filled f depth frames args g here count not known.each back i target ra spare w stands enters paid asked
 
           by_count : (g : Function) → slice_get p.functions f ≡ Some g → (b : Bool) → nat_eq g.params (length args) ≡ b → FC spare i back (Source f depth frames args w).end
           by_count g e true q = fitted g e (sym (eqb-true g.params (length args) q)) g.attributed refl
@@ -157,7 +172,7 @@ module _ {M : Type 0} (access : Access M) (y : Layout) (machine : Machine M) (wo
                 Stands access y machine budget far v.address u j → Enters access y machine budget far depth frames args j → j + (spare + entry_cost + (Source f depth frames args u).cost) ≤ budget → far ≤ j + length levels →
                 FC spare j back (Source f depth frames args u).end
             called back j target ra spare u t stands enters paid asked =
-                variant_answers access y machine words closed budget far p numbers loaded known.right k below f depth frames args g here count is vs combination fitting known.each known.frames_bound back j target ra spare u
+                variant_answers access y machine words closed budget far p numbers loaded known.right k filled f depth frames args g here count is vs combination fitting known.each known.frames_bound back j target ra spare u
                 (subst (λ (xs : List Binding). IsBoundIn xs (attributed_before p.functions f) vs) ((known.told bs u.bindings).0 t) bound) stands enters (omega (arith, paid)) asked
 
             -- by two instructions
@@ -167,12 +182,12 @@ module _ {M : Type 0} (access : Access M) (y : Layout) (machine : Machine M) (wo
                 let a = known.alike access y machine (has_bindings bs) shown budget far in
                 let done =
                 known.inlines access y host.laid (alone (under machine words bs) at (at + 8)) ((known.narrowed access y machine (has_bindings bs)).2 shown host.memory) v.reach v.ample
-                (host.runs_under bs at (at + 8) v.reach (s.slot_open at vs combination slot)) setting budget far levels
+                (host.runs_under bs at (at + 8) v.reach (s.slot_open at vs combination slot)) setting budget far (levels_of (filled_call p numbers v.shorts budget) k)
                 true (zip (lower_function p g).switches vs) v.is_fine v.body v.fits both.0 both.1 e at (host.slots at f slot).0
                 (word_in (words_alone (words bs)) at (at + 8) at (omega arith) (omega arith) stand.0)
                 (word_in (words_alone (words bs)) at (at + 8) (at + 4) (omega arith) (omega arith) stand.1) depth frames args (count ∙ sym v.params) cleared (length levels) i in
-                promised access y machine words closed budget far p numbers loaded known.right k below f depth frames args g here count slot_cost slot_cost spare i (at + 8) _ (Source f depth frames args w) (omega arith)
-                (variant_promises access y machine words closed budget far p numbers loaded known.right k below f depth frames args g here count is vs combination fitting known.frames_bound cleared w at i bound stands) paid
+                promised access y machine words closed budget far p numbers loaded known.right k filled f depth frames args g here count slot_cost slot_cost spare i (at + 8) _ (Source f depth frames args w) (omega arith)
+                (variant_promises access y machine words closed budget far p numbers loaded known.right k filled f depth frames args g here count is vs combination fitting known.frames_bound cleared w at i bound stands) paid
                 (λ enough. a.2 spare (length levels) i (at + 8) _ (done spare w ((a.0 at w i holds).0 stands) ((a.1 depth frames args i).0 enters) enough asked))
 
             by : (o : Option (Instr × Instr)) → inline_of y.place v.body ≡ o → FC spare i (at + 8) (Source f depth frames args w).end
@@ -208,9 +223,9 @@ module _ {M : Type 0} (access : Access M) (y : Layout) (machine : Machine M) (wo
       others = λ f depth frames args w past. no_function f depth frames args (slice_get_past p.functions f (let count = host.count in omega (arith, count, past))) w;
     }
 
-  points : (bound : Bound) → NextKeeps access y machine budget far (length numbers) bound → PointsKeep access y machine budget far (setting_of numbers p) bound
-  points = points_keep access y machine words closed budget far p numbers loaded known.points known.arrivals known.told known.pointers
-
   pub all_keep : (k : ℕ) → Conventions access y machine budget far (setting_of numbers p) (source_levels p numbers k)
   all_keep zero = points [] tt
-  all_keep (suc k) = let below = all_keep k in let level = level_keeps k below in (level, points (source_levels p numbers (suc k)) level, below)
+  all_keep (suc k) = let below = all_keep k in let level = level_keeps k (below_filled k below) in (level, points (source_levels p numbers (suc k)) level, below)
+
+  pub filled_keep : (k : ℕ) → Filled k
+  filled_keep k = below_filled k (all_keep k)

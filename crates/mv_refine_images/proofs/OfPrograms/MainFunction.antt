@@ -12,7 +12,7 @@ use Rattle.mv_isa.specs.Execution.{Access, reg}
 use Rattle.mv_isa.specs.Registers.{ra as link_register}
 use Rattle.mv_ir.specs.World as ir
 use Rattle.mv_ir.specs.World.{World}
-use Rattle.mv_ir.specs.Outcome.{Calls, Call, Returned}
+use Rattle.mv_ir.specs.Outcome.{Calls, Call, Bound, Returned}
 use Rattle.mv_ir.specs.Keeps.{KeepsCall}
 use Rattle.mv_ir.specs.Meaning.{Contents, body_from}
 use Rattle.mv_ir.specs.Programs.{execution_of, run_of_main}
@@ -22,12 +22,12 @@ use Rattle.mv_lower_spec.specs.Programs.Laws.{IsExecution}
 use Rattle.mv_select_code.specs.Control.Runs.{Machine}
 use Rattle.mv_select.specs.Calls.Convention.{Layout, IsTarget, Stands, FollowsCall}
 use Rattle.mv_select.specs.Functions.Functions.{MainKeeps, Begins}
-use Rattle.mv_lower_spec.specs.Calls.SourceCalls.{source_call}
-use Rattle.mv_lower_spec.specs.Calls.Laws.{MainIsRight, MainEndsAlike}
+use Rattle.mv_lower_spec.specs.Calls.Laws.{AreAsSource, MainIsRight, MainEndsAlike}
 use Rattle.mv_refine_images.specs.Programs.Hosts.{IsPlain, IsLoaded}
 use Rattle.mv_refine_images.specs.Programs.Laws.{first_seen}
 use Rattle.mv_refine_images.proofs.OfPrograms.Called.{called}
-use Rattle.mv_refine_images.proofs.OfPrograms.AllFunctions.{Known, all_keep}
+use Rattle.mv_refine_images.proofs.OfPrograms.Filled.{filled_call, filled_alike, filled_shorts}
+use Rattle.mv_refine_images.proofs.OfPrograms.AllFunctions.{Known, filled_keep}
 
 -- there are as many levels as the bound says
 level_count : (calls : ℕ → Calls) (k : ℕ) → length (levels_of calls k) ≡ k
@@ -46,7 +46,7 @@ module _ {M : Type 0} (access : Access M) (y : Layout) (machine : Machine M) (wo
   here = loaded.formed.typed.entry.defined
 
   open loaded use {host}
-  open called access y machine budget far p numbers k use {setting, levels, FC}
+  open called access y machine budget far p numbers k use {setting}
 
   abbrev s : IsPlain y machine.text words closed p numbers p.main main
   s = (loaded.functions p.main main here).plain (loaded.formed.entry main here)
@@ -57,16 +57,23 @@ module _ {M : Type 0} (access : Access M) (y : Layout) (machine : Machine M) (wo
   abbrev first : World
   first = first_seen p numbers hart input actions
 
+  -- calls that do what short bodies do
+  abbrev calls : ℕ → Calls
+  calls = filled_call p numbers s.shorts budget
+
+  abbrev over : Bound
+  over = levels_of calls k
+
   record Followed : Type 0 where
     contents : Contents
-    follows : (spare : ℕ) → i + (spare + 44 + (body_from setting frame contents s.body [] levels first).cost) ≤ budget → far ≤ i + length levels →
-        FC spare i back (body_from setting frame contents s.body [] levels first).end
+    follows : (spare : ℕ) → i + (spare + 44 + (body_from setting frame contents s.body [] over first).cost) ≤ budget → far ≤ i + length over →
+        FollowsCall access y machine budget far spare (length over) i back (body_from setting frame contents s.body [] over first).end
 
   followed : Followed
   followed =
       let m =
-      keep_main access y host.laid machine host.memory setting host.entries budget far host.serves levels
-      (all_keep access y machine words closed budget far p numbers loaded known k) [] s.reach s.is_fine s.body s.ample s.fits (s.params ∙ loaded.formed.typed.entry.bare) s.place s.linked s.is_attributed
+      keep_main access y host.laid machine host.memory setting host.entries budget far host.serves over
+      (filled_keep access y machine words closed budget far p numbers loaded known k s.shorts s.known) [] s.reach s.is_fine s.body s.ample s.fits (s.params ∙ loaded.formed.typed.entry.bare) s.place s.linked s.is_attributed
       (y.entry p.main) s.next (host.runs (y.entry p.main) s.next s.reach s.open_there) s.placed back i target ra in
       record { contents = m.0; follows = λ spare paid asked. m.1 spare first stands begins paid asked }
 
@@ -75,22 +82,25 @@ module _ {M : Type 0} (access : Access M) (y : Layout) (machine : Machine M) (wo
       × (c.end ≡ (run_of_main numbers (lower_program p) hart input actions k).end)
       × ((w : World) → c.end ≡ Returned None w → ⊥)
       × ((spare : ℕ) → i + (spare + 44 + c.cost) ≤ budget → far ≤ i + k → FollowsCall access y machine budget far spare k i back c.end)
-  main_follows = (c, right_main p numbers loaded.formed numbering hart input actions k fit followed.contents main here, ends.0, ends.1, follows)
+  main_follows = (c, right_main p numbers calls alike_source loaded.formed numbering hart input actions k fit followed.contents main here, ends.0, ends.1, follows)
     where
-      ends : ((body_from setting frame followed.contents (lower_function p main) [] levels first).end ≡ (run_of_main numbers (lower_program p) hart input actions k).end)
-          × ((w : World) → (body_from setting frame followed.contents (lower_function p main) [] levels first).end ≡ Returned None w → ⊥)
-      ends = alike p numbers loaded.formed numbering hart input actions k fit followed.contents main here
+      alike_source : AreAsSource p numbers calls
+      alike_source = filled_alike p numbers s.shorts budget
+
+      ends : ((body_from setting frame followed.contents (lower_function p main) [] over first).end ≡ (run_of_main numbers (lower_program p) hart input actions k).end)
+          × ((w : World) → (body_from setting frame followed.contents (lower_function p main) [] over first).end ≡ Returned None w → ⊥)
+      ends = alike p numbers calls alike_source loaded.formed numbering hart input actions k fit followed.contents main here
 
       c : Call
-      c = body_from setting frame followed.contents (lower_function p main) [] levels first
+      c = body_from setting frame followed.contents (lower_function p main) [] over first
 
-      kept : KeepsCall c (body_from setting frame followed.contents s.body [] levels first)
-      kept = s.keeps setting frame followed.contents [] levels first
+      kept : KeepsCall c (body_from setting frame followed.contents s.body [] over first)
+      kept = s.keeps setting frame followed.contents [] over first (filled_shorts p numbers s.shorts budget known.right loaded.formed s.known k)
 
       follows : (spare : ℕ) → i + (spare + 44 + c.cost) ≤ budget → far ≤ i + k → FollowsCall access y machine budget far spare k i back c.end
       follows spare paid asked =
           let cheaper = kept.cheaper in
-          let count = level_count (source_call p numbers) k in
+          let count = level_count calls k in
           subst (FollowsCall access y machine budget far spare k i back) (sym kept.same)
-          (subst (λ n. FollowsCall access y machine budget far spare n i back (body_from setting frame followed.contents s.body [] levels first).end) count
+          (subst (λ n. FollowsCall access y machine budget far spare n i back (body_from setting frame followed.contents s.body [] over first).end) count
           (followed.follows spare (omega (arith, paid, cheaper)) (omega (arith, asked, count))))

@@ -8,9 +8,11 @@ use Rattle.mv_descriptors.specs.declared.rows.GuardRow.{GuardRow}
 use Rattle.mv_image.specs.Spelling.{Fields}
 use Rattle.mv_ir.specs.declared.body.Body.{Body}
 use Rattle.mv_ir.specs.Combinations.{AllApart}
+use Rattle.mv_ir.specs.Shorts.{Shorts}
 use Rattle.mv_lower_spec.specs.Functions.{lower_function}
 use Rattle.mv_variants.specs.Bound.Led.{IsLed}
 use Rattle.mv_variants.specs.Bound.Meant.{IsVariantOf, MadeAreVariants}
+use Rattle.mv_variants.specs.Bound.Shorts.{AreShortsOf}
 use Rattle.mv_variants.specs.Bound.Switches.{LeadsFunction, FunctionsAreLed}
 use Rattle.mv_variants.specs.Bound.Rows as merged
 use Rattle.mv_linker.specs.declared.parts.Parts.{Parts}
@@ -27,8 +29,9 @@ use Rattle.mv_num.proofs.Lists.{there_at}
 use Rattle.std.proofs.lemmas.Option.{same_Some}
 
 -- one body of a function's variants is that of one of them
-module _ (p : Program) (g : Function) (image : Fields) (variants : List Variant) (n : ℕ) (bodies : List Body) (are : bodies_of variants ≡ bodies) (made : MadeAreVariants) where
-  led_to : (vs : List ℕ) → IsLed image (lower_function p g) bodies n vs → IsLedTo p g image variants n vs
+module _ (p : Program) (g : Function) (image : Fields) (variants : List Variant) (n : ℕ) (bodies : List Body) (are : bodies_of variants ≡ bodies) (made : MadeAreVariants)
+    (shorts : Shorts) (known : AreShortsOf p shorts) where
+  led_to : (vs : List ℕ) → IsLed shorts image (lower_function p g) bodies n vs → IsLedTo p g image variants n vs
   led_to vs led =
       let count = sym (length-map variants (λ (v : Variant). v.body)) ∙ ap length are in
       let below = led.below in
@@ -40,8 +43,10 @@ module _ (p : Program) (g : Function) (image : Fields) (variants : List Variant)
         variant = found.0;
         there = found.1;
         fits = led.fits;
-        is_variant = subst (IsVariantOf (zip (lower_function p g).switches vs) (lower_function p g)) same
-            (made (zip (lower_function p g).switches vs) (lower_function p g) led.result led.made);
+        shorts = shorts;
+        known = known;
+        is_variant = subst (IsVariantOf shorts (zip (lower_function p g).switches vs) (lower_function p g)) same
+            (made shorts (zip (lower_function p g).switches vs) (lower_function p g) led.result led.made);
       }
 
 module _ (functions_led : FunctionsAreLed) (made : MadeAreVariants) (p : Program) (bodies : List Body) (tables : List (List Variant)) (parts : Parts)
@@ -52,9 +57,9 @@ module _ (functions_led : FunctionsAreLed) (made : MadeAreVariants) (p : Program
       let table : slice_get (groups p bodies tables parts are) n ≡ Some (merged.groups v.merged) =
       subst (λ (gs : List (List GuardRow)). slice_get (map guards_of tables) n ≡ Some gs) v.grouped.guards (map_at guards_of tables n variants nth.table) in
       let led : LeadsFunction p g image v.merged.bodies n =
-      functions_led p g (switch_kind p) image (groups p bodies tables parts are) (has_tables p bodies tables parts are image linked) v.words v.rows v.merged v.all v.is_merged v.made
+      functions_led p g (switch_kind p) image (groups p bodies tables parts are) (has_tables p bodies tables parts are image linked) v.words v.rows v.merged v.all v.is_merged v.shorts v.known v.made
       n own.row table own.there own.switches in record {
-        assignments = λ vs is_one. led_to p g image variants n v.merged.bodies v.grouped.bodies made vs (led.combinations vs is_one);
+        assignments = λ vs is_one. led_to p g image variants n v.merged.bodies v.grouped.bodies made led.shorts led.known vs (led.combinations vs is_one);
         others = led.others;
         apart = subst AllApart (sym v.grouped.bodies) v.is_merged.apart;
       }

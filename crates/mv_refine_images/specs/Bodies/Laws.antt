@@ -5,11 +5,13 @@ use Rattle.mv_ast.specs.declared.program.Program.{Program}
 use Rattle.mv_ast.specs.declared.program.Function.{Function}
 use Rattle.mv_isa.specs.declared.labelled.Labelled.{Labelled}
 use Rattle.mv_ir.specs.declared.body.Body.{Body}
+use Rattle.mv_ir.specs.Shorts.{Shorts}
 use Rattle.mv_lower_spec.specs.Functions.{lower_function}
 use Rattle.mv_select.specs.Calls.Convention.{Layout}
 use Rattle.mv_linker.specs.declared.parts.Parts.{Parts}
 use Rattle.mv_linker.specs.declared.parts.PartVariant.{PartVariant}
 use Rattle.mv_variants.specs.Bound.Meant.{IsVariantOf}
+use Rattle.mv_variants.specs.Bound.Shorts.{AreShortsOf}
 use Rattle.mv_variants.specs.declared.variant.Variant.{Variant}
 use Rattle.mv_refine_images.specs.Bodies.ProgramBodies.{AreLaidOut, IsVariantAt, IsOwnCode, IsVariantCode, IsLinkedVariant}
 
@@ -25,4 +27,4 @@ VariantsHaveCode =
     (p : Program) (bodies : List Body) (tables : List (List Variant)) (parts : Parts) (y : Layout) (numbers : List ℕ) → AreLaidOut p bodies tables parts y numbers →
     (n f j : ℕ) (g : Function) (v : Variant) → IsVariantAt p tables n f j g v →
     (part : PartVariant) × IsLinkedVariant parts n j part
-    × ((values : List ℕ) → IsVariantOf (zip (lower_function p g).switches values) (lower_function p g) v.body → IsVariantCode p y numbers g values v.body part)
+    × ((shorts : Shorts) → AreShortsOf p shorts → (values : List ℕ) → IsVariantOf shorts (zip (lower_function p g).switches values) (lower_function p g) v.body → IsVariantCode p y numbers g values v.body part)

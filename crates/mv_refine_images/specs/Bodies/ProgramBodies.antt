@@ -11,8 +11,8 @@ use Rattle.mv_num.specs.Lists.{is_among}
 use Rattle.mv_isa.specs.declared.labelled.Labelled.{Labelled}
 use Rattle.mv_ir.specs.declared.stm.Stm.{Stm}
 use Rattle.mv_ir.specs.declared.body.Body.{Body}
-use Rattle.mv_ir.specs.Keeps.{KeepsBody, KeepsUnder}
 use Rattle.mv_ir.specs.Programs.{setting_of}
+use Rattle.mv_ir.specs.Shorts.{Shorts, KeepsBodyWith, KeepsUnderWith}
 use Rattle.mv_lower_spec.specs.Functions.{lower_function}
 use Rattle.mv_source_forms.specs.Names.{global_words}
 use Rattle.mv_source_forms.specs.Uses.{known_is_there}
@@ -30,6 +30,7 @@ use Rattle.mv_linker.specs.declared.parts.PartVariant.{PartVariant}
 use Rattle.mv_linker.specs.Linked.{codes}
 use Rattle.mv_linker.specs.Outcome.{data_limit}
 use Rattle.mv_link_data.specs.FirstData.{data_words, global_sizes}
+use Rattle.mv_variants.specs.Bound.Shorts.{AreShortsOf}
 use Rattle.mv_variants.specs.declared.variant.Variant.{Variant}
 use Rattle.mv_parts.specs.Numbers.{attributed_numbers}
 use Rattle.mv_parts.specs.Parts.{ArePartsOf}
@@ -82,10 +83,13 @@ pub record IsWritten (y : Layout) (attributed : Bool) (body : Body) (code : Labe
   pub labels : OwnLabels 0 code.labels code.items
 
 module _ (p : Program) (y : Layout) (numbers : List ℕ) (g : Function) where
-  -- The code of a function is that of a body of the program that means what the function is lowered to, at no greater cost, and reads no more.
+  -- The code of a function is that of a body of the program that means what the function is lowered to, at no greater cost, over callees that do what some short
+  -- bodies do, and reads no more.
   pub record IsOwnCode (code : Labelled) : Type 0 where
     pub body : Body
-    pub keeps : KeepsBody (lower_function p g) body
+    pub shorts : Shorts
+    pub known : AreShortsOf p shorts
+    pub keeps : KeepsBodyWith shorts (lower_function p g) body
     pub params : body.params ≡ g.params
     pub in_program : IsInProgram y (setting_of numbers p) g.attributed [] body
     pub reads : ReadsNoMore p g body.code
@@ -94,7 +98,9 @@ module _ (p : Program) (y : Layout) (numbers : List ℕ) (g : Function) where
   -- A variant of an attributed function is a body of the program that means what the function is lowered to, at no greater cost, wherever its switches are read
   -- as these values. It reads no more, and none of the switches. What is linked of it are its code, and the two words that stand for a call of it.
   pub record IsVariantCode (values : List ℕ) (body : Body) (part : PartVariant) : Type 0 where
-    pub keeps : KeepsUnder (zip (lower_function p g).switches values) (lower_function p g) body
+    pub shorts : Shorts
+    pub known : AreShortsOf p shorts
+    pub keeps : KeepsUnderWith shorts (zip (lower_function p g).switches values) (lower_function p g) body
     pub params : body.params ≡ g.params
     pub in_program : IsInProgram y (setting_of numbers p) true (zip (lower_function p g).switches values) body
     pub reads : ReadsNoMore p g body.code

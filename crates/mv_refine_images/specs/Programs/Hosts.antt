@@ -14,7 +14,7 @@ use Rattle.mv_isa.specs.Registers.{x0, sp}
 use Rattle.mv_ir.specs.declared.tree.Tree.{Tree}
 use Rattle.mv_ir.specs.declared.body.Body.{Body}
 use Rattle.mv_ir.specs.Combinations.{IsCombination}
-use Rattle.mv_ir.specs.Keeps.{KeepsBody, KeepsUnder}
+use Rattle.mv_ir.specs.Shorts.{Shorts, KeepsBodyWith, KeepsUnderWith}
 use Rattle.mv_ir.specs.Programs.{setting_of}
 use Rattle.mv_ir.specs.World.{World}
 use Rattle.mv_ir_worlds.specs.Fit.{IsFit, is_fit}
@@ -32,6 +32,7 @@ use Rattle.mv_select.specs.Functions.Functions.{IsAmple, IsLaid, IsMemory, IsFun
 use Rattle.mv_select.specs.Inline.InlineOf.{inline_of}
 use Rattle.mv_select.specs.Slots.Narrowed.{narrowed, under}
 use Rattle.mv_select.specs.Slots.Points.{CallsBound}
+use Rattle.mv_variants.specs.Bound.Shorts.{AreShortsOf}
 use Rattle.mv_refine_machine.specs.Stubs.Stubs.{HasCheck}
 use Rattle.mv_select_code.specs.Statements.Frames.{Reach}
 
@@ -73,10 +74,12 @@ pub record IsOpenHost {M : Type 0} (access : Access M) (y : Layout) (machine : M
 
 module _ (y : Layout) (text : Text) (words : List Binding → ℕ → Option ℕ) (closed : (pc address : ℕ) → Bool) (p : Program) (numbers : List ℕ) (f : ℕ) (g : Function) where
   -- The code of a function that isn't attributed stands at its entry. It was selected from a body that means the same as the one the function is lowered
-  -- to, at no greater cost.
+  -- to, at no greater cost, over callees that do what some short bodies do.
   pub record IsPlain : Type 0 where
     pub body : Body
-    pub keeps : KeepsBody (lower_function p g) body
+    pub shorts : Shorts
+    pub known : AreShortsOf p shorts
+    pub keeps : KeepsBodyWith shorts (lower_function p g) body
     pub params : body.params ≡ g.params
     pub reach : Reach
     pub ample : IsAmple y reach
@@ -90,11 +93,13 @@ module _ (y : Layout) (text : Text) (words : List Binding → ℕ → Option ℕ
     pub placed : Placed text place y.entry (function_lines y.place y.size is_attributed (shape_of false body) body.code) (y.entry f) next
 
   -- Code for an attributed function under values of its switches stands at an address. It was selected from a body that means the same there, at no greater
-  -- cost.
+  -- cost, over callees that do what some short bodies do.
   pub record IsVariant (vs : List ℕ) : Type 0 where
     pub address : ℕ
     pub body : Body
-    pub keeps : KeepsUnder (zip (lower_function p g).switches vs) (lower_function p g) body
+    pub shorts : Shorts
+    pub known : AreShortsOf p shorts
+    pub keeps : KeepsUnderWith shorts (zip (lower_function p g).switches vs) (lower_function p g) body
     pub params : body.params ≡ g.params
     pub reach : Reach
     pub ample : IsAmple y reach
@@ -117,7 +122,9 @@ module _ (y : Layout) (text : Text) (words : List Binding → ℕ → Option ℕ
   -- variant may load is open there too.
   pub record IsPatched : Type 0 where
     pub body : Body
-    pub keeps : KeepsBody (lower_function p g) body
+    pub shorts : Shorts
+    pub known : AreShortsOf p shorts
+    pub keeps : KeepsBodyWith shorts (lower_function p g) body
     pub params : body.params ≡ g.params
     pub reach : Reach
     pub ample : IsAmple y reach

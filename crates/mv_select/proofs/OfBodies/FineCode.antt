@@ -22,7 +22,7 @@ use Rattle.mv_ir.proofs.Induction.{Each, TreeChildren, tree_ind, StmChildren, st
 use Rattle.mv_ir.proofs.Rolls.{reads_temp_roll, trees_roll, named_roll, arrays_roll, arguments_roll, flow_roll}
 use Rattle.mv_select_code.specs.Trees.TreeCode.{temps_of}
 use Rattle.mv_select_code.proofs.OfTrees.Rolls.{temps_roll}
-use Rattle.mv_select_code.specs.Control.FlowCode.{Uses, may_read, may_write, fine_target, fine_callee, fine_known, fine_layer, is_fine_statement, are_fine}
+use Rattle.mv_select_code.specs.Control.FlowCode.{Uses, may_read, may_write, fine_target, fine_callee, fine_known, only_tests, fine_layer, is_fine_statement, are_fine}
 use Rattle.mv_select_code.proofs.OfControl.Equations.{fine_roll}
 use Rattle.mv_select.specs.Bodies.SelectedBodies.{knowns_layer, stm_knowns, written_layer, stm_written}
 use Rattle.mv_select.proofs.OfBodies.Lists.{each_both, true_each, each_weaker}
@@ -257,6 +257,7 @@ module _ (is_fine : Tree → Bool) (may_ask : Known → Bool) (limit : ℕ) (use
   callee_fine (callee.Direct f) h r k = refl
   callee_fine (callee.Through t) h r k = tree_fine t h.0 r.0
   callee_fine (callee.Switched g) h r k = k.0
+  callee_fine callee.Expanded h r k = refl
 
   layer : (x : Stm-F Stm) → StmChildren IsFineStm x → LayerFine x
   layer (stm.Set t v) f r h m =
@@ -293,7 +294,7 @@ module _ (is_fine : Tree → Bool) (may_ask : Known → Bool) (limit : ℕ) (use
       let trees = and_from (fine_callee is_fine may_ask limit uses c) (all_true (map is_fine args)) of_callee of_args in
       let callee_and_args = fine_callee is_fine may_ask limit uses c && all_true (map is_fine args) in
       let is_target = fine_target is_fine may_ask limit uses w in
-      and_from uses.may_call (ltb (length args) 9 && (is_target && callee_and_args)) may_call
+      and_from (uses.may_call || only_tests c args) (ltb (length args) 9 && (is_target && callee_and_args)) (or_left uses.may_call (only_tests c args) may_call)
       (and_from (ltb (length args) 9) (is_target && callee_and_args) h.arguments (and_from is_target callee_and_args target trees))
   layer (stm.Known w k args) f r h m =
       let on = λ (t : ℕ). (r t).next in

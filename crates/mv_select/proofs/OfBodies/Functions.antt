@@ -111,6 +111,7 @@ module _ (is_known : ℕ → Bool) where
   callee_known (callee.Direct f) h = tt
   callee_known (callee.Through t) h = tt
   callee_known (callee.Switched g) h = (h.0, tt)
+  callee_known callee.Expanded h = tt
 
   inner : (code : List Stm) → Each ReadsKnownArrays code → Each (IsKnownArray is_known) (named code) → Each (λ g. is_known g ≡ true) (arrays_read code)
   inner [] c h = tt

@@ -95,7 +95,10 @@ words_through t h = one_tree t h
 pub words_switched : (g : ℕ) → AreWords (constants_of_all (callee_trees (callee.Switched g)))
 words_switched g = no_words
 
-pub ruleset callees = (words_direct, words_through, words_switched)
+pub words_expanded : AreWords (constants_of_all (callee_trees callee.Expanded))
+words_expanded = no_words
+
+pub ruleset callees = (words_direct, words_through, words_switched, words_expanded)
 
 code_both : (a b : List Stm) → HasWords a → HasWords b → HasWords (a ++ b)
 code_both a b h k = record {

@@ -106,6 +106,7 @@ module _ (P : ℕ → Type 0) where
   callee_named (callee.Direct f) h = tt
   callee_named (callee.Through t) h = (h, tt)
   callee_named (callee.Switched g) h = tt
+  callee_named callee.Expanded h = tt
 
   two_named : (a b : Tree) → Each P (tree_functions a ++ tree_functions b) → Each TreeNames (a ∷ b ∷ [])
   two_named a b h = (each_first P (tree_functions a) (tree_functions b) h, (each_right P (tree_functions a) (tree_functions b) h, tt))

@@ -127,6 +127,7 @@ module _ (F : ℕ → Type 0) (K : Known → Type 0) (C : ℕ → Type 0) where
   CalleeNames (callee.Direct f) = F f
   CalleeNames (callee.Through t) = TreeNames t
   CalleeNames (callee.Switched g) = Unit {0}
+  CalleeNames callee.Expanded = Unit {0}
 
   abbrev pub StmParts : Stm-F Stm → Type 0
   StmParts (stm.Set t v) = TreeNames v
@@ -177,6 +178,7 @@ module _ (F : ℕ → Type 0) (K : Known → Type 0) (C : ℕ → Type 0) where
   stm_in (stm.Call r (callee.Through t) args) h =
       stm_of (stm.Call r (callee.Through t) args) (each_append F (tree_functions t) (functions_of_all args) h.0.functions (all_functions args h.1)) tt (all_constants (t ∷ args) (h.0, h.1))
   stm_in (stm.Call r (callee.Switched g) args) h = stm_of (stm.Call r (callee.Switched g) args) (all_functions args h.1) tt (all_constants args h.1)
+  stm_in (stm.Call r callee.Expanded args) h = stm_of (stm.Call r callee.Expanded args) (all_functions args h.1) tt (all_constants args h.1)
   stm_in (stm.Known r k args) h = stm_of (stm.Known r k args) (all_functions args h.1) (h.0, tt) (all_constants args h.1)
   stm_in (stm.Return v) h = stm_of (stm.Return v) h.functions tt (all_constants (v ∷ []) (h, tt))
 
@@ -215,5 +217,6 @@ module _ (F : ℕ → Type 0) (K : Known → Type 0) (C : ℕ → Type 0) where
       by (stm.Call r (callee.Direct g) args) f k c = (f.0, trees_of args f.1 c)
       by (stm.Call r (callee.Through t) args) f k c = let ts = trees_of (t ∷ args) f c in (ts.0, ts.1)
       by (stm.Call r (callee.Switched g) args) f k c = (tt, trees_of args f c)
+      by (stm.Call r callee.Expanded args) f k c = (tt, trees_of args f c)
       by (stm.Known r g args) f k c = (k.0, trees_of args f c)
       by (stm.Return v) f k c = one v f c

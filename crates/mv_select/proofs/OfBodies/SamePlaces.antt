@@ -139,6 +139,7 @@ module _ (is_known : ℕ → Bool) where
         ap (λ l. l ++ pointer_lines s r) (same_tree t h.0 scratch_register) ∙
         ap (λ l. tree_lines s' t scratch_register ++ (Branch 0 scratch_register 0 (trap_label 3) ∷ (guard_lines ++ (jump_lines ++ returning l)))) (same_result r)
     same_transfer is_attributed (callee.Switched g) r h k = ap (λ a. Point a ∷ back_lines s r) (same_place g k.0) ∙ ap (λ l. Point (place' g) ∷ returning l) (same_result r)
+    same_transfer is_attributed callee.Expanded r h k = refl
 
     same_call : (is_attributed : ℕ → Bool) (r : Option ℕ) (f : Callee) (args : List Tree) → Each ReadsKnown (callee_trees f ++ args) → Each IsKnownArray (callee_named f) →
         call_lines s is_attributed r f args ≡ call_lines s' is_attributed r f args

@@ -107,3 +107,4 @@ module _ {P : List Line → Type 0} {L J Q : ℕ → Type 0} (made : LineByLine 
           let at = Point (s.place g) ∷ [] in
           subst P (append_assoc front at (back_lines s r))
           (made.after (front ++ at) (back_lines s r) (point front (s.place g) (All-head (λ g. A (s.place g)) g [] k) (argument_made s first_register (t ∷ ts) h) (arguments_close s first_register t ts)) (back_made r))
+      call_made r callee.Expanded args h e k = passed_made callee.Expanded args r h (made.branch 0 left_register 0 (trap_label 4) depth)

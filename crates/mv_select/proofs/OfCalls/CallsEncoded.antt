@@ -23,9 +23,10 @@ use Rattle.mv_select_code.specs.Statements.StatementCode.{trap_label, write_temp
 use Rattle.mv_select_code.specs.Statements.Encoded.{IsCode, IsSmall}
 use Rattle.mv_select_code.proofs.OfStatements.EncodedCode.{both, wider, single, branch, write_fits}
 use Rattle.mv_select_code.specs.Control.FlowCode.{fine_known}
+use Rattle.mv_select_code.specs.Control.Encoded.{call_words}
 use Rattle.mv_select_code.specs.Control.Labels.{call_label}
 use Rattle.mv_select_code.specs.Control.Layouts.{any_global, any_known, is_small}
-use Rattle.mv_select.specs.Calls.CallCode.{request_of, commit_label, result_lines, guard_lines, back_lines, guarded_lines, slot_lines, entry_lines, jump_lines, pointer_lines, argument_lines, transfer_lines, pad_lines, call_lines, order_lines, ask_lines, known_lines}
+use Rattle.mv_select.specs.Calls.CallCode.{request_of, commit_label, result_lines, depth_lines, guard_lines, back_lines, guarded_lines, slot_lines, entry_lines, jump_lines, pointer_lines, argument_lines, transfer_lines, pad_lines, call_lines, order_lines, ask_lines, known_lines}
 use Rattle.mv_select.specs.Calls.Lines.{CallsHaveCode}
 use Rattle.mv_select.proofs.OfCalls.Small.{HasRoom, FineParts, call_callee, call_parts, known_order, known_parts}
 use Rattle.mv_num.proofs.Booleans.{and_left}
@@ -55,11 +56,14 @@ module _ (s : Seats) (seats : AreSeats s) where
   back_code r room =
       both 1 1 (one (Addi left_register left_register (pos 1))) (result_lines s r) (add left_register left_register 1 (omega arith) (omega arith) (omega arith)) (result_code r room)
 
+  depth_code : IsCode 2 depth_lines
+  depth_code = branch 0 left_register 0 (trap_label 4) (inl (omega arith)) (omega arith) (omega arith)
+
   guarded_code : (n : ℕ) (go : List Line) (r : Option ℕ) → HasRoom r → IsCode n go → IsCode (3 + (n + 2)) (guarded_lines s go r)
   guarded_code n go r room h =
       let less = Addi left_register left_register minus_one in
       both 3 (n + 2) guard_lines (go ++ back_lines s r)
-      (both 2 1 (Branch 0 left_register 0 (trap_label 4) ∷ []) (one less) (branch 0 left_register 0 (trap_label 4) (inl (omega arith)) (omega arith) (omega arith))
+      (both 2 1 depth_lines (one less) depth_code
       (single less (omega arith, omega arith, (omega (arith, ints), omega (arith, ints)))))
       (both n 2 go (back_lines s r) h (back_code r room))
 
@@ -79,6 +83,7 @@ module _ (s : Seats) (seats : AreSeats s) where
   pad_code (callee.Through t) args = wider 0 1 [] (omega arith) nothing
   pad_code (callee.Switched g) [] = add 0 0 0 (omega arith) (omega arith) (omega arith)
   pad_code (callee.Switched g) (t ∷ ts) = wider 0 1 [] (omega arith) nothing
+  pad_code callee.Expanded args = wider 0 1 [] (omega arith) nothing
 
   direct_code : (is_slot : Bool) (f : ℕ) (r : Option ℕ) → HasRoom r → IsCode 7 (cond is_slot (guarded_lines s (slot_lines f) r) (guarded_lines s (entry_lines f) r))
   direct_code true f r room = guarded_code 2 (slot_lines f) r room (slot f)
@@ -105,15 +110,18 @@ module _ (s : Seats) (seats : AreSeats s) where
         wider (2 * nodes t + 8) (2 * nodes_of_all (t ∷ []) + 10) (tree ++ pointer_lines s r) (omega arith)
         (both (2 * nodes t) 8 tree (pointer_lines s r) (trees_fit s seats t scratch_register (omega (arith, shallow)) small.1, trees_are_short s t scratch_register) (pointer_code r room))
     transfer_code (callee.Switched g) r room h = wider 6 10 (Point (s.place g) ∷ back_lines s r) (omega arith) (point_code (s.place g) r room)
+    transfer_code callee.Expanded r room h = wider 2 10 depth_lines (omega arith) depth_code
 
     callee_nodes : (f : Callee) (args : List Tree) → nodes_of_all (callee_trees f ++ args) ≡ nodes_of_all (callee_trees f) + nodes_of_all args
     callee_nodes (callee.Direct f) args = omega arith
     callee_nodes (callee.Through t) args = omega arith
     callee_nodes (callee.Switched g) args = omega arith
+    callee_nodes callee.Expanded args = omega arith
 
-    call_code : (r : Option ℕ) (f : Callee) (args : List Tree) → FineParts 8 r args → All IsSmall (callee_trees f)
+    -- of any callee
+    most_code : (r : Option ℕ) (f : Callee) (args : List Tree) → FineParts 8 r args → All IsSmall (callee_trees f)
         → IsCode (2 * nodes_of_all (callee_trees f ++ args) + 16) (call_lines s is_attributed r f args)
-    call_code r f args fine h =
+    most_code r f args fine h =
         let few = fine.few in
         let total = callee_nodes f args in
         let k = 2 * nodes_of_all (callee_trees f) + 10 in
@@ -123,6 +131,15 @@ module _ (s : Seats) (seats : AreSeats s) where
         wider (1 + (n + k)) (2 * nodes_of_all (callee_trees f ++ args) + 16) (pad_lines f args ++ passed) (omega (arith, few, total))
         (both 1 (n + k) (pad_lines f args) passed (pad_code f args)
         (both n k (argument_lines s first_register args) go (arguments_code first_register args (omega (arith, few)) fine.trees) (transfer_code f r fine.room h)))
+
+    call_code : (r : Option ℕ) (f : Callee) (args : List Tree) → FineParts 8 r args → All IsSmall (callee_trees f)
+        → IsCode (2 * nodes_of_all (callee_trees f ++ args) + call_words f) (call_lines s is_attributed r f args)
+    call_code r (callee.Direct f) args fine h = most_code r (callee.Direct f) args fine h
+    call_code r (callee.Through t) args fine h = most_code r (callee.Through t) args fine h
+    call_code r (callee.Switched g) args fine h = most_code r (callee.Switched g) args fine h
+    call_code r callee.Expanded args fine h =
+        let few = fine.few in
+        both (2 * nodes_of_all args) 2 (argument_lines s first_register args) depth_lines (arguments_code first_register args (omega (arith, few)) fine.trees) depth_code
 
   -- ---- calls of known functions
 

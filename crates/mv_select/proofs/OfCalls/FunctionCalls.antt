@@ -1,5 +1,5 @@
 -- The code of a call of a function does what the call means.
-use Rattle.std.proofs.Common.{◌≡◌, inl, inr, ℕ, suc, ◌+◌, ◌*◌, ◌<◌, ◌≤◌, Bool, true, false, ◌&&◌, cond, eqb, ltb, List, [], ◌∷◌, ◌++◌, length, map, sum_by, pos, slice_index, Option, Some, None, refl, sym, ap, ◌∙◌, subst, arith, unwrap_or}
+use Rattle.std.proofs.Common.{◌≡◌, inl, inr, ℕ, suc, ◌+◌, ◌*◌, ◌<◌, ◌≤◌, Bool, true, false, ◌&&◌, ◌||◌, cond, eqb, ltb, List, [], ◌∷◌, ◌++◌, length, map, sum_by, pos, slice_index, Option, Some, None, refl, sym, ap, ◌∙◌, subst, arith, unwrap_or}
 use Rattle.std.proofs.lemmas.Bool.{ltb-true, eqb-true, eqb-false}
 use Rattle.std.proofs.lemmas.List.{length-map}
 use Rattle.std.proofs.lemmas.Option.{none-some}
@@ -18,7 +18,7 @@ use Rattle.mv_ir.specs.World.{World}
 use Rattle.mv_ir.specs.Outcome.{State, Run, Bound}
 use Rattle.mv_ir.specs.Trees.{nodes, nodes_of_all}
 use Rattle.mv_ir.specs.Meaning as meaning
-use Rattle.mv_ir.specs.Meaning.{of_tree, Null, At, goal_at, goal, callee_nodes, call_to}
+use Rattle.mv_ir.specs.Meaning.{of_tree, Null, At, goal_at, goal, call_cost, callee_nodes, call_to}
 use Rattle.mv_ir.specs.WellFormed.{all_true}
 use Rattle.mv_select_code.specs.Trees.TreeCode.{tree_lines}
 use Rattle.mv_select_code.specs.Trees.Straight.{Sets, Straight}
@@ -30,7 +30,7 @@ use Rattle.mv_select_code.specs.Statements.Frames.{Site, IsFine, IsFit, Shows}
 use Rattle.mv_select_code.specs.Statements.Leads.{limited}
 use Rattle.mv_select_code.proofs.OfStatements.TreesFirst.{tree_first}
 use Rattle.mv_select_code.specs.declared.control.enclosing.Enclosing.{Enclosing}
-use Rattle.mv_select_code.specs.Control.FlowCode.{fine_target, fine_callee, fine_layer}
+use Rattle.mv_select_code.specs.Control.FlowCode.{fine_target, fine_callee, fine_layer, only_tests}
 use Rattle.mv_select_code.specs.Control.Runs.{Machine, IsRun}
 use Rattle.mv_select_code.specs.Control.Laws.{uses_of, LinesDo}
 use Rattle.mv_select_code.specs.Control.Flow.{IsWithin}
@@ -40,7 +40,8 @@ use Rattle.mv_select.specs.Calls.Convention.{Layout, Conventions}
 use Rattle.mv_select.specs.Calls.Laws.{IsCaller, IsLinked}
 use Rattle.mv_select.proofs.OfCalls.Arguments.{at_scratch, arguments_short, values, arguments_first}
 use Rattle.mv_select.proofs.OfCalls.Transfers.{Transfers, slot_transfers, entry_transfers, jump_transfers}
-use Rattle.mv_select.proofs.OfCalls.Guarded.{straight_walk, zero_traps, other_passes, guarded_does}
+use Rattle.mv_select.proofs.OfCalls.DepthTest.{zero_traps, other_passes, depth_does}
+use Rattle.mv_select.proofs.OfCalls.Guarded.{straight_walk, guarded_does}
 use Rattle.mv_select.proofs.OfCalls.PointCalls.{points_keep, point_does}
 use Rattle.mv_select.proofs.OfCalls.CallCourse.{call_course}
 use Rattle.mv_num.proofs.Booleans.{and_right, and_left}
@@ -117,7 +118,7 @@ module _ {M : Type 0} (access : Access M) (y : Layout) (s : Site) (setting : ir.
       → i + (spare + 54 + (ToGoal (cond b Null (goal_at o)) result args bound l).cost) ≤ budget → far ≤ i + length bound
       → F spare (length bound) around next (ToGoal (cond b Null (goal_at o)) result args bound l).outcome
   by_value result v args spare pc next around bound l regs m i true o null found fine x holds p a paid asked =
-      zero_traps access y s setting frame fit caller machine ok budget far place end linked is_fine 3 scratch_register spare (length bound) around pc p.0 next l regs m i
+      zero_traps access s machine ok budget far place end 3 scratch_register spare (length bound) around pc p.0 next l regs m i
       (holds ∙ eqb-true v 0 null) p.1 a (omega (arith, paid))
   by_value result v args spare pc next around bound l regs m i false None null found fine x holds p a paid asked = tt
   by_value result v args spare pc next around bound l regs m i false (Some f) null found fine x holds p a paid asked =
@@ -125,14 +126,14 @@ module _ {M : Type 0} (access : Access M) (y : Layout) (s : Site) (setting : ir.
       let same : f ≡ k.0 = omega (arith, k.1) in
       let there : f < length setting.numbers = omega (arith, same, k.2) in
       let at : reg regs scratch_register ≡ s.entry f = holds ∙ sym k.3 ∙ ap (slice_index setting.numbers) (sym same) ∙ fit.entries f there in
-      let b = other_passes access y s setting frame fit caller machine ok budget far place end linked is_fine 3 scratch_register v l.world pc p.0 regs m i holds (eqb-false v 0 null) p.1 a in
+      let b = other_passes access s machine ok budget far place end 3 scratch_register v l.world pc p.0 regs m i holds (eqb-false v 0 null) p.1 a in
       by_jump result f args spare p.0 next around bound l regs m (i + 1) fine x at (caller.entry_places f there) p.2 b (omega (arith, paid)) (omega (arith, asked))
 
-  -- the call itself, its arguments in their registers
+  -- the call itself, its arguments in their registers, paid for but for an instruction before them
   transfer_does : (result : Option ℕ) (f : Callee) (args : List ℕ) (spare pc next : ℕ) (around : List Enclosing) (bound : Bound) (l : State) (regs : List ℕ) (m : M) (i : ℕ)
       → fine_target is_fine s.may_ask s.temps (uses_of s) result ≡ true → fine_callee is_fine s.may_ask s.temps (uses_of s) f ≡ true → Passed args bound l regs m
       → P (transfer_lines s.seats is_attributed f result) pc next → W l.world pc regs m i
-      → i + (spare + 59 + 3 * callee_nodes setting frame f + (ToGoal (goal setting frame f l) result args bound l).cost) ≤ budget → far ≤ i + length bound
+      → i + (spare + (call_cost f + 3 * callee_nodes setting frame f) + (ToGoal (goal setting frame f l) result args bound l).cost) ≤ budget + 1 → far ≤ i + length bound
       → F spare (length bound) around next (ToGoal (goal setting frame f l) result args bound l).outcome
   transfer_does result (callee.Direct f) args spare pc next around bound l regs m i fine trees x p a paid asked = by_kind (is_attributed f) p
     where
@@ -152,6 +153,8 @@ module _ {M : Type 0} (access : Access M) (y : Layout) (s : Site) (setting : ir.
   transfer_does result (callee.Switched g) args spare pc next around bound l regs m i fine may x p a paid asked =
       point_does access y s setting frame fit caller machine ok budget far place end linked is_fine result g args spare pc next around bound l regs m i fine may x.few x.shown x.held
       (points_keep access y machine budget far setting bound x.keep) p a (omega (arith, paid)) asked
+  transfer_does result callee.Expanded args spare pc next around bound l regs m i fine tests x p a paid asked =
+      depth_does access s machine ok budget far place end frame caller.counters.1 caller.calls_left result args spare pc next around bound l regs m i x.shown p a (omega (arith, paid)) asked
 
   -- the functions keep the convention at each lower bound
   conventions_within : (bound top : Bound) → IsWithin bound top → Conventions access y machine budget far setting top → Conventions access y machine budget far setting bound
@@ -174,6 +177,7 @@ module _ {M : Type 0} (access : Access M) (y : Layout) (s : Site) (setting : ir.
       pads (callee.Through t) args = (omega arith, λ regs m. refl)
       pads (callee.Switched g) [] = (omega arith, λ regs m. (regs, nop_sets regs m, refl))
       pads (callee.Switched g) (t ∷ ts) = (omega arith, λ regs m. refl)
+      pads callee.Expanded args = (omega arith, λ regs m. refl)
 
   pub call_done : (top : Bound) → Conventions access y machine budget far setting top → (result : Option ℕ) (f : Callee) (args : List Tree) → fine_layer is_fine s.may_ask s.temps (uses_of s) (stm.Call result f args) ≡ true
       → LinesDo access s setting frame machine place end budget far is_fine top (call_lines s.seats is_attributed result f args) (stm.Call result f args)
@@ -181,7 +185,7 @@ module _ {M : Type 0} (access : Access M) (y : Layout) (s : Site) (setting : ir.
       let trees = all_true (map is_fine args) in
       let target = fine_target is_fine s.may_ask s.temps (uses_of s) result in
       let callee = fine_callee is_fine s.may_ask s.temps (uses_of s) f in
-      let counted = and_right s.may_call (ltb (length args) 9 && (target && (callee && trees))) fine in
+      let counted = and_right (s.may_call || only_tests f args) (ltb (length args) 9 && (target && (callee && trees))) fine in
       let parts = and_right (ltb (length args) 9) (target && (callee && trees)) counted in
       let both = and_right target (callee && trees) parts in
       let few = ltb-true (length args) 9 (and_left (ltb (length args) 9) (target && (callee && trees)) counted) in
@@ -194,7 +198,7 @@ module _ {M : Type 0} (access : Access M) (y : Layout) (s : Site) (setting : ir.
       let q = placed_split machine.text place s.entry ls go o.0 next o.2 in
       let cost = (ToGoal (goal setting frame f l) result (values setting frame args l) bound l).cost in
       let b = pad_walk f args l.world pc o.0 regs m i o.1
-      (to_stands access s machine ok place end budget far 0 (spare + (60 + 3 * (callee_nodes setting frame f + nodes_of_all args) + cost)) (length bound) pc l i h) in
+      (to_stands access s machine ok place end budget far 0 (spare + (call_cost f + 3 * (callee_nodes setting frame f + nodes_of_all args) + cost)) (length bound) pc l i h) in
       let r = straight_walk access y s setting frame fit caller machine ok budget far place end linked is_fine ls (2 * nodes_of_all args) l.world o.0 q.0 regs z.after m b.time (arguments_short s.seats first_register args) q.1 z.runs
       b.stands in
       let begun = b.late in let begins = b.soon in

@@ -1,14 +1,13 @@
 -- A call is made where one is left, and is a trap where none is.
-use Rattle.std.proofs.Common.{◌≡◌, ℕ, suc, ◌+◌, ◌-◌, ◌^◌, ◌<◌, ◌≤◌, Bool, true, false, cond, eqb, ltb, List, [], ◌∷◌, ◌++◌, length, Option, sum_by, refl, sym, ap, ◌∙◌, subst, arith}
+use Rattle.std.proofs.Common.{◌≡◌, ℕ, suc, ◌+◌, ◌-◌, ◌^◌, ◌<◌, ◌≤◌, Bool, true, false, cond, ltb, List, [], ◌∷◌, ◌++◌, length, Option, sum_by, refl, sym, ◌∙◌, subst, arith}
 use Rattle.std.proofs.lemmas.List.{append-nil}
-use Rattle.std.proofs.lemmas.Bool.{ltb-true, ltb-false, eq-eqb, ne_eqb}
+use Rattle.std.proofs.lemmas.Bool.{ltb-true, ltb-false}
 use Rattle.mv_num.specs.Words.{add}
 use Rattle.mv_isa.specs.declared.instr.Instr.TheVariants.{Addi}
 use Rattle.mv_isa.specs.declared.labelled.Line.{Line}
 use Rattle.mv_isa.specs.declared.labelled.Line.TheVariants.{Word, Branch}
 use Rattle.mv_isa.specs.Code.{greatest_words}
 use Rattle.mv_isa.specs.Execution.{Access, reg, put}
-use Rattle.mv_isa.specs.LineSteps.{BranchRuns}
 use Rattle.mv_isa.specs.Registers.{s11 as left_register}
 use Rattle.mv_ir.specs.declared.tree.Tree.{Tree}
 use Rattle.mv_ir.specs.World as ir
@@ -18,7 +17,6 @@ use Rattle.mv_ir.specs.Meaning.{made_call, within, call_to, At, traps}
 use Rattle.mv_select_code.specs.Trees.TreeCode.{minus_one}
 use Rattle.mv_select_code.specs.Trees.Straight.{Straight}
 use Rattle.mv_select_code.proofs.OfTrees.Instructions.{addi_sets}
-use Rattle.mv_select_code.proofs.OfTrees.Registers.{reg_zero}
 use Rattle.mv_select_code.proofs.OfTrees.Words.{minus_one_is}
 use Rattle.mv_select_code.specs.Statements.StatementCode.{trap_label}
 use Rattle.mv_select_code.specs.Statements.Leads.{limited, Past}
@@ -29,12 +27,12 @@ use Rattle.mv_select_code.specs.Control.FlowCode.{fine_target}
 use Rattle.mv_select_code.specs.Control.Placed.{IsPlaced}
 use Rattle.mv_select_code.specs.Control.Runs.{Spot, Machine, outside, IsRun}
 use Rattle.mv_select_code.specs.Control.Laws.{uses_of}
-use Rattle.mv_select_code.specs.Control.Flow.{AtTrap}
 use Rattle.mv_select_code.proofs.OfControl.Composition.{fewer}
-use Rattle.mv_select_code.proofs.OfControl.Walk.{placed_split, reaches_more, line_does, branch_passes, taken, leads_walk}
+use Rattle.mv_select_code.proofs.OfControl.Walk.{placed_split, reaches_more, leads_walk}
 use Rattle.mv_select.specs.Calls.CallCode.{back_lines, guarded_lines}
 use Rattle.mv_select.specs.Calls.Convention.{Layout, Conventions}
 use Rattle.mv_select.specs.Calls.Laws.{IsCaller, IsLinked}
+use Rattle.mv_select.proofs.OfCalls.DepthTest.{zero_traps, other_passes}
 use Rattle.mv_select.proofs.OfCalls.Transfers.{Transfers, sets_on, call_follows}
 use Rattle.mv_select.proofs.OfCalls.CallCourse.{call_course}
 
@@ -58,31 +56,6 @@ module _ {M : Type 0} (access : Access M) (y : Layout) (s : Site) (setting : ir.
       reaches_more access s machine ok place end budget far w next after m i i (sum_by greatest_words ls + 0) n (omega arith) (omega (arith, le))
       (leads_walk access s machine ok place end budget far (ls ++ []) (sum_by greatest_words ls + 0) w pc next regs m Past after m i (subst (λ l. P l pc next) (sym (append-nil ls)) p)
       (leads_straight access s ls [] 0 regs after m Past after m runs (refl, (refl, refl))) a)
-
-  pub to_trap : (c : ℕ) (w : World) (regs : List ℕ) (m : M) (i : ℕ) → W w (place (trap_label c)) regs m i → i ≤ budget → AtTrap access s machine place end budget far c w i
-  to_trap c w regs m i a paid = record {
-    at = ap (λ (x : Spot M). x.pc) a.is;
-    calm = subst (λ (x : Spot M). machine.is_calm (outside w) x.memory ≡ true) (sym a.is) a.calm;
-    sound = a.sound;
-    paid = paid;
-  }
-
-  -- a branch to the stub of a trap, where a register is 0
-  pub zero_traps : (c r : ℕ) (spare k : ℕ) (around : List Enclosing) (pc mid next : ℕ) (l : State) (regs : List ℕ) (m : M) (i : ℕ) → reg regs r ≡ 0
-      → IsPlaced machine.text place s.entry pc mid (Branch 0 r 0 (trap_label c)) → W l.world pc regs m i → i + 2 ≤ budget → F spare k around next (traps c l)
-  zero_traps c r spare k around pc mid next l regs m i zero p a paid =
-      let holds : eqb (reg regs r) (reg regs 0) ≡ true = eq-eqb (reg regs r) (reg regs 0) (zero ∙ sym (reg_zero regs)) in
-      let e = subst (λ d. BranchRuns (limited access s) machine.text.word m d pc mid (place (trap_label c)) regs) holds
-      (line_does access s machine ok place end budget far l.world pc mid regs m i (Branch 0 r 0 (trap_label c)) p.stands p a) in
-      let t = taken access s machine ok place end budget far l.world pc mid (place (trap_label c)) regs m i e a in
-      let soon = t.soon in
-      (t.time, to_trap c l.world regs m t.time t.stands (omega (arith, soon, paid)))
-
-  pub other_passes : (c r n : ℕ) (w : World) (pc mid : ℕ) (regs : List ℕ) (m : M) (i : ℕ) → reg regs r ≡ n → (n ≡ 0 → ⊥) → IsPlaced machine.text place s.entry pc mid (Branch 0 r 0 (trap_label c))
-      → W w pc regs m i → W w mid regs m (i + 1)
-  other_passes c r n w pc mid regs m i e ne p a =
-      let fails : eqb (reg regs r) (reg regs 0) ≡ false = ne_eqb (reg regs r) (reg regs 0) (λ q. ne (sym e ∙ q ∙ reg_zero regs)) in
-      branch_passes access s machine ok place end budget far w pc mid 0 r 0 (trap_label c) regs m i fails p a
 
   left_held : (l : State) (regs : List ℕ) (m : M) → Shows s access l regs m → reg regs left_register ≡ s.register left_register
   left_held l regs m f = f.left left_register caller.counters.1
@@ -108,7 +81,7 @@ module _ {M : Type 0} (access : Access M) (y : Layout) (s : Site) (setting : ir.
   made go result f args spare pc mid next around (calls ∷ below) l regs m i fine ne sh keep goes branch p a paid asked =
       let n = s.register left_register - 1 in
       let e : n + 1 ≡ s.register left_register = grind (arith, ne) in
-      let b = other_passes 4 left_register (s.register left_register) l.world pc mid regs m i (left_held l regs m sh) ne branch a in
+      let b = other_passes access s machine ok budget far place end 4 left_register (s.register left_register) l.world pc mid regs m i (left_held l regs m sh) ne branch a in
       let c = counted n l mid p.0 regs m (i + 1) e sh p.1 b in
       let q = placed_split machine.text place s.entry go (back_lines s.seats result) p.0 next p.2 in
       let x = goes calls (length below) n (spare + 2) p.0 q.0 (i + 1 + 1) keep.0 e q.1 c (omega (arith, paid)) (omega (arith, asked)) in
@@ -128,4 +101,4 @@ module _ {M : Type 0} (access : Access M) (y : Layout) (s : Site) (setting : ir.
       by_depth true is paid =
           made go result f args spare pc p.0 next around bound l regs m i fine (λ z. omega (arith, z, caller.calls_left, ltb-true frame.depth 512 is)) sh keep goes p.1 p.2 a paid asked
       by_depth false is paid =
-          zero_traps 4 left_register spare (length bound) around pc p.0 next l regs m i (left_held l regs m sh ∙ omega (arith, caller.calls_left, ltb-false frame.depth 512 is)) p.1 a (omega (arith, paid))
+          zero_traps access s machine ok budget far place end 4 left_register spare (length bound) around pc p.0 next l regs m i (left_held l regs m sh ∙ omega (arith, caller.calls_left, ltb-false frame.depth 512 is)) p.1 a (omega (arith, paid))

@@ -7,7 +7,7 @@ use Rattle.mv_ir.specs.declared.tree.Tree.{Tree}
 use Rattle.mv_ir.specs.World as ir
 use Rattle.mv_ir.specs.World.{World}
 use Rattle.mv_ir.specs.Outcome.{State, Run, End, Returned, Trapped, More, Stuck, Bound, now}
-use Rattle.mv_ir.specs.Meaning.{Goal, Nowhere, Null, At, goal_of, made_call, within, call_to, traps}
+use Rattle.mv_ir.specs.Meaning.{Goal, Nowhere, Null, At, Inside, goal_of, made_call, within, call_to, traps}
 use Rattle.mv_select_code.specs.Trees.View.{AreRegisters}
 use Rattle.mv_select_code.specs.Statements.Frames.{Site, IsFit, Shows}
 use Rattle.mv_select_code.specs.declared.control.enclosing.Enclosing.{Enclosing}
@@ -16,7 +16,7 @@ use Rattle.mv_select_code.specs.Control.Runs.{Spot, Machine, outside, IsRun}
 use Rattle.mv_select_code.specs.Control.Laws.{uses_of}
 use Rattle.mv_select.specs.Calls.CallCode.{back_lines}
 use Rattle.mv_select.specs.Calls.Convention as convention
-use Rattle.mv_select.specs.Calls.Convention.{Layout, frame_limit, IsAbove, HoldsGlobals, Comes, ReturnsCounted, FollowsCounted, PointsKeep, Conventions, call_within, call_at, call_through}
+use Rattle.mv_select.specs.Calls.Convention.{Layout, frame_limit, IsAbove, HoldsGlobals, Comes, ReturnsCounted, FollowsCounted, PointsKeep, Conventions, call_within, nothing_within, call_at, call_through}
 use Rattle.mv_select.specs.Calls.Laws.{IsCaller, IsLinked}
 use Rattle.mv_select.proofs.OfCalls.CallerShown.{globals_held}
 use Rattle.mv_select.proofs.OfCalls.Transfers.{Back, FollowsBack, back_follows}
@@ -34,12 +34,22 @@ module _ (depth live : ℕ) (args : List ℕ) (l : State) where
   by_depth false f None bound = refl
   by_depth false f (Some t) bound = refl
 
+  inside : (b : Bool) (result : Option ℕ) (bound : Bound) →
+      cond b (within bound (λ calls. made_call result l (record { cost = 0; end = Returned None l.world })) l) (now (traps 4 l)) ≡
+      made_call result l (cond b (nothing_within bound l.world) (record { cost = 0; end = Trapped 4 l.world }))
+  inside true result (calls ∷ below) = refl
+  inside true None [] = refl
+  inside true (Some t) [] = refl
+  inside false None bound = refl
+  inside false (Some t) bound = refl
+
   pub call_is : (x : Goal) (result : Option ℕ) (bound : Bound) → call_to x depth live result args bound l ≡ made_call result l (call_at x bound args depth live l.world)
   call_is Nowhere None bound = refl
   call_is Nowhere (Some t) bound = refl
   call_is Null None bound = refl
   call_is Null (Some t) bound = refl
   call_is (At f) result bound = by_depth (ltb depth 512) f result bound
+  call_is Inside result bound = inside (ltb depth 512) result bound
 
 -- the convention of slots of four words at a bound
 pub points_keep : {M : Type 0} (access : Access M) (y : Layout) (machine : Machine M) (budget far : ℕ) (setting : ir.Setting) (bound : Bound) → Conventions access y machine budget far setting bound

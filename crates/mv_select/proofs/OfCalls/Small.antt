@@ -44,6 +44,7 @@ callee_small : (f : Callee) → small_callee f ≡ true → All IsSmall (callee_
 callee_small (callee.Direct f) h = All-nil IsSmall
 callee_small (callee.Through t) h = All-cons IsSmall t [] (small_tree t h) (All-nil IsSmall)
 callee_small (callee.Switched g) h = All-nil IsSmall
+callee_small callee.Expanded h = All-nil IsSmall
 
 abbrev smalls : List Tree → Bool
 smalls ts = all_true (map is_small ts)

@@ -12,6 +12,7 @@ use Rattle.mv_ir.specs.declared.stm.Stm.TheOpen.{Stm-F}
 use Rattle.mv_ir.specs.declared.stm.Stm.TheViews.{roll-Stm}
 use Rattle.mv_ir.specs.declared.stm.Stm.TheVariants.{rolls-Set, rolls-SetGlobal, rolls-Divide, rolls-Check, rolls-Read, rolls-Write, rolls-Zero, rolls-If, rolls-Loop, rolls-Block, rolls-Break, rolls-Back, rolls-Call, rolls-Known, rolls-Return}
 use Rattle.mv_ir.specs.declared.stm.Stm.TheFolds.{fold-roll-Stm, map-Stm}
+use Rattle.mv_select_code.specs.Control.FlowCode.{only_tests}
 use Rattle.mv_select.specs.Functions.FunctionCode.{silent_layer, is_silent, calls_nothing}
 
 pub silent_roll : (x : Stm-F Stm) → is_silent (roll-Stm x) ≡ silent_layer (map-Stm Stm Bool is_silent x)
@@ -54,7 +55,7 @@ silent_break n = ap is_silent (sym (rolls-Break n)) ∙ silent_roll (stm.Break n
 pub silent_back : (n : ℕ) → is_silent (at.Back n) ≡ true
 silent_back n = ap is_silent (sym (rolls-Back n)) ∙ silent_roll (stm.Back n)
 
-pub silent_call : (r : Option ℕ) (f : Callee) (args : List Tree) → is_silent (at.Call r f args) ≡ false
+pub silent_call : (r : Option ℕ) (f : Callee) (args : List Tree) → is_silent (at.Call r f args) ≡ only_tests f args
 silent_call r f args = ap is_silent (sym (rolls-Call r f args)) ∙ silent_roll (stm.Call r f args)
 
 pub silent_known : (r : Option ℕ) (k : Known) (args : List Tree) → is_silent (at.Known r k args) ≡ false

@@ -1,10 +1,11 @@
 -- What is fine and calls nothing is fine also where nothing may be called or asked for.
-use Rattle.std.proofs.Common.{◌≡◌, ℕ, ◌&&◌, Bool, true, List, [], ◌∷◌, map, refl, sym, ◌∙◌}
-use Rattle.std.proofs.lemmas.Bool.{and_from}
+use Rattle.std.proofs.Common.{◌≡◌, ℕ, ◌&&◌, ◌||◌, Bool, true, ltb, List, [], ◌∷◌, map, Some, None, refl, sym, ◌∙◌}
+use Rattle.std.proofs.lemmas.Bool.{or_right, and_from}
 use Rattle.mv_num.proofs.Booleans.{and_right, and_left}
 use Rattle.mv_ast.specs.declared.program.Known.{Known}
 use Rattle.mv_ir.specs.declared.tree.Tree.{Tree}
 use Rattle.mv_ir.specs.declared.stm.Array.TheVariants as array
+use Rattle.mv_ir.specs.declared.stm.Callee.TheVariants as callee
 use Rattle.mv_ir.specs.declared.stm.Stm.{Stm}
 use Rattle.mv_ir.specs.declared.stm.Stm.TheOpen as stm
 use Rattle.mv_ir.specs.declared.stm.Stm.TheOpen.{Stm-F}
@@ -56,7 +57,13 @@ module _ (is_fine : Tree → Bool) (may_ask other : Known → Bool) (temps : ℕ
   layer (stm.Block b) h silent fine = inner b h silent fine
   layer (stm.Break n) h silent fine = fine
   layer (stm.Back n) h silent fine = fine
-  layer (stm.Call r f args) h silent fine = cc
+  layer (stm.Call r (callee.Direct f) args) h silent fine = cc
+  layer (stm.Call r (callee.Through t) args) h silent fine = cc
+  layer (stm.Call r (callee.Switched g) args) h silent fine = cc
+  layer (stm.Call r callee.Expanded (t ∷ ts)) h silent fine = cc
+  layer (stm.Call None callee.Expanded []) h silent fine = and_from (may_call || true) true (or_right may_call true refl) refl
+  layer (stm.Call (Some t) callee.Expanded []) h silent fine =
+      and_from (may_call || true) (ltb t temps && true) (or_right may_call true refl) (and_right (uses.may_call || true) (ltb t temps && true) fine)
   layer (stm.Known r k args) h silent fine = cc
   layer (stm.Return v) h silent fine = fine
 

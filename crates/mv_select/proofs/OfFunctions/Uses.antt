@@ -141,6 +141,9 @@ module _ (w : ℕ) where
   pub uses_switched : (g : ℕ) → values_uses w (callee_trees (callee.Switched g)) ≡ []
   uses_switched g = refl
 
+  pub uses_expanded : values_uses w (callee_trees callee.Expanded) ≡ []
+  uses_expanded = refl
+
 -- ---- statements
 
 module _ (body : Body) where
@@ -209,6 +212,6 @@ pub ruleset operand_rules = (append_assoc, append-nil, operand_number, operand_t
 
 pub ruleset test_rules = (append_assoc, append-nil, test_number, test_temp, test_global, test_function, test_not, test_unary, test_compared, test_other, test_narrow)
 
-pub ruleset callee_rules = (append-nil, uses_direct, uses_through, uses_switched)
+pub ruleset callee_rules = (append-nil, uses_direct, uses_through, uses_switched, uses_expanded)
 
 pub ruleset stm_rules = (append_assoc, append-nil, uses_set, uses_set_global, uses_divide, uses_check, uses_read, uses_write, uses_zero, uses_if, uses_loop, uses_block, uses_break, uses_back, uses_call, uses_known, uses_return)

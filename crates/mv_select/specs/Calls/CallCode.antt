@@ -36,9 +36,13 @@ result_lines s (Some t) = one (write_temp s t a0)
 
 -- ---- calls of functions
 
+-- a trap where no call is left
+abbrev pub depth_lines : List Line
+depth_lines = Branch 0 s11 x0 (trap_label traps.call_too_deep) ∷ []
+
 -- one call less is left; a trap where none is
 abbrev pub guard_lines : List Line
-guard_lines = Branch 0 s11 x0 (trap_label traps.call_too_deep) ∷ one (Addi s11 s11 minus_one)
+guard_lines = depth_lines ++ one (Addi s11 s11 minus_one)
 
 -- one call more is left again, and the result comes into its temporary
 abbrev pub back_lines : Seats → Option ℕ → List Line
@@ -79,13 +83,14 @@ module _ (s : Seats) where
   argument_lines r (t ∷ ts) = tree_into s t r t3 ++ argument_lines (suc r) ts
 
   -- A call of a function: of an attributed one by a slot, and of another one by a jump to its entry; through a pointer, with a trap where it is null; through
-  -- a pointer switch by a slot of four words, which counts the call itself.
+  -- a pointer switch by a slot of four words, which counts the call itself. Of one whose statements stand behind it the test of the depth is left.
   abbrev pub transfer_lines : (ℕ → Bool) → Callee → Option ℕ → List Line
   transfer_lines is_attributed (callee.Direct f) result =
       cond (is_attributed f) (guarded_lines s (slot_lines f) result) (guarded_lines s (entry_lines f) result)
   transfer_lines is_attributed (callee.Through t) result =
       tree_lines s t t3 ++ pointer_lines s result
   transfer_lines is_attributed (callee.Switched g) result = Point (s.place g) ∷ back_lines s result
+  transfer_lines is_attributed callee.Expanded result = depth_lines
 
   abbrev pub call_lines : (ℕ → Bool) → Option ℕ → Callee → List Tree → List Line
   call_lines is_attributed result f args = pad_lines f args ++ (argument_lines a0 args ++ transfer_lines is_attributed f result)

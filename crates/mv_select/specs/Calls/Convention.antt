@@ -10,7 +10,7 @@ use Rattle.mv_isa.specs.Execution.{Access, reg}
 use Rattle.mv_isa.specs.Registers.{ra, sp, s1, a0, s2, s10, s11, t3}
 use Rattle.mv_ir.specs.World as ir
 use Rattle.mv_ir.specs.World.{World}
-use Rattle.mv_ir.specs.Meaning.{Goal, Nowhere, Null, At, goal_of}
+use Rattle.mv_ir.specs.Meaning.{Goal, Nowhere, Null, At, Inside, goal_of}
 use Rattle.mv_ir.specs.Outcome.{End, Returned, Trapped, More, Stuck, Call, Calls, Bound}
 use Rattle.mv_select_code.specs.Trees.View.{AreRegisters}
 use Rattle.mv_select_code.specs.Control.Runs.{Machine, outside}
@@ -43,12 +43,18 @@ abbrev pub call_within : Bound → (f : ℕ) (args : List ℕ) (depth frames : �
 call_within [] f args depth frames w = record { cost = 0; end = More w }
 call_within (calls ∷ below) f args depth frames w = calls f args depth frames w
 
+-- nothing, at a bound, of which nothing more is said where that is used up
+abbrev pub nothing_within : Bound → World → Call
+nothing_within [] w = record { cost = 0; end = More w }
+nothing_within (calls ∷ below) w = record { cost = 0; end = Returned None w }
+
 -- what a call with a goal does: null and a call too many are traps
 abbrev pub call_at : Goal → Bound → (args : List ℕ) (depth frames : ℕ) → World → Call
 call_at Nowhere bound args depth frames w = record { cost = 0; end = Stuck }
 call_at Null bound args depth frames w = record { cost = 0; end = Trapped null_call w }
 call_at (At f) bound args depth frames w =
     cond (ltb depth depth_limit) (call_within bound f args depth frames w) (record { cost = 0; end = Trapped call_too_deep w })
+call_at Inside bound args depth frames w = cond (ltb depth depth_limit) (nothing_within bound w) (record { cost = 0; end = Trapped call_too_deep w })
 
 -- a call through a pointer switch
 abbrev pub call_through : ir.Setting → Bound → (global : ℕ) → List ℕ → (depth frames : ℕ) → World → Call

@@ -15,7 +15,7 @@ use Rattle.mv_select_code.specs.Trees.TreeCode.{Seats, one, two, minus_one, temp
 use Rattle.mv_select_code.specs.declared.trees.places.Keeping.{Keeping}
 use Rattle.mv_select_code.specs.declared.trees.places.Pin.{Pin}
 use Rattle.mv_select_code.specs.declared.trees.places.Keeping.TheVariants.{Saved, Arguments}
-use Rattle.mv_select_code.specs.Control.FlowCode.{Plan, fall_to, code_of}
+use Rattle.mv_select_code.specs.Control.FlowCode.{Plan, fall_to, code_of, only_tests}
 use Rattle.mv_select.specs.Calls.CallCode.{calls_of}
 use Rattle.mv_select.specs.Functions.Pins.{pin_lines, ArePins}
 
@@ -97,12 +97,12 @@ pub record Shape : Type 0 where
   pub arrays : List ℕ
   pub pins : List Pin
 
--- whether a statement calls nothing, neither a function nor a known one, given whether those within it do
+-- whether a statement calls nothing, neither a function nor a known one, given whether those within it do; the test of the depth that is left of a call doesn't
 abbrev pub silent_layer : Stm-F Bool → Bool
 silent_layer (stm.If t a b) = all_true a && all_true b
 silent_layer (stm.Loop b) = all_true b
 silent_layer (stm.Block b) = all_true b
-silent_layer (stm.Call r f args) = false
+silent_layer (stm.Call r f args) = only_tests f args
 silent_layer (stm.Known r k args) = false
 silent_layer _ = true
 

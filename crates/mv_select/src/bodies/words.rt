@@ -42,7 +42,7 @@ fn callee_has_words(callee: &Callee)
     ensures { AreWords (constants_of_all (callee_trees callee.now)) }
 {
     match callee {
-        Callee::Direct(_) | Callee::Switched(_) => {}
+        Callee::Direct(_) | Callee::Switched(_) | Callee::Expanded => {}
         Callee::Through(tree) => tree_has_words(tree),
     }
 }

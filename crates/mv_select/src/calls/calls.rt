@@ -4,7 +4,7 @@ ghost use Rattle.std.specs.Prelude.{◌≡◌, ◌+◌, ◌<◌, ◌≤◌, ◌+
 ghost use Rattle.mv_ir.specs.Measures.{callee_trees};
 ghost use Rattle.mv_select_code.specs.Trees.TreeCode.{seats_at};
 ghost use Rattle.mv_select_code.specs.Statements.Encoded.{IsSmall};
-ghost use Rattle.mv_select.specs.Calls.CallCode.{result_lines, argument_lines, guard_lines, back_lines, slot_lines, entry_lines, guarded_lines, jump_lines, pointer_lines, transfer_lines, pad_lines, call_lines, order_lines, ask_lines, known_lines, request_of, is_marked};
+ghost use Rattle.mv_select.specs.Calls.CallCode.{result_lines, argument_lines, depth_lines, guard_lines, back_lines, slot_lines, entry_lines, guarded_lines, jump_lines, pointer_lines, transfer_lines, pad_lines, call_lines, order_lines, ask_lines, known_lines, request_of, is_marked};
 
 use mv_ast::program::Known;
 use mv_bindings::traps::{CALL_TOO_DEEP, NULL_CALL};
@@ -70,11 +70,19 @@ fn push_arguments(
     Ok(())
 }
 
+// Trap 4 where no call is left.
+fn push_depth(code: &mut List<Line>) -> Result<(), AllocError>
+    ensures { OnOk result (code.new ≡ code.old ++ depth_lines) }
+{
+    code.push(Line::Branch(0, LEFT, 0, TRAPS + u32::from(CALL_TOO_DEEP)))?;
+    Ok(())
+}
+
 // One call less is left; trap 4 where none is.
 fn push_guard(code: &mut List<Line>) -> Result<(), AllocError>
     ensures { OnOk result (code.new ≡ code.old ++ guard_lines) }
 {
-    code.push(Line::Branch(0, LEFT, 0, TRAPS + u32::from(CALL_TOO_DEEP)))?;
+    push_depth(code)?;
     push_one(
         code,
         Instr::Addi {
@@ -189,6 +197,7 @@ fn push_transfer(
             code.push(Line::Point(place_of(places.rooms, *global)))?;
             push_back(code, places, temp)
         }
+        Callee::Expanded => push_depth(code),
     }
 }
 

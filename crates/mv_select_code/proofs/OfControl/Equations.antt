@@ -1,5 +1,5 @@
 -- The code of each form of statement, and what it is for one to be fine.
-use Rattle.std.proofs.Common.{◌≡◌, ℕ, zero, suc, ◌&&◌, Bool, true, false, not, eqb, ltb, length, List, [], ◌∷◌, map, Option, Some, None, IfSome, refl, sym, ap, ◌∙◌}
+use Rattle.std.proofs.Common.{◌≡◌, ℕ, zero, suc, ◌&&◌, ◌||◌, Bool, true, false, not, eqb, ltb, length, List, [], ◌∷◌, map, Option, Some, None, IfSome, refl, sym, ap, ◌∙◌}
 use Rattle.mv_ast.specs.declared.program.Known.{Known}
 use Rattle.mv_ir.specs.declared.tree.Tree.{Tree}
 use Rattle.mv_ir.specs.declared.stm.Array.{Array}
@@ -16,7 +16,7 @@ use Rattle.mv_select_code.specs.Trees.TreeCode.{Seats}
 use Rattle.mv_select_code.specs.declared.control.enclosing.Leading.{Leading}
 use Rattle.mv_select_code.specs.declared.control.enclosing.Leading.TheVariants as lead
 use Rattle.mv_select_code.specs.Statements.StatementCode.{set_lines, set_global_lines, divide_lines, check_lines, read_lines, write_lines}
-use Rattle.mv_select_code.specs.Control.FlowCode.{Plan, Tested, Emitted, plain, home, size, zero_code, nothing, in_turn, staying, if_leads, straight_loop, turned_loop, loop_by, loop_code, if_code, block_code, break_code, back_code, return_code, code_layer, statement_code, code_of, loop_of, Uses, may_read, may_write, fine_target, fine_callee, fine_known, fine_layer, is_fine_statement, are_fine}
+use Rattle.mv_select_code.specs.Control.FlowCode.{Plan, Tested, Emitted, plain, home, size, zero_code, nothing, in_turn, staying, if_leads, straight_loop, turned_loop, loop_by, loop_code, if_code, block_code, break_code, back_code, return_code, code_layer, statement_code, code_of, loop_of, Uses, may_read, may_write, fine_target, fine_callee, fine_known, only_tests, fine_layer, is_fine_statement, are_fine}
 
 pub code_roll : (plan : Plan) (x : Stm-F Stm) → statement_code plan (roll-Stm x) ≡ code_layer plan (map-Stm Stm Emitted (statement_code plan) x)
 unfolding statement_code
@@ -153,7 +153,7 @@ module _ (is_fine : Tree → Bool) (may_ask : Known → Bool) (temps : ℕ) (use
   fine_block b = ap (is_fine_statement is_fine may_ask temps uses) (sym (rolls-Block b)) ∙ fine_roll is_fine may_ask temps uses (stm.Block b)
 
   pub fine_call : (r : Option ℕ) (f : Callee) (args : List Tree) → is_fine_statement is_fine may_ask temps uses (at.Call r f args)
-      ≡ (uses.may_call && (ltb (length args) 9 && (fine_target is_fine may_ask temps uses r && (fine_callee is_fine may_ask temps uses f && all_true (map is_fine args)))))
+      ≡ ((uses.may_call || only_tests f args) && (ltb (length args) 9 && (fine_target is_fine may_ask temps uses r && (fine_callee is_fine may_ask temps uses f && all_true (map is_fine args)))))
   fine_call r f args = ap (is_fine_statement is_fine may_ask temps uses) (sym (rolls-Call r f args)) ∙ fine_roll is_fine may_ask temps uses (stm.Call r f args)
 
   pub fine_known_call : (r : Option ℕ) (k : Known) (args : List Tree) → is_fine_statement is_fine may_ask temps uses (at.Known r k args)

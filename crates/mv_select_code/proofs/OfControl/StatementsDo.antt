@@ -14,8 +14,8 @@ use Rattle.mv_ir.specs.declared.stm.Stm.TheViews.{roll-Stm}
 use Rattle.mv_ir.specs.declared.stm.Stm.TheFolds.{map-Stm}
 use Rattle.mv_ir.specs.World as ir
 use Rattle.mv_bindings.specs.Traps as trap
-use Rattle.mv_ir.specs.Outcome.{State, End, Returned, Trapped, More, Stuck, Outcome, Next, Leaves, Restarts, Ends, Run, Calls, Bound, Meaning, spend, now, goes_on, then_do, in_order}
-use Rattle.mv_ir.specs.Meaning.{Goal, Nowhere, Null, At, of_tree, elements, with_temp, with_elements, traps, call_end, within, made_call, call_to, goal, statement, meaning}
+use Rattle.mv_ir.specs.Outcome.{State, End, Returned, Trapped, More, Stuck, Outcome, Next, Leaves, Restarts, Ends, Run, Call, Calls, Bound, Meaning, spend, now, goes_on, then_do, in_order}
+use Rattle.mv_ir.specs.Meaning.{Goal, Nowhere, Null, At, Inside, of_tree, elements, with_temp, with_elements, traps, call_end, within, made_call, call_to, goal, statement, meaning}
 use Rattle.mv_ir.specs.Trees.{nodes, divide}
 use Rattle.mv_ir.proofs.Induction.{Each, StmChildren, stm_ind, stms_ind}
 use Rattle.mv_ir.proofs.Keeping.{meaning_roll}
@@ -60,18 +60,28 @@ call_ahead (Some t) s (Trapped c w) = tt
 call_ahead (Some t) s (More w) = tt
 call_ahead (Some t) s Stuck = tt
 
+-- where the depth is not used up
+limited_ahead : (b : Bool) (run : Run) (s : State) → IsAhead run.outcome → IsAhead (cond b run (now (traps trap.call_too_deep s))).outcome
+limited_ahead true run s h = h
+limited_ahead false run s h = tt
+
 goal_ahead : (g : Goal) (depth live : ℕ) (r : Option ℕ) (args : List ℕ) (bound : Bound) (s : State) → IsAhead (call_to g depth live r args bound s).outcome
 goal_ahead Nowhere depth live r args bound s = tt
 goal_ahead Null depth live r args bound s = tt
-goal_ahead (At f) depth live r args bound s = by (ltb depth trap.depth_limit)
+goal_ahead (At f) depth live r args bound s =
+    limited_ahead (ltb depth trap.depth_limit) (within bound (λ (calls : Calls). made_call r s (calls f args depth live s.world)) s) s (deeper bound)
   where
     deeper : (bound : Bound) → IsAhead (within bound (λ (calls : Calls). made_call r s (calls f args depth live s.world)) s).outcome
     deeper [] = tt
     deeper (calls ∷ below) = call_ahead r s (calls f args depth live s.world).end
+goal_ahead Inside depth live r args bound s = limited_ahead (ltb depth trap.depth_limit) (within bound (λ (calls : Calls). made_call r s nothing) s) s (inside bound)
+  where
+    nothing : Call
+    nothing = record { cost = 0; end = Returned None s.world }
 
-    by : (b : Bool) → IsAhead (cond b (within bound (λ (calls : Calls). made_call r s (calls f args depth live s.world)) s) (now (traps trap.call_too_deep s))).outcome
-    by true = deeper bound
-    by false = tt
+    inside : (bound : Bound) → IsAhead (within bound (λ (calls : Calls). made_call r s nothing) s).outcome
+    inside [] = tt
+    inside (calls ∷ below) = call_ahead r s nothing.end
 
 -- ---- code that only leads somewhere
 

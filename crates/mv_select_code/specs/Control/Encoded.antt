@@ -3,6 +3,7 @@ use Rattle.std.specs.Prelude.{ℕ, ◌≡◌, ◌+◌, ◌*◌, true, List, ◌+
 use Rattle.mv_ast.specs.declared.program.Known.{Known}
 use Rattle.mv_ir.specs.declared.tree.Tree.{Tree}
 use Rattle.mv_ir.specs.declared.stm.Callee.{Callee}
+use Rattle.mv_ir.specs.declared.stm.Callee.TheVariants as callee
 use Rattle.mv_ir.specs.declared.stm.Stm.{Stm}
 use Rattle.mv_ir.specs.declared.stm.Stm.TheOpen.{Stm-F}
 use Rattle.mv_ir.specs.declared.stm.Stm.TheOpen as stm
@@ -19,6 +20,10 @@ use Rattle.mv_select_code.specs.Control.Layouts.{IsInFrame, plan_in, small_call,
 
 -- ---- how many words each form of statement takes at most besides those of its trees, each branch taken for two
 
+abbrev pub call_words : Callee → ℕ
+call_words callee.Expanded = 2
+call_words _ = 16
+
 abbrev pub words_layer : Stm-F ℕ → ℕ
 words_layer (stm.Set t v) = 1
 words_layer (stm.SetGlobal g v) = 2
@@ -32,7 +37,7 @@ words_layer (stm.Loop b) = 1 + total b
 words_layer (stm.Block b) = total b
 words_layer (stm.Break n) = 1
 words_layer (stm.Back n) = 1
-words_layer (stm.Call r f args) = 16
+words_layer (stm.Call r f args) = call_words f
 words_layer (stm.Known r k args) = 7
 words_layer (stm.Return v) = 1
 
@@ -49,10 +54,10 @@ most_words code = 2 * tree_nodes code + own_words code
 
 -- ---- the code of calls and of statements
 
--- the code of a call has encodings, and at most two words for each node of its trees and 16 more, or 7 of a known function
+-- the code of a call has encodings, and at most two words for each node of its trees and 16 more, 2 of one that is expanded, or 7 of a known function
 pub record CallsAreEncoded (calls : CallLines) : Type 0 where
   pub call : (r : Option ℕ) (f : Callee) (args : List Tree) → small_call r f args ≡ true →
-      IsCode (2 * nodes_of_all (callee_trees f ++ args) + 16) (calls.call r f args)
+      IsCode (2 * nodes_of_all (callee_trees f ++ args) + call_words f) (calls.call r f args)
   pub known : (r : Option ℕ) (k : Known) (args : List Tree) → small_known r k args ≡ true →
       IsCode (2 * nodes_of_all args + 7) (calls.known r k args)
 

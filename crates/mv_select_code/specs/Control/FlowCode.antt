@@ -1,5 +1,5 @@
 -- The code of statements within one another, by where control goes behind it. Its labels are counted on from a first free one.
-use Rattle.std.specs.Prelude.{ℕ, zero, suc, ◌+◌, ◌^◌, ◌&&◌, Bool, true, false, not, cond, eqb, ltb, length, List, [], ◌∷◌, ◌++◌, map, Option, Some, None}
+use Rattle.std.specs.Prelude.{ℕ, zero, suc, ◌+◌, ◌^◌, ◌&&◌, ◌||◌, Bool, true, false, not, cond, eqb, ltb, length, List, [], ◌∷◌, ◌++◌, map, Option, Some, None}
 use Rattle.mv_ast.specs.declared.program.Known.{Known}
 use Rattle.mv_ast.specs.declared.program.Known.TheVariants as known
 use Rattle.mv_isa.specs.declared.labelled.Line.{Line}
@@ -273,6 +273,11 @@ module _ (plan : Plan) where
 
 -- ---- what statements name is there
 
+-- whether a call is what is left of one whose statements stand behind it, which calls nothing
+abbrev pub only_tests : Callee → List Tree → Bool
+only_tests callee.Expanded [] = true
+only_tests _ _ = false
+
 -- which globals have a word, of which the elements may be read and written, and whether functions may be called
 pub record Uses : Type 0 where
   pub has_word : ℕ → Bool
@@ -300,6 +305,7 @@ module _ (is_fine : Tree → Bool) (may_ask : Known → Bool) (temps : ℕ) (use
   fine_callee (callee.Direct f) = true
   fine_callee (callee.Through t) = is_fine t
   fine_callee (callee.Switched g) = uses.is_read g
+  fine_callee callee.Expanded = true
 
   -- the code may ask for it, and an order's numbers are a byte and a word
   abbrev pub fine_known : Known → Bool
@@ -319,7 +325,7 @@ module _ (is_fine : Tree → Bool) (may_ask : Known → Bool) (temps : ℕ) (use
   fine_layer (stm.Block b) = all_true b
   fine_layer (stm.Break n) = true
   fine_layer (stm.Back n) = true
-  fine_layer (stm.Call r f args) = uses.may_call && (ltb (length args) 9 && (fine_target r && (fine_callee f && all_true (map is_fine args))))
+  fine_layer (stm.Call r f args) = (uses.may_call || only_tests f args) && (ltb (length args) 9 && (fine_target r && (fine_callee f && all_true (map is_fine args))))
   fine_layer (stm.Known r k args) = eqb (length args) (known_arguments k) && (fine_known k && (fine_target r && all_true (map is_fine args)))
   fine_layer (stm.Return v) = is_fine v
 

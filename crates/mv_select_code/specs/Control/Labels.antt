@@ -41,6 +41,7 @@ abbrev pub callee_functions : Callee → List ℕ
 callee_functions (callee.Direct f) = f ∷ []
 callee_functions (callee.Through t) = tree_functions t
 callee_functions (callee.Switched g) = []
+callee_functions callee.Expanded = []
 
 abbrev pub functions_of_all : List Tree → List ℕ
 functions_of_all trees = joined (map tree_functions trees)
@@ -75,6 +76,7 @@ abbrev pub callee_pointers : Callee → List ℕ
 callee_pointers (callee.Direct f) = []
 callee_pointers (callee.Through t) = []
 callee_pointers (callee.Switched g) = g ∷ []
+callee_pointers callee.Expanded = []
 
 abbrev pub pointers_layer : Stm-F (List ℕ) → List ℕ
 pointers_layer (stm.If t a b) = joined a ++ joined b

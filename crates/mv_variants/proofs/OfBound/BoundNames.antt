@@ -56,6 +56,7 @@ module _ (F : ℕ → Type 0) (K : Known → Type 0) (C : ℕ → Type 0) (ps : 
   callee_kept (callee.Direct f) n = n
   callee_kept (callee.Through t) n = tree_kept t n
   callee_kept (callee.Switched g) n = tt
+  callee_kept callee.Expanded n = tt
 
   layer : (x : Stm-F Stm) → StmChildren StmKept x → StmParts F K C x → StmParts F K C (bound_layer ps (map-Stm Stm Stm (bound_stm ps) x))
   layer (stm.Set t v) h p = tree_kept v p

@@ -101,6 +101,7 @@ module _ (F : ℕ → Type 0) (K : Known → Type 0) (C : ℕ → Type 0) (close
     callee_names (callee.Direct f) n = n
     callee_names (callee.Through t) n = tree_names t n
     callee_names (callee.Switched g) n = tt
+    callee_names callee.Expanded n = tt
 
   -- ---- statements
 

@@ -7,6 +7,7 @@ use Rattle.mv_ast.specs.declared.program.Function.{Function}
 use Rattle.mv_ast.specs.Counts.{is_attributed}
 use Rattle.mv_ast.specs.Counts as counts
 use Rattle.mv_ir.specs.declared.body.Body.{Body}
+use Rattle.mv_ir.specs.Shorts.{Shorts}
 use Rattle.mv_ir.specs.declared.stm.Callee.{Callee}
 use Rattle.mv_ir.specs.declared.stm.Callee.TheVariants as callee
 use Rattle.mv_ir.specs.declared.stm.Stm.{Stm}
@@ -34,7 +35,7 @@ use Rattle.mv_variants.proofs.OfBound.Meant.{made}
 use Rattle.mv_variants.proofs.OfBound.Led.{bodies_made}
 use Rattle.mv_variants.proofs.OfBound.Groups.{groups_fit}
 use Rattle.mv_source_forms.proofs.Sites.{sites_are}
-use Rattle.mv_variants.proofs.OfBound.Weights.{w_roll, weights, throughs}
+use Rattle.mv_variants.proofs.OfBound.Weights.{w_roll, weights, weights_of_calls, throughs, throughs_of_calls}
 use Rattle.mv_variants.proofs.OfBound.Variants.{CountsNoMore, worked_no_more, made_no_more}
 use Rattle.mv_variants.proofs.OfBound.Generals.{kept, general_no_more}
 use Rattle.mv_variants.proofs.OfBound.Slots.{slots_are_calls, points_are_calls}
@@ -55,6 +56,7 @@ module _ (d d' : ℕ → ℕ) (le : (f : ℕ) → d f ≤ d' f) where
   of_callee (callee.Direct f) = le f
   of_callee (callee.Through t) = omega arith
   of_callee (callee.Switched g) = omega arith
+  of_callee callee.Expanded = omega arith
 
   layer : (x : Stm-F Stm) → StmChildren Less x → layer_weight d 0 (map-Stm Stm ℕ (stm_weight d 0) x) ≤ layer_weight d' 0 (map-Stm Stm ℕ (stm_weight d' 0) x)
   layer (stm.Set t v) h = omega arith
@@ -120,8 +122,8 @@ few : (p : Program) (g : Function) → CallsAsOften p g (lower_function p g) →
 few p g often result same no_more place sizes shape =
     let slots = slots_are_calls place sizes (is_marked result.marked) shape result.code in
     let points = points_are_calls place sizes (is_marked result.marked) shape result.code (λ a. true) in
-    let fewer = no_more _ _ (weights (one_each (is_marked result.marked)) 0) in
-    let fewer_through = no_more _ _ (throughs (λ x. true)) in
+    let fewer = no_more _ _ (weights (one_each (is_marked result.marked)) 0) (weights_of_calls (one_each (is_marked result.marked)) 0) in
+    let fewer_through = no_more _ _ (throughs (λ x. true)) (throughs_of_calls (λ x. true)) in
     let less : code_weight (one_each (is_marked result.marked)) 0 (lower_function p g).code ≤ code_weight (attributed_once p) 0 (lower_function p g).code =
     subst (λ l. code_weight (one_each (is_marked l)) 0 (lower_function p g).code ≤ code_weight (attributed_once p) 0 (lower_function p g).code) (sym same)
     (more_weight (one_each (is_marked (lower_function p g).marked)) (attributed_once p) (marked_once p g) (lower_function p g).code)
@@ -129,16 +131,16 @@ few p g often result same no_more place sizes shape =
     omega (arith, slots, points, fewer, fewer_through, less, often.attributed, often.pointers (λ x. true), sites_are p g)
 
 pub few_slots : SlotsAreFew
-few_slots p g often ps result m =
-    few p g often result (made ps (lower_function p g) result m).marked (λ layer count of. made_no_more of ps (lower_function p g) result m)
+few_slots p g often shorts ps result m =
+    few p g often result (made shorts ps (lower_function p g) result m).marked (λ layer count of calls. made_no_more of calls shorts ps (lower_function p g) result m)
 
 pub own_few_slots : OwnSlotsAreFew
 own_few_slots p g often folded result is_folded is_renamed =
-    few p g often result (ap (λ (b : Body). b.marked) is_renamed.changes ∙ is_folded.marked) (λ layer count of. worked_no_more of (lower_function p g) folded result is_folded is_renamed)
+    few p g often result (ap (λ (b : Body). b.marked) is_renamed.changes ∙ is_folded.marked) (λ layer count of calls. worked_no_more of (lower_function p g) folded result is_folded is_renamed)
 
 pub general_few_slots : GeneralSlotsAreFew
-general_few_slots p g often result general =
-    few p g often result (kept (lower_function p g) result general).marked (λ layer count of. general_no_more (lower_function p g) result general of)
+general_few_slots p g often shorts result general =
+    few p g often result (kept shorts (lower_function p g) result general).marked (λ layer count of calls. general_no_more shorts (lower_function p g) result general of calls)
 
 -- one and what is no more than some are no more than one and some
 pub one_and_more : (n m k : ℕ) → m ≤ k → n + m * n ≤ n * (1 + k)
@@ -149,22 +151,22 @@ one_and_more n m k le =
     omega (arith, less, all)
 
 sum_few : (p : Program) (g : Function) → CallsAsOften p g (lower_function p g) → (domains : List Domain) (rows : List Bound) (variants : Variants) → IsMerged domains rows variants →
-    AreMade (lower_function p g) rows → (place sizes : ℕ → ℕ) (any : Body) → sum_by (variant_slots place sizes) variants.bodies ≤ length variants.bodies * counts.call_sites p g
-sum_few p g often domains rows variants merged made_rows place sizes any =
+    (shorts : Shorts) → AreMade shorts (lower_function p g) rows → (place sizes : ℕ → ℕ) (any : Body) → sum_by (variant_slots place sizes) variants.bodies ≤ length variants.bodies * counts.call_sites p g
+sum_few p g often domains rows variants merged shorts made_rows place sizes any =
     let each = λ (i : ℕ) (lt : i < length variants.bodies).
-    let from = bodies_made domains rows variants merged (lower_function p g) made_rows i (get_or variants.bodies i any) (slice_get-get_or variants.bodies i any lt) in
-    few_slots p g often _ (get_or variants.bodies i any) from.2 place sizes (shape_of true (get_or variants.bodies i any)) in
+    let from = bodies_made domains rows variants merged shorts (lower_function p g) made_rows i (get_or variants.bodies i any) (slice_get-get_or variants.bodies i any lt) in
+    few_slots p g often shorts _ (get_or variants.bodies i any) from.2 place sizes (shape_of true (get_or variants.bodies i any)) in
     sum_by-le (variant_slots place sizes) (counts.call_sites p g) variants.bodies (All-from_get_or (λ b. variant_slots place sizes b ≤ counts.call_sites p g) variants.bodies any each)
 
 pub variant_few_slots : VariantSlotsAreFew
-variant_few_slots p g often domains rows variants merged made_rows place sizes =
-    let all = sum_few p g often domains rows variants merged made_rows place sizes (lower_function p g) in
+variant_few_slots p g often domains rows variants merged shorts made_rows place sizes =
+    let all = sum_few p g often domains rows variants merged shorts made_rows place sizes (lower_function p g) in
     let more : length variants.bodies * counts.call_sites p g ≤ length rows * counts.call_sites p g = mul-le-mul_right (counts.call_sites p g) (groups_fit domains rows variants merged).bodies in
     let turned : length rows * counts.call_sites p g ≡ counts.call_sites p g * length rows = mul_comm (length rows) (counts.call_sites p g) in
     omega (arith, all, more, turned)
 
 pub all_few_slots : AllSlotsAreFew
-all_few_slots p g often folded own is_folded is_renamed domains rows variants merged made_rows place sizes =
-    let sum = sum_few p g often domains rows variants merged made_rows place sizes own in
+all_few_slots p g often folded own is_folded is_renamed domains rows variants merged shorts made_rows place sizes =
+    let sum = sum_few p g often domains rows variants merged shorts made_rows place sizes own in
     let first : variant_slots place sizes own ≤ counts.call_sites p g = own_few_slots p g often folded own is_folded is_renamed place sizes (shape_of true own) in
     omega (arith, sum, first, one_and_more (counts.call_sites p g) (length variants.bodies) (length rows) (groups_fit domains rows variants merged).bodies)

@@ -112,6 +112,7 @@ module _ (F : ℕ → Type 0) (K : Known → Type 0) (C : ℕ → Type 0) (close
   callee_kept (callee.Direct f) n = n
   callee_kept (callee.Through t) n = tree_kept t n
   callee_kept (callee.Switched g) n = tt
+  callee_kept callee.Expanded n = tt
 
   one : (x : Stm-F Stm) → StmParts F K C x → CodeNames F K C (alone x)
   one x p = (stm_in F K C x p, tt)

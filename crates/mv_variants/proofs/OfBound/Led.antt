@@ -36,7 +36,7 @@ unfolding variant_under
 under_is image n k vs e = rw e refl
 
 pub combinations_led : CombinationsAreLed
-combinations_led image tables has domains rows variants words all merged n row at there same body made =
+combinations_led image tables has domains rows variants words all merged n row at there same shorts body made =
     let all_fit = variants_led image tables has domains rows variants all merged n row at there same in
     record {
       combinations = λ vs c.
@@ -50,13 +50,13 @@ combinations_led image tables has domains rows variants words all merged n row a
             row = under_is image n (variants_before image n + found.0) vs found.1;
             result = came.0.body;
             there = found.3 came.0 came.1 came.2;
-            made = subst (λ us. IsMadeUnder (zip body.switches us) body came.0.body) came.2 (made came.0 came.1);
+            made = subst (λ us. IsMadeUnder shorts (zip body.switches us) body came.0.body) came.2 (made came.0 came.1);
           };
       others = λ vs values no. (all_fit.leads vs values).none no;
     }
 
 pub bodies_made : BodiesAreMade
-bodies_made domains rows variants merged body made i b e =
+bodies_made domains rows variants merged shorts body made i b e =
     let came = merged.came i (slice_get_within variants.bodies i b e) in
     let same : came.0.body ≡ b = let both : Some came.0.body ≡ Some b = sym came.2 ∙ e in cc in
-    (came.0, came.1, subst (IsMadeUnder (zip body.switches came.0.assignment.values) body) same (made came.0 came.1))
+    (came.0, came.1, subst (IsMadeUnder shorts (zip body.switches came.0.assignment.values) body) same (made came.0 came.1))

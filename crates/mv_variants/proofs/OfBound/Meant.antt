@@ -1,18 +1,20 @@
--- A body that is tidied, bound, with numbers carried, folded and renamed.
-use Rattle.std.proofs.Common.{arith, ◌≡◌, ℕ, true, not, ◌⊎◌, inl, inr, List, Option, None, Some, is_some, refl, sym, ◌∙◌, ap, subst, All, Contains}
+-- A body with short bodies in place of calls, tidied, bound, with numbers carried, folded and renamed.
+use Rattle.std.proofs.Common.{arith, ◌≡◌, ℕ, true, not, ◌≤◌, List, Option, None, Some, is_some, refl, sym, ◌∙◌, ap, subst, All, Contains}
 use Rattle.std.specs.List.{filter, zip}
 use Rattle.std.proofs.lemmas.List.Elements.{All-filter, All-contains, All-contains_itself, filter_passes, All-weaker}
 use Rattle.mv_ir.specs.declared.body.Body.{Body}
-use Rattle.mv_ir.specs.Keeps.{KeepsBody, KeepsUnder}
+use Rattle.mv_ir.specs.Shorts.{Shorts, KeepsBodyWith, KeepsUnderWith}
 use Rattle.mv_ir.specs.Live.{IsWhole, HasTemps}
 use Rattle.mv_ir.specs.WellFormed.{IsWellFormed}
 use Rattle.mv_ir.specs.Trees.{found}
-use Rattle.mv_ir.specs.Measures.{scalars_read, arrays_read}
+use Rattle.mv_ir.specs.Measures.{scalars_read, arrays_read, calls, deepest}
 use Rattle.mv_clone.specs.Bind.{is_free}
 use Rattle.mv_lower_spec.specs.Functions.{lower_function}
 use Rattle.mv_fold.specs.Form.{IsFoldedForm}
-use Rattle.mv_fold.specs.Folded.{IsNoGreater}
+use Rattle.mv_expand.specs.Expanded.{IsExpanded}
 use Rattle.mv_tidy.specs.Tidied.{IsTidied}
+use Rattle.mv_variants.specs.Bound.Shorts as way
+use Rattle.mv_variants.specs.Bound.Shorts.{IsReady}
 use Rattle.mv_variants.specs.Bound.Meant.{IsWorked, IsMadeUnder, IsVariantOf, MadeAreVariants, LoweredAreVariants}
 use Rattle.mv_variants.proofs.OfBound.RenamedForm.{renaming_keeps_form}
 
@@ -20,49 +22,94 @@ is_none : (o : Option ℕ) → not (is_some o) ≡ true → o ≡ None
 is_none None h = refl
 is_none (Some v) h = absurd cc
 
--- ---- a body that may be tidied
+-- ---- a body before its switches are bound
 
--- what tidying keeps, and what stays where it isn't done
-pub record MayTidy (body result : Body) : Type 0 where
-  pub means : KeepsBody body result
-  pub smaller : IsNoGreater body.code result.code
-  pub whole : IsWhole body → IsWhole result
-  pub has_temps : HasTemps body → HasTemps result
-  pub well_formed : IsWellFormed body → IsWellFormed result
-  pub params : result.params ≡ body.params
-  pub sizes : result.arrays ≡ body.arrays
-  pub rooms : result.rooms ≡ body.rooms
-  pub marked : result.marked ≡ body.marked
-  pub switches : result.switches ≡ body.switches
+-- what is kept there, whatever was done
+pub record IsKeptReady (shorts : Shorts) (body ready : Body) : Type 0 where
+  pub means : KeepsBodyWith shorts body ready
+  pub scalars : (g : ℕ) → Contains (scalars_read ready.code) g → Contains (scalars_read body.code) g
+  pub arrays : (g : ℕ) → Contains (arrays_read ready.code) g → Contains (arrays_read body.code) g
+  pub deepest : deepest body.code ≤ 4 → deepest ready.code ≤ 4
+  pub calls : calls ready.code ≤ calls body.code
+  pub whole : IsWhole body → IsWhole ready
+  pub has_temps : HasTemps body → HasTemps ready
+  pub well_formed : IsWellFormed body → IsWellFormed ready
+  pub params : ready.params ≡ body.params
+  pub sizes : ready.arrays ≡ body.arrays
+  pub rooms : ready.rooms ≡ body.rooms
+  pub marked : ready.marked ≡ body.marked
+  pub switches : ready.switches ≡ body.switches
 
-untouched : (body : Body) → MayTidy body body
-untouched body = record {
-  means = λ setting frame contents args bound w. record { same = refl; cheaper = omega arith };
-  smaller = record { scalars = λ g c. c; arrays = λ g c. c; deepest = omega arith; statements = omega arith; tree_nodes = omega arith; calls = omega arith };
-  whole = λ h. h;
-  has_temps = λ h. h;
-  well_formed = λ h. h;
-  params = refl;
-  sizes = refl;
-  rooms = refl;
-  marked = refl;
-  switches = refl;
-}
+module _ (shorts : Shorts) where
+  untouched : (body : Body) → IsKeptReady shorts body body
+  untouched body = record {
+    means = λ setting frame contents args bound w known. record { same = refl; cheaper = omega arith };
+    scalars = λ g c. c;
+    arrays = λ g c. c;
+    deepest = λ h. h;
+    calls = omega arith;
+    whole = λ h. h;
+    has_temps = λ h. h;
+    well_formed = λ h. h;
+    params = refl;
+    sizes = refl;
+    rooms = refl;
+    marked = refl;
+    switches = refl;
+  }
 
-pub may_tidy : (body result : Body) → IsTidied body result ⊎ (result ≡ body) → MayTidy body result
-may_tidy body result (inl t) = record { means = t.means; smaller = t.smaller; whole = t.whole; has_temps = t.has_temps; well_formed = t.well_formed; params = t.params; sizes = t.sizes; rooms = t.rooms; marked = t.marked; switches = t.switches }
-may_tidy body result (inr e) = subst (MayTidy body) (sym e) (untouched body)
+  tidied_kept : (body ready : Body) → IsTidied body ready → IsKeptReady shorts body ready
+  tidied_kept body ready t = record {
+    means = λ setting frame contents args bound w known. t.means setting frame contents args bound w;
+    scalars = t.smaller.scalars;
+    arrays = t.smaller.arrays;
+    deepest = λ h. omega (arith, h, t.smaller.deepest);
+    calls = t.smaller.calls;
+    whole = t.whole;
+    has_temps = t.has_temps;
+    well_formed = t.well_formed;
+    params = t.params;
+    sizes = t.sizes;
+    rooms = t.rooms;
+    marked = t.marked;
+    switches = t.switches;
+  }
 
-module _ (ps : List (ℕ × ℕ)) (body result : Body) (m : IsMadeUnder ps body result) where
-  pub tidy : MayTidy body m.tidied
-  tidy = may_tidy body m.tidied m.is_tidied
+  expanded_kept : (body e ready : Body) → IsExpanded shorts body e → IsTidied e ready → IsKeptReady shorts body ready
+  expanded_kept body e ready x t = record {
+    means = λ setting frame contents args bound w known.
+        let first = x.means setting frame contents args bound w known in
+        let second = t.means setting frame contents args bound w in
+        record { same = first.same ∙ second.same; cheaper = omega (arith, first.cheaper, second.cheaper) };
+    scalars = λ g c. x.scalars g (t.smaller.scalars g c);
+    arrays = λ g c. x.arrays g (t.smaller.arrays g c);
+    deepest = λ h. (let shallow = x.deepest h in omega (arith, shallow, t.smaller.deepest));
+    calls = omega (arith, x.calls, t.smaller.calls);
+    whole = λ h. t.whole (x.whole h);
+    has_temps = λ h. t.has_temps (x.has_temps h);
+    well_formed = λ h. t.well_formed (x.well_formed h);
+    params = t.params ∙ x.params;
+    sizes = t.sizes ∙ x.sizes;
+    rooms = t.rooms ∙ x.rooms;
+    marked = t.marked ∙ x.marked;
+    switches = t.switches ∙ x.switches;
+  }
 
-  abbrev w : IsWorked ps m.tidied result
+  pub ready_kept : (body ready : Body) → IsReady shorts body ready → IsKeptReady shorts body ready
+  ready_kept body ready (way.expanded e x t words) = expanded_kept body e ready x t
+  ready_kept body ready (way.tidied t) = tidied_kept body ready t
+  ready_kept body ready (way.same is) = subst (IsKeptReady shorts body) (sym is) (untouched body)
+
+module _ (shorts : Shorts) (ps : List (ℕ × ℕ)) (body result : Body) (m : IsMadeUnder shorts ps body result) where
+  pub before : IsKeptReady shorts body m.ready
+  before = ready_kept shorts body m.ready m.is_ready
+
+  abbrev w : IsWorked ps m.ready result
   w = m.worked
 
-  keeps : KeepsUnder ps body result
-  keeps setting depth live contents args bound world =
-      let first = tidy.means setting (record { depth = depth; live = live; bound = ps }) contents args bound world in
+  keeps : KeepsUnderWith shorts ps body result
+  keeps setting depth live contents args bound world known =
+      let first = before.means setting (record { depth = depth; live = live; bound = ps }) contents args bound world known in
       let second = w.is_bound.means ps (λ g h. h) setting depth live contents args bound world in
       let third = w.is_carried.means setting (record { depth = depth; live = live; bound = ps }) contents args bound world in
       let fourth = w.is_folded.means setting (record { depth = depth; live = live; bound = ps }) contents args bound world in
@@ -71,8 +118,8 @@ module _ (ps : List (ℕ × ℕ)) (body result : Body) (m : IsMadeUnder ps body 
 
   -- ---- what it reads
 
-  -- a scalar that it reads is one that the tidied body reads, and no switch
-  in_bound : (g : ℕ) → Contains (scalars_read result.code) g → Contains (filter (is_free ps) (scalars_read m.tidied.code)) g
+  -- a scalar that it reads is one that the body before reads, and no switch
+  in_bound : (g : ℕ) → Contains (scalars_read result.code) g → Contains (filter (is_free ps) (scalars_read m.ready.code)) g
   in_bound g c =
       let in_folded = subst (λ l. Contains l g) w.is_renamed.scalars c in
       subst (λ l. Contains l g) w.is_bound.scalars (w.is_carried.smaller.scalars g (w.is_folded.smaller.scalars g in_folded))
@@ -80,41 +127,39 @@ module _ (ps : List (ℕ × ℕ)) (body result : Body) (m : IsMadeUnder ps body 
   reads_free : (g : ℕ) → Contains (scalars_read result.code) g → found ps g ≡ None
   reads_free g c =
       is_none (found ps g)
-      (All-contains (λ k. is_free ps k ≡ true) (filter (is_free ps) (scalars_read m.tidied.code)) g (filter_passes (is_free ps) (scalars_read m.tidied.code)) (in_bound g c))
+      (All-contains (λ k. is_free ps k ≡ true) (filter (is_free ps) (scalars_read m.ready.code)) g (filter_passes (is_free ps) (scalars_read m.ready.code)) (in_bound g c))
 
   pub reads_scalar : (g : ℕ) → Contains (scalars_read result.code) g → Contains (scalars_read body.code) g
   reads_scalar g c =
-      let unbound : All (Contains (scalars_read m.tidied.code)) (filter (is_free ps) (scalars_read m.tidied.code)) =
-      All-filter (is_free ps) (Contains (scalars_read m.tidied.code)) (scalars_read m.tidied.code) (All-contains_itself (scalars_read m.tidied.code)) in
-      tidy.smaller.scalars g (All-contains (Contains (scalars_read m.tidied.code)) (filter (is_free ps) (scalars_read m.tidied.code)) g unbound (in_bound g c))
+      let unbound : All (Contains (scalars_read m.ready.code)) (filter (is_free ps) (scalars_read m.ready.code)) =
+      All-filter (is_free ps) (Contains (scalars_read m.ready.code)) (scalars_read m.ready.code) (All-contains_itself (scalars_read m.ready.code)) in
+      before.scalars g (All-contains (Contains (scalars_read m.ready.code)) (filter (is_free ps) (scalars_read m.ready.code)) g unbound (in_bound g c))
 
   pub reads_array : (g : ℕ) → Contains (arrays_read result.code) g → Contains (arrays_read body.code) g
   reads_array g c =
       let in_folded = subst (λ l. Contains l g) w.is_renamed.arrays c in
-      tidy.smaller.arrays g (subst (λ l. Contains l g) w.is_bound.arrays (w.is_carried.smaller.arrays g (w.is_folded.smaller.arrays g in_folded)))
+      before.arrays g (subst (λ l. Contains l g) w.is_bound.arrays (w.is_carried.smaller.arrays g (w.is_folded.smaller.arrays g in_folded)))
 
-  is_variant : IsVariantOf ps body result
+  is_variant : IsVariantOf shorts ps body result
   is_variant = record {
     keeps = keeps;
     free = All-weaker (Contains (scalars_read result.code)) (λ g. found ps g ≡ None) reads_free (scalars_read result.code) (All-contains_itself (scalars_read result.code));
     form = subst (λ (b : Body). IsFoldedForm b.code) (sym w.is_renamed.changes) (renaming_keeps_form w.is_renamed.numbers w.folded.code w.is_folded.form);
-    deepest = omega (arith, tidy.smaller.deepest, w.is_bound.deepest, w.is_carried.smaller.deepest, w.is_folded.smaller.deepest, w.is_renamed.deepest);
-    statements = omega (arith, tidy.smaller.statements, w.is_bound.statements, w.is_carried.smaller.statements, w.is_folded.smaller.statements, w.is_renamed.statements);
-    tree_nodes = omega (arith, tidy.smaller.tree_nodes, w.is_bound.tree_nodes, w.is_carried.smaller.tree_nodes, w.is_folded.smaller.tree_nodes, w.is_renamed.tree_nodes);
-    calls = omega (arith, tidy.smaller.calls, w.is_bound.calls, w.is_carried.smaller.calls, w.is_folded.smaller.calls, w.is_renamed.calls);
-    temps = m.temps;
+    deepest = λ h. (let shallow = before.deepest h in omega (arith, shallow, w.is_bound.deepest, w.is_carried.smaller.deepest, w.is_folded.smaller.deepest, w.is_renamed.deepest));
+    calls = omega (arith, before.calls, w.is_bound.calls, w.is_carried.smaller.calls, w.is_folded.smaller.calls, w.is_renamed.calls);
+    room = m.room;
     whole = w.is_renamed.whole;
     has_temps = w.is_renamed.has_temps;
-    well_formed = λ h. w.is_renamed.well_formed (w.is_folded.well_formed (w.is_carried.well_formed (w.is_bound.well_formed (tidy.well_formed h))));
-    params = ap (λ (b : Body). b.params) w.is_renamed.changes ∙ w.is_folded.params ∙ w.is_carried.params ∙ w.is_bound.params ∙ tidy.params;
-    sizes = ap (λ (b : Body). b.arrays) w.is_renamed.changes ∙ w.is_folded.sizes ∙ w.is_carried.sizes ∙ w.is_bound.sizes ∙ tidy.sizes;
-    rooms = ap (λ (b : Body). b.rooms) w.is_renamed.changes ∙ w.is_folded.rooms ∙ w.is_carried.rooms ∙ w.is_bound.rooms ∙ tidy.rooms;
-    marked = ap (λ (b : Body). b.marked) w.is_renamed.changes ∙ w.is_folded.marked ∙ w.is_carried.marked ∙ w.is_bound.marked ∙ tidy.marked;
-    switches = ap (λ (b : Body). b.switches) w.is_renamed.changes ∙ w.is_folded.switches ∙ w.is_carried.switches ∙ w.is_bound.switches ∙ tidy.switches;
+    well_formed = λ h. w.is_renamed.well_formed (w.is_folded.well_formed (w.is_carried.well_formed (w.is_bound.well_formed (before.well_formed h))));
+    params = ap (λ (b : Body). b.params) w.is_renamed.changes ∙ w.is_folded.params ∙ w.is_carried.params ∙ w.is_bound.params ∙ before.params;
+    sizes = ap (λ (b : Body). b.arrays) w.is_renamed.changes ∙ w.is_folded.sizes ∙ w.is_carried.sizes ∙ w.is_bound.sizes ∙ before.sizes;
+    rooms = ap (λ (b : Body). b.rooms) w.is_renamed.changes ∙ w.is_folded.rooms ∙ w.is_carried.rooms ∙ w.is_bound.rooms ∙ before.rooms;
+    marked = ap (λ (b : Body). b.marked) w.is_renamed.changes ∙ w.is_folded.marked ∙ w.is_carried.marked ∙ w.is_bound.marked ∙ before.marked;
+    switches = ap (λ (b : Body). b.switches) w.is_renamed.changes ∙ w.is_folded.switches ∙ w.is_carried.switches ∙ w.is_bound.switches ∙ before.switches;
   }
 
 pub made : MadeAreVariants
-made ps body result m = is_variant ps body result m
+made shorts ps body result m = is_variant shorts ps body result m
 
 pub made_of_lowered : LoweredAreVariants
-made_of_lowered p g vs result m = keeps (zip (lower_function p g).switches vs) (lower_function p g) result m
+made_of_lowered shorts p g vs result m = keeps shorts (zip (lower_function p g).switches vs) (lower_function p g) result m

@@ -40,11 +40,12 @@ bound_parts ps x = bound_layer ps (map-Stm Stm Stm (bound_stm ps) x)
 abbrev pub renamed_parts : (ℕ → ℕ) → Stm-F Stm → Stm-F Stm
 renamed_parts c x = renamed_layer c (map-Stm Stm Stm (renamed_stm c) x)
 
--- calls of one function, or both through pointers, or through one pointer switch
+-- calls of one function, or both through pointers, or through one pointer switch, or both expanded
 abbrev pub SameGoal : Callee → Callee → Type 0
 SameGoal (callee.Direct f) (callee.Direct g) = f ≡ g
 SameGoal (callee.Through t) (callee.Through u) = Unit {0}
 SameGoal (callee.Switched g) (callee.Switched h) = g ≡ h
+SameGoal callee.Expanded callee.Expanded = Unit {0}
 SameGoal _ _ = ⊥
 
 -- What a statement counts, by what its parts count: it is the same whatever its trees, temporaries and globals, and no more with parts that count no more,
@@ -75,16 +76,19 @@ bound_goal : (ps : List (ℕ × ℕ)) (f : Callee) → SameGoal (bound_callee ps
 bound_goal ps (callee.Direct f) = refl
 bound_goal ps (callee.Through t) = tt
 bound_goal ps (callee.Switched g) = refl
+bound_goal ps callee.Expanded = tt
 
 renamed_goal : (c : ℕ → ℕ) (f : Callee) → SameGoal (renamed_callee c f) f
 renamed_goal c (callee.Direct f) = refl
 renamed_goal c (callee.Through t) = tt
 renamed_goal c (callee.Switched g) = refl
+renamed_goal c callee.Expanded = tt
 
 simple_goal : (f : Callee) → SameGoal (simple_callee f) f
 simple_goal (callee.Direct f) = refl
 simple_goal (callee.Through t) = tt
 simple_goal (callee.Switched g) = refl
+simple_goal callee.Expanded = tt
 
 module _ {layer : Stm-F ℕ → ℕ} {m : Stm → ℕ} (of : Measure layer m) where
   abbrev all : List Stm → ℕ
@@ -181,6 +185,7 @@ module _ {layer : Stm-F ℕ → ℕ} {m : Stm → ℕ} (of : Measure layer m) wh
   carried_goal fs (callee.Direct f) = refl
   carried_goal fs (callee.Through t) = tt
   carried_goal fs (callee.Switched g) = refl
+  carried_goal fs callee.Expanded = tt
 
   carried_closed : IsClosed CountsNoMore
   carried_closed = record {

@@ -1,7 +1,9 @@
--- Binding, carrying, tidying and folding name no more.
-use Rattle.std.proofs.Common.{arith, ℕ, List, [], sym, subst, Contains}
+-- Short bodies in place of calls, binding, carrying, tidying and folding name no more.
+use Rattle.std.proofs.Common.{arith, ℕ, false, List, [], ◌∷◌, sym, subst, Contains}
 use Rattle.std.proofs.lemmas.List.Elements.{All-contains, All-contains_itself}
+use Rattle.mv_ast.specs.declared.program.Known.{Known}
 use Rattle.mv_ir.specs.declared.stm.Stm.{Stm}
+use Rattle.mv_ir.proofs.Induction.{Each}
 use Rattle.mv_select_code.specs.Control.Labels.{functions}
 use Rattle.mv_select_code.proofs.OfControl.TreeNames.{AnyNumber, each_any}
 use Rattle.mv_select.specs.Bodies.SelectedBodies.{HasWords, IsOrder, constants, knowns}
@@ -20,6 +22,12 @@ use Rattle.mv_variants.proofs.OfBound.FoldedNames.{IsClosed, folded_names}
 use Rattle.mv_variants.proofs.OfBound.CarriedNames.{carried_names}
 use Rattle.mv_variants.proofs.OfBound.TidiedNames.{tidied_names}
 use Rattle.mv_variants.proofs.OfBound.RenamedNames.{renamed_names}
+use Rattle.mv_variants.proofs.OfBound.ExpandedNames.{AnyKnown, expanded_names, short_names}
+use Rattle.mv_ir.specs.declared.body.Body.{Body}
+use Rattle.mv_ir.specs.Shorts.{Shorts}
+use Rattle.mv_expand.specs.Straight.{IsShort}
+use Rattle.mv_expand.specs.Expanding.{Expands}
+use Rattle.mv_variants.specs.Bound.Shorts.{ShortsHaveWords}
 use Rattle.mv_ir.proofs.Common.{each_is_all}
 use Rattle.mv_select.proofs.OfBodies.Lists.{each_all}
 
@@ -53,6 +61,24 @@ module _ (code result : List Stm) where
       orders = each_is_all IsOrder (knowns result) (code_knowns AnyNumber IsOrder IsWord result (k (words_in w)));
     };
   }
+
+-- a short body names nothing but constants
+short_named : (F : ℕ → Type 0) (K : Known → Type 0) (b : Body) → IsShort b → CodeNames F K AnyNumber b.code
+short_named F K b short = short_names F K AnyNumber b short (code_of AnyNumber AnyKnown AnyNumber b.code (each_any (functions b.code)) (each_known (knowns b.code)) (each_any (constants b.code)))
+  where
+    each_known : (ks : List Known) → Each AnyKnown ks
+    each_known [] = tt
+    each_known (k ∷ ks) = (tt, each_known ks)
+
+short_words : (b : Body) → IsShort b → HasWords b.code → CodeNames AnyNumber IsOrder IsWord b.code
+short_words b short h = code_of AnyNumber IsOrder IsWord b.code (each_any (functions b.code)) (each_all IsOrder (knowns b.code) h.orders) (each_all IsWord (constants b.code) h.constants)
+
+pub expanding_names : (shorts : Shorts) → ShortsHaveWords shorts → (base : ℕ) (code expanded : List Stm) → Expands shorts base false code expanded → NamesNoMore code expanded
+expanding_names shorts all base code expanded h =
+    no_more code expanded
+    (expanded_names (Contains (functions code)) (Contains (knowns code)) AnyNumber shorts (λ f b there. short_named (Contains (functions code)) (Contains (knowns code)) b (all f b there).0)
+    base false code expanded h)
+    (expanded_names AnyNumber IsOrder IsWord shorts (λ f b there. let is = all f b there in short_words b is.0 is.1) base false code expanded h)
 
 pub binding_names : BindingNamesNoMore
 binding_names ps words code =

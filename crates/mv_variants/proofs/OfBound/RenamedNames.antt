@@ -47,6 +47,7 @@ module _ (F : ℕ → Type 0) (K : Known → Type 0) (C : ℕ → Type 0) (c : �
   callee_kept (callee.Direct f) n = n
   callee_kept (callee.Through t) n = tree_kept t n
   callee_kept (callee.Switched g) n = tt
+  callee_kept callee.Expanded n = tt
 
   layer : (x : Stm-F Stm) → StmChildren StmKept x → StmParts F K C x → StmParts F K C (renamed_layer c (map-Stm Stm Stm (renamed_stm c) x))
   layer (stm.Set t v) h p = tree_kept v p

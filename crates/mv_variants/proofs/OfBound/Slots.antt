@@ -122,6 +122,7 @@ module _ (slot point : ℕ → ℕ) where
     callee_weighs (callee.Direct f) = direct f
     callee_weighs (callee.Through t) = 0
     callee_weighs (callee.Switched g) = point (place g)
+    callee_weighs callee.Expanded = 0
 
     transfer_weighs : (f : Callee) (r : Option ℕ) → Weighs (callee_weighs f) (transfer_lines seats is_attributed f r)
     transfer_weighs (callee.Direct f) r = by (is_attributed f) ∙ direct_is f
@@ -132,6 +133,7 @@ module _ (slot point : ℕ → ℕ) where
     transfer_weighs (callee.Through t) r =
         behind (tree_lines seats t scratch_register) (pointer_lines seats r) (tree_made none_made seats t (all_any _) scratch_register) (no_result seats r)
     transfer_weighs (callee.Switched g) r = let none = no_result seats r in omega (arith, none)
+    transfer_weighs callee.Expanded r = refl
 
     call_weighs : (r : Option ℕ) (f : Callee) (args : List Tree) → Weighs (callee_weighs f) (call_lines seats is_attributed r f args)
     call_weighs r f args =

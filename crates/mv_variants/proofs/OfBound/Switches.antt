@@ -42,12 +42,14 @@ words_at (v ∷ vs) h zero = All-head (λ v. v < 2 ^ 32) v vs h
 words_at (v ∷ vs) h (suc i) = words_at vs (All-tail (λ v. v < 2 ^ 32) v vs h) i
 
 pub functions_led : FunctionsAreLed
-functions_led p g kind image tables has words rows variants all merged made n row at there switches =
+functions_led p g kind image tables has words rows variants all merged shorts known made n row at there switches =
     let domains = domains_in p kind g in
     let same = values_are p kind g.switches in
     let kinds_same : kinds_of image row ≡ kinds (domains_in p kind g) = ap (map (kind_of image)) switches.named ∙ kinds_are p kind image g.switches switches.kinds in
-    let led = combinations_led image tables has (domains_in p kind g) rows variants (words_are p kind g.switches words) (subst (λ ds. AreAllCombinations ds (all_values rows)) (sym same) all) merged n row at there kinds_same (lower_function p g) made in
+    let led = combinations_led image tables has (domains_in p kind g) rows variants (words_are p kind g.switches words) (subst (λ ds. AreAllCombinations ds (all_values rows)) (sym same) all) merged n row at there kinds_same shorts (lower_function p g) made in
     record {
+      shorts = shorts;
+      known = known;
       combinations = λ vs c. led.combinations vs (subst (λ ds. IsCombination ds vs) (sym same) c);
       others = λ vs long are_words no.
           led.others vs (record { each = long ∙ sym (length-map g.switches (domain p kind)); words = words_at vs are_words }) (λ c. no (subst (λ ds. IsCombination ds vs) same c));

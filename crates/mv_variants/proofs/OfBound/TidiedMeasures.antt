@@ -1,5 +1,5 @@
 -- A measure isn't more after tidying, and it is the same where nothing but calls counts.
-use Rattle.std.proofs.Common.{arith, ◌≡◌, ℕ, ◌+◌, ◌≤◌, Bool, true, false, cond, eqb, ◌||◌, List, [], ◌∷◌, ◌++◌, map, Some, ◌∙◌, refl, sym, subst}
+use Rattle.std.proofs.Common.{arith, ◌≡◌, ℕ, ◌+◌, ◌≤◌, Bool, true, false, cond, eqb, ◌||◌, List, [], ◌∷◌, ◌++◌, map, Option, Some, ◌∙◌, refl, sym, subst}
 use Rattle.mv_ir.specs.declared.tree.Tree.{Tree}
 use Rattle.mv_ir.specs.declared.stm.Callee.{Callee}
 use Rattle.mv_ir.specs.declared.stm.Callee.TheVariants as callee
@@ -23,14 +23,16 @@ use Rattle.mv_tidy.specs.Tidied.{IsTidiedCode}
 use Rattle.mv_tidy.proofs.Structure.{IsCongruence, IsClosed, joined_is, chosen_is}
 use Rattle.mv_variants.proofs.OfBound.Measures.{SameGoal, Measure, all_append, branch_same, loop_same, block_same}
 
--- where there is no call, nothing counts
-abbrev pub CountsCalls : (Stm-F ℕ → ℕ) → Type 0
-CountsCalls layer = (x : Stm-F ℕ) → layer_calls x ≡ 0 → layer x ≡ 0
+-- Where there is no call, nothing counts, nor does what is left of one that is expanded.
+pub record CountsCalls (layer : Stm-F ℕ → ℕ) : Type 0 where
+  pub others : (x : Stm-F ℕ) → layer_calls x ≡ 0 → layer x ≡ 0
+  pub expanded : (r : Option ℕ) (args : List Tree) → layer (stm.Call r callee.Expanded args) ≡ 0
 
 same_goal : (f : Callee) → SameGoal f f
 same_goal (callee.Direct f) = refl
 same_goal (callee.Through t) = tt
 same_goal (callee.Switched g) = refl
+same_goal callee.Expanded = tt
 
 plainer_goal : (f g : Callee) → IsPlainerCallee f g → SameGoal g f
 plainer_goal f g (plain.same_callee h) = same_goal h
@@ -62,12 +64,12 @@ module _ {layer : Stm-F ℕ → ℕ} {m : Stm → ℕ} (of : Measure layer m) wh
   lone x y e = equal (alone x) (alone y) (let same = of.roll x in let result = of.roll y in omega (arith, same, result, e))
 
   nothing_set : CountsCalls layer → one ≡ 0
-  nothing_set f = f (stm.Set 0 (number 0)) refl
+  nothing_set f = f.others (stm.Set 0 (number 0)) refl
 
   set_is : (t : ℕ) (v : Tree) → m (set t v) ≡ one
   set_is t v = of.roll (stm.Set t v) ∙ of.set t 0 v (number 0)
 
-  choice_is : (t : Tree) (a b : List Stm) → m (choose t a b) ≡ fork + (all a + all b)
+  pub choice_is : (t : Tree) (a b : List Stm) → m (choose t a b) ≡ fork + (all a + all b)
   choice_is t a b = of.roll (stm.If t a b) ∙ of.branch t (number 0) (map m a) (map m b)
 
   -- ---- code without calls
@@ -102,8 +104,8 @@ module _ {layer : Stm-F ℕ → ℕ} {m : Stm → ℕ} (of : Measure layer m) wh
   idle_parts (stm.Known r k args) h e = refl
   idle_parts (stm.Return v) h e = refl
 
-  idle : CountsCalls layer → (code : List Stm) → calls code ≡ 0 → all code ≡ 0
-  idle f code = idle_all code (stms_ind Idle (stm_ind Idle (λ x h e. of.roll x ∙ f (map-Stm Stm ℕ m x) (idle_parts x h (sym (calls_roll x) ∙ e)))) code)
+  pub idle : CountsCalls layer → (code : List Stm) → calls code ≡ 0 → all code ≡ 0
+  idle f code = idle_all code (stms_ind Idle (stm_ind Idle (λ x h e. of.roll x ∙ f.others (map-Stm Stm ℕ m x) (idle_parts x h (sym (calls_roll x) ∙ e)))) code)
 
   -- ---- plainer trees
 

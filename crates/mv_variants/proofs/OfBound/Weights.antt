@@ -7,6 +7,7 @@ use Rattle.mv_ir.specs.declared.stm.Stm.TheOpen.{Stm-F}
 use Rattle.mv_ir.specs.declared.stm.Stm.TheOpen as stm
 use Rattle.mv_ir.specs.declared.stm.Stm.TheViews.{roll-Stm}
 use Rattle.mv_ir.specs.declared.stm.Stm.TheFolds.{map-Stm, fold-roll-Stm}
+use Rattle.mv_ir.specs.Measures.{layer_calls}
 use Rattle.mv_lower_spec.specs.Shape.Calls.{callee_weight, layer_weight, stm_weight, callee_through, layer_through, stm_through}
 use Rattle.mv_variants.proofs.OfBound.Measures.{SameGoal, Measure}
 use Rattle.mv_variants.proofs.OfBound.TidiedMeasures.{CountsCalls}
@@ -19,13 +20,9 @@ module _ (direct : ℕ → ℕ) (through : ℕ) where
   same_weight : (f g : Callee) → SameGoal f g → callee_weight direct through f ≡ callee_weight direct through g
   same_weight (callee.Direct f) (callee.Direct g) e = ap direct e
   same_weight (callee.Through t) (callee.Through u) e = refl
-  same_weight (callee.Direct f) (callee.Through u) e = absurd e
-  same_weight (callee.Through t) (callee.Direct g) e = absurd e
   same_weight (callee.Switched g) (callee.Switched h) e = refl
-  same_weight (callee.Direct f) (callee.Switched h) e = absurd e
-  same_weight (callee.Through t) (callee.Switched h) e = absurd e
-  same_weight (callee.Switched g) (callee.Direct h) e = absurd e
-  same_weight (callee.Switched g) (callee.Through u) e = absurd e
+  same_weight callee.Expanded callee.Expanded e = refl
+  same_weight _ _ e = absurd e
 
   pub weights : Measure (layer_weight direct through) (stm_weight direct through)
   weights = record {
@@ -51,11 +48,14 @@ module _ (direct : ℕ → ℕ) (through : ℕ) where
   }
 
   pub weights_of_calls : CountsCalls (layer_weight direct through)
-  weights_of_calls (stm.If t a b) e = e
-  weights_of_calls (stm.Loop b) e = e
-  weights_of_calls (stm.Block b) e = e
-  weights_of_calls (stm.Call r f args) e = absurd (omega (arith, e))
-  weights_of_calls _ e = refl
+  weights_of_calls = record { others = by; expanded = λ r args. refl }
+    where
+      by : (x : Stm-F ℕ) → layer_calls x ≡ 0 → layer_weight direct through x ≡ 0
+      by (stm.If t a b) e = e
+      by (stm.Loop b) e = e
+      by (stm.Block b) e = e
+      by (stm.Call r f args) e = absurd (omega (arith, e))
+      by _ e = refl
 
 module _ (counts : ℕ → Bool) where
   pub through_roll : (x : Stm-F Stm) → stm_through counts (roll-Stm x) ≡ layer_through counts (map-Stm Stm ℕ (stm_through counts) x)
@@ -66,6 +66,7 @@ module _ (counts : ℕ → Bool) where
   same_through (callee.Direct f) (callee.Direct g) e = refl
   same_through (callee.Through t) (callee.Through u) e = refl
   same_through (callee.Switched g) (callee.Switched h) e = ap (λ x. callee_through counts (callee.Switched x)) e
+  same_through callee.Expanded callee.Expanded e = refl
   same_through _ _ e = absurd e
 
   pub throughs : Measure (layer_through counts) (stm_through counts)
@@ -92,8 +93,11 @@ module _ (counts : ℕ → Bool) where
   }
 
   pub throughs_of_calls : CountsCalls (layer_through counts)
-  throughs_of_calls (stm.If t a b) e = e
-  throughs_of_calls (stm.Loop b) e = e
-  throughs_of_calls (stm.Block b) e = e
-  throughs_of_calls (stm.Call r f args) e = absurd (omega (arith, e))
-  throughs_of_calls _ e = refl
+  throughs_of_calls = record { others = by; expanded = λ r args. refl }
+    where
+      by : (x : Stm-F ℕ) → layer_calls x ≡ 0 → layer_through counts x ≡ 0
+      by (stm.If t a b) e = e
+      by (stm.Loop b) e = e
+      by (stm.Block b) e = e
+      by (stm.Call r f args) e = absurd (omega (arith, e))
+      by _ e = refl

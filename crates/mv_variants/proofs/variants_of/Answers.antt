@@ -20,6 +20,9 @@ merged_under-requires-clause-whole c =
     body_whole c.args.program.now c.requires.formed c.args.function (attributed_there c.args.program.now c.args.function c.requires.attributed) c.lowered_forms_are_right.ensures.whole
     c.args.body.now c.requires.lowered
 
+pub merged_under-requires-clause-short : goal.merged_under-requires-clause-short
+merged_under-requires-clause-short c = λ f b there. (c.requires.shorts f b there).short
+
 pub merged_under-requires-clause-values : goal.merged_under-requires-clause-values
 merged_under-requires-clause-values c =
     let p = c.args.program.now in
@@ -52,17 +55,18 @@ returns-clause-variants c =
     let a = attributed_there p c.args.function c.requires.attributed in
     let every = c.in_ok-all.ensures.every (domains_apart p c.requires.formed c.args.function a) in
     let merged = c.in_ok-kept.field-0.variants in
-    are_variants p c.requires.formed c.args.function a c.in_ok-all.all every c.in_ok-all.ensures.count c.args.body.now c.requires.lowered merged
-    (subst (λ (xs : List Assignment). AreMergedUnder c.args.body.now xs merged) c.as_slice.ensures c.in_ok-kept.ensures.merged) c.added_rows_are_merged.ensures.all
+    are_variants p c.requires.formed c.args.function a c.in_ok-all.all every c.in_ok-all.ensures.count c.args.shorts.now c.requires.shorts c.args.body.now c.requires.lowered merged
+    (subst (λ (xs : List Assignment). AreMergedUnder c.args.shorts.now c.args.body.now xs merged) c.as_slice.ensures c.in_ok-kept.ensures.merged) c.added_rows_are_merged.ensures.all
     c.in_ok-_domains._domains c.in_ok-_domains.ensures c.in_ok-variants.variants c.in_ok-variants.ensures
 
 pub returns-clause-measured : goal.returns-clause-measured
 returns-clause-measured c =
-    subst (λ (bs : List Body). AreMeasured c.args.body.now c.args.size bs c.in_ok-kept.field-0.size) (sym c.in_ok-variants.ensures.bodies) c.in_ok-kept.ensures.measured
+    subst (λ (bs : List Body). AreMeasured c.args.shorts.now c.args.body.now c.args.size bs c.in_ok-kept.field-0.size) (sym c.in_ok-variants.ensures.bodies) c.in_ok-kept.ensures.measured
 
 pub returns-in_err-kept-clause-limit : goal.returns-in_err-kept-clause-limit
 returns-in_err-kept-clause-limit c =
     let p = c.args.program.now in
+    let shorts = c.args.shorts.now in
     let body = c.args.body.now in
     let size = c.args.size in
     let a = attributed_there p c.args.function c.requires.attributed in
@@ -71,6 +75,6 @@ returns-in_err-kept-clause-limit c =
     let e = c.in_err-kept.field-0.0 in
     let q = err_from_is_err_and c.from_residual-in_err-kept.result c.from_residual-in_err-kept.ensures.1 in
     rw (q.1, q.2)
-    (on_limit (PassesUnder body all size) (PassesWithinOf p c.args.function size)
-    (λ over h. first_bodies p c.requires.formed c.args.function a all every c.in_ok-all.ensures.count c.in_ok-all.ensures.order body c.requires.lowered size over h) e
-    (subst (λ (xs : List Assignment). OnLimit e (PassesUnder body xs size)) c.as_slice.ensures c.in_err-kept.ensures.limit))
+    (on_limit (PassesUnder shorts body all size) (PassesWithinOf p c.args.function size)
+    (λ over h. first_bodies p c.requires.formed c.args.function a all every c.in_ok-all.ensures.count c.in_ok-all.ensures.order shorts c.requires.shorts body c.requires.lowered size over h) e
+    (subst (λ (xs : List Assignment). OnLimit e (PassesUnder shorts body xs size)) c.as_slice.ensures c.in_err-kept.ensures.limit))

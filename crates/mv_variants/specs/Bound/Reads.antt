@@ -5,6 +5,7 @@ use Rattle.mv_ast.specs.declared.program.Program.{Program}
 use Rattle.mv_ast.specs.declared.program.Function.{Function}
 use Rattle.mv_num.specs.Lists.{is_among}
 use Rattle.mv_ir.specs.declared.body.Body.{Body}
+use Rattle.mv_ir.specs.Shorts.{Shorts}
 use Rattle.mv_ir.specs.Measures.{scalars_read, arrays_read}
 use Rattle.mv_lower_spec.specs.Functions.{lower_function}
 use Rattle.mv_lower_spec.specs.Shape.Law.{ReadsNoMore}
@@ -18,4 +19,4 @@ pub record ReadsNoSwitch (switches : List ℕ) (result : Body) : Type 0 where
 abbrev pub VariantsReadNoSwitch : Type 0
 VariantsReadNoSwitch =
     (p : Program) (g : Function) → ReadsNoMore g (lower_function p g) → (vs : List ℕ) → length vs ≡ length g.switches →
-    (result : Body) → IsMadeUnder (zip (lower_function p g).switches vs) (lower_function p g) result → ReadsNoSwitch (lower_function p g).switches result
+    (shorts : Shorts) (result : Body) → IsMadeUnder shorts (zip (lower_function p g).switches vs) (lower_function p g) result → ReadsNoSwitch (lower_function p g).switches result

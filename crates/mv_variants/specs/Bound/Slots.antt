@@ -8,6 +8,7 @@ use Rattle.mv_isa.specs.declared.labelled.Line.{Line}
 use Rattle.mv_isa.specs.declared.labelled.Line.TheVariants.{Slot, Point}
 use Rattle.mv_ir.specs.declared.stm.Stm.{Stm}
 use Rattle.mv_ir.specs.declared.body.Body.{Body}
+use Rattle.mv_ir.specs.Shorts.{Shorts}
 use Rattle.mv_select.specs.Calls.CallCode.{is_marked}
 use Rattle.mv_select.specs.Functions.FunctionCode.{Shape, function_lines}
 use Rattle.mv_select.specs.Functions.Functions.{shape_of}
@@ -77,7 +78,7 @@ SlotsWeighAsCalls =
 -- Each variant of a function has at most as many sites as the function has call sites in the source.
 abbrev pub SlotsAreFew : Type 0
 SlotsAreFew =
-    (p : Program) (g : Function) → CallsAsOften p g (lower_function p g) → (ps : List (ℕ × ℕ)) (result : Body) → IsMadeUnder ps (lower_function p g) result →
+    (p : Program) (g : Function) → CallsAsOften p g (lower_function p g) → (shorts : Shorts) (ps : List (ℕ × ℕ)) (result : Body) → IsMadeUnder shorts ps (lower_function p g) result →
     (place sizes : ℕ → ℕ) (shape : Shape) → sites (function_lines place sizes (is_marked result.marked) shape result.code) ≤ counts.call_sites p g
 
 -- And so has the function's own code, which is folded and renamed alone.
@@ -89,7 +90,7 @@ OwnSlotsAreFew =
 -- The same of its code that isn't folded.
 abbrev pub GeneralSlotsAreFew : Type 0
 GeneralSlotsAreFew =
-    (p : Program) (g : Function) → CallsAsOften p g (lower_function p g) → (result : Body) → IsGeneral (lower_function p g) result →
+    (p : Program) (g : Function) → CallsAsOften p g (lower_function p g) → (shorts : Shorts) (result : Body) → IsGeneral shorts (lower_function p g) result →
     (place sizes : ℕ → ℕ) (shape : Shape) → sites (function_lines place sizes (is_marked result.marked) shape result.code) ≤ counts.call_sites p g
 
 -- the sites in a variant's code
@@ -100,14 +101,14 @@ variant_slots place sizes b = sites (function_lines place sizes (is_marked b.mar
 abbrev pub AllSlotsAreFew : Type 0
 AllSlotsAreFew =
     (p : Program) (g : Function) → CallsAsOften p g (lower_function p g) → (folded own : Body) → IsFolded (lower_function p g) folded → IsRenamed folded own →
-    (domains : List Domain) (rows : List Bound) (variants : Variants) → IsMerged domains rows variants → AreMade (lower_function p g) rows →
-    (place sizes : ℕ → ℕ) → variant_slots place sizes own + sum_by (variant_slots place sizes) variants.bodies ≤ counts.call_sites p g * (1 + length rows)
+    (domains : List Domain) (rows : List Bound) (variants : Variants) → IsMerged domains rows variants →
+    (shorts : Shorts) → AreMade shorts (lower_function p g) rows → (place sizes : ℕ → ℕ) → variant_slots place sizes own + sum_by (variant_slots place sizes) variants.bodies ≤ counts.call_sites p g * (1 + length rows)
 
 -- Its variants alone have at most as many as it has call sites, once for each assignment.
 abbrev pub VariantSlotsAreFew : Type 0
 VariantSlotsAreFew =
     (p : Program) (g : Function) → CallsAsOften p g (lower_function p g) → (domains : List Domain) (rows : List Bound) (variants : Variants) → IsMerged domains rows variants →
-    AreMade (lower_function p g) rows → (place sizes : ℕ → ℕ) → sum_by (variant_slots place sizes) variants.bodies ≤ counts.call_sites p g * length rows
+    (shorts : Shorts) → AreMade shorts (lower_function p g) rows → (place sizes : ℕ → ℕ) → sum_by (variant_slots place sizes) variants.bodies ≤ counts.call_sites p g * length rows
 
 -- ---- in a program
 

@@ -5,6 +5,7 @@ use Rattle.mv_ast.specs.declared.program.Program.{Program}
 use Rattle.mv_ast.specs.declared.program.Function.{Function}
 use Rattle.mv_ast.specs.Switches.{switch_domain}
 use Rattle.mv_ir.specs.declared.body.Body.{Body}
+use Rattle.mv_ir.specs.Shorts.{Shorts}
 use Rattle.mv_ir.specs.Combinations.{IsCombination, AreAllCombinations}
 use Rattle.mv_descriptors.specs.declared.rows.FunctionRow.{FunctionRow}
 use Rattle.mv_descriptors.specs.declared.rows.SwitchRow.{SwitchRow}
@@ -17,6 +18,7 @@ use Rattle.mv_merge.specs.declared.rows.Bound.{Bound}
 use Rattle.mv_merge.specs.declared.rows.Variants.{Variants}
 use Rattle.mv_merge.specs.Guards.{all_values, IsMerged}
 use Rattle.mv_variants.specs.Bound.Rows.{groups}
+use Rattle.mv_variants.specs.Bound.Shorts.{AreShortsOf}
 use Rattle.mv_variants.specs.Bound.Tables.{HasTables}
 use Rattle.mv_variants.specs.Bound.Led.{AreMade, IsLed}
 
@@ -39,9 +41,12 @@ abbrev pub DomainsAreWords : Program → List ℕ → Type 0
 DomainsAreWords p [] = Unit {0}
 DomainsAreWords p (s ∷ switches) = All (λ v. v < 2 ^ 32) (switch_domain p s) × DomainsAreWords p switches
 
--- Each combination of the domains of the function's switches leads to a variant that is made of its lowered body under it, and other words to none.
+-- Each combination of the domains of the function's switches leads to a variant that is made of its lowered body under it, with short bodies of the program, and
+-- other words to none.
 pub record LeadsFunction (p : Program) (g : Function) (image : Fields) (bodies : List Body) (n : ℕ) : Type 0 where
-  pub combinations : (vs : List ℕ) → IsCombination (map (switch_domain p) g.switches) vs → IsLed image (lower_function p g) bodies n vs
+  pub shorts : Shorts
+  pub known : AreShortsOf p shorts
+  pub combinations : (vs : List ℕ) → IsCombination (map (switch_domain p) g.switches) vs → IsLed shorts image (lower_function p g) bodies n vs
   pub others :
       (vs : List ℕ) → length vs ≡ length g.switches → All (λ v. v < 2 ^ 32) vs → (IsCombination (map (switch_domain p) g.switches) vs → ⊥) → fitting_variant image n vs ≡ None
 
@@ -49,6 +54,6 @@ abbrev pub FunctionsAreLed : Type 0
 FunctionsAreLed =
     (p : Program) (g : Function) (kind : ℕ → Kind) (image : Fields) (tables : List (List (List GuardRow))) → HasTables image tables → DomainsAreWords p g.switches →
     (rows : List Bound) (variants : Variants) → AreAllCombinations (map (switch_domain p) g.switches) (all_values rows) → IsMerged (domains_in p kind g) rows variants →
-    AreMade (lower_function p g) rows →
+    (shorts : Shorts) → AreShortsOf p shorts → AreMade shorts (lower_function p g) rows →
     (n : ℕ) (row : FunctionRow) → slice_get tables n ≡ Some (groups variants) → slice_get image.functions n ≡ Some row → HasSwitches image kind g row →
     LeadsFunction p g image variants.bodies n

@@ -1,6 +1,7 @@
--- What selection asks of a body that is tidied, bound, folded and renamed, and how many calls it has.
+-- What selection asks of a body that is made of another, and how many calls it has.
 use Rattle.std.specs.Prelude.{ℕ, ◌≡◌, ◌<◌, ◌≤◌, true, List, All, length, None}
 use Rattle.mv_ir.specs.declared.body.Body.{Body}
+use Rattle.mv_ir.specs.Shorts.{Shorts}
 use Rattle.mv_ir.specs.World as ir
 use Rattle.mv_ir.specs.Measures.{arrays_read, deepest}
 use Rattle.mv_ir.specs.Trees.{found}
@@ -9,19 +10,24 @@ use Rattle.mv_ir.specs.WellFormed.{IsWellFormed}
 use Rattle.mv_select_code.specs.Control.Labels.{functions}
 use Rattle.mv_select.specs.Calls.Convention.{Layout, frame_limit}
 use Rattle.mv_select.specs.Functions.FunctionCode.{frame_bytes}
+use Rattle.mv_select.specs.Selected.{FitsFrame}
 use Rattle.mv_select.specs.Bodies.SelectedBodies.{HasWords, AreRooms, IsInProgram, knowns}
 use Rattle.mv_lower_spec.specs.Shape.Calls.{code_weight}
 use Rattle.mv_regalloc.specs.Intervals.{IsRenamed}
 use Rattle.mv_variants.specs.Bound.Meant.{IsMadeUnder}
+use Rattle.mv_variants.specs.Bound.Shorts.{ShortsHaveWords}
 use Rattle.mv_variants.specs.Bound.Names.{NamesNoMore, ReadAsWords}
 
--- A body whose code names no more comes of tidying, binding, folding and renaming.
+-- A body that is made of another names no more.
 abbrev pub MadeNameNoMore : Type 0
-MadeNameNoMore = (ps : List (ℕ × ℕ)) (body result : Body) → ReadAsWords ps → IsMadeUnder ps body result → NamesNoMore body.code result.code
+MadeNameNoMore =
+    (shorts : Shorts) (ps : List (ℕ × ℕ)) (body result : Body) → ShortsHaveWords shorts → ReadAsWords ps → IsMadeUnder shorts ps body result → NamesNoMore body.code result.code
 
 -- Where each direct call of a function and each call through a pointer has a weight, its calls have no more.
 abbrev pub MadeCallNoMore : Type 0
-MadeCallNoMore = (direct : ℕ → ℕ) (through : ℕ) (ps : List (ℕ × ℕ)) (body result : Body) → IsMadeUnder ps body result → code_weight direct through result.code ≤ code_weight direct through body.code
+MadeCallNoMore =
+    (direct : ℕ → ℕ) (through : ℕ) (shorts : Shorts) (ps : List (ℕ × ℕ)) (body result : Body) → IsMadeUnder shorts ps body result →
+    code_weight direct through result.code ≤ code_weight direct through body.code
 
 -- A body of a program before its temporaries are renamed: there would be room for as many as there are intervals over one position at most.
 pub record IsOfProgram (y : Layout) (setting : ir.Setting) (body : Body) : Type 0 where
@@ -36,10 +42,10 @@ pub record IsOfProgram (y : Layout) (setting : ir.Setting) (body : Body) : Type 
 -- Where it reads no element of a switch, each body made of it under words is one of the program, which reads none of its switches.
 abbrev pub MadeAreInProgram : Type 0
 MadeAreInProgram =
-    (y : Layout) (setting : ir.Setting) (ps : List (ℕ × ℕ)) (body result : Body) → IsOfProgram y setting body → All (λ g. found ps g ≡ None) (arrays_read body.code) →
-    ReadAsWords ps → IsMadeUnder ps body result → IsInProgram y setting true ps result
+    (y : Layout) (setting : ir.Setting) (shorts : Shorts) (ps : List (ℕ × ℕ)) (body result : Body) → ShortsHaveWords shorts → IsOfProgram y setting body → All (λ g. found ps g ≡ None) (arrays_read body.code) →
+    ReadAsWords ps → IsMadeUnder shorts ps body result → IsInProgram y setting true ps result
 
--- Its frame is no larger than that of the first body with its temporaries renamed alone.
-abbrev pub MadeFramesAreNoLarger : Type 0
-MadeFramesAreNoLarger =
-    (ps : List (ℕ × ℕ)) (body own result : Body) → IsRenamed body own → IsMadeUnder ps body result → frame_bytes result.temps result.arrays ≤ frame_bytes own.temps own.arrays
+-- Its frame is small enough where that of the first body with its temporaries renamed alone is.
+abbrev pub MadeFramesFit : Type 0
+MadeFramesFit =
+    (shorts : Shorts) (ps : List (ℕ × ℕ)) (body own result : Body) → IsRenamed body own → FitsFrame own → IsMadeUnder shorts ps body result → FitsFrame result

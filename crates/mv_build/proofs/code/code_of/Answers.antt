@@ -24,11 +24,11 @@ attributed_code-requires-clause-frames c =
 pub returns-clause-ok : goal.returns-clause-ok
 returns-clause-ok c = record {
   codes = record { generics = c.in_ok-generics.ensures; are_tables = c.in_ok-variants.ensures.ok.tables; code = c.in_ok-functions.ensures.ok; variants = c.in_ok-variants.ensures.ok.parts };
-  words = subst (λ (bodies : List Body). All (λ (b : Body). HasWords b.code) bodies) c.as_slice-3.ensures c.have_words.ensures;
+  words = subst (λ (bodies : List Body). All (λ (b : Body). HasWords b.code) bodies) c.as_slice-5.ensures c.have_words.ensures;
   frames = frames_fit c.args.program.now c.in_ok-generics.generics c.in_ok-functions.functions c.in_ok-generics.ensures c.in_ok-functions.ensures.ok;
   within = record {
     size = c.size_of-size.result;
-    is = subst (λ (fs : List Labelled). IsSizeOf c.args.program.now fs c.size_of-size.result) c.as_slice.ensures c.size_of-size.ensures;
+    is = subst (λ (fs : List Labelled). IsSizeOf c.args.program.now fs c.size_of-size.result) c.as_slice-2.ensures c.size_of-size.ensures;
     within = c.in_ok-test_size.ensures.ok;
     room = c.in_ok-variants.ensures.ok.room;
   };
@@ -38,7 +38,7 @@ pub returns-in_err-test_size-clause-err : goal.returns-in_err-test_size-clause-e
 returns-in_err-test_size-clause-err c =
     let p = err_from_is_err_and c.from_residual-in_err-test_size.result c.from_residual-in_err-test_size.ensures.1 in
     let frames = frames_fit c.args.program.now c.in_ok-generics.generics c.in_ok-functions.functions c.in_ok-generics.ensures c.in_ok-functions.ensures.ok in
-    let is = subst (λ (fs : List Labelled). IsSizeOf c.args.program.now fs c.size_of-size.result) c.as_slice.ensures c.size_of-size.ensures in
+    let is = subst (λ (fs : List Labelled). IsSizeOf c.args.program.now fs c.size_of-size.result) c.as_slice-2.ensures c.size_of-size.ensures in
     rw (p.1, p.2)
     (functions_refused c.args.program.now c.in_ok-generics.generics c.in_ok-functions.functions frames c.in_ok-generics.ensures c.in_ok-functions.ensures.ok c.size_of-size.result is
     c.in_err-test_size.field-0.0 c.in_err-test_size.ensures.err)
@@ -47,7 +47,7 @@ pub returns-in_err-variants-clause-err : goal.returns-in_err-variants-clause-err
 returns-in_err-variants-clause-err c =
     let p = err_from_is_err_and c.from_residual-in_err-variants.result c.from_residual-in_err-variants.ensures.1 in
     let frames = frames_fit c.args.program.now c.in_ok-generics.generics c.in_ok-functions.functions c.in_ok-generics.ensures c.in_ok-functions.ensures.ok in
-    let is = subst (λ (fs : List Labelled). IsSizeOf c.args.program.now fs c.size_of-size.result) c.as_slice.ensures c.size_of-size.ensures in
+    let is = subst (λ (fs : List Labelled). IsSizeOf c.args.program.now fs c.size_of-size.result) c.as_slice-2.ensures c.size_of-size.ensures in
     rw (p.1, p.2)
     (variants_refused c.args.program.now c.in_ok-generics.generics c.in_ok-functions.functions frames c.in_ok-generics.ensures c.in_ok-functions.ensures.ok c.size_of-size.result is
     c.in_ok-test_size.ensures.ok c.in_err-variants.field-0.0 c.in_err-variants.ensures.err)

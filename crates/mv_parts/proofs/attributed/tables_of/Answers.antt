@@ -79,7 +79,7 @@ loop-number-preserved c =
     let i = c.loop-number.invariant in
     let pushed : c.push.new.self ≡ old ++ variants ∷ [] = c.in_ok-push.ensures.ok in
     let each = table_push p old i.each c.loop-number.number-index f i.one_each at variants c.in_ok-measured.ensures.variants in
-    let coded = coded_push p c.args.size old i.coded c.loop-number.number-index f i.one_each at c.loop-number.with i.is body lowered variants c.in_ok-measured.ensures.measured.each in
+    let coded = coded_push p c.args.size old i.coded c.loop-number.number-index f i.one_each at c.loop-number.with i.is body lowered c.args.shorts.now c.requires.shorts variants c.in_ok-measured.ensures.measured.each in
     let is = with_push p c.args.size old i.coded c.loop-number.number-index f i.one_each at c.loop-number.with i.is variants measured.size c.in_ok-measured.ensures.measured.is in
     record {
       one_each = omega (arith, simp length-append at (ap length pushed), i.one_each);

@@ -10,3 +10,6 @@ returns-in_ok-plain_tree-in-Through c =
 
 pub returns-in-Switched : goal.returns-in-Switched
 returns-in-Switched c = callee_stays c.args.callee.now _ c.in-Switched.is
+
+pub returns-in-Expanded : goal.returns-in-Expanded
+returns-in-Expanded c = callee_stays c.args.callee.now _ c.in-Expanded.is

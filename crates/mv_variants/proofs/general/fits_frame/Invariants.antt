@@ -3,4 +3,4 @@ use Rattle.mv_ir.specs.Measures.{total}
 use Rattle.mv_variants.proofs.general.fits_frame.Given as goal
 
 abbrev pub invariant-loop-size : goal.invariant-loop-size
-invariant-loop-size l = l.left + l.fn.temps + total (take l.size-index l.arrays) ≡ 480
+invariant-loop-size l = l.left + l.body.temps + total (take l.size-index l.body.arrays) ≡ 480

@@ -5,7 +5,7 @@ use Rattle.mv_variants.proofs.making.merged_under.Given as goal
 
 abbrev pub invariant-loop-assignment : goal.invariant-loop-assignment
 invariant-loop-assignment l = record {
-  merged : AreMergedUnder l.body (take l.assignment-index l.assignments) l.variants;
+  merged : AreMergedUnder l.shorts l.body (take l.assignment-index l.assignments) l.variants;
   few : length l.variants.bodies ≤ l.assignment-index;
-  measured : AreMeasured l.body l.fn.size l.variants.bodies l.with;
+  measured : AreMeasured l.shorts l.body l.fn.size l.variants.bodies l.with;
 }

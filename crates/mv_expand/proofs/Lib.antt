@@ -1,0 +1,17 @@
+pub mod Structure
+pub mod Rolls
+pub mod Laid
+pub mod Counts
+pub mod Thinning
+pub mod WellFormed
+pub mod Costs
+pub mod Still
+pub mod Placing
+pub mod Below
+pub mod Means
+pub mod Equations
+pub mod Counting
+pub mod Straightness
+pub mod Stepwise
+pub mod Walked
+pub mod Whole

@@ -1,0 +1,5 @@
+pub mod Straight
+pub mod Placed
+pub mod Expanding
+pub mod Expanded
+pub mod Walking
