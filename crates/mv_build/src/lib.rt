@@ -2,7 +2,7 @@
 //!
 //! - `build(alloc, text)`: a source that is a program by `mv_front`'s definition is answered with that program and an
 //!   image (`IsBuiltFrom`). The image is linked of the code of bodies, of the first words of the globals, and of tables
-//!   (`IsImageOf`): each function's body in `generics` is what it is lowered to, tidied and renamed, and means
+//!   (`IsImageOf`): each function's body in `generics` is what it is lowered to, made ready and renamed, and means
 //!   what the function means at no greater cost; `variants` has for each attributed function its variants, and from each
 //!   assignment of its switches the tables lead to the one that means what the function means under it; its code stands
 //!   in the image, with its two inline words where its body has one of the five shapes. No two variants of a function are

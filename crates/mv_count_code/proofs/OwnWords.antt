@@ -12,6 +12,7 @@ use Rattle.mv_select_code.specs.Control.Encoded.{call_words, words_layer, stm_wo
 use Rattle.mv_select_code.proofs.OfControl.FlowEncoded.{words_roll}
 use Rattle.mv_lower_spec.specs.Shape.Allowances.{call_allowance, layer_allowance, stm_allowance, allowance}
 use Rattle.mv_variants.proofs.OfBound.Measures.{SameGoal, Measure}
+use Rattle.mv_variants.proofs.OfBound.FinishedMeasures.{CountsArms}
 
 -- ---- the words that a statement takes are those that it is allowed
 
@@ -60,6 +61,7 @@ words_measured = record {
   divide = λ t u o p a b c d. refl;
   divided = λ t u o v a b. omega arith;
   check = λ r s i j. refl;
+  fetched = λ t u v r i. omega arith;
   read = λ t u r s i j. refl;
   write = λ r s i j v w. refl;
   branch = λ t u a b. omega arith;
@@ -74,3 +76,6 @@ words_measured = record {
   known = λ r s k xs ys. refl;
   return = λ v w. refl;
 }
+
+pub words_of_arms : CountsArms words_layer
+words_of_arms = record { blocks = λ a. refl; backs = λ n k. refl; jumps = omega arith }

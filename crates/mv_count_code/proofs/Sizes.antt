@@ -19,19 +19,18 @@ use Rattle.mv_fold.specs.Folded.{IsFolded}
 use Rattle.mv_regalloc.specs.Intervals.{IsRenamed}
 use Rattle.mv_variants.specs.Bound.Shorts as way
 use Rattle.mv_variants.specs.Bound.Shorts.{IsReady, HasRoom}
-use Rattle.mv_variants.specs.Bound.Programs.{IsGeneralOf, IsMadeOf}
 use Rattle.mv_variants.specs.Bound.Meant.{MadeAreVariants}
 use Rattle.mv_variants.specs.Bound.Led.{BodiesAreMade}
 use Rattle.mv_variants.specs.Bound.Tables.{GroupsFit}
 use Rattle.mv_variants.proofs.OfBound.FewSlots.{one_and_more}
 use Rattle.mv_variants.proofs.OfBound.Generals.{kept, ready_or_not}
 use Rattle.mv_variants.proofs.OfBound.Measures.{bound_no_more, carried_no_more, folded_no_more, renamed_no_more}
-use Rattle.mv_variants.proofs.OfBound.TidiedMeasures.{tidied_no_more}
+use Rattle.mv_variants.proofs.OfBound.FinishedMeasures.{finished_no_more, finished_nodes}
 use Rattle.mv_select.specs.Laws.{greatest_length, SelectedIsEncoded}
 use Rattle.mv_select.specs.Selected.{FitsFrame}
 use Rattle.mv_num.specs.Limits.{slot_limit}
 use Rattle.mv_count_code.specs.Sizes.{IsBodyOf, general, folded, bound, words_of, frame_count, CodeIsShort, LinesAreShort, VariantsAreShort, FramesFit, FramesPass, LoweredFramesPass}
-use Rattle.mv_count_code.proofs.OwnWords.{words_allowed, words_measured}
+use Rattle.mv_count_code.proofs.OwnWords.{words_allowed, words_measured, words_of_arms}
 
 -- ---- no longer than another body
 
@@ -54,9 +53,9 @@ carried_words_fewer body b h =
 
 ready_words_fewer : (shorts : Shorts) (body b : Body) → IsReady shorts body b → most_words b.code ≤ most_words body.code
 ready_words_fewer shorts body b (way.expanded e x t words) = words
-ready_words_fewer shorts body b (way.tidied t) =
-    let own : own_words b.code ≤ own_words body.code = tidied_no_more words_measured body.temps body.code b.code t.code in
-    let trees = t.smaller.tree_nodes in
+ready_words_fewer shorts body b (way.finished h) =
+    let own : own_words b.code ≤ own_words body.code = finished_no_more words_measured words_of_arms body b h in
+    let trees = finished_nodes body b h in
     omega (arith, own, trees)
 ready_words_fewer shorts body b (way.same is) = subst (λ (x : Body). most_words x.code ≤ most_words body.code) (sym is) (omega arith)
 

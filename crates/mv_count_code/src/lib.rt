@@ -1,6 +1,6 @@
 //! How large the code of a program's functions and their frames are, by counts over the source.
 //!
-//! - `code_is_short`, of the functions of a well-formed program, each lowered, with short bodies in place of calls and tidied, or not, bound to values of its
+//! - `code_is_short`, of the functions of a well-formed program, each lowered, made ready or not, bound to values of its
 //!   switches or not, folded or not, and renamed: its code has at most `40 * (1 + nodes)` words (`code`, `lines`), with its variants at
 //!   most that once and once more for each assignment (`variants`); its frame is small enough where the declared words
 //!   and 8 for each level of depth are at most 480 (`frames`, `passes`); so where the text of a program is too long, more

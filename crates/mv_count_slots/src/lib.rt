@@ -2,7 +2,7 @@
 //!
 //! - `each_call_has_a_slot`, of the code of a body: it has one slot for each direct call of a function that the body marks
 //!   (`marked`). Where the body is one of a function of a program, its own or a variant, these are the calls of attributed
-//!   functions in it (`attributed`); and where it is what the function is lowered to, with short bodies in place of calls and tidied, or not, and
+//!   functions in it (`attributed`); and where it is what the function is lowered to, made ready or not, and
 //!   renamed, they are as many as in the source, as no attributed function has a short body (`source`), of each function as many slots as direct
 //!   calls (`callees`), and of each pointer switch as many slots of four words as calls through it (`pointers`).
 //! - A crate of one law, without a test.

@@ -9,7 +9,7 @@ use Rattle.mv_ir.specs.declared.stm.Stm.TheFolds.{map-Stm}
 use Rattle.mv_ir.specs.World.{Setting, Frame}
 use Rattle.mv_ir.specs.Trees.{divide}
 use Rattle.mv_ir.specs.Outcome.{State, End, Returned, Trapped, More, Stuck, Outcome, Next, Leaves, Restarts, Ends, Run, Call, Bound, Meaning, now, goes_on, then_do, in_order, block_end, block, turn_end, turn, loop}
-use Rattle.mv_ir.specs.Meaning.{meaning, code_meaning, elements, with_temp, with_elements, traps, call_end, Goal, Nowhere, Null, At, Inside, of_tree, goal, made_call, within, call_to}
+use Rattle.mv_ir.specs.Meaning.{meaning, code_meaning, elements, outside, with_temp, with_elements, traps, call_end, Goal, Nowhere, Null, At, Inside, of_tree, goal, made_call, within, call_to}
 use Rattle.mv_ir.specs.Keeps.{KeepsRun}
 use Rattle.mv_ir.proofs.Induction.{Each, StmChildren, stm_ind, stms_ind}
 use Rattle.mv_ir.proofs.Keeping.{run_refl, run_trans, in_order_append, map_append, meaning_roll, layer_means, one_meaning, Between, between_many}
@@ -105,11 +105,11 @@ module _ (setting : Setting) (frame : Frame) where
   layer (stm.SetGlobal g v) h d le bound st = tt
   layer (stm.Divide t o a b) h d le bound st =
       within_cond d (eqb (of_tree setting frame b st) 0) (traps 1 st) (Next (with_temp st t (divide o (of_tree setting frame a st) (of_tree setting frame b st)))) tt tt
-  layer (stm.Check a i) h d le bound st = within_cond d (ltb (of_tree setting frame i st) (length (elements a st))) (Next st) (traps 2 st) tt tt
+  layer (stm.Check a i) h d le bound st = within_cond d (ltb (of_tree setting frame i st) (length (elements a st))) (Next st) (Ends (outside a (of_tree setting frame i st) st.world)) tt tt
   layer (stm.Read t a i) h d le bound st =
-      within_cond d (ltb (of_tree setting frame i st) (length (elements a st))) (Next (with_temp st t (slice_index (elements a st) (of_tree setting frame i st)))) (traps 2 st) tt tt
+      within_cond d (ltb (of_tree setting frame i st) (length (elements a st))) (Next (with_temp st t (slice_index (elements a st) (of_tree setting frame i st)))) (Ends (outside a (of_tree setting frame i st) st.world)) tt tt
   layer (stm.Write a i v) h d le bound st =
-      within_cond d (ltb (of_tree setting frame i st) (length (elements a st))) (Next (with_elements a st (slice_set (elements a st) (of_tree setting frame i st) (of_tree setting frame v st)))) (traps 2 st) tt tt
+      within_cond d (ltb (of_tree setting frame i st) (length (elements a st))) (Next (with_elements a st (slice_set (elements a st) (of_tree setting frame i st) (of_tree setting frame v st)))) (Ends (outside a (of_tree setting frame i st) st.world)) tt tt
   layer (stm.Zero l) h d le bound st = tt
   layer (stm.If t a b) h d le bound st = within_either d (eqb (of_tree setting frame t st) 0) (in_order (map m b) bound st) (in_order (map m a) bound st) (kids b h.1 d (omega (arith, le)) bound st) (kids a h.0 d (omega (arith, le)) bound st)
   layer (stm.Loop b) h d le bound st = within_loop d (in_order (map m b)) (kids b h (suc d) (omega (arith, le))) bound st

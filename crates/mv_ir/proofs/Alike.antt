@@ -12,7 +12,7 @@ use Rattle.mv_ir.specs.declared.stm.Stm.TheOpen as stm
 use Rattle.mv_ir.specs.World.{Setting, Frame}
 use Rattle.mv_ir.specs.Trees.{Value, value, nodes, nodes_of_all, divide}
 use Rattle.mv_ir.specs.Outcome.{State, Returned, Outcome, Next, Ends, Meaning, in_order}
-use Rattle.mv_ir.specs.Meaning.{elements, with_temp, with_world, with_global, with_elements, traps, At, goal_of, goal, callee_nodes, call_cost, call_to, known_end, statement}
+use Rattle.mv_ir.specs.Meaning.{elements, outside, with_temp, with_world, with_global, with_elements, traps, At, goal_of, goal, callee_nodes, call_cost, call_to, known_end, statement}
 use Rattle.mv_ir.specs.Keeps.{KeepsRun, KeepsMeaning}
 use Rattle.mv_ir.proofs.Keeping.{run_refl, run_equal, spend_keeps, loop_keeps, block_keeps, either_keeps}
 
@@ -77,15 +77,15 @@ module _ (setting : Setting) (depth live : ℕ) (bound bound' : List (ℕ × ℕ
       two_alike (λ v w s. cond (eqb (w s.temps s.world.globals) 0) (traps 1 s) (Next (with_temp s t (divide o (v s.temps s.world.globals) (w s.temps s.world.globals))))) x x' y y' s h k
 
   pub check_alike : (a : Array) (i i' : Tree) → Same i i' → KeepsMeaning (act (stm.Check a i)) (act' (stm.Check a i'))
-  check_alike a i i' h b s = one_alike (λ v s. cond (ltb (v s.temps s.world.globals) (length (elements a s))) (Next s) (traps 2 s)) 8 i i' s h
+  check_alike a i i' h b s = one_alike (λ v s. cond (ltb (v s.temps s.world.globals) (length (elements a s))) (Next s) (Ends (outside a (v s.temps s.world.globals) s.world))) 8 i i' s h
 
   pub read_alike : (t : ℕ) (a : Array) (i i' : Tree) → Same i i' → KeepsMeaning (act (stm.Read t a i)) (act' (stm.Read t a i'))
   read_alike t a i i' h b s =
-      one_alike (λ v s. cond (ltb (v s.temps s.world.globals) (length (elements a s))) (Next (with_temp s t (slice_index (elements a s) (v s.temps s.world.globals)))) (traps 2 s)) 8 i i' s h
+      one_alike (λ v s. cond (ltb (v s.temps s.world.globals) (length (elements a s))) (Next (with_temp s t (slice_index (elements a s) (v s.temps s.world.globals)))) (Ends (outside a (v s.temps s.world.globals) s.world))) 8 i i' s h
 
   pub write_alike : (a : Array) (i i' v v' : Tree) → Same i i' → Same v v' → KeepsMeaning (act (stm.Write a i v)) (act' (stm.Write a i' v'))
   write_alike a i i' v v' h k b s =
-      two_alike (λ x y s. cond (ltb (x s.temps s.world.globals) (length (elements a s))) (Next (with_elements a s (slice_set (elements a s) (x s.temps s.world.globals) (y s.temps s.world.globals)))) (traps 2 s)) i i' v v' s h k
+      two_alike (λ x y s. cond (ltb (x s.temps s.world.globals) (length (elements a s))) (Next (with_elements a s (slice_set (elements a s) (x s.temps s.world.globals) (y s.temps s.world.globals)))) (Ends (outside a (x s.temps s.world.globals) s.world))) i i' v v' s h k
 
   pub zero_alike : (l : ℕ) → KeepsMeaning (act (stm.Zero l)) (act' (stm.Zero l))
   zero_alike l b s = run_refl _

@@ -13,7 +13,7 @@ use Rattle.mv_ir.specs.World.{World, Setting, Frame}
 use Rattle.mv_ir.specs.Outcome.{State, End, Returned, Trapped, More, Stuck, Outcome, Next, Leaves, Restarts, Ends, Run, Call, Calls, Bound, Meaning, now, goes_on, in_order, block_end, turn_end, loop}
 use Rattle.mv_ir.specs.KnownFunctions.{known_answer}
 use Rattle.mv_ir.specs.Trees.{divide}
-use Rattle.mv_ir.specs.Meaning.{elements, with_temp, with_world, with_elements, traps, put, call_end, Goal, Nowhere, Null, At, Inside, made_call, within, call_to, goal, of_tree, statement, meaning, code_meaning, body_end, body_meaning}
+use Rattle.mv_ir.specs.Meaning.{elements, unless_promised, outside, with_temp, with_world, with_elements, traps, put, call_end, Goal, Nowhere, Null, At, Inside, made_call, within, call_to, goal, of_tree, statement, meaning, code_meaning, body_end, body_meaning}
 use Rattle.mv_ir.specs.Levels.{Code, frame_of_call, called, levels, program_meaning}
 use Rattle.mv_ir.specs.Programs.{setting_of}
 use Rattle.mv_ir.proofs.Induction.{Each, StmChildren, stm_ind, stms_ind}
@@ -98,6 +98,21 @@ loop_reaches m h (calls ∷ below) b s =
 elements_kept : (a : Array) (s : State) (xs : List ℕ) → TakesInput s.world (with_elements a s xs).world
 elements_kept (array.Global g) s xs = refl
 elements_kept (array.Local l) s xs = refl
+elements_kept (array.SureGlobal g n) s xs = refl
+elements_kept (array.SureLocal l n) s xs = refl
+
+promised_reached : (n k : ℕ) (s : State) → Reaches s.world (Ends (unless_promised n k s.world))
+promised_reached n k s = by (ltb k n)
+  where
+    by : (b : Bool) → Reaches s.world (Ends (cond b (Trapped 2 s.world) Stuck))
+    by true = trap_reached 2 s (omega arith) (omega arith)
+    by false = tt
+
+outside_reached : (a : Array) (k : ℕ) (s : State) → Reaches s.world (Ends (outside a k s.world))
+outside_reached (array.Global g) k s = trap_reached 2 s (omega arith) (omega arith)
+outside_reached (array.Local l) k s = trap_reached 2 s (omega arith) (omega arith)
+outside_reached (array.SureGlobal g n) k s = promised_reached n k s
+outside_reached (array.SureLocal l n) k s = promised_reached n k s
 
 put_takes : (result : Option ℕ) (v : ℕ) (s : State) (w : World) → TakesInput s.world w → TakesInput s.world (put result v (with_world s w)).world
 put_takes None v s w h = h
@@ -157,14 +172,14 @@ module _ (p : Program) (numbers : List ℕ) where
         let d = of_tree setting frame y s in
         choice s.world (eqb d 0) (traps 1 s) (Next (with_temp s t (divide o (of_tree setting frame x s) d))) (trap_reached 1 s (omega arith) (omega arith)) refl
     layer (stm.Check a i) h bound b s =
-        choice s.world (ltb (of_tree setting frame i s) (length (elements a s))) (Next s) (traps 2 s) refl (trap_reached 2 s (omega arith) (omega arith))
+        choice s.world (ltb (of_tree setting frame i s) (length (elements a s))) (Next s) (Ends (outside a (of_tree setting frame i s) s.world)) refl (outside_reached a (of_tree setting frame i s) s)
     layer (stm.Read t a i) h bound b s =
         let k = of_tree setting frame i s in
-        choice s.world (ltb k (length (elements a s))) (Next (with_temp s t (slice_index (elements a s) k))) (traps 2 s) refl (trap_reached 2 s (omega arith) (omega arith))
+        choice s.world (ltb k (length (elements a s))) (Next (with_temp s t (slice_index (elements a s) k))) (Ends (outside a k s.world)) refl (outside_reached a k s)
     layer (stm.Write a i v) h bound b s =
         let k = of_tree setting frame i s in
         let xs = slice_set (elements a s) k (of_tree setting frame v s) in
-        choice s.world (ltb k (length (elements a s))) (Next (with_elements a s xs)) (traps 2 s) (elements_kept a s xs) (trap_reached 2 s (omega arith) (omega arith))
+        choice s.world (ltb k (length (elements a s))) (Next (with_elements a s xs)) (Ends (outside a k s.world)) (elements_kept a s xs) (outside_reached a k s)
     layer (stm.Zero l) h bound b s = refl
     layer (stm.If t x y) h bound b s =
         run_choice s.world (eqb (of_tree setting frame t s) 0) (in_order (map (meaning setting frame) y) bound s) (in_order (map (meaning setting frame) x) bound s)

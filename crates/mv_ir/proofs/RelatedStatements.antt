@@ -13,7 +13,7 @@ use Rattle.mv_ir.specs.declared.stm.Stm.TheOpen as stm
 use Rattle.mv_ir.specs.World.{World, Setting, Frame, Answer}
 use Rattle.mv_ir.specs.Trees.{Value, value, nodes, nodes_of_all, divide}
 use Rattle.mv_ir.specs.Outcome.{End, Returned, Trapped, More, Stuck, Outcome, Next, Run, Call, Bound, Meaning, spend, in_order}
-use Rattle.mv_ir.specs.Meaning.{elements, with_global, with_elements, put, call_end, Goal, Nowhere, Null, At, Inside, goal_of, goal, callee_nodes, call_cost, made_call, within, call_to, statement}
+use Rattle.mv_ir.specs.Meaning.{elements, outside, with_global, with_elements, put, call_end, Goal, Nowhere, Null, At, Inside, goal_of, goal, callee_nodes, call_cost, made_call, within, call_to, statement}
 use Rattle.mv_ir.proofs.Relating.{Rel, StateRel, Places, OutcomeRel, RunRel, MeaningRel}
 
 -- from states that differ in the temporaries alone
@@ -81,10 +81,12 @@ module _ (setting : Setting) (frame : Frame) where
     elements_same : (a : Array) (xs ys : List ℕ) (arrays : List (List ℕ)) (w : World) → elements a (record { temps = xs; arrays = arrays; world = w }) ≡ elements a (record { temps = ys; arrays = arrays; world = w })
     elements_same (array.Global g) xs ys arrays w = refl
     elements_same (array.Local l) xs ys arrays w = refl
+    elements_same (array.SureGlobal g n) xs ys arrays w = refl
+    elements_same (array.SureLocal l n) xs ys arrays w = refl
 
     pub check_rel : (a : Array) (i i' : Tree) → SameIn p i i' → Weaker p q.next → MeaningRel p q (act (stm.Check a i)) (act (stm.Check a i'))
     check_rel a i i' hi w = from_temps p q _ _ (λ bound xs ys arrays world h. record {
-      outcome = cond_rel q _ _ _ _ _ _ (ap (λ x. ltb x (length (elements a (record { temps = xs; arrays = arrays; world = world })))) (hi.value xs ys world.globals h) ∙ ap (λ l. ltb (val i' ys world.globals) (length l)) (elements_same a xs ys arrays world)) (record { temps = w xs ys h; arrays = refl; world = refl }) refl;
+      outcome = cond_rel q _ _ _ _ _ _ (ap (λ x. ltb x (length (elements a (record { temps = xs; arrays = arrays; world = world })))) (hi.value xs ys world.globals h) ∙ ap (λ l. ltb (val i' ys world.globals) (length l)) (elements_same a xs ys arrays world)) (record { temps = w xs ys h; arrays = refl; world = refl }) (ap (λ x. outside a x world) (hi.value xs ys world.globals h));
       cheaper = omega (arith, hi.smaller);
     })
 
@@ -94,13 +96,15 @@ module _ (setting : Setting) (frame : Frame) where
         let es = elements_same a xs ys arrays world in
         record {
           outcome = cond_rel q _ _ _ _ _ _ (ap (λ x. ltb x (length (elements a (record { temps = xs; arrays = arrays; world = world })))) e ∙ ap (λ l. ltb (val i' ys world.globals) (length l)) es)
-              (record { temps = written p q.next t t' xs ys _ _ w h (ap (λ x. slice_index (elements a (record { temps = xs; arrays = arrays; world = world })) x) e ∙ ap (λ l. slice_index l (val i' ys world.globals)) es); arrays = refl; world = refl }) refl;
+              (record { temps = written p q.next t t' xs ys _ _ w h (ap (λ x. slice_index (elements a (record { temps = xs; arrays = arrays; world = world })) x) e ∙ ap (λ l. slice_index l (val i' ys world.globals)) es); arrays = refl; world = refl }) (ap (λ x. outside a x world) e);
           cheaper = omega (arith, hi.smaller);
         })
 
     stored : (a : Array) (xs ys : List ℕ) (arrays : List (List ℕ)) (w : World) (l l' : List ℕ) → Weaker p q.next → p xs ys → l ≡ l' → StateRel q.next (with_elements a (record { temps = xs; arrays = arrays; world = w }) l) (with_elements a (record { temps = ys; arrays = arrays; world = w }) l')
     stored (array.Global g) xs ys arrays w l l' k h e = record { temps = k xs ys h; arrays = refl; world = ap (λ x. with_global w g x) e }
     stored (array.Local n) xs ys arrays w l l' k h e = record { temps = k xs ys h; arrays = ap (λ x. slice_set arrays n x) e; world = refl }
+    stored (array.SureGlobal g n) xs ys arrays w l l' k h e = record { temps = k xs ys h; arrays = refl; world = ap (λ x. with_global w g x) e }
+    stored (array.SureLocal n m) xs ys arrays w l l' k h e = record { temps = k xs ys h; arrays = ap (λ x. slice_set arrays n x) e; world = refl }
 
     pub write_rel : (a : Array) (i i' v v' : Tree) → SameIn p i i' → SameIn p v v' → Weaker p q.next → MeaningRel p q (act (stm.Write a i v)) (act (stm.Write a i' v'))
     write_rel a i i' v v' hi hv w = from_temps p q _ _ (λ bound xs ys arrays world h.
@@ -109,7 +113,7 @@ module _ (setting : Setting) (frame : Frame) where
         let es = elements_same a xs ys arrays world in
         record {
           outcome = cond_rel q _ _ _ _ _ _ (ap (λ x. ltb x (length (elements a (record { temps = xs; arrays = arrays; world = world })))) e ∙ ap (λ l. ltb (val i' ys world.globals) (length l)) es)
-              (stored a xs ys arrays world _ _ w h (ap (λ x. slice_set (elements a (record { temps = xs; arrays = arrays; world = world })) x (val v xs world.globals)) e ∙ ap (λ x. slice_set (elements a (record { temps = xs; arrays = arrays; world = world })) (val i' ys world.globals) x) ev ∙ ap (λ l. slice_set l (val i' ys world.globals) (val v' ys world.globals)) es)) refl;
+              (stored a xs ys arrays world _ _ w h (ap (λ x. slice_set (elements a (record { temps = xs; arrays = arrays; world = world })) x (val v xs world.globals)) e ∙ ap (λ x. slice_set (elements a (record { temps = xs; arrays = arrays; world = world })) (val i' ys world.globals) x) ev ∙ ap (λ l. slice_set l (val i' ys world.globals) (val v' ys world.globals)) es)) (ap (λ x. outside a x world) e);
           cheaper = omega (arith, hi.smaller, hv.smaller);
         })
 

@@ -20,6 +20,8 @@ use Rattle.mv_ir.specs.Outcome.{State, End, Returned, Trapped, More, Stuck, Outc
 abbrev pub elements : Array → State → List ℕ
 elements (array.Global g) s = slice_index_or s.world.globals g []
 elements (array.Local l) s = slice_index_or s.arrays l []
+elements (array.SureGlobal g n) s = slice_index_or s.world.globals g []
+elements (array.SureLocal l n) s = slice_index_or s.arrays l []
 
 abbrev pub with_temp : State → ℕ → ℕ → State
 with_temp s t v = record s { temps = slice_set s.temps t v }
@@ -33,9 +35,21 @@ with_global w g xs = record w { globals = slice_set w.globals g xs }
 abbrev pub with_elements : Array → State → List ℕ → State
 with_elements (array.Global g) s xs = with_world s (with_global s.world g xs)
 with_elements (array.Local l) s xs = record s { arrays = slice_set s.arrays l xs }
+with_elements (array.SureGlobal g n) s xs = with_world s (with_global s.world g xs)
+with_elements (array.SureLocal l n) s xs = record s { arrays = slice_set s.arrays l xs }
 
 abbrev pub traps : ℕ → State → Outcome
 traps c s = Ends (Trapped c s.world)
+
+-- how code ends with an index that isn't below the length: with a trap, but for one that isn't below a number either that it is promised to be below
+abbrev pub unless_promised : ℕ → ℕ → World → End
+unless_promised n k w = cond (ltb k n) (Trapped trap.index_outside w) Stuck
+
+abbrev pub outside : Array → ℕ → World → End
+outside (array.Global g) k w = Trapped trap.index_outside w
+outside (array.Local l) k w = Trapped trap.index_outside w
+outside (array.SureGlobal g n) k w = unless_promised n k w
+outside (array.SureLocal l n) k w = unless_promised n k w
 
 -- ---- results
 
@@ -128,15 +142,15 @@ module _ (setting : Setting) (frame : Frame) where
   statement (stm.Divide t o a b) bound s =
       let d = of_tree b s in
       step (nodes a + nodes b) (cond (eqb d 0) (traps trap.division_by_zero s) (Next (with_temp s t (divide o (of_tree a s) d))))
-  statement (stm.Check a i) bound s = step (nodes i) (cond (ltb (of_tree i s) (length (elements a s))) (Next s) (traps trap.index_outside s))
+  statement (stm.Check a i) bound s = step (nodes i) (cond (ltb (of_tree i s) (length (elements a s))) (Next s) (Ends (outside a (of_tree i s) s.world)))
   statement (stm.Read t a i) bound s =
       let k = of_tree i s in
       let xs = elements a s in
-      step (nodes i) (cond (ltb k (length xs)) (Next (with_temp s t (slice_index xs k))) (traps trap.index_outside s))
+      step (nodes i) (cond (ltb k (length xs)) (Next (with_temp s t (slice_index xs k))) (Ends (outside a k s.world)))
   statement (stm.Write a i v) bound s =
       let k = of_tree i s in
       let xs = elements a s in
-      step (nodes i + nodes v) (cond (ltb k (length xs)) (Next (with_elements a s (slice_set xs k (of_tree v s)))) (traps trap.index_outside s))
+      step (nodes i + nodes v) (cond (ltb k (length xs)) (Next (with_elements a s (slice_set xs k (of_tree v s)))) (Ends (outside a k s.world)))
   statement (stm.Zero l) bound s =
       let xs = slice_index_or s.arrays l [] in
       record { cost = 8 + 8 * length xs; outcome = Next (with_elements (array.Local l) s (map (λ x. 0) xs)) }

@@ -74,6 +74,8 @@ has_room (r ∷ rooms) g = nat_eq r.global g || has_room rooms g
 abbrev pub is_there : List Room → List ℕ → Array → Bool
 is_there rooms sizes (array.Global g) = has_room rooms g
 is_there rooms sizes (array.Local l) = nat_lt l (length sizes)
+is_there rooms sizes (array.SureGlobal g n) = has_room rooms g
+is_there rooms sizes (array.SureLocal l n) = nat_lt l (length sizes)
 
 -- ---- arguments
 

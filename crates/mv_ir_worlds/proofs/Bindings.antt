@@ -1,5 +1,5 @@
 -- Lists of bindings, one for each of some functions and then one for each pointer switch.
-use Rattle.std.proofs.Common.{◌≡◌, ◌⊎◌, inl, inr, ℕ, zero, suc, ◌+◌, ◌-◌, ◌<◌, Bool, true, false, List, [], ◌∷◌, ◌++◌, map, length, drop, Option, Some, None, refl, sym, ◌∙◌, ap, subst, arith, if◌then◌else◌, nat_lt}
+use Rattle.std.proofs.Common.{◌≡◌, ◌⊎◌, inl, inr, ℕ, zero, suc, ◌+◌, ◌<◌, Bool, true, false, List, [], ◌∷◌, ◌++◌, map, length, drop, Option, Some, None, refl, sym, ◌∙◌, ap, subst, arith, if◌then◌else◌, nat_lt}
 use Rattle.std.specs.Prelude.{◌||◌, ◌&&◌, ◌↔◌, not, slice_get}
 use Rattle.std.specs.List.{AllZip}
 use Rattle.std.proofs.lemmas.Bool.{and_parts, and_from, or_left, or_right, false_from_ne_true}
@@ -14,7 +14,6 @@ use Rattle.mv_bindings.specs.OrderNumbers.{is_commit}
 use Rattle.mv_ast.specs.Orders.{is_addressed, is_pointer_addressed, ordered_from, ordered_function, ordered_pointer, bindings_after}
 use Rattle.std.proofs.lemmas.Option.{slice_get_within}
 use Rattle.mv_ast.proofs.Common.{place_at}
-use Rattle.mv_ir.specs.Combinations.{IsCombination}
 use Rattle.mv_ir_worlds.specs.Fit.{IsFunctionBound, IsPointerBound, AreBindings}
 use Rattle.mv_ir_worlds.specs.Laws.{CommitsAreToWords, OrdersKeepFit}
 use Rattle.mv_ir_worlds.proofs.Combining.{combination_told, combination_there, combination_in, in_combination, binding_told, binding_same}

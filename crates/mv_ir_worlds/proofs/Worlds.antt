@@ -7,7 +7,7 @@ use Rattle.std.proofs.lemmas.List.Elements.{All-nil, All-cons, All-head, All-tai
 use Rattle.mv_ast.specs.declared.program.Program.{Program}
 use Rattle.mv_ast.specs.declared.program.Known.TheVariants.{Getchar, Putchar, Poll, Plan}
 use Rattle.mv_bindings.specs.declared.binding.Binding.{Binding}
-use Rattle.mv_ast.specs.Actions.{fits, act_fits}
+use Rattle.mv_ast.specs.Actions.{act_fits}
 use Rattle.mv_ast.specs.Bindings.{are_bindings, are_typed_bindings}
 use Rattle.mv_ast.specs.Orders.{Answered, may_commit, ordered, acted, polled}
 use Rattle.mv_ast.specs.Switches.{with_word, switch_global}

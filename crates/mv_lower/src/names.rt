@@ -74,6 +74,8 @@ fn mark_array(array: Array, marks: &mut Marks)
     match array {
         Array::Global(g) => flag(&mut marks.stored, g),
         Array::Local(_) => {}
+        Array::SureGlobal(g, _) => flag(&mut marks.stored, g),
+        Array::SureLocal(_, _) => {}
     }
 }
 

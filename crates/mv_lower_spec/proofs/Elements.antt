@@ -19,10 +19,11 @@ use Rattle.mv_meaning.specs.declared.state.Lvalue.{Lvalue}
 use Rattle.mv_meaning.specs.declared.state.Lvalue.TheVariants as lvalue
 use Rattle.mv_ast.specs.Operators.{converted}
 use Rattle.mv_meaning.specs.Meaning.{Evaluation, value_in, read_lvalue, store_lvalue, element_below, global_element, local_element}
+use Rattle.mv_ir.specs.KnownFunctions.{seen}
 use Rattle.mv_ir.specs.World as code_world
 use Rattle.mv_ir.specs.Outcome.{State, Next, Ends, Bound}
 use Rattle.mv_ir.specs.Trees.{nodes}
-use Rattle.mv_ir.specs.Meaning.{elements, with_temp, with_world, with_global, with_elements, traps}
+use Rattle.mv_ir.specs.Meaning.{elements, with_temp, with_world, with_global, with_elements, outside}
 use Rattle.mv_lower_spec.specs.Lowered.{Lowering, number, temp, binary, set, set_global, global, check, read, write, lower_element, lower_read_element, lower_set_element}
 use Rattle.mv_lower_spec.specs.Lower.{InLocal, InGlobal, Element, next_tree, lower_after}
 use Rattle.mv_source_forms.specs.Names.{global_words}
@@ -42,28 +43,38 @@ use Rattle.mv_ast.proofs.Common.{objects_at}
 abbrev pub lvalue_in : Array → ℕ → Lvalue
 lvalue_in (array.Global g) i = lvalue.Global g i
 lvalue_in (array.Local l) i = lvalue.Local l i
+lvalue_in (array.SureGlobal g n) i = lvalue.Global g i
+lvalue_in (array.SureLocal l n) i = lvalue.Local l i
 
 abbrev pub element_of : Array → ℕ → Evaluation Lvalue
 element_of (array.Global g) = global_element g
 element_of (array.Local l) = local_element l
+element_of (array.SureGlobal g n) = global_element g
+element_of (array.SureLocal l n) = local_element l
 
 abbrev words_in : Array → Frame → World → List ℕ
 words_in (array.Global g) f w = slice_index_or w.globals g []
 words_in (array.Local l) f w = slice_index_or f.locals l []
+words_in (array.SureGlobal g n) f w = slice_index_or w.globals g []
+words_in (array.SureLocal l n) f w = slice_index_or f.locals l []
 
 -- the old value goes up or down by one
 abbrev pub next_value : Bool → CType → ℕ → ℕ
 next_value up t old = converted t (cond up (add old 1) (sub old 1))
 
 module _ (ground : Ground) (held : Held) where
-  -- a global that isn't read as a switch in this frame, or a local that is an array
+  -- a global that isn't read as a switch in this frame, or a local that is an array; no index is promised to be below a number
   abbrev pub IsArray : Array → Type 0
   IsArray (array.Global g) = (bs : List Binding) → bound_value ground.p bs ground.own (slice_get ground.p.functions ground.own) g ≡ None
   IsArray (array.Local l) = (l < ground.locals) × IsArrayLocal ground.sizes held l
+  IsArray (array.SureGlobal g n) = ⊥
+  IsArray (array.SureLocal l n) = ⊥
 
   abbrev pub size_in : Array → ℕ
   size_in (array.Global g) = global_words ground.p g
   size_in (array.Local l) = words_of_size (ground.sizes l)
+  size_in (array.SureGlobal g n) = global_words ground.p g
+  size_in (array.SureLocal l n) = words_of_size (ground.sizes l)
 
 module _ (scene : Scene) where
   -- ---- the words of an array
@@ -71,22 +82,37 @@ module _ (scene : Scene) where
   pub elements_are : (a : Array) (f : Frame) (w : World) (s : State) → IsArray scene.ground scene.held a → Shows scene f w s → elements a s ≡ words_in a f w
   elements_are (array.Global g) f w s isa h = ap (λ (x : code_world.World). slice_index_or x.globals g []) h.world
   elements_are (array.Local l) f w s isa h = h.elements l isa.0 isa.1
+  elements_are (array.SureGlobal g n) f w s isa h = absurd isa
+  elements_are (array.SureLocal l n) f w s isa h = absurd isa
+
+  -- how code ends with an index that isn't below the length
+  outside_is : (a : Array) (k : ℕ) (f : Frame) (w : World) (s : State) → IsArray scene.ground scene.held a → Shows scene f w s → outside a k s.world ≡ c.end_of (Trapped 2) (seen w)
+  outside_is (array.Global g) k f w s isa h = ap (c.end_of (Trapped 2)) h.world
+  outside_is (array.Local l) k f w s isa h = ap (c.end_of (Trapped 2)) h.world
+  outside_is (array.SureGlobal g n) k f w s isa h = absurd isa
+  outside_is (array.SureLocal l n) k f w s isa h = absurd isa
 
   words_long : (a : Array) (f : Frame) (w : World) (s : State) → IsArray scene.ground scene.held a → Shows scene f w s → length (words_in a f w) ≡ size_in scene.ground scene.held a
   words_long (array.Global g) f w s isa h = h.globals g
   words_long (array.Local l) f w s isa h = h.words l isa.0
+  words_long (array.SureGlobal g n) f w s isa h = absurd isa
+  words_long (array.SureLocal l n) f w s isa h = absurd isa
 
   value_is : (a : Array) (i : ℕ) (f : Frame) (w : World) (s : State) → IsArray scene.ground scene.held a → Shows scene f w s → value_in scene.p (lvalue_in a i) f w ≡ slice_index (words_in a f w) i
   value_is (array.Global g) i f w s isa h =
       ap (λ k. unwrap_or (bound_value scene.p w.bindings k (slice_get scene.p.functions k) g) (word_at w.globals g i)) h.function ∙
       ap (λ o. unwrap_or o (word_at w.globals g i)) (isa w.bindings) ∙ word_is w.globals g i
   value_is (array.Local l) i f w s isa h = word_is f.locals l i
+  value_is (array.SureGlobal g n) i f w s isa h = absurd isa
+  value_is (array.SureLocal l n) i f w s isa h = absurd isa
 
   pub element_is : (a : Array) (i : ℕ) (f : Frame) (w : World) (s : State) → IsArray scene.ground scene.held a → Shows scene f w s → element_of a i f w ≡ cond (ltb i (size_in scene.ground scene.held a)) (give (lvalue_in a i)) (stop (Trapped 2)) f w
   element_is (array.Global g) i f w s isa h =
       ap (λ n. element_below n i (lvalue.Global g) f w) (ap length (objects_at w.globals g) ∙ h.globals g)
   element_is (array.Local l) i f w s isa h =
       ap (λ n. element_below n i (lvalue.Local l) f w) (ap length (objects_at f.locals l) ∙ h.words l isa.0)
+  element_is (array.SureGlobal g n) i f w s isa h = absurd isa
+  element_is (array.SureLocal l n) i f w s isa h = absurd isa
 
   -- the test of an index, as the code makes it
   test_is : (a : Array) (i : Tree) (k : ℕ) (f : Frame) (w : World) (s : State) (z : Bool) → IsArray scene.ground scene.held a → Shows scene f w s → val scene i s ≡ k → ltb k (size_in scene.ground scene.held a) ≡ z → ltb (val scene i s) (length (elements a s)) ≡ z
@@ -140,7 +166,7 @@ module _ (scene : Scene) (bound : Bound) where
       record {
         state = with_temp s n x;
         cost = 8 + 3 * nodes i;
-        runs = run.runs_read scene bound n a i s ∙ ap (λ q. c.ran (8 + 3 * nodes i) (cond q (Next (with_temp s n x)) (traps 2 s))) (test_is scene a i k f w s true isa h ek e);
+        runs = run.runs_read scene bound n a i s ∙ ap (λ q. c.ran (8 + 3 * nodes i) (cond q (Next (with_temp s n x)) (Ends (outside a (val scene i s) s.world)))) (test_is scene a i k f w s true isa h ek e);
         shows = show.shows_temp scene f w s n x le h;
         value =
             run.val_temp scene n (with_temp s n x) ∙ get_or-set_same s.temps n x 0 (subst (λ j. n < j) (sym h.temps) lt) ∙
@@ -151,8 +177,8 @@ module _ (scene : Scene) (bound : Bound) where
   read_at credit n k a i f w s false enough isa le lt h ek e = record {
     cost = 8 + 3 * nodes i;
     runs = λ ne.
-        run.runs_read scene bound n a i s ∙ ap (λ q. c.ran (8 + 3 * nodes i) (cond q (Next (with_temp s n (slice_index (elements a s) (val scene i s)))) (traps 2 s))) (test_is scene a i k f w s false isa h ek e) ∙
-        ap (λ q. c.ran (8 + 3 * nodes i) (Ends (c.end_of (Trapped 2) q))) h.world;
+        run.runs_read scene bound n a i s ∙ ap (λ q. c.ran (8 + 3 * nodes i) (cond q (Next (with_temp s n (slice_index (elements a s) (val scene i s)))) (Ends (outside a (val scene i s) s.world)))) (test_is scene a i k f w s false isa h ek e) ∙
+        ap (λ q. c.ran (8 + 3 * nodes i) (Ends q)) (outside_is scene a (val scene i s) f w s isa h);
     paid = omega (arith, enough);
   }
 
@@ -178,7 +204,7 @@ module _ (scene : Scene) (bound : Bound) where
       Runs scene bound (write a i tv ∷ []) s (Next (with_elements a s (slice_set (elements a s) v u))) (8 + 3 * (nodes i + nodes tv))
   runs_written a i tv v u f w s isa h ev eu lt =
       run.runs_write scene bound a i tv s ∙
-      ap (λ q. c.ran (8 + 3 * (nodes i + nodes tv)) (cond q (Next (with_elements a s (slice_set (elements a s) (val scene i s) (val scene tv s)))) (traps 2 s))) (test_is scene a i v f w s true isa h ev (lt-ltb v (size_in scene.ground scene.held a) lt)) ∙
+      ap (λ q. c.ran (8 + 3 * (nodes i + nodes tv)) (cond q (Next (with_elements a s (slice_set (elements a s) (val scene i s) (val scene tv s)))) (Ends (outside a (val scene i s) s.world)))) (test_is scene a i v f w s true isa h ev (lt-ltb v (size_in scene.ground scene.held a) lt)) ∙
       ap (λ j. c.ran (8 + 3 * (nodes i + nodes tv)) (Next (with_elements a s (slice_set (elements a s) j (val scene tv s))))) ev ∙
       ap (λ j. c.ran (8 + 3 * (nodes i + nodes tv)) (Next (with_elements a s (slice_set (elements a s) v j)))) eu
 
@@ -207,10 +233,14 @@ module _ (scene : Scene) (bound : Bound) where
         kept = λ j lk kn. refl;
         paid = omega (arith, enough, nodes_temp m);
       }
+  written due credit n m result v u (array.SureGlobal g k) i tv f w s isa h ev eu lt er enough = absurd isa
+  written due credit n m result v u (array.SureLocal l k) i tv f w s isa h ev eu lt er enough = absurd isa
 
   store_gives : (a : Array) (v u : ℕ) (f : Frame) (w : World) → and_then (store_lvalue (lvalue_in a v) u f w) (λ new. give u) ≡ store_lvalue (lvalue_in a v) u f w
   store_gives (array.Global g) v u f w = refl
   store_gives (array.Local l) v u f w = refl
+  store_gives (array.SureGlobal g n) v u f w = refl
+  store_gives (array.SureLocal l n) v u f w = refl
 
   -- a value that is put into the first free temporary and then stored, the index standing in the second
   put_and_written : (n v u : ℕ) (a : Array) (t : Tree) (f : Frame) (w : World) (s : State) → IsArray scene.ground scene.held a → scene.floor ≤ n → n + 1 < scene.room → Shows scene f w s → val scene t s ≡ u → slice_index s.temps (n + 1) ≡ v → v < size_in scene.ground scene.held a →
@@ -234,14 +264,14 @@ module _ (scene : Scene) (bound : Bound) where
       subst (λ (o : Outcome Frame ℕ). Shown scene bound due (credit + (8 + 3 * nodes i)) n s (check a i ∷ rest) t o) (sym (sequences.after_zero (next (lvalue_in a k) f w)))
       (control.within scene bound due credit n (8 + 3 * nodes i) s rest (check a i ∷ rest) t (next (lvalue_in a k) f w)
       (λ o j r. run.runs_append scene bound (check a i ∷ []) rest s s o (8 + 3 * nodes i) j
-      (run.runs_check scene bound a i s ∙ ap (λ q. c.ran (8 + 3 * nodes i) (cond q (Next s) (traps 2 s))) (test_is scene a i k f w s true isa h ek e)) r)
+      (run.runs_check scene bound a i s ∙ ap (λ q. c.ran (8 + 3 * nodes i) (cond q (Next s) (Ends (outside a (val scene i s) s.world)))) (test_is scene a i k f w s true isa h ek e)) r)
       (rest_shown refl))
   checked due credit n k a i rest t f w s next false isa h ek e rest_shown = record {
     cost = 8 + 3 * nodes i;
     runs = λ ne.
         run.runs_stop scene bound (check a i ∷ []) rest s _ (8 + 3 * nodes i)
-        (run.runs_check scene bound a i s ∙ ap (λ q. c.ran (8 + 3 * nodes i) (cond q (Next s) (traps 2 s))) (test_is scene a i k f w s false isa h ek e) ∙
-        ap (λ q. c.ran (8 + 3 * nodes i) (Ends (c.end_of (Trapped 2) q))) h.world);
+        (run.runs_check scene bound a i s ∙ ap (λ q. c.ran (8 + 3 * nodes i) (cond q (Next s) (Ends (outside a (val scene i s) s.world)))) (test_is scene a i k f w s false isa h ek e) ∙
+        ap (λ q. c.ran (8 + 3 * nodes i) (Ends q)) (outside_is scene a (val scene i s) f w s isa h));
     paid = omega arith;
   }
 
@@ -370,15 +400,15 @@ module _ (scene : Scene) (bound : Bound) where
       subst (λ (o : Outcome Frame ℕ). Shown scene bound 11 (40 + (8 + 3 * nodes i)) n s (read n a i ∷ last) (temp n) o)
       (sym (sequences.after_zero (Stepped up t (lvalue_in a k) f w) ∙ sequences.after_zero (and_then (store_lvalue (lvalue_in a k) (next_value up t old) f w) (λ new. give old))))
       (control.after_step scene bound 11 40 n (8 + 3 * nodes i) s s1 (read n a i ∷ []) last (temp n) (and_then (store_lvalue (lvalue_in a k) (next_value up t old) f w) (λ new. give old))
-      (run.runs_read scene bound n a i s ∙ ap (λ q. c.ran (8 + 3 * nodes i) (cond q (Next s1) (traps 2 s))) (test_is scene a i k f w s true isa h vi e))
+      (run.runs_read scene bound n a i s ∙ ap (λ q. c.ran (8 + 3 * nodes i) (cond q (Next s1) (Ends (outside a (val scene i s) s.world)))) (test_is scene a i k f w s true isa h vi e))
       (show.kept_temp scene n s x)
       (written 11 40 n n old k (next_value up t old) a i next f w s1 isa (show.shows_temp scene f w s n x le h) (run.val_temp scene (n + 1) s1 ∙ index_stays) (next_is up t n old s1 put) (ltb-true k (size_in scene.ground scene.held a) e) put
       (omega (arith, nodes_temp (n + 1), next_nodes up t n))))
   after_read n k up t a f w s false isa le room h ek e = record {
     cost = 8 + 3 * nodes (temp (n + 1));
     runs = λ ne. run.runs_stop scene bound (read n a (temp (n + 1)) ∷ []) (write a (temp (n + 1)) (next_tree up t (temp n)) ∷ []) s _ (8 + 3 * nodes (temp (n + 1)))
-        (run.runs_read scene bound n a (temp (n + 1)) s ∙ ap (λ q. c.ran (8 + 3 * nodes (temp (n + 1))) (cond q (Next (with_temp s n (slice_index (elements a s) (val scene (temp (n + 1)) s)))) (traps 2 s))) (test_is scene a (temp (n + 1)) k f w s false isa h (run.val_temp scene (n + 1) s ∙ ek) e) ∙
-        ap (λ q. c.ran (8 + 3 * nodes (temp (n + 1))) (Ends (c.end_of (Trapped 2) q))) h.world);
+        (run.runs_read scene bound n a (temp (n + 1)) s ∙ ap (λ q. c.ran (8 + 3 * nodes (temp (n + 1))) (cond q (Next (with_temp s n (slice_index (elements a s) (val scene (temp (n + 1)) s)))) (Ends (outside a (val scene (temp (n + 1)) s) s.world)))) (test_is scene a (temp (n + 1)) k f w s false isa h (run.val_temp scene (n + 1) s ∙ ek) e) ∙
+        ap (λ q. c.ran (8 + 3 * nodes (temp (n + 1))) (Ends q)) (outside_is scene a (val scene (temp (n + 1)) s) f w s isa h));
     paid = omega (arith, nodes_temp (n + 1));
   }
 

@@ -165,6 +165,8 @@ module _ (ground : Ground) (held : Held) (bound : Bound)
   abbrev Plain : Array → Type 0
   Plain (array.Global g) = pointer_number ground.p g ≡ None
   Plain (array.Local l) = Unit {0}
+  Plain (array.SureGlobal g n) = pointer_number ground.p g ≡ None
+  Plain (array.SureLocal l n) = Unit {0}
 
   -- a place, with what finds it
   abbrev PlaceShown : Evaluation Lvalue → Place → Type 0
@@ -234,6 +236,8 @@ module _ (ground : Ground) (held : Held) (bound : Bound)
   element_called : (a : Array) (v : ℕ) (f : Frame) (w : World) → Plain a → Same (element_of a v) f w
   element_called (array.Global g) v f w e = below_called _ v (lvalue.Global g) f w (global_called g v f w e)
   element_called (array.Local l) v f w e = below_called _ v (lvalue.Local l) f w refl
+  element_called (array.SureGlobal g n) v f w e = below_called _ v (lvalue.Global g) f w (global_called g v f w e)
+  element_called (array.SureLocal l n) v f w e = below_called _ v (lvalue.Local l) f w refl
 
   read_called : (m : Evaluation Lvalue) (x : Place) → PlaceShown m x → FormCallee (switched_by ground.p.pointers (global_at x)) (bind m (read_as ground.p context.numbers true)) (lower_read x)
   read_called m (InLocal l) h = λ floor scratch.

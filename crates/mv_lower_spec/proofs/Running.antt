@@ -14,7 +14,7 @@ use Rattle.mv_ir.specs.Outcome.{State, End, Next, Ends, Run, Bound, spend, then_
 use Rattle.mv_ir.specs.Outcome as ir
 use Rattle.mv_ir.specs.Trees as ir_tree
 use Rattle.mv_ir.specs.Trees.{nodes, nodes_of_all}
-use Rattle.mv_ir.specs.Meaning.{code_meaning, meaning, with_temp, with_world, with_global, with_elements, elements, traps, goal, callee_nodes, call_cost, call_to, known_end}
+use Rattle.mv_ir.specs.Meaning.{code_meaning, meaning, with_temp, with_world, with_global, with_elements, elements, outside, traps, goal, callee_nodes, call_cost, call_to, known_end}
 use Rattle.mv_ir.proofs.Keeping.{map_append, in_order_append, one_meaning}
 use Rattle.mv_ir.proofs.Rolls.{value_roll, nodes_roll}
 use Rattle.mv_lower_spec.specs.Lowered as lowered
@@ -95,15 +95,15 @@ module _ (scene : Scene) (bound : Bound) where
       ap (λ r. spend (8 + 3 * nodes t) r) h
 
   pub runs_check : (a : Array) (i : Tree) (s : State) →
-      Runs scene bound (check a i ∷ []) s (cond (ltb (val scene i s) (length (elements a s))) (Next s) (traps 2 s)) (8 + 3 * nodes i)
+      Runs scene bound (check a i ∷ []) s (cond (ltb (val scene i s) (length (elements a s))) (Next s) (Ends (outside a (val scene i s) s.world))) (8 + 3 * nodes i)
   runs_check a i s = one_meaning scene.setting scene.frame (stm.Check a i) bound s
 
   pub runs_read : (t : ℕ) (a : Array) (i : Tree) (s : State) →
-      Runs scene bound (read t a i ∷ []) s (cond (ltb (val scene i s) (length (elements a s))) (Next (with_temp s t (slice_index (elements a s) (val scene i s)))) (traps 2 s)) (8 + 3 * nodes i)
+      Runs scene bound (read t a i ∷ []) s (cond (ltb (val scene i s) (length (elements a s))) (Next (with_temp s t (slice_index (elements a s) (val scene i s)))) (Ends (outside a (val scene i s) s.world))) (8 + 3 * nodes i)
   runs_read t a i s = one_meaning scene.setting scene.frame (stm.Read t a i) bound s
 
   pub runs_write : (a : Array) (i v : Tree) (s : State) →
-      Runs scene bound (write a i v ∷ []) s (cond (ltb (val scene i s) (length (elements a s))) (Next (with_elements a s (slice_set (elements a s) (val scene i s) (val scene v s)))) (traps 2 s)) (8 + 3 * (nodes i + nodes v))
+      Runs scene bound (write a i v ∷ []) s (cond (ltb (val scene i s) (length (elements a s))) (Next (with_elements a s (slice_set (elements a s) (val scene i s) (val scene v s)))) (Ends (outside a (val scene i s) s.world))) (8 + 3 * (nodes i + nodes v))
   runs_write a i v s = one_meaning scene.setting scene.frame (stm.Write a i v) bound s
 
   pub runs_call : (t : Option ℕ) (f : Callee) (args : List Tree) (s : State) →

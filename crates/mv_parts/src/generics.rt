@@ -57,7 +57,7 @@ fn own_short(
     }
 }
 
-/// The body from which each function's code is made, in their order: what it is lowered to, with short bodies in place of calls and tidied, or not, where
+/// The body from which each function's code is made, in their order: what it is lowered to, made ready or not, where
 /// temporaries that are never in use together share a place.
 pub fn generics_of(
     alloc: Global,

@@ -1,7 +1,7 @@
 //! What is linked of a program: the code of its functions, and for each attributed one its variants with their code and the rows that lead to them.
 //!
 //! - `shorts_of`: of each function that has one a short body, which can stand in place of calls of it (`AreShortsOf`).
-//! - `generics_of`: of each function of a well-formed program the body that it is lowered to, with short bodies in place of calls and tidied, or not, and
+//! - `generics_of`: of each function of a well-formed program the body that it is lowered to, made ready or not, and
 //!   with its temporaries renamed (`AreGenerics`).
 //! - `codes_of`: the code that is selected for each of these bodies (`HaveCode`); all their frames then have at most 2,032
 //!   bytes. `Frame` comes where one has more, with the first such function and its bytes (`PassesFirstFrame`).

@@ -53,6 +53,6 @@ layout_code attributed body formed =
     let sized : Plan = record over { array_size = slice_index body.arrays } in
     let sizes = same_functions (array_size_in spaces) (slice_index body.arrays) (sizes_are (arrays_start body.temps) body.arrays) in
     ap (λ array_size. code_of (record over { array_size = array_size }) body.code) sizes ∙
-    code_same sized (array_offset body.temps body.arrays) (λ a. is_there body.rooms body.arrays a ≡ true)
+    code_same sized (array_offset body.temps body.arrays) (λ a. is_there body.rooms body.arrays a ≡ true) (λ a n there. there)
     (λ a there. places_are (arrays_start body.temps) body.arrays a (ltb-true a (length body.arrays) there))
     body.code (each_true (is_there body.rooms body.arrays) (named body.code) formed.named)

@@ -11,6 +11,7 @@ pub mod FunctionKeeps
 pub mod Equations
 pub mod EncodedFrames
 pub mod FramesAreMade
+pub mod Quiet
 pub mod WholeFunction
 pub mod Alone
 pub mod Silent

@@ -12,18 +12,21 @@ use Rattle.mv_ir.proofs.Induction.{Each, StmChildren, stm_ind, stms_ind}
 use Rattle.mv_ir.proofs.Rolls.{named_roll}
 use Rattle.mv_select_code.specs.declared.statements.elements.Home.TheVariants as place_at
 use Rattle.mv_select_code.specs.Statements.StatementCode.{read_lines, write_lines}
-use Rattle.mv_select_code.specs.Control.FlowCode.{Plan, Emitted, in_turn, plain, zero_code, if_code, loop_code, block_code, home, size, code_layer, statement_code, code_of}
+use Rattle.mv_select_code.specs.Control.FlowCode.{Plan, Emitted, in_turn, plain, zero_code, if_code, loop_code, block_code, home, size, tests, code_layer, statement_code, code_of}
 use Rattle.mv_select_code.proofs.OfControl.Equations.{code_roll}
 use Rattle.mv_ir.proofs.Common.{each_first, each_right}
 
--- other places, which agree at the arrays that are there
-module _ (plan : Plan) (places : ℕ → ℕ) (There : Array → Type 0) (same : (a : ℕ) → There (array.Local a) → plan.array_at a ≡ places a) where
+-- other places, which agree at the arrays that are there, whatever is promised of an index
+module _ (plan : Plan) (places : ℕ → ℕ) (There : Array → Type 0) (unpromised : (a n : ℕ) → There (array.SureLocal a n) → There (array.Local a))
+    (same : (a : ℕ) → There (array.Local a) → plan.array_at a ≡ places a) where
   abbrev other : Plan
   other = record plan { array_at = places }
 
   home_same : (a : Array) → There a → home plan a ≡ home other a
   home_same (array.Global g) h = refl
   home_same (array.Local a) h = ap place_at.Frame (same a h)
+  home_same (array.SureGlobal g n) h = refl
+  home_same (array.SureLocal a n) h = ap place_at.Frame (same a (unpromised a n h))
 
   abbrev codes : List Stm → List Emitted
   codes = map (statement_code plan)
@@ -47,8 +50,8 @@ module _ (plan : Plan) (places : ℕ → ℕ) (There : Array → Type 0) (same :
   layer (stm.SetGlobal g v) h all = refl
   layer (stm.Divide t o a b) h all = refl
   layer (stm.Check a i) h all = refl
-  layer (stm.Read t a i) h all = ap (λ home. plain (read_lines plan.seats t home (size plan a) i)) (home_same a all.0)
-  layer (stm.Write a i v) h all = ap (λ home. plain (write_lines plan.seats home (size plan a) i v)) (home_same a all.0)
+  layer (stm.Read t a i) h all = ap (λ home. plain (read_lines plan.seats t home (size plan a) (tests plan a) i)) (home_same a all.0)
+  layer (stm.Write a i v) h all = ap (λ home. plain (write_lines plan.seats home (size plan a) (tests plan a) i v)) (home_same a all.0)
   layer (stm.Zero a) h all = ap (λ at. zero_code at (plan.array_size a)) (same a all.0)
   layer (stm.If t a b) h all =
       let in_a = joined (map stm_named a) in

@@ -10,7 +10,7 @@ use Rattle.mv_select_code.specs.Trees.Rooms.{place_in}
 use Rattle.mv_select_code.specs.Trees.TreeCode.{one, seats_at}
 use Rattle.mv_select_code.specs.Trees.View.{IsPin}
 use Rattle.mv_select_code.specs.declared.trees.places.Keeping.{Keeping}
-use Rattle.mv_select_code.specs.declared.trees.places.Keeping.TheVariants.{Saved, Arguments}
+use Rattle.mv_select_code.specs.declared.trees.places.Keeping.TheVariants.{Saved, Arguments, Mixed}
 use Rattle.mv_select_code.specs.Control.Layouts.{size_in}
 use Rattle.mv_select_code.proofs.OfTrees.KeepingSeats.{keeping_seats}
 use Rattle.mv_select_code.proofs.OfTrees.TreesFit.{small_fits}
@@ -161,8 +161,11 @@ around shape few fits n lines within k = by k
 
     by : (k : Keeping) → ArePins k shape.params shape.temps shape.pins → IsCode (33 + n) (led (entry_by k shape ++ (lines ++ (Label 0 ∷ return_by k shape))))
     by Saved pins =
-        let frames = saved_encoded shape pins few fits in
+        let frames = saved_encoded Saved shape pins few fits in
         wider (20 + (n + (0 + 13))) (33 + n) (entry_by Saved shape ++ (lines ++ (Label 0 ∷ return_by Saved shape))) (omega arith) (parts Saved 20 13 frames.0 frames.1)
+    by Mixed pins =
+        let frames = saved_encoded Mixed shape pins few fits in
+        wider (20 + (n + (0 + 13))) (33 + n) (entry_by Mixed shape ++ (lines ++ (Label 0 ∷ return_by Mixed shape))) (omega arith) (parts Mixed 20 13 frames.0 frames.1)
     by Arguments pins =
         let frames = leaf_encoded shape pins fits in
         let all = entry_by Arguments shape ++ (lines ++ (Label 0 ∷ return_by Arguments shape)) in

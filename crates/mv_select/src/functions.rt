@@ -2,8 +2,8 @@
 //!
 //! - `push_entry` and `push_return` put exactly the lines of `specs/Functions/FunctionCode.antt` behind some code: a frame is
 //!   made, ra and the registers of temporaries and pins are saved, parameters come to their temporaries and numbers to their
-//!   pins; and the way back. A function that calls nothing, has at most eight temporaries and isn't attributed keeps them where
-//!   arguments come, and saves nothing. A pin is a number that stands, from entry on, in a register that no temporary has
+//!   pins; and the way back. A function that calls nothing and isn't attributed keeps its first eight temporaries where arguments
+//!   come, and saves nothing if it has no more. A pin is a number that stands, from entry on, in a register that no temporary has
 //!   (`specs/Functions/Pins.antt`). Entry has at most eight words for pins and the moves of parameters together.
 //! - `function_code_law`, clause `each`: over any functions that keep the calling convention at each lower bound, the
 //!   code of a function that is called with as many arguments as it has parameters does what its body means for what its

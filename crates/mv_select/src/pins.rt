@@ -50,7 +50,7 @@ fn push_pin(
     n: u32,
 ) -> Result<(), AllocError>
     requires first { first ≤ 507 }
-    requires few { length pins.now ≤ 9 }
+    requires few { length pins.now ≤ 17 }
     ensures { OnOk result (pins.new ≡ pin_next keeping first room pins.old n) }
 {
     if !is_new(room, pins.as_slice(), n) {
@@ -69,12 +69,12 @@ fn push_pin(
 }
 
 // The temporary whose register the first pin has.
-fn first_pin(keeping: Keeping, temps: u32) -> u32
+pub(crate) fn first_pin(keeping: Keeping, temps: u32) -> u32
     ensures { result ≡ first_pin keeping temps }
 {
     match keeping {
         Keeping::Saved => temps,
-        Keeping::Arguments => temps.max(1),
+        Keeping::Arguments | Keeping::Mixed => temps.max(1),
     }
 }
 
@@ -84,7 +84,7 @@ fn room_of(keeping: Keeping, params: u32) -> u32
 {
     match keeping {
         Keeping::Saved => 8 - params.min(8),
-        Keeping::Arguments => 8,
+        Keeping::Arguments | Keeping::Mixed => 8,
     }
 }
 
@@ -161,7 +161,7 @@ fn pin_cost(keeping: Keeping, n: u32) -> u32
     ensures { result ≡ pin_cost keeping n }
 {
     match keeping {
-        Keeping::Saved => number_words(n) + 2,
+        Keeping::Saved | Keeping::Mixed => number_words(n) + 2,
         Keeping::Arguments => number_words(n),
     }
 }
@@ -175,7 +175,7 @@ fn push_heaviest(
     all: &[Weighed],
 ) -> Result<(), AllocError>
     requires first { first ≤ 507 }
-    requires few { length pins.now ≤ 9 }
+    requires few { length pins.now ≤ 17 }
     ensures { OnOk result (pins.new ≡ pin_heaviest keeping first room all.now pins.old) }
 {
     let best = heaviest(room, pins.as_slice(), all);

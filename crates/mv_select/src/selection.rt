@@ -57,10 +57,12 @@ fn fitting_bytes(body: &Body, function: u32) -> Result<u32, SelectError>
 fn keeping_of(body: &Body, attributed: bool) -> Keeping
     ensures { result ≡ keeping_of attributed body.now }
 {
-    if !attributed && body.temps < 9 && calls_nothing(&body.code) {
+    if attributed || !calls_nothing(&body.code) {
+        Keeping::Saved
+    } else if body.temps < 9 {
         Keeping::Arguments
     } else {
-        Keeping::Saved
+        Keeping::Mixed
     }
 }
 

@@ -6,7 +6,7 @@ ghost use Rattle.mv_ir.specs.Measures.{callee_trees};
 ghost use Rattle.mv_select_code.specs.Trees.TreeCode.{immediate, literal, right_of};
 ghost use Rattle.mv_select_code.specs.Control.Layouts.{size_in};
 ghost use Rattle.mv_select.specs.Functions.Uses.{number_words, saving, needed, moved, is_comparison, operand_uses, test_uses, value_uses};
-ghost use Rattle.mv_select.specs.Functions.Uses.{deeper, array_size, index_uses, values_uses, stm_uses, code_uses, uses};
+ghost use Rattle.mv_select.specs.Functions.Uses.{deeper, array_size, is_tested, index_uses, values_uses, stm_uses, code_uses, uses};
 
 use mv_ir::body::{Body, Room};
 use mv_ir::operators::{LESS_SIGNED, LOGICAL_NOT, NOT_EQUAL};
@@ -221,12 +221,24 @@ fn array_size(body: &Body, array: Array) -> u32
     ensures { result ≡ array_size body.now array }
 {
     match array {
-        Array::Global(global) => words_of(body.rooms.as_slice(), global),
-        Array::Local(local) => size_at(body.arrays.as_slice(), local),
+        Array::Global(global) | Array::SureGlobal(global, _) => {
+            words_of(body.rooms.as_slice(), global)
+        }
+        Array::Local(local) | Array::SureLocal(local, _) => size_at(body.arrays.as_slice(), local),
     }
 }
 
-// An index, and the size with which it is compared.
+// Whether an index is tested: not one that is promised to be below a number up to that of the elements.
+fn is_tested(body: &Body, array: Array) -> bool
+    ensures { result ≡ is_tested body.now array }
+{
+    match array {
+        Array::Global(_) | Array::Local(_) => true,
+        Array::SureGlobal(_, n) | Array::SureLocal(_, n) => n > array_size(body, array),
+    }
+}
+
+// An index, and the size with which it is compared where it is tested.
 fn add_index(
     body: &Body,
     w: u32,
@@ -241,7 +253,11 @@ fn add_index(
         Some(_) => Ok(()),
         None => {
             add_operand(w, index, uses)?;
-            add_needed(w, array_size(body, array), uses)
+            if is_tested(body, array) {
+                add_needed(w, array_size(body, array), uses)
+            } else {
+                Ok(())
+            }
         }
     }
 }

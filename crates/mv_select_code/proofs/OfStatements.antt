@@ -5,6 +5,7 @@ pub mod ElementPlaces
 pub mod EncodedCode
 pub mod Equations
 pub mod FrameChanges
+pub mod PlainArrays
 pub mod Powers
 pub mod ScalarStatements
 pub mod Stores

@@ -1,5 +1,5 @@
 -- Two statements as one, as the code has them.
-use Rattle.std.proofs.Common.{◌≡◌, ℕ, false, List, Option, Some, sym, ◌∙◌, ap, subst}
+use Rattle.std.proofs.Common.{◌≡◌, ℕ, false, List, Option, Some, sym, ◌∙◌, ap, subst, ◌⊎◌}
 use Rattle.mv_ast.specs.declared.program.Known.{Known}
 use Rattle.mv_ir.specs.declared.tree.Tree.{Tree}
 use Rattle.mv_ir.specs.declared.stm.Array.{Array}
@@ -41,14 +41,14 @@ module _ (gone : ℕ → Type 0) where
         (ap (at.Known (Some x) k) ea ∙ sym (rolls-Known (Some x) k args))
 
   -- a value that takes the place of a temporary
-  module _ (s : Stm) (t : ℕ) (e v w : Tree) (g : gone t) (is : s ≡ at.Set t e) (k : Takes t e v w) where
-    pub carries : (x : ℕ) → IsOne gone s (at.Set x v) (at.Set x w)
-    carries x = one_at s _ _ _ _ _ (carried t x e v w g k) (is ∙ sym (rolls-Set t e)) (sym (rolls-Set x v)) (sym (rolls-Set x w))
+  module _ (s : Stm) (t : ℕ) (e v w : Tree) (is : s ≡ at.Set t e) (k : Takes t e v w) where
+    pub carries : (x : ℕ) → gone t ⊎ (t ≡ x) → IsOne gone s (at.Set x v) (at.Set x w)
+    carries x g = one_at s _ _ _ _ _ (carried t x e v w g k) (is ∙ sym (rolls-Set t e)) (sym (rolls-Set x v)) (sym (rolls-Set x w))
 
-    pub stores : (x : ℕ) → IsOne gone s (at.SetGlobal x v) (at.SetGlobal x w)
-    stores x = one_at s _ _ _ _ _ (stored t x e v w g k) (is ∙ sym (rolls-Set t e)) (sym (rolls-SetGlobal x v)) (sym (rolls-SetGlobal x w))
+    pub stores : (x : ℕ) → gone t → IsOne gone s (at.SetGlobal x v) (at.SetGlobal x w)
+    stores x g = one_at s _ _ _ _ _ (stored t x e v w g k) (is ∙ sym (rolls-Set t e)) (sym (rolls-SetGlobal x v)) (sym (rolls-SetGlobal x w))
 
-    pub writes : (r : Array) (i i' : Tree) → reads_temp t i ≡ false → i' ≡ i → IsOne gone s (at.Write r i v) (at.Write r i' w)
-    writes r i i' unread same =
+    pub writes : (r : Array) (i i' : Tree) → gone t → reads_temp t i ≡ false → i' ≡ i → IsOne gone s (at.Write r i v) (at.Write r i' w)
+    writes r i i' g unread same =
         one_at s _ _ _ _ _ (written t r e i v w g unread k) (is ∙ sym (rolls-Set t e)) (sym (rolls-Write r i v))
         (ap (λ y. at.Write r y w) same ∙ sym (rolls-Write r i w))

@@ -1,6 +1,6 @@
 -- Two statements and the one that they are together, as one temporary sees them.
 use Rattle.std.proofs.Common.{◌≡◌, ℕ, Bool, true, false, not, eqb, ◌&&◌, ◌||◌, List, [], ◌∷◌, ◌++◌, Option, Some, None, sym, ◌∙◌, ap, subst, ◌⊎◌, inl, inr}
-use Rattle.std.proofs.lemmas.Bool.{ne_eqb, or_left, or_right}
+use Rattle.std.proofs.lemmas.Bool.{eq-eqb, ne_eqb, or_left, or_right}
 use Rattle.mv_num.proofs.Booleans.{or_cases, and_cases, from_falsity}
 use Rattle.mv_ir.specs.declared.tree.Tree.{Tree}
 use Rattle.mv_ir.specs.declared.stm.Stm.{Stm}
@@ -18,11 +18,11 @@ use Rattle.mv_tidy.proofs.Values.{apart, ReadThere, taken_reads}
 pub record Pair (gone : ℕ → Type 0) (s n z : Stm) : Type 0 where
   -- the temporary between the two
   pub temp : ℕ
-  pub is_gone : gone temp
   pub first : List Tree
   pub second : List Tree
   pub both : List Tree
   pub writes : Option ℕ
+  pub is_over : gone temp ⊎ (writes ≡ Some temp)
   pub s_is : (t : ℕ) → flow t s ≡ plain t first (Some temp) goes_next
   pub n_is : (t : ℕ) → flow t n ≡ plain t second writes goes_next
   pub z_is : (t : ℕ) → flow t z ≡ plain t both writes goes_next
@@ -34,11 +34,11 @@ module _ (gone : ℕ → Type 0) (t x : ℕ) (g : gone t) where
       Pair gone (roll-Stm s) (roll-Stm (stm.Set x (temp t))) (roll-Stm z)
   moves s z reads hs hz = record {
     temp = t;
-    is_gone = g;
     first = reads;
     second = temp t ∷ [];
     both = reads;
     writes = Some x;
+    is_over = inl g;
     s_is = hs;
     n_is = λ u. flow_roll u (stm.Set x (temp t));
     z_is = hz;
@@ -46,7 +46,7 @@ module _ (gone : ℕ → Type 0) (t x : ℕ) (g : gone t) where
   }
 
 -- a value that is put in its place
-module _ (gone : ℕ → Type 0) (t : ℕ) (e v w : Tree) (g : gone t) (k : Takes t e v w) where
+module _ (gone : ℕ → Type 0) (t : ℕ) (e v w : Tree) (k : Takes t e v w) where
   there : (u : ℕ) → ReadThere t e u v → (any_reads u (e ∷ []) ≡ true) ⊎ ((any_reads u (v ∷ []) ≡ true) × (u ≡ t → ⊥))
   there u (inl r) = inl (or_left (reads_temp u e) false r)
   there u (inr r) = inr (or_left (reads_temp u v) false r.0, apart u t r.1)
@@ -58,15 +58,15 @@ module _ (gone : ℕ → Type 0) (t : ℕ) (e v w : Tree) (g : gone t) (k : Take
       by (inl h) = there u (taken_reads t e u v w k h)
       by (inr h) = from_falsity h
 
-  puts : (n z : Stm-F Stm) (writes : Option ℕ) → ((u : ℕ) → flow u (roll-Stm n) ≡ plain u (v ∷ []) writes goes_next) → ((u : ℕ) → flow u (roll-Stm z) ≡ plain u (w ∷ []) writes goes_next) →
+  puts : (n z : Stm-F Stm) (writes : Option ℕ) → gone t ⊎ (writes ≡ Some t) → ((u : ℕ) → flow u (roll-Stm n) ≡ plain u (v ∷ []) writes goes_next) → ((u : ℕ) → flow u (roll-Stm z) ≡ plain u (w ∷ []) writes goes_next) →
       Pair gone (roll-Stm (stm.Set t e)) (roll-Stm n) (roll-Stm z)
-  puts n z writes hn hz = record {
+  puts n z writes over hn hz = record {
     temp = t;
-    is_gone = g;
     first = e ∷ [];
     second = v ∷ [];
     both = w ∷ [];
     writes = writes;
+    is_over = over;
     s_is = λ u. flow_roll u (stm.Set t e);
     n_is = hn;
     z_is = hz;
@@ -95,28 +95,40 @@ pair_of gone s n z (fetched t x r i g) = moves gone t x g (stm.Read t r i) (stm.
 pair_of gone s n z (called t x f args g) =
     moves gone t x g (stm.Call (Some t) f args) (stm.Call (Some x) f args) (callee_trees f ++ args) (λ u. flow_roll u (stm.Call (Some t) f args)) (λ u. flow_roll u (stm.Call (Some x) f args))
 pair_of gone s n z (asked t x k args g) = moves gone t x g (stm.Known (Some t) k args) (stm.Known (Some x) k args) args (λ u. flow_roll u (stm.Known (Some t) k args)) (λ u. flow_roll u (stm.Known (Some x) k args))
-pair_of gone s n z (carried t x e v w g k) = puts gone t e v w g k (stm.Set x v) (stm.Set x w) (Some x) (λ u. flow_roll u (stm.Set x v)) (λ u. flow_roll u (stm.Set x w))
-pair_of gone s n z (stored t h e v w g k) = puts gone t e v w g k (stm.SetGlobal h v) (stm.SetGlobal h w) None (λ u. flow_roll u (stm.SetGlobal h v)) (λ u. flow_roll u (stm.SetGlobal h w))
+pair_of gone s n z (carried t x e v w g k) = puts gone t e v w k (stm.Set x v) (stm.Set x w) (Some x) (same g) (λ u. flow_roll u (stm.Set x v)) (λ u. flow_roll u (stm.Set x w))
+  where
+    same : gone t ⊎ (t ≡ x) → gone t ⊎ (Some x ≡ Some t)
+    same (inl h) = inl h
+    same (inr h) = inr (ap Some (sym h))
+pair_of gone s n z (stored t h e v w g k) = puts gone t e v w k (stm.SetGlobal h v) (stm.SetGlobal h w) None (inl g) (λ u. flow_roll u (stm.SetGlobal h v)) (λ u. flow_roll u (stm.SetGlobal h w))
 pair_of gone s n z (written t r e i v w g unread k) = record {
   temp = t;
-  is_gone = g;
   first = e ∷ [];
   second = i ∷ v ∷ [];
   both = i ∷ w ∷ [];
   writes = None;
+  is_over = inl g;
   s_is = λ u. flow_roll u (stm.Set t e);
   n_is = λ u. flow_roll u (stm.Write r i v);
   z_is = λ u. flow_roll u (stm.Write r i w);
-  reads = indexed gone t e v w g k i unread;
+  reads = indexed gone t e v w k i unread;
 }
 
 -- what is live before the one is live before the first, where what is live before the second is so behind the first
 module _ (gone : ℕ → Type 0) (s n z : Stm) (p : Pair gone s n z) (t : ℕ) (r r' : Around) (live : Bool) where
-  pub pair_live : (r'.next ≡ true → t ≡ p.temp → ⊥) → ((flow t n).live r' ≡ true → live ≡ true) → (flow t z).live r' ≡ true → (flow t s).live (with_after r live) ≡ true
-  pair_live other second e = ap (λ f. f.live (with_after r live)) (p.s_is t) ∙ by (or_cases (any_reads t p.both) (not (is p.writes t) && r'.next) (ap (λ f. f.live r') (sym (p.z_is t)) ∙ e))
+  pub pair_live : (gone p.temp → r'.next ≡ true → t ≡ p.temp → ⊥) → ((flow t n).live r' ≡ true → live ≡ true) → (flow t z).live r' ≡ true → (flow t s).live (with_after r live) ≡ true
+  pair_live absent second e = ap (λ f. f.live (with_after r live)) (p.s_is t) ∙ by (or_cases (any_reads t p.both) (not (is p.writes t) && r'.next) (ap (λ f. f.live r') (sym (p.z_is t)) ∙ e))
     where
       passes : (t ≡ p.temp → ⊥) → live ≡ true → (any_reads t p.first || (not (eqb p.temp t) && live)) ≡ true
       passes ne h = or_right (any_reads t p.first) (not (eqb p.temp t) && live) (ap (λ c. not c && live) (ne_eqb p.temp t (λ q. ne (sym q))) ∙ h)
+
+      -- the temporary isn't live behind the two but where the second sets it
+      other : not (is p.writes t) ≡ true → r'.next ≡ true → t ≡ p.temp → ⊥
+      other unset b q = by p.is_over
+        where
+          by : gone p.temp ⊎ (p.writes ≡ Some p.temp) → ⊥
+          by (inl g) = absent g b q
+          by (inr w) = let k : false ≡ true = ap not (sym (eq-eqb p.temp t (sym q))) ∙ ap (λ z. not (is z t)) (sym w) ∙ unset in absurd (cc)
 
       from_second : (any_reads t p.second || (not (is p.writes t) && r'.next)) ≡ true → live ≡ true
       from_second h = second (ap (λ f. f.live r') (p.n_is t) ∙ h)
@@ -127,4 +139,4 @@ module _ (gone : ℕ → Type 0) (s n z : Stm) (p : Pair gone s n z) (t : ℕ) (
 
       by : (any_reads t p.both ≡ true) ⊎ ((not (is p.writes t) && r'.next) ≡ true) → (any_reads t p.first || (not (eqb p.temp t) && live)) ≡ true
       by (inl h) = read (p.reads t h)
-      by (inr h) = passes (other (and_cases (not (is p.writes t)) r'.next h).1) (from_second (or_right (any_reads t p.second) (not (is p.writes t) && r'.next) h))
+      by (inr h) = let c = and_cases (not (is p.writes t)) r'.next h in passes (other c.0 c.1) (from_second (or_right (any_reads t p.second) (not (is p.writes t) && r'.next) h))

@@ -132,7 +132,7 @@ module _ (temps t : ℕ) where
 
       step : (r' : Around) (b : Bool) → Fits r r' → (b ≡ true → behind t ≡ true) → (flow t z).live (with_after r' b) ≡ true → live_in (s ∷ code) r ≡ true
       step r' b f hb e =
-          pair_live (λ u. (u < temps) × (behind u ≡ false)) s n z p t r (with_after r' b) (live_in code r) (gone_other behind p.temp b hb p.is_gone.1) (h.step r' b f hb) e
+          pair_live (λ u. (u < temps) × (behind u ≡ false)) s n z p t r (with_after r' b) (live_in code r) (λ g. gone_other behind p.temp b hb g.1) (h.step r' b f hb) e
 
       -- the first statement is marked where it is live
       first_marked : live_in (s ∷ code) r ≡ true → any_of (marks_in (s ∷ code) r) ≡ true

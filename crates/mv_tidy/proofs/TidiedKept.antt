@@ -18,7 +18,7 @@ use Rattle.mv_ir.specs.declared.body.Body.{Body}
 use Rattle.mv_ir.specs.World.{World, Setting, Frame}
 use Rattle.mv_ir.specs.Trees.{value, nodes}
 use Rattle.mv_ir.specs.Outcome.{State, Next, Leaves, Restarts, Ends, Outcome, Bound, Meaning, spend, goes_on, in_order}
-use Rattle.mv_ir.specs.Meaning.{meaning, code_meaning, elements, with_elements, with_global, entry_state}
+use Rattle.mv_ir.specs.Meaning.{meaning, code_meaning, elements, outside, with_elements, with_global, entry_state}
 use Rattle.mv_ir.specs.Measures.{callee_trees}
 use Rattle.mv_ir.specs.Keeps.{KeepsMeaning, KeepsBody}
 use Rattle.mv_ir.specs.Live.{reads_temp, any_reads, is, Around, with_after, at_place, around_loop, live_in_order, live_at_loop, flow, nowhere}
@@ -35,7 +35,7 @@ use Rattle.mv_fold.proofs.FoldedThinner.{every}
 use Rattle.mv_fold.proofs.Thinner.{FitsAround}
 use Rattle.mv_tidy.specs.Tidying.{Takes, IsOne, divided, fetched, called, asked, carried, stored, written, lives, before, in_loop, in_block, Left, Becomes, none, put, one, dropped, idle, ended, same, choice, turns, block, IsJoinedCode}
 use Rattle.mv_tidy.proofs.Equations.{itself_read}
-use Rattle.mv_tidy.proofs.Values.{value_same, value_taken, takes_is, taken_less}
+use Rattle.mv_tidy.proofs.Values.{value_same, takes_value, taken_less}
 use Rattle.mv_tidy.proofs.Thinning.{jump_stops, left_thin}
 
 -- ---- related runs, one after the other
@@ -283,17 +283,17 @@ module _ (temps : ℕ) (setting : Setting) (frame : Frame) where
       subst (λ z. RunRel q (code_meaning setting frame (roll-Stm x ∷ []) bound s) z) (sym (one_meaning setting frame y bound s'))
       (subst (λ z. RunRel q z (layer_means setting frame y bound s')) (sym (one_meaning setting frame x bound s)) (h bound s s' e))
 
-  module _ (r : ℕ → Around) (behind live : ℕ → Bool) (t : ℕ) (lt : t < temps) (gone : behind t ≡ false) where
-    other : (u : ℕ) → behind u ≡ true → u ≡ t → ⊥
-    other u b e = let k : false ≡ true = sym gone ∙ ap behind (sym e) ∙ b in absurd (cc)
+  module _ (r : ℕ → Around) (behind live : ℕ → Bool) (t : ℕ) where
+    other : behind t ≡ false → (u : ℕ) → behind u ≡ true → u ≡ t → ⊥
+    other gone u b e = let k : false ≡ true = sym gone ∙ ap behind (sym e) ∙ b in absurd (cc)
 
     -- a result that is moved
-    module _ (x : ℕ) (reads : List Tree) (next : (u : ℕ) → (any_reads u (temp t ∷ []) || (not (eqb x u) && behind u)) ≡ true → live u ≡ true) where
+    module _ (lt : t < temps) (gone : behind t ≡ false) (x : ℕ) (reads : List Tree) (next : (u : ℕ) → (any_reads u (temp t ∷ []) || (not (eqb x u) && behind u)) ≡ true → live u ≡ true) where
       abbrev Moved : Rel
       Moved xs ys = Agree behind (slice_set xs x (slice_index xs t)) ys
 
       passes : (u : ℕ) → (u ≡ x → ⊥) → behind u ≡ true → L reads (Some t) live u ≡ true
-      passes u ne b = live_other reads t live u (other u b) (next u (or_right (any_reads u (temp t ∷ [])) _ (ap (λ c. not c && behind u) (ne_eqb x u (λ e. ne (sym e))) ∙ b)))
+      passes u ne b = live_other reads t live u (other gone u b) (next u (or_right (any_reads u (temp t ∷ [])) _ (ap (λ c. not c && behind u) (ne_eqb x u (λ e. ne (sym e))) ∙ b)))
 
       moves : Writes setting frame (Agree (L reads (Some t) live)) Moved t x
       moves xs ys v a =
@@ -301,7 +301,7 @@ module _ (temps : ℕ) (setting : Setting) (frame : Frame) where
           subst (λ w. Agree behind (slice_set (slice_set xs t v) x w) (slice_set ys x v)) (sym there) (record {
             long = length-set (slice_set xs t v) x v ∙ length-set xs t v ∙ a.long ∙ sym (length-set ys x v);
             room = (let k = a.room in omega (arith, k, length-set (slice_set xs t v) x v, length-set xs t v));
-            same = λ u b. both_set (slice_set xs t v) ys x v u (length-set xs t v ∙ a.long) (λ ne. get_or-set_other xs t u v 0 (other u b) ∙ a.same u (passes u ne b));
+            same = λ u b. both_set (slice_set xs t v) ys x v u (length-set xs t v ∙ a.long) (λ ne. get_or-set_other xs t u v 0 (other gone u b) ∙ a.same u (passes u ne b));
           })
 
       move : MeaningRel Moved (Q r behind) (in_order (m (set x (temp t)) ∷ [])) (in_order [])
@@ -363,18 +363,10 @@ module _ (temps : ℕ) (setting : Setting) (frame : Frame) where
           ap (λ n. slice_index (slice_set xs t n) u) (value_same setting.numbers frame.bound globals xs ys e (λ z b. a.same z (one_live e (Some t) live z b))) ∙
           both_set xs ys t (val e ys globals) u a.long (λ ne. a.same u (live_other (e ∷ []) t live u ne l))
 
-      same_value : (xs ys : List ℕ) (globals : List (List ℕ)) → Agree Before xs ys → ReadLive live v → val v (filled xs globals) globals ≡ val w ys globals
-      same_value xs ys globals a h =
+      same_value : (xs ys : List ℕ) (globals : List (List ℕ)) → t < length xs → Agree Before xs ys → ReadLive live v → val v (filled xs globals) globals ≡ val w ys globals
+      same_value xs ys globals room a h =
           value_same setting.numbers frame.bound globals (filled xs globals) (filled ys globals) v (λ u b. still xs ys globals a u (h u b)) ∙
-          value_taken setting.numbers frame.bound globals t e ys (let z = a.room in let l = a.long in omega (arith, z, l, lt)) v ∙ ap (λ z. val z ys globals) (takes_is t e v w k)
-
-      -- the temporary isn't read any more
-      kept : (xs ys : List ℕ) (globals : List (List ℕ)) → Agree Before xs ys → ((u : ℕ) → behind u ≡ true → live u ≡ true) → Agree behind (filled xs globals) ys
-      kept xs ys globals a h = record {
-        long = length-set xs t (val e xs globals) ∙ a.long;
-        room = (let z = a.room in omega (arith, z, length-set xs t (val e xs globals)));
-        same = λ u b. get_or-set_other xs t u (val e xs globals) 0 (other u b) ∙ a.same u (live_other (e ∷ []) t live u (other u b) (h u b));
-      }
+          takes_value setting.numbers frame.bound globals t e v w k ys (let l = a.long in omega (arith, room, l))
 
       two : (y : Stm-F Stm) (bound : Bound) (s : State) →
           code_meaning setting frame (set t e ∷ roll-Stm y ∷ []) bound s ≡ spend (8 + 3 * nodes e) (layer_means setting frame y bound (record s { temps = filled s.temps s.world.globals }))
@@ -393,71 +385,129 @@ module _ (temps : ℕ) (setting : Setting) (frame : Frame) where
       less : nodes w ≤ nodes v + nodes e
       less = (taken_less t e v w k).nodes
 
-      carried_rel : (x : ℕ) → ((u : ℕ) → (any_reads u (v ∷ []) || (not (eqb x u) && behind u)) ≡ true → live u ≡ true) →
-          MeaningRel (Agree Before) (Q r behind) (in_order (m (set t e) ∷ m (roll-Stm (stm.Set x v)) ∷ [])) (in_order (m (roll-Stm (stm.Set x w)) ∷ []))
-      carried_rel x next = taken_rel (stm.Set x v) (stm.Set x w) (λ bound xs ys arrays world a.
-          let G = world.globals in
-          record {
-            outcome = record {
-              temps = subst (λ n. Agree behind (slice_set (filled xs G) x n) (slice_set ys x (val w ys G))) (sym (same_value xs ys G a (λ u b. next u (or_left _ _ (or_left (reads_temp u v) false b))))) (record {
-                long = length-set (filled xs G) x (val w ys G) ∙ length-set xs t (val e xs G) ∙ a.long ∙ sym (length-set ys x (val w ys G));
-                room = (let z = a.room in omega (arith, z, length-set (filled xs G) x (val w ys G), length-set xs t (val e xs G)));
-                same = λ u b. both_set (filled xs G) ys x (val w ys G) u (length-set xs t (val e xs G) ∙ a.long) (λ ne.
-                    get_or-set_other xs t u (val e xs G) 0 (other u b) ∙
-                    a.same u (live_other (e ∷ []) t live u (other u b) (next u (or_right (any_reads u (v ∷ [])) _ (ap (λ c. not c && behind u) (ne_eqb x u (λ q. ne (sym q))) ∙ b)))));
-              });
-              arrays = refl;
-              world = refl;
-            };
-            cheaper = omega (arith, less);
-          })
+      -- where the temporary isn't live behind the second statement, or that sets it
+      module _ (x : ℕ) (over : ((t < temps) × (behind t ≡ false)) ⊎ (t ≡ x)) (next : (u : ℕ) → (any_reads u (v ∷ []) || (not (eqb x u) && behind u)) ≡ true → live u ≡ true) where
+        sure : (u : ℕ) → behind u ≡ true → (u ≡ x → ⊥) → u ≡ t → ⊥
+        sure u b ne q = by over
+          where
+            by : ((t < temps) × (behind t ≡ false)) ⊎ (t ≡ x) → ⊥
+            by (inl g) = other g.1 u b q
+            by (inr s) = ne (q ∙ s)
 
-      stored_rel : (g : ℕ) → ((u : ℕ) → (any_reads u (v ∷ []) || behind u) ≡ true → live u ≡ true) →
-          MeaningRel (Agree Before) (Q r behind) (in_order (m (set t e) ∷ m (roll-Stm (stm.SetGlobal g v)) ∷ [])) (in_order (m (roll-Stm (stm.SetGlobal g w)) ∷ []))
-      stored_rel g next = taken_rel (stm.SetGlobal g v) (stm.SetGlobal g w) (λ bound xs ys arrays world a.
-          let G = world.globals in
-          record {
-            outcome = record {
-              temps = kept xs ys G a (λ u b. next u (or_right (any_reads u (v ∷ [])) (behind u) b));
-              arrays = refl;
-              world = ap (λ n. with_global world g (slice_set (slice_index_or world.globals g []) 0 n)) (same_value xs ys G a (λ u b. next u (or_left _ _ (or_left (reads_temp u v) false b))));
-            };
-            cheaper = omega (arith, less);
-          })
+        within : (xs : List ℕ) → temps ≤ length xs → x < length xs → t < length xs
+        within xs room lt = by over
+          where
+            by : ((t < temps) × (behind t ≡ false)) ⊎ (t ≡ x) → t < length xs
+            by (inl g) = let lt = g.0 in omega (arith, lt, room)
+            by (inr s) = omega (arith, s, lt)
 
-      elements_same : (d : Array) (xs ys : List ℕ) (arrays : List (List ℕ)) (world : World) → elements d (record { temps = xs; arrays = arrays; world = world }) ≡ elements d (record { temps = ys; arrays = arrays; world = world })
-      elements_same (array.Global g) xs ys arrays world = refl
-      elements_same (array.Local l) xs ys arrays world = refl
+        -- what matters behind both agrees
+        agrees : (xs ys : List ℕ) (G : List (List ℕ)) → Agree Before xs ys → (u : ℕ) → behind u ≡ true →
+            slice_index (slice_set (filled xs G) x (val v (filled xs G) G)) u ≡ slice_index (slice_set ys x (val w ys G)) u
+        agrees xs ys G a u b = by (cases_eq u x) (cases_lt x (length xs))
+          where
+            one : List ℕ
+            one = slice_set (filled xs G) x (val v (filled xs G) G)
 
-      put_in : (d : Array) (xs ys : List ℕ) (arrays : List (List ℕ)) (world : World) (l l' : List ℕ) → Agree behind xs ys → l ≡ l' → StateRel (Agree behind) (with_elements d (record { temps = xs; arrays = arrays; world = world }) l) (with_elements d (record { temps = ys; arrays = arrays; world = world }) l')
-      put_in (array.Global g) xs ys arrays world l l' h q = record { temps = h; arrays = refl; world = ap (λ z. with_global world g z) q }
-      put_in (array.Local n) xs ys arrays world l l' h q = record { temps = h; arrays = ap (λ z. slice_set arrays n z) q; world = refl }
+            two_sets : length one ≡ length xs
+            two_sets = length-set (filled xs G) x (val v (filled xs G) G) ∙ length-set xs t (val e xs G)
 
-      written_rel : (d : Array) (i : Tree) → ((u : ℕ) → (any_reads u (i ∷ v ∷ []) || behind u) ≡ true → live u ≡ true) → reads_temp t i ≡ false →
-          MeaningRel (Agree Before) (Q r behind) (in_order (m (set t e) ∷ m (roll-Stm (stm.Write d i v)) ∷ [])) (in_order (m (roll-Stm (stm.Write d i w)) ∷ []))
-      written_rel d i next unread = taken_rel (stm.Write d i v) (stm.Write d i w) (λ bound xs ys arrays world a.
-          let G = world.globals in
-          let here : State = record { temps = filled xs G; arrays = arrays; world = world } in
-          let there : State = record { temps = ys; arrays = arrays; world = world } in
-          let at : val i (filled xs G) G ≡ val i ys G = value_same setting.numbers frame.bound G (filled xs G) ys i (λ u b.
-          get_or-set_other xs t u (val e xs G) 0 (λ q. clash u b q) ∙ a.same u (live_other (e ∷ []) t live u (λ q. clash u b q) (next u (or_left _ _ (or_left (reads_temp u i) (any_reads u (v ∷ [])) b))))) in
-          let v_is = same_value xs ys G a (λ u b. next u (or_left _ _ (or_right (reads_temp u i) (any_reads u (v ∷ [])) (or_left (reads_temp u v) false b)))) in
-          let es = elements_same d (filled xs G) ys arrays world in
-          record {
-            outcome = either_rel _ _ _ _ _ _ (ap (λ z. ltb z (length (elements d here))) at ∙ ap (λ l. ltb (val i ys G) (length l)) es)
-                (put_in d (filled xs G) ys arrays world _ _ (kept xs ys G a (λ u b. next u (or_right (any_reads u (i ∷ v ∷ [])) (behind u) b))) (ap (λ z. slice_set (elements d here) z (val v (filled xs G) G)) at ∙ ap (λ z. slice_set (elements d here) (val i ys G) z) v_is ∙ ap (λ l. slice_set l (val i ys G) (val w ys G)) es)) refl;
-            cheaper = omega (arith, less);
-          })
-        where
-          clash : (u : ℕ) → reads_temp u i ≡ true → u ≡ t → ⊥
-          clash u b q = let z : false ≡ true = sym unread ∙ subst (λ y. reads_temp y i ≡ true) q b in absurd (cc)
+            reads : ReadLive live v
+            reads z r = next z (or_left _ _ (or_left (reads_temp z v) false r))
 
-          either_rel : (c c' : Bool) (o1 o1' o2 o2' : Outcome) → c ≡ c' → OutcomeRel (Q r behind) o1 o1' → OutcomeRel (Q r behind) o2 o2' → OutcomeRel (Q r behind) (cond c o1 o2) (cond c' o1' o2')
-          either_rel c c' o1 o1' o2 o2' q h z = subst (λ y. OutcomeRel (Q r behind) (cond c o1 o2) (cond y o1' o2')) q (by c)
-            where
-              by : (y : Bool) → OutcomeRel (Q r behind) (cond y o1 o2) (cond y o1' o2')
-              by true = h
-              by false = z
+            by : (u ≡ x) ⊎ (u ≡ x → ⊥) → (x < length xs) ⊎ (length xs ≤ x) → slice_index one u ≡ slice_index (slice_set ys x (val w ys G)) u
+            by (inl q) (inl lt) =
+                get_or-set_at (filled xs G) x u (val v (filled xs G) G) 0 q (omega (arith, lt, length-set xs t (val e xs G))) ∙
+                same_value xs ys G (within xs a.room lt) a reads ∙
+                sym (get_or-set_at ys x u (val w ys G) 0 q (let l = a.long in omega (arith, l, lt)))
+            by (inl q) (inr past) =
+                get_or_past one u 0 (omega (arith, q, past, two_sets)) ∙
+                sym (get_or_past (slice_set ys x (val w ys G)) u 0 (let l = a.long in omega (arith, q, past, l, length-set ys x (val w ys G))))
+            by (inr ne) c =
+                get_or-set_other (filled xs G) x u (val v (filled xs G) G) 0 ne ∙ get_or-set_other xs t u (val e xs G) 0 (sure u b ne) ∙
+                a.same u (live_other (e ∷ []) t live u (sure u b ne) (next u (or_right (any_reads u (v ∷ [])) _ (ap (λ d. not d && behind u) (ne_eqb x u (λ z. ne (sym z))) ∙ b)))) ∙
+                sym (get_or-set_other ys x u (val w ys G) 0 ne)
+
+        carried_rel : MeaningRel (Agree Before) (Q r behind) (in_order (m (set t e) ∷ m (roll-Stm (stm.Set x v)) ∷ [])) (in_order (m (roll-Stm (stm.Set x w)) ∷ []))
+        carried_rel = taken_rel (stm.Set x v) (stm.Set x w) (λ bound xs ys arrays world a.
+            let G = world.globals in
+            let n = val v (filled xs G) G in
+            record {
+              outcome = record {
+                temps = record {
+                  long = length-set (filled xs G) x n ∙ length-set xs t (val e xs G) ∙ a.long ∙ sym (length-set ys x (val w ys G));
+                  room = (let z = a.room in omega (arith, z, length-set (filled xs G) x n, length-set xs t (val e xs G)));
+                  same = agrees xs ys G a;
+                };
+                arrays = refl;
+                world = refl;
+              };
+              cheaper = omega (arith, less);
+            })
+
+      -- where the temporary isn't live behind the second statement
+      module _ (lt : t < temps) (gone : behind t ≡ false) where
+        same_here : (xs ys : List ℕ) (globals : List (List ℕ)) → Agree Before xs ys → ReadLive live v → val v (filled xs globals) globals ≡ val w ys globals
+        same_here xs ys globals a = same_value xs ys globals (let z = a.room in omega (arith, z, lt)) a
+
+        -- the temporary isn't read any more
+        kept : (xs ys : List ℕ) (globals : List (List ℕ)) → Agree Before xs ys → ((u : ℕ) → behind u ≡ true → live u ≡ true) → Agree behind (filled xs globals) ys
+        kept xs ys globals a h = record {
+          long = length-set xs t (val e xs globals) ∙ a.long;
+          room = (let z = a.room in omega (arith, z, length-set xs t (val e xs globals)));
+          same = λ u b. get_or-set_other xs t u (val e xs globals) 0 (other gone u b) ∙ a.same u (live_other (e ∷ []) t live u (other gone u b) (h u b));
+        }
+
+        stored_rel : (g : ℕ) → ((u : ℕ) → (any_reads u (v ∷ []) || behind u) ≡ true → live u ≡ true) →
+            MeaningRel (Agree Before) (Q r behind) (in_order (m (set t e) ∷ m (roll-Stm (stm.SetGlobal g v)) ∷ [])) (in_order (m (roll-Stm (stm.SetGlobal g w)) ∷ []))
+        stored_rel g next = taken_rel (stm.SetGlobal g v) (stm.SetGlobal g w) (λ bound xs ys arrays world a.
+            let G = world.globals in
+            record {
+              outcome = record {
+                temps = kept xs ys G a (λ u b. next u (or_right (any_reads u (v ∷ [])) (behind u) b));
+                arrays = refl;
+                world = ap (λ n. with_global world g (slice_set (slice_index_or world.globals g []) 0 n)) (same_here xs ys G a (λ u b. next u (or_left _ _ (or_left (reads_temp u v) false b))));
+              };
+              cheaper = omega (arith, less);
+            })
+
+        elements_same : (d : Array) (xs ys : List ℕ) (arrays : List (List ℕ)) (world : World) → elements d (record { temps = xs; arrays = arrays; world = world }) ≡ elements d (record { temps = ys; arrays = arrays; world = world })
+        elements_same (array.Global g) xs ys arrays world = refl
+        elements_same (array.Local l) xs ys arrays world = refl
+        elements_same (array.SureGlobal g n) xs ys arrays world = refl
+        elements_same (array.SureLocal l n) xs ys arrays world = refl
+
+        put_in : (d : Array) (xs ys : List ℕ) (arrays : List (List ℕ)) (world : World) (l l' : List ℕ) → Agree behind xs ys → l ≡ l' → StateRel (Agree behind) (with_elements d (record { temps = xs; arrays = arrays; world = world }) l) (with_elements d (record { temps = ys; arrays = arrays; world = world }) l')
+        put_in (array.Global g) xs ys arrays world l l' h q = record { temps = h; arrays = refl; world = ap (λ z. with_global world g z) q }
+        put_in (array.Local n) xs ys arrays world l l' h q = record { temps = h; arrays = ap (λ z. slice_set arrays n z) q; world = refl }
+        put_in (array.SureGlobal g n) xs ys arrays world l l' h q = record { temps = h; arrays = refl; world = ap (λ z. with_global world g z) q }
+        put_in (array.SureLocal n m) xs ys arrays world l l' h q = record { temps = h; arrays = ap (λ z. slice_set arrays n z) q; world = refl }
+
+        written_rel : (d : Array) (i : Tree) → ((u : ℕ) → (any_reads u (i ∷ v ∷ []) || behind u) ≡ true → live u ≡ true) → reads_temp t i ≡ false →
+            MeaningRel (Agree Before) (Q r behind) (in_order (m (set t e) ∷ m (roll-Stm (stm.Write d i v)) ∷ [])) (in_order (m (roll-Stm (stm.Write d i w)) ∷ []))
+        written_rel d i next unread = taken_rel (stm.Write d i v) (stm.Write d i w) (λ bound xs ys arrays world a.
+            let G = world.globals in
+            let here : State = record { temps = filled xs G; arrays = arrays; world = world } in
+            let there : State = record { temps = ys; arrays = arrays; world = world } in
+            let at : val i (filled xs G) G ≡ val i ys G = value_same setting.numbers frame.bound G (filled xs G) ys i (λ u b.
+            get_or-set_other xs t u (val e xs G) 0 (λ q. clash u b q) ∙ a.same u (live_other (e ∷ []) t live u (λ q. clash u b q) (next u (or_left _ _ (or_left (reads_temp u i) (any_reads u (v ∷ [])) b))))) in
+            let v_is = same_here xs ys G a (λ u b. next u (or_left _ _ (or_right (reads_temp u i) (any_reads u (v ∷ [])) (or_left (reads_temp u v) false b)))) in
+            let es = elements_same d (filled xs G) ys arrays world in
+            record {
+              outcome = either_rel _ _ _ _ _ _ (ap (λ z. ltb z (length (elements d here))) at ∙ ap (λ l. ltb (val i ys G) (length l)) es)
+                  (put_in d (filled xs G) ys arrays world _ _ (kept xs ys G a (λ u b. next u (or_right (any_reads u (i ∷ v ∷ [])) (behind u) b))) (ap (λ z. slice_set (elements d here) z (val v (filled xs G) G)) at ∙ ap (λ z. slice_set (elements d here) (val i ys G) z) v_is ∙ ap (λ l. slice_set l (val i ys G) (val w ys G)) es)) (ap (λ z. outside d z world) at);
+              cheaper = omega (arith, less);
+            })
+          where
+            clash : (u : ℕ) → reads_temp u i ≡ true → u ≡ t → ⊥
+            clash u b q = let z : false ≡ true = sym unread ∙ subst (λ y. reads_temp y i ≡ true) q b in absurd (cc)
+
+            either_rel : (c c' : Bool) (o1 o1' o2 o2' : Outcome) → c ≡ c' → OutcomeRel (Q r behind) o1 o1' → OutcomeRel (Q r behind) o2 o2' → OutcomeRel (Q r behind) (cond c o1 o2) (cond c' o1' o2')
+            either_rel c c' o1 o1' o2 o2' q h z = subst (λ y. OutcomeRel (Q r behind) (cond c o1 o2) (cond y o1' o2')) q (by c)
+              where
+                by : (y : Bool) → OutcomeRel (Q r behind) (cond y o1 o2) (cond y o1' o2')
+                by true = h
+                by false = z
 
   -- what the second statement needs is live behind the first
   abbrev Needs : (ℕ → Around) → (ℕ → Bool) → (ℕ → Bool) → Stm → Type 0
@@ -481,9 +531,9 @@ module _ (temps : ℕ) (setting : Setting) (frame : Frame) where
   pair_rel r behind live s n z (called t x f args g) h =
       from_layer r live (stm.Call (Some t) f args) (Q r behind) _ _ (called_rel r behind live t g.0 g.1 x (callee_trees f ++ args) (needed r behind live (stm.Set x (temp t)) h) f args refl)
   pair_rel r behind live s n z (asked t x k args g) h = from_layer r live (stm.Known (Some t) k args) (Q r behind) _ _ (asked_rel r behind live t g.0 g.1 x args (needed r behind live (stm.Set x (temp t)) h) k args refl)
-  pair_rel r behind live s n z (carried t x e v w g k) h = from_layer r live (stm.Set t e) (Q r behind) _ _ (carried_rel r behind live t g.0 g.1 e v w k x (needed r behind live (stm.Set x v) h))
-  pair_rel r behind live s n z (stored t x e v w g k) h = from_layer r live (stm.Set t e) (Q r behind) _ _ (stored_rel r behind live t g.0 g.1 e v w k x (needed r behind live (stm.SetGlobal x v) h))
-  pair_rel r behind live s n z (written t d e i v w g unread k) h = from_layer r live (stm.Set t e) (Q r behind) _ _ (written_rel r behind live t g.0 g.1 e v w k d i (needed r behind live (stm.Write d i v) h) unread)
+  pair_rel r behind live s n z (carried t x e v w g k) h = from_layer r live (stm.Set t e) (Q r behind) _ _ (carried_rel r behind live t e v w k x g (needed r behind live (stm.Set x v) h))
+  pair_rel r behind live s n z (stored t x e v w g k) h = from_layer r live (stm.Set t e) (Q r behind) _ _ (stored_rel r behind live t e v w k g.0 g.1 x (needed r behind live (stm.SetGlobal x v) h))
+  pair_rel r behind live s n z (written t d e i v w g unread k) h = from_layer r live (stm.Set t e) (Q r behind) _ _ (written_rel r behind live t e v w k g.0 g.1 d i (needed r behind live (stm.Write d i v) h) unread)
 
   -- ---- code
 

@@ -5,24 +5,32 @@ use Rattle.std.proofs.lemmas.List.{get_or-set_other}
 use Rattle.std.proofs.lemmas.List.Elements.{Contains-append_left, Contains-append_right, Contains-append_cases}
 use Rattle.std.proofs.lemmas.Grind.{get_or-set_at}
 use Rattle.std.proofs.lemmas.Bool.{eq-eqb, eqb-true, or_left, or_right}
+use Rattle.mv_num.specs.declared.kind.Kind.{Kind}
 use Rattle.mv_num.specs.Words as word
 use Rattle.mv_num.proofs.Booleans.{or_cases, from_falsity}
 use Rattle.mv_ir.specs.declared.tree.Tree.{Tree, out-Tree}
+use Rattle.mv_ir.specs.declared.tree.Tree as tr
 use Rattle.mv_ir.specs.declared.tree.Tree.TheOpen.{Tree-F}
 use Rattle.mv_ir.specs.declared.tree.Tree.TheOpen as tree
+use Rattle.mv_ir.specs.declared.tree.Tree.TheVariants.{rolls-Unary, rolls-Binary, rolls-Narrow}
 use Rattle.mv_ir.specs.declared.tree.Tree.TheViews.{roll-Tree, roll-out-Tree}
 use Rattle.mv_ir.specs.declared.tree.Tree.TheFolds.{map-Tree}
 use Rattle.mv_ir.specs.Trees.{Value, tree_value, unary, binary, value, nodes, depth}
 use Rattle.mv_ir.specs.Measures.{tree_reads}
 use Rattle.mv_ir.specs.Live.{reads_temp}
-use Rattle.mv_ir.specs.Rolled.{temp}
+use Rattle.mv_ir.specs.Operators as operator
+use Rattle.mv_ir.specs.Rolled.{number, temp}
+use Rattle.mv_ir.specs.Rolled as rolled
 use Rattle.mv_ir.proofs.Induction.{TreeChildren, tree_ind}
 use Rattle.mv_ir.proofs.Rolls.{value_roll, nodes_roll, depth_roll, reads_roll, reads_temp_roll}
 use Rattle.mv_fold.proofs.Reached.{eqb_self}
 use Rattle.mv_fold.proofs.Within.{none_among, Less, with, less_right}
 use Rattle.mv_fold.proofs.FoldedWithin.{of_tree}
-use Rattle.mv_tidy.specs.Tidying.{taking, layer_is_leaf, is_leaf, Takes, whole, through}
+use Rattle.mv_tidy.specs.Plain as plain
+use Rattle.mv_tidy.specs.Plain.{narrow, is_truth, Plainer}
+use Rattle.mv_tidy.specs.Tidying.{taking, layer_is_leaf, is_leaf, Takes, whole, truth, twice_truth, narrowed_truth, through}
 use Rattle.mv_tidy.proofs.Equations.{leaf_roll, taking_roll}
+use Rattle.mv_tidy.proofs.PlainKept as kept
 
 pub apart : (a b : ℕ) → eqb a b ≡ false → a ≡ b → ⊥
 apart a b o e = let same : eqb a b ≡ true = eq-eqb a b e in let no : false ≡ true = sym o ∙ same in absurd (cc)
@@ -88,15 +96,65 @@ module _ (numbers : List ℕ) (bound : List (ℕ × ℕ)) (globals : List (List 
 
 -- ---- a value that is taken
 
-pub takes_is : (t : ℕ) (e v w : Tree) → Takes t e v w → taking t e v ≡ w
-takes_is t e v w whole = taking_roll t e (tree.Temp t) ∙ ap (λ c. cond c e (temp t)) (eqb_self t)
-takes_is t e v w (through u h) = refl
+abbrev denied : Tree → Tree
+denied = rolled.unary operator.logical_not
+
+-- the temporary itself
+taking_itself : (t : ℕ) (e : Tree) → taking t e (temp t) ≡ e
+taking_itself t e = taking_roll t e (tree.Temp t) ∙ ap (λ c. cond c e (temp t)) (eqb_self t)
+
+-- whether the temporary is 0
+taking_asked : (t : ℕ) (e : Tree) → taking t e (rolled.binary operator.not_equal (temp t) (number 0)) ≡ rolled.binary operator.not_equal e (number 0)
+taking_asked t e =
+    taking_roll t e (tree.Binary operator.not_equal (temp t) (number 0)) ∙
+    ap (λ a. rolled.binary operator.not_equal a (taking t e (number 0))) (taking_itself t e) ∙
+    ap (rolled.binary operator.not_equal e) (taking_roll t e (tree.Number 0))
+
+-- whether it is, twice
+taking_twice : (t : ℕ) (e : Tree) → taking t e (denied (denied (temp t))) ≡ denied (denied e)
+taking_twice t e = taking_roll t e (tree.Unary operator.logical_not (denied (temp t))) ∙
+    ap denied (taking_roll t e (tree.Unary operator.logical_not (temp t)) ∙ ap denied (taking_itself t e))
+
+taking_narrowed : (t : ℕ) (e : Tree) (k : Kind) → taking t e (narrow k (temp t)) ≡ narrow k e
+taking_narrowed t e k = taking_roll t e (tree.Narrow k (temp t)) ∙ ap (narrow k) (taking_itself t e)
+
+takes_plainer : (t : ℕ) (e v w : Tree) → Takes t e v w → Plainer (taking t e v) w
+takes_plainer t e v w whole = subst (λ u. Plainer u e) (sym (taking_itself t e)) (plain.itself e)
+takes_plainer t e v w (truth h) = subst (λ u. Plainer u e) (sym (taking_asked t e)) (plain.asked e h)
+takes_plainer t e v w (twice_truth h) = subst (λ u. Plainer u e) (sym (taking_twice t e)) (plain.twice e h)
+takes_plainer t e v w (narrowed_truth k h) = subst (λ u. Plainer u e) (sym (taking_narrowed t e k)) (plain.truth_stays k e h)
+takes_plainer t e v w (through u h) = plain.itself (taking t e u)
+
+-- what is computed with it is what the tree gives where the temporary has the value
+pub takes_value : (numbers : List ℕ) (bound : List (ℕ × ℕ)) (globals : List (List ℕ)) (t : ℕ) (e v w : Tree) → Takes t e v w → (xs : List ℕ) → t < length xs →
+    value numbers bound v (slice_set xs t (value numbers bound e xs globals)) globals ≡ value numbers bound w xs globals
+takes_value numbers bound globals t e v w k xs room =
+    value_taken numbers bound globals t e xs room v ∙ kept.value_same numbers bound xs globals (taking t e v) w (takes_plainer t e v w k)
 
 pub through_taken : (t : ℕ) (e v w : Tree) → is_leaf e ≡ true → w ≡ taking t e v → Takes t e v w
 through_taken t e v w h is = subst (Takes t e v) (sym is) (through v h)
 
 pub whole_taken : (t : ℕ) (e v w : Tree) → v ≡ temp t → w ≡ e → Takes t e v w
 whole_taken t e v w is same = subst (λ x. Takes t e x w) (sym is) (subst (Takes t e (temp t)) (sym same) whole)
+
+pub asked_taken : (t o : ℕ) (a b v e : Tree) → o ≡ operator.not_equal → a ≡ temp t → b ≡ number 0 → v ≡ tr.Binary o a b → is_truth e ≡ true → Takes t e v e
+asked_taken t o a b v e ho ha hb is h =
+    let same : v ≡ rolled.binary operator.not_equal (temp t) (number 0) =
+    is ∙ ap (λ x. tr.Binary x a b) ho ∙ ap (λ x. tr.Binary operator.not_equal x b) ha ∙ ap (tr.Binary operator.not_equal (temp t)) hb ∙
+    sym (rolls-Binary operator.not_equal (temp t) (number 0)) in
+    subst (λ x. Takes t e x e) (sym same) (truth h)
+
+pub denial_is : (t o : ℕ) (a v : Tree) → o ≡ operator.logical_not → a ≡ temp t → v ≡ tr.Unary o a → v ≡ denied (temp t)
+denial_is t o a v ho ha is = is ∙ ap (λ x. tr.Unary x a) ho ∙ ap (tr.Unary operator.logical_not) ha ∙ sym (rolls-Unary operator.logical_not (temp t))
+
+pub twice_taken : (t o : ℕ) (a v e : Tree) → o ≡ operator.logical_not → a ≡ denied (temp t) → v ≡ tr.Unary o a → is_truth e ≡ true → Takes t e v e
+twice_taken t o a v e ho ha is h =
+    let same : v ≡ denied (denied (temp t)) =
+    is ∙ ap (λ x. tr.Unary x a) ho ∙ ap (tr.Unary operator.logical_not) ha ∙ sym (rolls-Unary operator.logical_not (denied (temp t))) in
+    subst (λ x. Takes t e x e) (sym same) (twice_truth h)
+
+pub narrowed_taken : (t : ℕ) (k : Kind) (a v e : Tree) → a ≡ temp t → v ≡ tr.Narrow k a → is_truth e ≡ true → Takes t e v e
+narrowed_taken t k a v e ha is h = subst (λ x. Takes t e x e) (sym (is ∙ ap (tr.Narrow k) ha ∙ sym (rolls-Narrow k (temp t)))) (narrowed_truth k h)
 
 -- ---- what there is in it
 
@@ -182,6 +240,9 @@ module _ (t : ℕ) (e : Tree) where
 
   pub taken_less : (v w : Tree) → Takes t e v w → Less (of_tree w) (with (of_tree v) (of_tree e))
   taken_less v w whole = less_right (of_tree (temp t)) (of_tree e)
+  taken_less v w (truth h) = less_right (of_tree (rolled.binary operator.not_equal (temp t) (number 0))) (of_tree e)
+  taken_less v w (twice_truth h) = less_right (of_tree (denied (denied (temp t)))) (of_tree e)
+  taken_less v w (narrowed_truth k h) = less_right (of_tree (narrow k (temp t))) (of_tree e)
   taken_less v w (through u h) =
       let low = leaf_is_one h in
       let s = smaller low.0 low.1 u in
@@ -239,4 +300,7 @@ module _ (t : ℕ) (e : Tree) (u : ℕ) where
 
   pub taken_reads : (v w : Tree) → Takes t e v w → reads_temp u w ≡ true → ReadThere v
   taken_reads v w whole r = inl r
+  taken_reads v w (truth h) r = inl r
+  taken_reads v w (twice_truth h) r = inl r
+  taken_reads v w (narrowed_truth k h) r = inl r
   taken_reads v w (through x h) r = tree_ind IsReadThere read_layer x r

@@ -70,7 +70,11 @@ one_as g h f s n z (divided t x o a b k) = divided t x o a b (f t k)
 one_as g h f s n z (fetched t x r i k) = fetched t x r i (f t k)
 one_as g h f s n z (called t x c args k) = called t x c args (f t k)
 one_as g h f s n z (asked t x c args k) = asked t x c args (f t k)
-one_as g h f s n z (carried t x e v w k l) = carried t x e v w (f t k) l
+one_as g h f s n z (carried t x e v w k l) = carried t x e v w (by k) l
+  where
+    by : g t ⊎ (t ≡ x) → h t ⊎ (t ≡ x)
+    by (inl a) = inl (f t a)
+    by (inr a) = inr a
 one_as g h f s n z (stored t x e v w k l) = stored t x e v w (f t k) l
 one_as g h f s n z (written t r e i v w k u l) = written t r e i v w (f t k) u l
 

@@ -1,6 +1,7 @@
 -- Code without temporaries that only hand a value on: two statements that stand one behind the other as one, where the temporary between them is not live
--- behind the second. A value that is never read isn't computed, and what stands behind a jump goes, unless it calls.
-use Rattle.std.specs.Prelude.{ℕ, ◌≡◌, ◌<◌, Bool, true, false, cond, eqb, List, [], ◌∷◌, map, Some}
+-- behind the second, or the second sets it. A value that is never read isn't computed, and what stands behind a jump goes, unless it calls.
+use Rattle.std.specs.Prelude.{ℕ, ◌≡◌, ◌<◌, ◌⊎◌, Bool, true, false, cond, eqb, List, [], ◌∷◌, map, Some}
+use Rattle.mv_num.specs.declared.kind.Kind.{Kind}
 use Rattle.mv_ast.specs.declared.program.Known.{Known}
 use Rattle.mv_ir.specs.declared.tree.Tree.{Tree, out-Tree}
 use Rattle.mv_ir.specs.declared.tree.Tree.TheOpen.{Tree-F}
@@ -12,8 +13,10 @@ use Rattle.mv_ir.specs.declared.stm.Callee.{Callee}
 use Rattle.mv_ir.specs.declared.stm.Stm.{Stm}
 use Rattle.mv_ir.specs.Measures.{calls}
 use Rattle.mv_ir.specs.Live.{reads_temp, Around, with_after, around_block, around_loop, live_in_order, live_at_loop, flow, nowhere}
-use Rattle.mv_ir.specs.Rolled.{temp, set, set_global, divide, choose, call, read, write, repeat, enclosed, known}
+use Rattle.mv_ir.specs.Operators as operator
+use Rattle.mv_ir.specs.Rolled.{number, temp, unary, binary, set, set_global, divide, choose, call, read, write, repeat, enclosed, known}
 use Rattle.mv_fold.specs.Simple.{jumps}
+use Rattle.mv_tidy.specs.Plain.{narrow, is_truth}
 
 -- ---- trees
 
@@ -35,21 +38,25 @@ layer_is_leaf _ = true
 unfoldable pub is_leaf : Tree → Bool
 is_leaf x = layer_is_leaf (out-Tree x)
 
--- A value takes the place of a temporary where the tree is that temporary, or the value is one node.
+-- A value takes the place of a temporary where the tree is that temporary, or the value is one node. A truth also takes the place of a tree that asks whether
+-- the temporary is 0, once or twice, or that is a conversion of it.
 pub data Takes (t : ℕ) (e : Tree) : Tree → Tree → Type 0 where
   whole : Takes t e (temp t) e
+  truth : is_truth e ≡ true → Takes t e (binary operator.not_equal (temp t) (number 0)) e
+  twice_truth : is_truth e ≡ true → Takes t e (unary operator.logical_not (unary operator.logical_not (temp t))) e
+  narrowed_truth : (k : Kind) → is_truth e ≡ true → Takes t e (narrow k (temp t)) e
   through : (v : Tree) → is_leaf e ≡ true → Takes t e v (taking t e v)
 
 -- ---- two statements as one
 
 -- A value is computed where it is moved to: a result in the temporary that it is only moved to, or a value in the place of the temporary that it was put into.
--- Of the temporary between them `gone` holds.
+-- Of the temporary between them `gone` holds, or the second statement sets it.
 pub data IsOne (gone : ℕ → Type 0) : Stm → Stm → Stm → Type 0 where
   divided : (t x o : ℕ) (a b : Tree) → gone t → IsOne gone (divide t o a b) (set x (temp t)) (divide x o a b)
   fetched : (t x : ℕ) (r : Array) (i : Tree) → gone t → IsOne gone (read t r i) (set x (temp t)) (read x r i)
   called : (t x : ℕ) (f : Callee) (args : List Tree) → gone t → IsOne gone (call (Some t) f args) (set x (temp t)) (call (Some x) f args)
   asked : (t x : ℕ) (k : Known) (args : List Tree) → gone t → IsOne gone (known t k args) (set x (temp t)) (known x k args)
-  carried : (t x : ℕ) (e v w : Tree) → gone t → Takes t e v w → IsOne gone (set t e) (set x v) (set x w)
+  carried : (t x : ℕ) (e v w : Tree) → gone t ⊎ (t ≡ x) → Takes t e v w → IsOne gone (set t e) (set x v) (set x w)
   stored : (t g : ℕ) (e v w : Tree) → gone t → Takes t e v w → IsOne gone (set t e) (set_global g v) (set_global g w)
   written : (t : ℕ) (r : Array) (e i v w : Tree) → gone t → reads_temp t i ≡ false → Takes t e v w → IsOne gone (set t e) (write r i v) (write r i w)
 

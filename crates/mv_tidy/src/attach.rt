@@ -12,6 +12,7 @@ ghost use Rattle.mv_tidy.specs.Choosing.{is_jump, Attached};
 ghost use Rattle.mv_tidy.specs.Walking.{IsGone};
 
 use crate::one::is_gone;
+use crate::trees::is_zero;
 use mv_fold::simple::constant;
 use mv_ir::operators;
 use mv_ir::stm::Stm;
@@ -94,16 +95,6 @@ fn opposite(asked: Option<Asked>) -> Option<Asked>
             denied: !a.denied,
         }),
         None => None,
-    }
-}
-
-// Whether a tree is the number 0.
-fn is_zero(tree: &Tree) -> bool
-    ensures { result ≡ true → tree.now ≡ rolled.number 0 }
-{
-    match constant(tree) {
-        Some(n) => n == 0,
-        None => false,
     }
 }
 

@@ -4,8 +4,9 @@
 //!   (`KeepsBody`). In three steps (`specs/Tidied.antt`):
 //!   1. Plainer trees: constants computed, and operators and conversions that change nothing left out (`specs/Plain.antt`).
 //!   2. Statements joined: a result that is only moved to another temporary is made there, and a value that was put into a temporary for the next statement
-//!      alone stands in that statement, where it is all that the statement computes, or one node. A set of a temporary goes that nothing reads, or that gives
-//!      it what it has, and so does what stands behind a jump, unless it calls (`specs/Tidying.antt`).
+//!      alone, or that this one sets again, stands in that statement, where it is all that the statement computes, or one node, or a truth of which the
+//!      statement only asks whether it is one. A set of a temporary goes that nothing reads, or that gives it what it has, and so does what stands behind a
+//!      jump, unless it calls (`specs/Tidying.antt`).
 //!   3. Two choices as one, where both sides of the first end by setting what alone the second asks for, one of them to a number (`specs/Choosing.antt`).
 //! - A whole body stays whole, and a well-formed one well formed. It reads no global scalar and no global array that the given one doesn't read. Its
 //!   greatest tree depth, statements, tree nodes and calls are at most those of the given one. `params`, `temps`, `arrays`, `rooms`, `marked` and `switches`

@@ -1,5 +1,5 @@
 //! Two statements as one.
-ghost use Rattle.std.specs.Prelude.{◌≡◌, true, IfOk, IfSome};
+ghost use Rattle.std.specs.Prelude.{◌≡◌, ◌⊎◌, true, IfOk, IfSome};
 ghost use Rattle.mv_regalloc.specs.declared.liveness.Row.TheVariants.{Saved};
 ghost use Rattle.mv_regalloc.specs.Shared.{row_of};
 ghost use Rattle.mv_tidy.specs.Tidying.{IsOne};
@@ -23,6 +23,16 @@ pub fn is_gone(temps: u32, temp: u32, liveness: &Liveness) -> bool
     }
 }
 
+// Whether nothing reads what was in a temporary behind a set of another one.
+fn is_over(temps: u32, temp: u32, set: u32, liveness: &Liveness) -> bool
+    ensures { result ≡ true → IsGone temps (row_of liveness.now (Saved 0)) temp ⊎ (temp ≡ set) }
+{
+    if temp == set {
+        return true;
+    }
+    is_gone(temps, temp, liveness)
+}
+
 // A statement whose result goes to another temporary.
 fn moved(
     alloc: Global,
@@ -36,7 +46,7 @@ fn moved(
 {
     match first {
         Stm::Set(t, e) => {
-            if !is_gone(temps, *t, liveness) {
+            if !is_over(temps, *t, x, liveness) {
                 return Ok(None);
             }
             match takes(alloc, *t, e, v)? {

@@ -68,9 +68,9 @@ fn is_comparison(operator: u8) -> bool
     operators::LESS_SIGNED <= operator && operator <= operators::NOT_EQUAL
 }
 
-// Whether a tree's value is 0 or 1.
+/// Whether a tree's value is 0 or 1.
 #[tactic(auto, using(crate::proofs::PlainTrees::truths))]
-fn is_truth(tree: &Tree) -> bool
+pub fn is_truth(tree: &Tree) -> bool
     ensures { result ≡ is_truth tree.now }
 {
     match tree {

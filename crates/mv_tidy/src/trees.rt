@@ -1,10 +1,16 @@
 //! Trees in which a value takes the place of a temporary.
 ghost use Rattle.std.specs.Prelude.{◌≡◌, true, IfOk, IfSome};
+ghost use Rattle.mv_ir.specs.declared.tree.Tree.{Tree};
 ghost use Rattle.mv_ir.specs.Live.{reads_temp};
+ghost use Rattle.mv_ir.specs.Operators as operator;
 ghost use Rattle.mv_ir.specs.Rolled as rolled;
+ghost use Rattle.mv_tidy.specs.Plain.{is_truth};
 ghost use Rattle.mv_tidy.specs.Tidying.{is_leaf, taking, Takes};
 
+use crate::plain::is_truth;
 use mv_fold::copies::copy_tree;
+use mv_fold::simple::constant;
+use mv_ir::operators;
 use mv_ir::tree::Tree;
 use mv_num::boxed::Boxed;
 use std::alloc::{AllocError, Global};
@@ -48,6 +54,73 @@ pub fn is_temp(tree: &Tree, temp: u32) -> bool
     match temp_of(tree) {
         Some(t) => t == temp,
         None => false,
+    }
+}
+
+/// Whether a tree is the number 0.
+pub fn is_zero(tree: &Tree) -> bool
+    ensures { result ≡ true → tree.now ≡ rolled.number 0 }
+{
+    match constant(tree) {
+        Some(n) => n == 0,
+        None => false,
+    }
+}
+
+// Whether a tree is the denial of what a temporary holds.
+fn denies(tree: &Tree, temp: u32) -> bool
+    ensures { result ≡ true → tree.now ≡ rolled.unary operator.logical_not (rolled.temp temp) }
+{
+    match tree {
+        Tree::Unary(o, a) => {
+            if *o == operators::LOGICAL_NOT {
+                is_temp(a.get(), temp)
+            } else {
+                false
+            }
+        }
+        _ => false,
+    }
+}
+
+// Whether a tree is a truth that a temporary holds: it asks whether that is 0, once or twice, or is a conversion of it.
+fn keeps_truth(tree: &Tree, temp: u32) -> bool
+    ensures { result ≡ true → (e : Tree) → is_truth e ≡ true → Takes temp e tree.now e }
+{
+    match tree {
+        Tree::Binary(o, a, b) => {
+            if !is_zero(b.get()) {
+                return false;
+            }
+            if *o == operators::NOT_EQUAL {
+                is_temp(a.get(), temp)
+            } else {
+                false
+            }
+        }
+        Tree::Unary(o, a) => {
+            if *o == operators::LOGICAL_NOT {
+                denies(a.get(), temp)
+            } else {
+                false
+            }
+        }
+        Tree::Narrow(_, a) => is_temp(a.get(), temp),
+        _ => false,
+    }
+}
+
+// Whether a tree is the value of a temporary that holds this one.
+fn hands_on(temp: u32, value: &Tree, tree: &Tree) -> bool
+    ensures { result ≡ true → Takes temp value.now tree.now value.now }
+{
+    if is_temp(tree, temp) {
+        return true;
+    }
+    if is_truth(value) {
+        keeps_truth(tree, temp)
+    } else {
+        false
     }
 }
 
@@ -98,7 +171,7 @@ fn taking(alloc: Global, temp: u32, value: &Tree, tree: &Tree) -> Result<Tree, A
     }
 }
 
-/// A tree with a value in place of a temporary, where it is that temporary or the value is one node.
+/// A tree with a value in place of a temporary, where it is that temporary, or asks for a truth in it, or the value is one node.
 pub fn takes(
     alloc: Global,
     temp: u32,
@@ -107,11 +180,11 @@ pub fn takes(
 ) -> Result<Option<Tree>, AllocError>
     ensures { IfOk result (λ taken. IfSome taken (λ t. Takes temp value.now tree.now t)) }
 {
-    if is_leaf(value) {
-        return Ok(Some(taking(alloc, temp, value, tree)?));
+    if hands_on(temp, value, tree) {
+        return Ok(Some(copy_tree(alloc, value)?));
     }
-    if is_temp(tree, temp) {
-        Ok(Some(copy_tree(alloc, value)?))
+    if is_leaf(value) {
+        Ok(Some(taking(alloc, temp, value, tree)?))
     } else {
         Ok(None)
     }

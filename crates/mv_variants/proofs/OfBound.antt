@@ -7,11 +7,15 @@ pub mod FoldedNames
 pub mod CarriedNames
 pub mod PlainNames
 pub mod TidiedNames
+pub mod PropagatedNames
+pub mod ArmedNames
 pub mod ExpandedNames
 pub mod RenamedNames
 pub mod NamesKept
 pub mod Measures
 pub mod TidiedMeasures
+pub mod PropagatedMeasures
+pub mod FinishedMeasures
 pub mod ExpandedMeasures
 pub mod Weights
 pub mod Variants

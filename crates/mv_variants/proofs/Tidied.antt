@@ -1,5 +1,5 @@
 -- What a function's own code is made of, made ready or not, and what is short.
-use Rattle.std.proofs.Common.{arith, ◌≡◌, ℕ, ◌+◌, ◌≤◌, List, [], ◌∷◌, inl, inr, refl, ap, subst}
+use Rattle.std.proofs.Common.{arith, ◌≡◌, ◌+◌, ◌≤◌, [], ◌∷◌, inl, inr, refl, ap, subst}
 use Rattle.mv_num.specs.Limits.{slot_limit}
 use Rattle.mv_ir.specs.declared.body.Body.{Body}
 use Rattle.mv_ir.specs.Live.{most_intervals}
@@ -11,21 +11,33 @@ use Rattle.mv_select.specs.Bodies.SelectedBodies.{HasWords}
 use Rattle.mv_select_code.specs.Control.Encoded.{most_words}
 use Rattle.mv_expand.specs.Straight.{AllShort, IsShort}
 use Rattle.mv_expand.specs.Expanded.{IsExpanded}
+use Rattle.mv_arms.specs.Armed.{IsArmed}
 use Rattle.mv_tidy.specs.Tidied.{IsTidied}
+use Rattle.mv_propagate.specs.Propagated.{IsPropagated}
+use Rattle.mv_ranges.specs.Marked.{IsMarkedBody}
 use Rattle.mv_regalloc.specs.Intervals.{IsRenamed}
 use Rattle.mv_variants.specs.Bound.General.{IsGeneral}
 use Rattle.mv_variants.specs.Bound.Shorts as way
-use Rattle.mv_variants.specs.Bound.Shorts.{IsReady, IsShortened}
+use Rattle.mv_variants.specs.Bound.Shorts.{IsCleaned, IsFinished, IsReady, IsShortened}
 use Rattle.mv_variants.specs.Sizes.{HasSmallFrame}
 use Rattle.mv_variants.proofs.OfBound.Generals.{IsKept, kept}
 use Rattle.mv_variants.proofs.OfBound.Variants.{few_fit}
 
-pub expanded_ready : (shorts : Shorts) (body expanded tidied : Body) → IsExpanded shorts body expanded → IsTidied expanded tidied → most_words tidied.code ≤ most_words body.code →
-    IsReady shorts body tidied
-expanded_ready shorts body expanded tidied e t fewer = way.expanded expanded e t fewer
+pub expanded_ready : (shorts : Shorts) (body expanded made : Body) → IsExpanded shorts body expanded → IsFinished expanded made → most_words made.code ≤ most_words body.code →
+    IsReady shorts body made
+expanded_ready shorts body expanded made e h fewer = way.expanded expanded e h fewer
 
-pub tidied_ready : (shorts : Shorts) (body tidied : Body) → IsTidied body tidied → IsReady shorts body tidied
-tidied_ready shorts body tidied t = way.tidied t
+pub finished_ready : (shorts : Shorts) (body made : Body) → IsFinished body made → IsReady shorts body made
+finished_ready shorts body made h = way.finished h
+
+pub steps_cleaned : (body tidied propagated result : Body) → IsTidied body tidied → IsPropagated tidied propagated → IsTidied propagated result → IsCleaned body result
+steps_cleaned body tidied propagated result t p again = record { tidied = tidied; is_tidied = t; propagated = propagated; is_propagated = p; again = again }
+
+pub arms_finished : (body arms cleaned result : Body) → IsArmed body arms → IsCleaned arms cleaned → IsMarkedBody cleaned result → IsFinished body result
+arms_finished body arms cleaned result a c m = record { arms = arms; are_arms = inl a; cleaned = cleaned; is_cleaned = c; is_marked = m }
+
+pub plain_finished : (body cleaned result : Body) → IsCleaned body cleaned → IsMarkedBody cleaned result → IsFinished body result
+plain_finished body cleaned result c m = record { arms = body; are_arms = inr refl; cleaned = cleaned; is_cleaned = c; is_marked = m }
 
 pub plain_general : (shorts : Shorts) (body plain : Body) → HasWords body.code → IsRenamed body plain → IsGeneral shorts body plain
 plain_general shorts body plain words renamed = record {

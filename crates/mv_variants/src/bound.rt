@@ -1,7 +1,6 @@
 //! What holds of the bodies of attributed functions under values of their switches: which of them a table's rows lead to, and what they mean.
 //!
-//! Laws on bodies of attributed functions with short bodies in place of calls, tidied, bound to values of their switches, with numbers carried, folded, renamed and
-//! merged.
+//! Laws on bodies of attributed functions that are made ready, bound to values of their switches, with numbers carried, folded, renamed and merged.
 //!
 //! - `rows_lead_to_variants`: the guard rows of an image, grouped by variant, lead from a combination of the domains to
 //!   the body that came with it, and from other values to none.
@@ -40,7 +39,7 @@ pub fn rows_lead_to_variants()
     ensures bodies { BodiesAreMade }
 {}
 
-/// A body with short bodies in place of calls, tidied, bound to values of its switches, with numbers carried through its temporaries, folded and renamed means under
+/// A body that is made ready, bound to values of its switches, with numbers carried through its temporaries, folded and renamed means under
 /// these values what the first means, over callees that do what the short bodies do, reads none of the switches, and has the folded form. There is room for its
 /// temporaries. The call does nothing: its contract is the law.
 pub fn made_bodies_are_variants()
@@ -57,7 +56,7 @@ pub fn passes_name_no_more()
     ensures fold { FoldingNamesNoMore }
 {}
 
-/// A body with short bodies in place of calls, tidied, bound to words, with numbers carried, folded and renamed names no more than the first and has no more calls
+/// A body that is made ready, bound to words, with numbers carried, folded and renamed names no more than the first and has no more calls
 /// of each function; and it is one that code can be selected for, where the first is but for its temporaries. Its frame is small enough where that of the first
 /// body renamed alone is. The call does nothing: its contract is the law.
 pub fn variants_can_be_selected()

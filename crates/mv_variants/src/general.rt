@@ -1,7 +1,8 @@
 //! The body of which a function's own code is made, whose switches aren't bound.
 //!
-//! - `general`: the body with short bodies in place of calls, tidied, and then with its temporaries renamed (`IsGeneral`). Where its frame may be too large by
-//!   that, or that of the body as it is, the temporaries are renamed alone: so each count of a frame that passes the limit is that of the body as it is.
+//! - `general`: the body made ready, with the arms of a `switch` reached by one jump, and then with its temporaries renamed (`IsGeneral`). Where its frame may be
+//!   too large by that, or that of the body as it is, the temporaries are renamed alone: so each count of a frame that passes the limit is that of the body as
+//!   it is.
 
 ghost use Rattle.std.specs.Prelude.{◌≡◌, ◌+◌, ◌≤◌, true, IfOk};
 ghost use Rattle.mv_num.specs.Limits.{slot_limit};
@@ -55,7 +56,7 @@ fn shorter(
     requires few { plain.temps + total plain.arrays ≤ slot_limit }
     ensures { IfOk result (IsGeneral shorts.now body.now) }
 {
-    let ready = ready(alloc, shorts, body)?;
+    let ready = ready(alloc, shorts, body, true)?;
     let made = rename(alloc, &ready)?;
     if fits_frame(&made) {
         Ok(made)

@@ -1,17 +1,17 @@
-//! The variants of an attributed function: its body, with short bodies in place of calls and tidied, under each assignment of its switches, with numbers carried,
-//! folded, renamed, and equal ones as one.
+//! The variants of an attributed function: its body, made ready, under each assignment of its switches, with numbers carried, folded, renamed, and equal ones as
+//! one. A body is made ready by short bodies in place of calls, by tidying it, and by promises of indices that are known to be below a number.
 //!
 //! What they are is said by `AreVariants` (`specs/Variants.antt`) in the words of `mv_variants::bound`, whose laws say what follows: that each means what the
 //! function means under its values and reads none of its switches, and which rows lead to it.
 //!
-//! - `variants_of`: of a function and what it is lowered to, the body, with short bodies in place of calls and tidied once for all, under each assignment of its switches: bound,
+//! - `variants_of`: of a function and what it is lowered to, the body, made ready once for all, under each assignment of its switches: bound,
 //!   with numbers carried, folded and with its temporaries renamed, and equal bodies as one, each with the guard rows that lead to it
 //!   (`AreVariantsOf`). By `mv_variants::bound` each means what the function means under its values, and reads none of its
 //!   switches. They are made one by one, and a body that equals one before it is dropped at once. `Limit` comes with the first
 //!   whose code, each branch taken for one word, there is no room for behind that of all before (`PassesWithin`), with how much
 //!   code there is then.
-//! - `general`: of a body whose switches aren't bound, the one of which the function's own code is made (`IsGeneral`): with short bodies in place of calls and tidied where that may
-//!   be, and with its temporaries renamed.
+//! - `general`: of a body whose switches aren't bound, the one of which the function's own code is made (`IsGeneral`): made ready where that may be, with the
+//!   arms of a `switch` reached by one jump, and with its temporaries renamed.
 //! - `short_of`: of what a function is lowered to, a body that can stand in place of a call of it, where one is found (`IsShortened`).
 //! - `Size`: how much code there is, and whether an image has room for it (`with_lines`, `fits`).
 //!

@@ -64,7 +64,7 @@ pub(crate) fn merged_under(
     added_rows_are_merged();
     made_bodies_are_variants();
     let most = rename(alloc, body)?.temps;
-    let ready = ready(alloc, shorts, body)?;
+    let ready = ready(alloc, shorts, body, false)?;
     let mut with = size;
     let mut variants = Variants {
         bodies: List::new(alloc),

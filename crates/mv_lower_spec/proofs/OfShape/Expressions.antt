@@ -45,6 +45,8 @@ is_used locals sizes room t = (nat_lt t locals && is_scalar (sizes t)) || (not (
 abbrev pub is_there : Globals → ℕ → Array → Bool
 is_there globals locals (array.Global g) = globals.there g
 is_there globals locals (array.Local l) = nat_lt l locals
+is_there globals locals (array.SureGlobal g n) = globals.there g
+is_there globals locals (array.SureLocal l n) = nat_lt l locals
 
 abbrev pub allowed : Globals → ℕ → (ℕ → Option ℕ) → ℕ → (ℕ → ℕ) → ℕ → (ℕ → Bool) → Allowed
 allowed globals locals sizes room direct through declared = record {

@@ -58,6 +58,11 @@ module _ (f : ℕ → Bool) (globals : Globals) (locals : ℕ) (rooms : List Roo
       (all_there xs h.1 (λ m e. k m (or_right (nat_eq m g) (is_among m (joined (map array_read xs))) e)))
   all_there (array.Local l ∷ xs) h k =
       and_from (nat_lt l (length sizes)) (all_true (map (is_there rooms sizes) xs)) (ap (λ n. nat_lt l n) sized ∙ h.0) (all_there xs h.1 k)
+  all_there (array.SureGlobal g n ∷ xs) h k =
+      and_from (has_room rooms g) (all_true (map (is_there rooms sizes) xs)) (k g (or_left (nat_eq g g) (is_among g (joined (map array_read xs))) (eq-eqb g g refl)) h.0)
+      (all_there xs h.1 (λ m e. k m (or_right (nat_eq m g) (is_among m (joined (map array_read xs))) e)))
+  all_there (array.SureLocal l n ∷ xs) h k =
+      and_from (nat_lt l (length sizes)) (all_true (map (is_there rooms sizes) xs)) (ap (λ m. nat_lt l m) sized ∙ h.0) (all_there xs h.1 k)
 
 -- the rooms of a function's code
 module _ (globals : Globals) (xs : List Global) (code : List Stm) where

@@ -60,6 +60,8 @@ pub none_inside : (entry : ℕ → ℕ) → OwnOutsideText (no_frame entry)
 none_inside entry (TempCell t) own h = absurd (omega (arith, h.1))
 none_inside entry (Element (array.Global g) i) own h = absurd (omega (arith, h))
 none_inside entry (Element (array.Local a) i) own h = absurd (omega (arith, h))
+none_inside entry (Element (array.SureGlobal g n) i) own h = absurd h
+none_inside entry (Element (array.SureLocal a n) i) own h = absurd h
 none_inside entry (Kept b) own h = absurd own
 
 -- ---- lines

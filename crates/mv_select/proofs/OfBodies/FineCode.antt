@@ -104,6 +104,8 @@ module _ (is_fine : Tree → Bool) (may_ask : Known → Bool) (limit : ℕ) (use
   abbrev pub IsScalar : Array → Type 0
   IsScalar (array.Global g) = uses.has_word g ≡ true
   IsScalar (array.Local l) = Unit {0}
+  IsScalar (array.SureGlobal g n) = uses.has_word g ≡ true
+  IsScalar (array.SureLocal l n) = Unit {0}
 
   abbrev pub IsAsked : Known → Type 0
   IsAsked k = fine_known is_fine may_ask limit uses k ≡ true
@@ -248,10 +250,14 @@ module _ (is_fine : Tree → Bool) (may_ask : Known → Bool) (limit : ℕ) (use
   element_read : (a : Array) → Each IsRead (array_read a) → may_read is_fine may_ask limit uses a ≡ true
   element_read (array.Global g) h = h.0
   element_read (array.Local a) h = refl
+  element_read (array.SureGlobal g n) h = h.0
+  element_read (array.SureLocal a n) h = refl
 
   element_written : (a : Array) → Each IsWritten (array_read a) → may_write is_fine may_ask limit uses a ≡ true
   element_written (array.Global g) h = h.0
   element_written (array.Local a) h = refl
+  element_written (array.SureGlobal g n) h = h.0
+  element_written (array.SureLocal a n) h = refl
 
   callee_fine : (c : Callee) → Each P (callee_trees c) → Each (ReadsBelow limit) (callee_trees c) → Each IsRead (callee_read c) → fine_callee is_fine may_ask limit uses c ≡ true
   callee_fine (callee.Direct f) h r k = refl

@@ -106,6 +106,8 @@ module _ (is_known : ℕ → Bool) where
   array_known : (a : Array) → IsKnownArray is_known a → Each (λ g. is_known g ≡ true) (array_read a)
   array_known (array.Global g) h = (h, tt)
   array_known (array.Local l) h = tt
+  array_known (array.SureGlobal g n) h = (h, tt)
+  array_known (array.SureLocal l n) h = tt
 
   callee_known : (f : Callee) → Each (IsKnownArray is_known) (callee_named f) → Each (λ g. is_known g ≡ true) (callee_read f)
   callee_known (callee.Direct f) h = tt
@@ -194,6 +196,8 @@ module _ (y : Layout) (setting : ir.Setting) (attributed : Bool) (bound : List (
   wordy : (a : Array) → IsKnownArray (has_room b.rooms) a → IsWordy a
   wordy (array.Global g) h = lt-ltb 0 (y.size g) (member.rooms.words g h)
   wordy (array.Local l) h = tt
+  wordy (array.SureGlobal g n) h = lt-ltb 0 (y.size g) (member.rooms.words g h)
+  wordy (array.SureLocal l n) h = tt
 
   asked : Each (IsAsked is_fine y.may_ask b.temps uses) (knowns b.code)
   asked =

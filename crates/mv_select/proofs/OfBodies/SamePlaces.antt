@@ -1,5 +1,5 @@
 -- Code depends on the places and sizes of the globals that it names alone.
-use Rattle.std.proofs.Common.{◌≡◌, ℕ, zero, suc, ◌+◌, Bool, true, false, cond, List, [], ◌∷◌, ◌++◌, pos, map, Option, Some, None, unwrap_or, slice_index, refl, sym, ap, ◌∙◌, subst}
+use Rattle.std.proofs.Common.{◌≡◌, ℕ, zero, suc, ◌+◌, Bool, true, false, not, cond, leb, List, [], ◌∷◌, ◌++◌, pos, map, Option, Some, None, unwrap_or, slice_index, refl, sym, ap, ◌∙◌, subst}
 use Rattle.mv_ast.specs.declared.program.Known.{Known}
 use Rattle.mv_isa.specs.declared.instr.Instr.TheVariants.{Lw, Sw, Addi}
 use Rattle.mv_isa.specs.declared.labelled.Line.{Line}
@@ -28,8 +28,8 @@ use Rattle.mv_select_code.specs.Trees.Rooms.{place_in}
 use Rattle.mv_select_code.proofs.OfTrees.Rolls.{code_roll as tree_roll}
 use Rattle.mv_select_code.specs.declared.statements.elements.Home.{Home}
 use Rattle.mv_select_code.specs.declared.statements.elements.Home.TheVariants as place_at
-use Rattle.mv_select_code.specs.Statements.StatementCode.{first, second, trap_label, write_temp, target, keep_lines, is_seat, division, power_of, power_division, divisor_lines, fixed, element_at, element_offset, element_lines, put_lines, store_lines, test_lines, set_lines, divide_by, divide_lines, check_by, check_lines, read_by, read_lines, write_by, write_lines}
-use Rattle.mv_select_code.specs.Control.FlowCode.{Plan, Emitted, Tested, plain, fall_to, jump_to, go_to, go_on, leads_to, in_turn, staying, short_cut, if_by, if_code, loop_at, loop_by, loop_code, block_code, home, code_layer, statement_code, code_of}
+use Rattle.mv_select_code.specs.Statements.StatementCode.{first, second, trap_label, write_temp, target, keep_lines, is_seat, division, power_of, power_division, divisor_lines, fixed, element_at, element_offset, element_lines, put_lines, store_lines, test_lines, tested_lines, set_lines, divide_by, divide_lines, check_by, check_lines, read_by, read_lines, write_by, write_lines, result_lines as value_lines}
+use Rattle.mv_select_code.specs.Control.FlowCode.{Plan, Emitted, Tested, plain, fall_to, jump_to, go_to, go_on, leads_to, in_turn, staying, short_cut, if_by, if_code, loop_at, loop_by, loop_code, block_code, home, tests, code_layer, statement_code, code_of}
 use Rattle.mv_select_code.specs.Control.FlowCode as flow_code
 use Rattle.mv_select_code.specs.declared.control.enclosing.Leading.{Leading}
 use Rattle.mv_select_code.specs.declared.control.enclosing.Leading.TheVariants as lead
@@ -50,6 +50,8 @@ module _ (is_known : ℕ → Bool) where
   abbrev pub IsKnownArray : Array → Type 0
   IsKnownArray (array.Global g) = IsIn is_known g
   IsKnownArray (array.Local l) = Unit {0}
+  IsKnownArray (array.SureGlobal g n) = IsIn is_known g
+  IsKnownArray (array.SureLocal l n) = Unit {0}
 
   module _ (place place' : ℕ → ℕ) (same_place : (g : ℕ) → is_known g ≡ true → place g ≡ place' g) (register : ℕ → Option ℕ) (pinned : ℕ → Option ℕ) where
     abbrev s : Seats
@@ -161,6 +163,11 @@ module _ (is_known : ℕ → Bool) where
         ap (λ own. cond (is_seat (s.register t) own) [] set) (same_own v) ∙
         ap (λ l. cond (is_seat (s.register t) (own_register s' v)) [] (l ++ keep_lines s t)) (same_into v h (target s t) first)
 
+    same_value : (v : Tree) → ReadsKnown v → value_lines s v ≡ value_lines s' v
+    same_value v h =
+        ap (λ own. cond (is_seat (Some a0) own) [] (tree_into s v a0 first)) (same_own v) ∙
+        ap (λ l. cond (is_seat (Some a0) (own_register s' v)) [] l) (same_into v h a0 first)
+
     same_divide : (t o : ℕ) (a b : Tree) → ReadsKnown a → ReadsKnown b → divide_lines s t o a b ≡ divide_lines s' t o a b
     unfolding target keep_lines
     same_divide t o a b h k = by (power_of o (literal b))
@@ -172,28 +179,28 @@ module _ (is_known : ℕ → Bool) where
             ap (λ (q : List Line × ℕ). operand_lines s' a first ++ (q.0 ++ rest (operand_register s' a first) q.1)) (same_operand b k second)
         by (Some n) = ap (λ (p : List Line × ℕ). p.0 ++ (Word (power_division o n (target s t) p.1) ∷ keep_lines s t)) (same_operand a h first)
 
-    same_check : (n : ℕ) (i : Tree) → ReadsKnown i → check_lines s n i ≡ check_lines s' n i
-    same_check n i h = by (fixed n (literal i))
+    same_check : (n : ℕ) (tested : Bool) (i : Tree) → ReadsKnown i → check_lines s n tested i ≡ check_lines s' n tested i
+    same_check n tested i h = by (fixed n (literal i))
       where
-        by : (o : Option ℕ) → check_by s o n i ≡ check_by s' o n i
-        by None = ap (λ (p : List Line × ℕ). p.0 ++ test_lines s n p.1) (same_operand i h first)
+        by : (o : Option ℕ) → check_by s o n tested i ≡ check_by s' o n tested i
+        by None = ap (λ (p : List Line × ℕ). cond tested (p.0 ++ test_lines s n p.1) []) (same_operand i h first)
         by (Some m) = refl
 
-    same_read : (t : ℕ) (at : Home) (n : ℕ) (i : Tree) → ReadsKnown i → read_lines s t at n i ≡ read_lines s' t at n i
+    same_read : (t : ℕ) (at : Home) (n : ℕ) (tested : Bool) (i : Tree) → ReadsKnown i → read_lines s t at n tested i ≡ read_lines s' t at n tested i
     unfolding target keep_lines
-    same_read t at n i h = by (fixed n (literal i))
+    same_read t at n tested i h = by (fixed n (literal i))
       where
-        by : (o : Option ℕ) → read_by s o t at n i ≡ read_by s' o t at n i
+        by : (o : Option ℕ) → read_by s o t at n tested i ≡ read_by s' o t at n tested i
         by None =
-            ap (λ (p : List Line × ℕ). p.0 ++ (test_lines s n p.1 ++ (element_lines at p.1 ++ (Word (Lw (target s t) first (element_offset at)) ∷ keep_lines s t)))) (same_operand i h first)
+            ap (λ (p : List Line × ℕ). p.0 ++ (tested_lines s tested n p.1 ++ (element_lines at p.1 ++ (Word (Lw (target s t) first (element_offset at)) ∷ keep_lines s t)))) (same_operand i h first)
         by (Some m) = refl
 
-    same_write : (at : Home) (n : ℕ) (i v : Tree) → ReadsKnown i → ReadsKnown v → write_lines s at n i v ≡ write_lines s' at n i v
-    same_write at n i v h k = by (fixed n (literal i))
+    same_write : (at : Home) (n : ℕ) (tested : Bool) (i v : Tree) → ReadsKnown i → ReadsKnown v → write_lines s at n tested i v ≡ write_lines s' at n tested i v
+    same_write at n tested i v h k = by (fixed n (literal i))
       where
-        by : (o : Option ℕ) → write_by s o at n i v ≡ write_by s' o at n i v
+        by : (o : Option ℕ) → write_by s o at n tested i v ≡ write_by s' o at n tested i v
         by None =
-            let rest = λ (p q : ℕ). test_lines s n p ++ (element_lines at p ++ one (Sw first q (element_offset at))) in
+            let rest = λ (p q : ℕ). tested_lines s tested n p ++ (element_lines at p ++ one (Sw first q (element_offset at))) in
             ap (λ (p : List Line × ℕ). p.0 ++ (operand_lines s v second ++ rest p.1 (operand_register s v second))) (same_operand i h first) ∙
             ap (λ (q : List Line × ℕ). operand_lines s' i first ++ (q.0 ++ rest (operand_register s' i first) q.1)) (same_operand v k second)
         by (Some m) = ap (λ (q : List Line × ℕ). q.0 ++ put_lines (element_at at m) q.1) (same_operand v k first)
@@ -267,10 +274,20 @@ module _ (is_known : ℕ → Bool) where
       same_home : (a : Array) → IsKnownArray a → home P a ≡ home Q a
       same_home (array.Global g) h = ap place_at.Data (same_place g h)
       same_home (array.Local l) h = refl
+      same_home (array.SureGlobal g n) h = ap place_at.Data (same_place g h)
+      same_home (array.SureLocal l n) h = refl
 
       same_count : (a : Array) → IsKnownArray a → flow_code.size P a ≡ flow_code.size Q a
       same_count (array.Global g) h = same_size g h
       same_count (array.Local l) h = refl
+      same_count (array.SureGlobal g n) h = same_size g h
+      same_count (array.SureLocal l n) h = refl
+
+      same_tests : (a : Array) → IsKnownArray a → tests P a ≡ tests Q a
+      same_tests (array.Global g) h = refl
+      same_tests (array.Local l) h = refl
+      same_tests (array.SureGlobal g n) h = ap (λ size. not (leb n size)) (same_size g h)
+      same_tests (array.SureLocal l n) h = refl
 
       abbrev IsSame : Stm → Type 0
       IsSame t = Each ReadsKnown (stm_trees t) → Each IsKnownArray (stm_named t) → (statement_code P t ≡ statement_code Q t) × StaysKnown (statement_code Q t).stays
@@ -313,15 +330,19 @@ module _ (is_known : ℕ → Bool) where
         tt,
       )
       layer (stm.Divide t o a b) c h k = (ap plain (same_divide t o a b h.0 h.1.0), tt)
-      layer (stm.Check a i) c h k = (ap plain (same_check (flow_code.size P a) i h.0) ∙ ap (λ n. plain (check_lines s' n i)) (same_count a k.0), tt)
+      layer (stm.Check a i) c h k = (
+        ap plain (same_check (flow_code.size P a) (tests P a) i h.0) ∙ ap (λ n. plain (check_lines s' n (tests P a) i)) (same_count a k.0) ∙
+            ap (λ tested. plain (check_lines s' (flow_code.size Q a) tested i)) (same_tests a k.0),
+        tt,
+      )
       layer (stm.Read t a i) c h k = (
-        ap plain (same_read t (home P a) (flow_code.size P a) i h.0) ∙ ap (λ at. plain (read_lines s' t at (flow_code.size P a) i)) (same_home a k.0) ∙
-            ap (λ n. plain (read_lines s' t (home Q a) n i)) (same_count a k.0),
+        ap plain (same_read t (home P a) (flow_code.size P a) (tests P a) i h.0) ∙ ap (λ at. plain (read_lines s' t at (flow_code.size P a) (tests P a) i)) (same_home a k.0) ∙
+            ap (λ n. plain (read_lines s' t (home Q a) n (tests P a) i)) (same_count a k.0) ∙ ap (λ tested. plain (read_lines s' t (home Q a) (flow_code.size Q a) tested i)) (same_tests a k.0),
         tt,
       )
       layer (stm.Write a i v) c h k = (
-        ap plain (same_write (home P a) (flow_code.size P a) i v h.0 h.1.0) ∙ ap (λ at. plain (write_lines s' at (flow_code.size P a) i v)) (same_home a k.0) ∙
-            ap (λ n. plain (write_lines s' (home Q a) n i v)) (same_count a k.0),
+        ap plain (same_write (home P a) (flow_code.size P a) (tests P a) i v h.0 h.1.0) ∙ ap (λ at. plain (write_lines s' at (flow_code.size P a) (tests P a) i v)) (same_home a k.0) ∙
+            ap (λ n. plain (write_lines s' (home Q a) n (tests P a) i v)) (same_count a k.0) ∙ ap (λ tested. plain (write_lines s' (home Q a) (flow_code.size Q a) tested i v)) (same_tests a k.0),
         tt,
       )
       layer (stm.Zero a) c h k = (refl, tt)
@@ -340,7 +361,7 @@ module _ (is_known : ℕ → Bool) where
       layer (stm.Back n) c h k = (refl, tt)
       layer (stm.Call r f args) c h k = (ap plain (same_call is_attributed r f args h k), tt)
       layer (stm.Known r f args) c h k = (ap plain (same_known_call r f args h), tt)
-      layer (stm.Return v) c h k = (ap returned (same_into v h.0 a0 first), tt)
+      layer (stm.Return v) c h k = (ap returned (same_value v h.0), tt)
 
       from_layer : (x : Stm-F Stm) → StmChildren IsSame x → IsSame (roll-Stm x)
       from_layer x c h k =
@@ -379,6 +400,8 @@ module _ (b : Body) (formed : IsWellFormed b) where
       known : (a : Array) → is_there b.rooms b.arrays a ≡ true → IsKnownArray (has_room b.rooms) a
       known (array.Global g) h = h
       known (array.Local l) h = tt
+      known (array.SureGlobal g n) h = h
+      known (array.SureLocal l n) h = tt
 
   pub known_reads : Each (ReadsKnown (has_room b.rooms)) (trees b.code)
   known_reads = each_joined (IsIn (has_room b.rooms)) tree_reads (trees b.code) (each_true (has_room b.rooms) (scalars_read b.code) formed.read)

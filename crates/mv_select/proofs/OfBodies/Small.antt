@@ -44,6 +44,8 @@ module _ (b : Body) (formed : IsWellFormed b) (few : b.temps ≤ 507) (shallow :
   any_array : (a : Array) → IsScalar is_small any_known 507 any_global a
   any_array (array.Global g) = refl
   any_array (array.Local l) = tt
+  any_array (array.SureGlobal g n) = refl
+  any_array (array.SureLocal l n) = tt
 
   any_arrays : (xs : List Array) → Each (IsScalar is_small any_known 507 any_global) xs
   any_arrays [] = tt

@@ -69,15 +69,21 @@ module _ {M : Type 0} (access : Access M) (y : Layout) (s : Site) (setting : ir.
       sizes : (a : Array) → length (elements a (with_world l w)) ≡ size_of s a
       sizes (array.Global n) = g.sizes n ∙ sym (caller.sizes n)
       sizes (array.Local a) = f.sizes (array.Local a)
+      sizes (array.SureGlobal n k) = g.sizes n ∙ sym (caller.sizes n)
+      sizes (array.SureLocal a k) = f.sizes (array.Local a)
 
       words : (x : Cell) → IsThere s x → content s (with_world l w) x < 2 ^ 32
       words (TempCell t) h = f.words (TempCell t) h
       words (Element (array.Global n) i) h = g.words n i (in_global n i h)
       words (Element (array.Local a) i) h = f.words (Element (array.Local a) i) h
+      words (Element (array.SureGlobal n k) i) h = absurd h
+      words (Element (array.SureLocal a k) i) h = absurd h
       words (Kept b) h = f.words (Kept b) h
 
       in_memory : (x : Cell) → IsThere s x → access.load m' (address s x) 4 ≡ Some (content s (with_world l w) x)
       in_memory (TempCell t) h = stack (address s (TempCell t)) (caller.above (TempCell t) h tt) ∙ f.in_memory (TempCell t) h
       in_memory (Element (array.Global n) i) h = ap (λ a. access.load m' a 4) (sym (element_at n i)) ∙ g.loads n i (in_global n i h)
       in_memory (Element (array.Local a) i) h = stack (address s (Element (array.Local a) i)) (caller.above (Element (array.Local a) i) h tt) ∙ f.in_memory (Element (array.Local a) i) h
+      in_memory (Element (array.SureGlobal n k) i) h = absurd h
+      in_memory (Element (array.SureLocal a k) i) h = absurd h
       in_memory (Kept b) h = stack b (caller.above (Kept b) h tt) ∙ f.in_memory (Kept b) h

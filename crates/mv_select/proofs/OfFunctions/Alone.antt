@@ -1,5 +1,5 @@
 -- A function keeps the calling convention on a machine where it does so on one that has no text but the function's.
-use Rattle.std.proofs.Common.{◌≡◌, inl, inr, ℕ, ◌+◌, ◌<◌, ◌≤◌, ◌&&◌, Bool, true, false, cond, leb, ltb, List, [], ◌∷◌, length, Option, Some, None, sym, ap, ◌∙◌, arith}
+use Rattle.std.proofs.Common.{◌≡◌, inl, inr, ℕ, ◌+◌, ◌<◌, ◌≤◌, ◌&&◌, Bool, true, false, cond, leb, ltb, List, [], ◌∷◌, length, Option, Some, None, refl, sym, ap, ◌∙◌, arith}
 use Rattle.std.proofs.lemmas.Bool.{and_from, le-leb, lt-ltb}
 use Rattle.mv_isa.specs.declared.instr.Instr.{Instr}
 use Rattle.mv_isa.specs.declared.instr.Instr.TheVariants.{Ecall}
@@ -12,6 +12,7 @@ use Rattle.mv_ir.specs.World as ir
 use Rattle.mv_ir.specs.World.{World}
 use Rattle.mv_ir.specs.Meaning.{body_from}
 use Rattle.mv_ir.specs.Outcome.{End, Returned, Trapped, More, Stuck, Call, Bound}
+use Rattle.mv_select_code.specs.declared.trees.places.Keeping.TheVariants.{Saved}
 use Rattle.mv_select_code.specs.Control.Placed.{Text, StandsIn, Placed}
 use Rattle.mv_select_code.specs.Control.Runs.{Machine}
 use Rattle.mv_select.specs.Calls.Convention.{Layout, Stands, Enters, Returns, FollowsCall, Answers, Comes, ReturnsCounted, FollowsCounted, call_through, PointsKeep, Conventions}
@@ -209,7 +210,7 @@ later_keeps M access y laid machine memory setting entries budget far serves lev
       contents,
       answers_back access y machine mid next budget far 44 (length levels) pc back depth live args (body_from setting (frame_in true bound depth live) contents body args levels) i (λ spare w stands enters paid asked.
           keeps.later_keeps access y laid own (memory_alone access y machine mid next memory) reach ample runs setting entries budget far (serves_alone access y machine mid next budget far setting serves) levels
-          (conventions_alone access y machine mid next budget far setting levels keep) true bound is_fine body (is_kept y setting true bound reach is_fine body fn) place linked is_attributed pc mid next
+          (conventions_alone access y machine mid next budget far setting levels keep) true Saved refl bound is_fine body (is_kept y setting true bound reach is_fine body fn) place linked is_attributed pc mid next
           (placed_in machine.text place y.entry mid next (later_lines y.place y.size is_attributed (shape_of true body) body.code) mid (omega arith) placed)
           (depth + 1) live args back i count target ra w stands (begun_called access y own i budget far true depth live args enters) (record { goes = lowers.goes; sound = lowers.sound }) spare paid asked),
     )

@@ -2,6 +2,7 @@
 use Rattle.std.proofs.Common.{◌≡◌, inl, ℕ, ◌+◌, ◌-◌, ◌^◌, ◌<◌, ◌≤◌, Bool, true, false, not, ◌&&◌, cond, ltb, List, [], ◌∷◌, length, slice_index, Some, None, refl, sym, ap, ◌∙◌, subst, arith}
 use Rattle.std.proofs.lemmas.Bool.{ltb-true}
 use Rattle.mv_num.proofs.Booleans.{and_left, and_right}
+use Rattle.mv_ast.specs.declared.program.Known.{Known}
 use Rattle.mv_isa.specs.Code.{IsPlace}
 use Rattle.mv_isa.specs.Execution.{Access, reg}
 use Rattle.mv_isa.specs.Registers.{a0}
@@ -15,7 +16,7 @@ use Rattle.mv_ir.specs.Meaning.{Contents, code_meaning, body_end, body_from}
 use Rattle.mv_select_code.specs.Trees.TreeCode.{register_of}
 use Rattle.mv_select_code.specs.Trees.View.{AreRegisters}
 use Rattle.mv_select_code.specs.declared.trees.places.Keeping.{Keeping}
-use Rattle.mv_select_code.specs.declared.trees.places.Keeping.TheVariants.{Saved, Arguments}
+use Rattle.mv_select_code.specs.declared.trees.places.Keeping.TheVariants.{Saved, Arguments, Mixed}
 use Rattle.mv_select_code.specs.Statements.Frames.{Site, IsFine, IsFit, Shows, Reach}
 use Rattle.mv_select_code.specs.Control.FlowCode.{fall_to, are_fine}
 use Rattle.mv_select_code.specs.Control.Runs.{Spot, Machine, outside, IsRun}
@@ -59,9 +60,15 @@ pub record IsKept (y : Layout) (setting : ir.Setting) (attributed : Bool) (k : K
   pub few : k ≡ Arguments → body.temps < 9
   pub plain : k ≡ Arguments → attributed ≡ false
 
-keeping_says : (b : Bool) → cond b Arguments Saved ≡ Arguments → b ≡ true
-keeping_says true e = refl
-keeping_says false e = cc
+-- whether there are few temporaries, and whether the function is plain and calls nothing
+keeping_says : (b few : Bool) → cond b (cond few Arguments Mixed) Saved ≡ Arguments → (b ≡ true) × (few ≡ true)
+keeping_says true true e = (refl, refl)
+keeping_says true false e = cc
+keeping_says false few e = cc
+
+keeping_mixed : (b few : Bool) → cond b (cond few Arguments Mixed) Saved ≡ Mixed → b ≡ true
+keeping_mixed true few e = refl
+keeping_mixed false few e = cc
 
 is_plain : (b : Bool) → not b ≡ true → b ≡ false
 is_plain true e = cc
@@ -77,17 +84,17 @@ is_kept y setting attributed bound reach is_fine body fn = record {
   free = fn.free;
   fine = fine (keeping_of attributed body) refl;
   trees = fn.trees;
-  few = λ e. ltb-true body.temps 9 (and_left (ltb body.temps 9) (calls_nothing body.code) (leaf e));
-  plain = λ e. is_plain attributed (and_left (not attributed) (ltb body.temps 9 && calls_nothing body.code) (keeping_says (not attributed && (ltb body.temps 9 && calls_nothing body.code)) e));
+  few = λ e. ltb-true body.temps 9 (keeping_says (not attributed && calls_nothing body.code) (ltb body.temps 9) e).1;
+  plain = λ e. is_plain attributed (and_left (not attributed) (calls_nothing body.code) (keeping_says (not attributed && calls_nothing body.code) (ltb body.temps 9) e).0);
 }
   where
-    leaf : keeping_of attributed body ≡ Arguments → (ltb body.temps 9 && calls_nothing body.code) ≡ true
-    leaf e = and_right (not attributed) (ltb body.temps 9 && calls_nothing body.code) (keeping_says (not attributed && (ltb body.temps 9 && calls_nothing body.code)) e)
+    silent : (other : Known → Bool) → (not attributed && calls_nothing body.code) ≡ true → are_fine is_fine other body.temps (uses_in y.size reach false) body.code ≡ true
+    silent other leaf = silent_fine is_fine y.may_ask other body.temps (uses_in y.size reach true) false body.code (and_right (not attributed) (calls_nothing body.code) leaf) fn.fine
 
     fine : (k : Keeping) → keeping_of attributed body ≡ k → are_fine is_fine (asks_by k y.may_ask) body.temps (uses_in y.size reach (calls_by k)) body.code ≡ true
     fine Saved e = fn.fine
-    fine Arguments e =
-        silent_fine is_fine y.may_ask (asks_by Arguments y.may_ask) body.temps (uses_in y.size reach true) false body.code (and_right (ltb body.temps 9) (calls_nothing body.code) (leaf e)) fn.fine
+    fine Arguments e = silent (asks_by Arguments y.may_ask) (keeping_says (not attributed && calls_nothing body.code) (ltb body.temps 9) e).0
+    fine Mixed e = silent (asks_by Mixed y.may_ask) (keeping_mixed (not attributed && calls_nothing body.code) (ltb body.temps 9) e)
 
 -- ---- the frame of a call
 

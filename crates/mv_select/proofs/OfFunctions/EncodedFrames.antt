@@ -1,6 +1,5 @@
 -- The fields of the code of entry and return fit, and it has few words.
 use Rattle.std.proofs.Common.{ℕ, zero, suc, ◌+◌, ◌*◌, ◌≤◌, Bool, true, false, cond, eqb, max, List, [], ◌++◌, ℤ, pos, ◌-ℤ◌, arith}
-use Rattle.std.proofs.Math.Nat.{min-le_right}
 use Rattle.std.proofs.lemmas.Int.{ints}
 use Rattle.std.proofs.lemmas.List.Elements.{All-nil}
 use Rattle.mv_isa.specs.declared.instr.Instr.TheVariants.{Lw, Sw, Addi, Jalr}
@@ -10,29 +9,30 @@ use Rattle.mv_isa.specs.Registers.{a0, ra as link_register, s10 as live_register
 use Rattle.mv_ir.specs.Measures.{total}
 use Rattle.mv_select_code.specs.Trees.TreeCode.{one, two, minus_one, temp_register}
 use Rattle.mv_select_code.specs.declared.trees.places.Keeping.{Keeping}
-use Rattle.mv_select_code.specs.declared.trees.places.Keeping.TheVariants.{Saved, Arguments}
+use Rattle.mv_select_code.specs.declared.trees.places.Keeping.TheVariants.{Saved, Arguments, Mixed}
 use Rattle.mv_select_code.proofs.OfTrees.TreesFit.{small_fits, register_below}
 use Rattle.mv_select_code.specs.Statements.Encoded.{IsCode}
 use Rattle.mv_select_code.proofs.OfStatements.EncodedCode.{both, wider, single, pair}
-use Rattle.mv_select.specs.Functions.FunctionCode.{Shape, seated_of, bytes_of, move_lines, entry_by, return_by, saved_count, saved_register, save_lines, restore_lines, parameter_lines, enter_lines, leave_lines}
-use Rattle.mv_select.specs.Functions.Pins.{pin_lines, pin_words, ArePins}
+use Rattle.mv_select.specs.Functions.FunctionCode.{Shape, seated_of, bytes_of, move_lines, entry_by, return_by, prologue_lines, epilogue_lines, first_saved, saved_count, saved_register, save_lines, restore_lines, parameter_lines, enter_lines, leave_lines}
+use Rattle.mv_select.specs.Functions.Pins.{pin_lines, pin_words, first_pin, moving_words, ArePins}
 use Rattle.mv_select.specs.Functions.Encoded.{FramesAreEncoded}
 use Rattle.mv_select.proofs.OfFunctions.Entry.{saved_below}
 use Rattle.mv_select.proofs.OfFunctions.Pins.{pins_code}
+use Rattle.mv_select.proofs.OfFunctions.Seats.{saved_few, moving_few}
 
-save_code : (k : ℕ) → k ≤ 10 → IsCode k (save_lines k)
-save_code zero h = (All-nil LineFits, omega arith)
-save_code (suc k) h =
-    let i = Sw 2 (saved_register k) (pos (4 * k)) in
-    wider (k + 1) (suc k) (save_lines k ++ one i) (omega arith)
-    (both k 1 (save_lines k) (one i) (save_code k (omega (arith, h))) (single i (omega arith, saved_below k (omega (arith, h)), small_fits (4 * k) (omega (arith, h)))))
+save_code : (first k : ℕ) → first + k ≤ 10 → IsCode k (save_lines first k)
+save_code first zero h = (All-nil LineFits, omega arith)
+save_code first (suc k) h =
+    let i = Sw 2 (saved_register (first + k)) (pos (4 * (first + k))) in
+    wider (k + 1) (suc k) (save_lines first k ++ one i) (omega arith)
+    (both k 1 (save_lines first k) (one i) (save_code first k (omega (arith, h))) (single i (omega arith, saved_below (first + k) (omega (arith, h)), small_fits (4 * (first + k)) (omega (arith, h)))))
 
-restore_code : (k : ℕ) → k ≤ 10 → IsCode k (restore_lines k)
-restore_code zero h = (All-nil LineFits, omega arith)
-restore_code (suc k) h =
-    let i = Lw (saved_register k) 2 (pos (4 * k)) in
-    wider (k + 1) (suc k) (restore_lines k ++ one i) (omega arith)
-    (both k 1 (restore_lines k) (one i) (restore_code k (omega (arith, h))) (single i (saved_below k (omega (arith, h)), omega arith, small_fits (4 * k) (omega (arith, h)))))
+restore_code : (first k : ℕ) → first + k ≤ 10 → IsCode k (restore_lines first k)
+restore_code first zero h = (All-nil LineFits, omega arith)
+restore_code first (suc k) h =
+    let i = Lw (saved_register (first + k)) 2 (pos (4 * (first + k))) in
+    wider (k + 1) (suc k) (restore_lines first k ++ one i) (omega arith)
+    (both k 1 (restore_lines first k) (one i) (restore_code first k (omega (arith, h))) (single i (saved_below (first + k) (omega (arith, h)), omega arith, small_fits (4 * (first + k)) (omega (arith, h)))))
 
 parameter_code : (k : ℕ) → k ≤ 8 → IsCode k (parameter_lines k)
 parameter_code zero h = (All-nil LineFits, omega arith)
@@ -52,29 +52,31 @@ leave_code false = (All-nil LineFits, omega arith)
 minus_fits : (n : ℕ) → n ≤ 2032 → IsSigned 2048 (pos 0 -ℤ pos n)
 minus_fits n h = (omega (arith, ints, h), omega (arith, ints, h))
 
-pub saved_few : (temps : ℕ) → saved_count temps ≤ 10
-saved_few temps = omega (arith, min-le_right temps 9)
-
-pub saved_encoded : (shape : Shape) → ArePins Saved shape.params shape.temps shape.pins → shape.params ≤ 8 → bytes_of shape ≤ 2032 → IsCode 20 (entry_by Saved shape) × IsCode 13 (return_by Saved shape)
-saved_encoded shape pins few small =
-    let seated = seated_of shape in
-    let params = shape.params in
+-- where registers are saved
+pub saved_encoded : (k : Keeping) (shape : Shape) → ArePins k shape.params shape.temps shape.pins → shape.params ≤ 8 → bytes_of shape ≤ 2032
+    → IsCode 20 (prologue_lines k shape.attributed shape.params (seated_of shape) (bytes_of shape) shape.pins) × IsCode 13 (epilogue_lines k shape.attributed (seated_of shape) (bytes_of shape))
+saved_encoded k shape pins few small =
+    let first = first_saved k in
+    let saved = saved_count k (seated_of shape) in
+    let within = saved_few k (seated_of shape) in
+    let params = moving_words k shape.params in
+    let moving = moving_few k shape.params in
     let attributed = shape.attributed in
     let numbers = pin_lines shape.pins in
     let count = pin_words shape.pins in
     let lower = Addi 2 2 (pos 0 -ℤ pos (bytes_of shape)) in
     let raise = Addi 2 2 (pos (bytes_of shape)) in
     let back = Jalr 0 link_register (pos 0) in (
-      wider (1 + (saved_count seated + (params + (count + 1)))) 20 (one lower ++ (save_lines (saved_count seated) ++ (parameter_lines params ++ (numbers ++ enter_lines attributed))))
-          (omega (arith, few, pins.few, saved_few seated))
-          (both 1 (saved_count seated + (params + (count + 1))) (one lower) (save_lines (saved_count seated) ++ (parameter_lines params ++ (numbers ++ enter_lines attributed)))
+      wider (1 + (saved + (params + (count + 1)))) 20 (one lower ++ (save_lines first saved ++ (parameter_lines params ++ (numbers ++ enter_lines attributed))))
+          (omega (arith, few, moving, pins.few, within))
+          (both 1 (saved + (params + (count + 1))) (one lower) (save_lines first saved ++ (parameter_lines params ++ (numbers ++ enter_lines attributed)))
           (single lower (omega arith, omega arith, minus_fits (bytes_of shape) small))
-          (both (saved_count seated) (params + (count + 1)) (save_lines (saved_count seated)) (parameter_lines params ++ (numbers ++ enter_lines attributed)) (save_code (saved_count seated) (saved_few seated))
-          (both params (count + 1) (parameter_lines params) (numbers ++ enter_lines attributed) (parameter_code params few)
-          (both count 1 numbers (enter_lines attributed) (pins_code Saved shape.temps shape.pins pins.stand) (enter_code attributed))))),
-      wider (1 + (saved_count seated + 2)) 13 (leave_lines attributed ++ (restore_lines (saved_count seated) ++ two raise back)) (omega (arith, saved_few seated))
-          (both 1 (saved_count seated + 2) (leave_lines attributed) (restore_lines (saved_count seated) ++ two raise back) (leave_code attributed)
-          (both (saved_count seated) 2 (restore_lines (saved_count seated)) (two raise back) (restore_code (saved_count seated) (saved_few seated))
+          (both saved (params + (count + 1)) (save_lines first saved) (parameter_lines params ++ (numbers ++ enter_lines attributed)) (save_code first saved within)
+          (both params (count + 1) (parameter_lines params) (numbers ++ enter_lines attributed) (parameter_code params (omega (arith, few, moving)))
+          (both count 1 numbers (enter_lines attributed) (pins_code k (first_pin k shape.temps) shape.pins pins.stand) (enter_code attributed))))),
+      wider (1 + (saved + 2)) 13 (leave_lines attributed ++ (restore_lines first saved ++ two raise back)) (omega (arith, within))
+          (both 1 (saved + 2) (leave_lines attributed) (restore_lines first saved ++ two raise back) (leave_code attributed)
+          (both saved 2 (restore_lines first saved) (two raise back) (restore_code first saved within)
           (pair raise back (omega arith, omega arith, small_fits (bytes_of shape) (omega (arith, small))) (omega arith, omega arith, small_fits 0 (omega arith))))),
     )
 
@@ -102,7 +104,8 @@ pub frames_encoded : FramesAreEncoded
 frames_encoded shape pins few small = by shape.keeping pins
   where
     by : (k : Keeping) → ArePins k shape.params shape.temps shape.pins → IsCode 20 (entry_by k shape) × IsCode 13 (return_by k shape)
-    by Saved pins = saved_encoded shape pins few small
+    by Saved pins = saved_encoded Saved shape pins few small
+    by Mixed pins = saved_encoded Mixed shape pins few small
     by Arguments pins =
         let leaf = leaf_encoded shape pins small in (
           wider 9 20 (entry_by Arguments shape) (omega arith) leaf.0,

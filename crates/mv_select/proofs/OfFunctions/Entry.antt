@@ -62,19 +62,19 @@ module _ {M : Type 0} (access : Access M) (y : Layout) (laid : IsLaid y) (machin
 
   -- ---- registers are saved
 
-  -- so many registers stand in the first words above an address, and the other words are as they were
-  pub record Saved (k sp : ℕ) (regs : List ℕ) (m m' : M) : Type 0 where
-    pub saved : (j : ℕ) → j < k → access.load m' (sp + 4 * j) 4 ≡ Some (reg regs (saved_register j))
-    pub others : (b : ℕ) → IsWord y b → ((j : ℕ) → j < k → b ≢ sp + 4 * j) → access.load m' b 4 ≡ access.load m b 4
+  -- so many registers stand in the words above an address, from one of these on, and the other words are as they were
+  pub record Saved (first k sp : ℕ) (regs : List ℕ) (m m' : M) : Type 0 where
+    pub saved : (j : ℕ) → j < k → access.load m' (sp + 4 * (first + j)) 4 ≡ Some (reg regs (saved_register (first + j)))
+    pub others : (b : ℕ) → IsWord y b → ((j : ℕ) → j < k → b ≢ sp + 4 * (first + j)) → access.load m' b 4 ≡ access.load m b 4
 
-  pub record Saves (k sp : ℕ) (w : World) (next : ℕ) (regs : List ℕ) (m : M) (i : ℕ) : Type 0 where
+  pub record Saves (first k sp : ℕ) (w : World) (next : ℕ) (regs : List ℕ) (m : M) (i : ℕ) : Type 0 where
     pub after : M
     pub stands : Ws w next regs after i
-    pub saved : Saved k sp regs m after
+    pub saved : Saved first k sp regs m after
 
-  saved_more : (k sp : ℕ) (w : World) (next : ℕ) (regs : List ℕ) (m mid : M) (i : ℕ) → ((j : ℕ) → j < suc k → IsStack y (sp + 4 * j)) → Saved k sp regs m mid
-      → Put access y laid machine memory reach ample runs budget far place (sp + 4 * k) (reg regs (saved_register k)) w next regs mid (i + 1) → Saves (suc k) sp w next regs m (i + 1)
-  saved_more k sp w next regs m mid i stack before p = record {
+  saved_more : (first k sp : ℕ) (w : World) (next : ℕ) (regs : List ℕ) (m mid : M) (i : ℕ) → ((j : ℕ) → j < suc k → IsStack y (sp + 4 * (first + j))) → Saved first k sp regs m mid
+      → Put access y laid machine memory reach ample runs budget far place (sp + 4 * (first + k)) (reg regs (saved_register (first + k))) w next regs mid (i + 1) → Saves first (suc k) sp w next regs m (i + 1)
+  saved_more first k sp w next regs m mid i stack before p = record {
     after = p.after;
     stands = p.stands;
     saved = record {
@@ -83,15 +83,15 @@ module _ {M : Type 0} (access : Access M) (y : Layout) (laid : IsLaid y) (machin
     };
   }
     where
-      same : (j : ℕ) → j ≡ k → access.load p.after (sp + 4 * j) 4 ≡ Some (reg regs (saved_register j))
-      same j e = subst (λ n. access.load p.after (sp + 4 * n) 4 ≡ Some (reg regs (saved_register n))) (sym e) p.same
+      same : (j : ℕ) → j ≡ k → access.load p.after (sp + 4 * (first + j)) 4 ≡ Some (reg regs (saved_register (first + j)))
+      same j e = subst (λ n. access.load p.after (sp + 4 * (first + n)) 4 ≡ Some (reg regs (saved_register (first + n)))) (sym e) p.same
 
-      other : (j : ℕ) → j < suc k → (j ≡ k → ⊥) → access.load p.after (sp + 4 * j) 4 ≡ Some (reg regs (saved_register j))
-      other j lt ne = p.others (sp + 4 * j) (inl (stack j lt)) (λ e. ne (omega (arith, e))) ∙ before.saved j (grind (arith, lt, ne))
+      other : (j : ℕ) → j < suc k → (j ≡ k → ⊥) → access.load p.after (sp + 4 * (first + j)) 4 ≡ Some (reg regs (saved_register (first + j)))
+      other j lt ne = p.others (sp + 4 * (first + j)) (inl (stack j lt)) (λ e. ne (omega (arith, e))) ∙ before.saved j (grind (arith, lt, ne))
 
-  pub save_walk : (k sp : ℕ) (w : World) (pc next : ℕ) (regs : List ℕ) (m : M) (i : ℕ) → k ≤ 10 → reg regs 2 ≡ sp → ((j : ℕ) → j < k → IsStack y (sp + 4 * j)) → AreRegisters regs
-      → Ps (save_lines k) pc next → Ws w pc regs m i → Saves k sp w next regs m (i + k)
-  save_walk zero sp w pc next regs m i small e stack are p a =
+  pub save_walk : (first k sp : ℕ) (w : World) (pc next : ℕ) (regs : List ℕ) (m : M) (i : ℕ) → first + k ≤ 10 → reg regs 2 ≡ sp → ((j : ℕ) → j < k → IsStack y (sp + 4 * (first + j))) → AreRegisters regs
+      → Ps (save_lines first k) pc next → Ws w pc regs m i → Saves first k sp w next regs m (i + k)
+  save_walk first zero sp w pc next regs m i small e stack are p a =
       record {
         after = m;
         stands = subst (Ws w next regs m) (sum_zero i) (moved w pc next regs m i (sym p) a);
@@ -100,14 +100,14 @@ module _ {M : Type 0} (access : Access M) (y : Layout) (laid : IsLaid y) (machin
     where
       sum_zero : (i : ℕ) → i ≡ i + 0
       sum_zero i = omega arith
-  save_walk (suc k) sp w pc next regs m i small e stack are p a =
-      let q = split (save_lines k) (one (Sw 2 (saved_register k) (pos (4 * k)))) pc next p in
-      let before = save_walk k sp w pc q.0 regs m i (omega (arith, small)) e (λ j lt. stack j (omega (arith, lt))) are q.1 a in
+  save_walk first (suc k) sp w pc next regs m i small e stack are p a =
+      let q = split (save_lines first k) (one (Sw 2 (saved_register (first + k)) (pos (4 * (first + k))))) pc next p in
+      let before = save_walk first k sp w pc q.0 regs m i (omega (arith, small)) e (λ j lt. stack j (omega (arith, lt))) are q.1 a in
       let here = stack k (omega arith) in
-      let at : add (reg regs 2) (word_of (pos (4 * k))) ≡ sp + 4 * k =
-      add_word (reg regs 2) (4 * k) ∙ ap (λ z. add z (4 * k)) e ∙ add_small sp (4 * k) (omega (arith, here.1, laid.top)) in
-      let put_at = stores_on access y laid machine memory reach ample runs budget far place (saved_register k) (sp + 4 * k) (pos (4 * k)) w q.0 q.2.0 regs before.after (i + k) at here are q.2.1 before.stands in
-      let more = saved_more k sp w q.2.0 regs m before.after (i + k) stack before.saved put_at in
+      let at : add (reg regs 2) (word_of (pos (4 * (first + k)))) ≡ sp + 4 * (first + k) =
+      add_word (reg regs 2) (4 * (first + k)) ∙ ap (λ z. add z (4 * (first + k))) e ∙ add_small sp (4 * (first + k)) (omega (arith, here.1, laid.top)) in
+      let put_at = stores_on access y laid machine memory reach ample runs budget far place (saved_register (first + k)) (sp + 4 * (first + k)) (pos (4 * (first + k))) w q.0 q.2.0 regs before.after (i + k) at here are q.2.1 before.stands in
+      let more = saved_more first k sp w q.2.0 regs m before.after (i + k) stack before.saved put_at in
       let same : i + k + 1 ≡ i + suc k = omega arith in
       record { after = more.after; stands = subst (Ws w next regs more.after) same (moved w q.2.0 next regs more.after (i + k + 1) (sym q.2.2) more.stands); saved = more.saved }
 
@@ -174,39 +174,39 @@ module _ {M : Type 0} (access : Access M) (y : Layout) (laid : IsLaid y) (machin
 
   -- ---- registers are restored
 
-  pub record Restored (k sp : ℕ) (regs after : List ℕ) (m : M) : Type 0 where
+  pub record Restored (first k sp : ℕ) (regs after : List ℕ) (m : M) : Type 0 where
     pub are : AreRegisters after
-    pub restored : (j : ℕ) (v : ℕ) → j < k → access.load m (sp + 4 * j) 4 ≡ Some v → reg after (saved_register j) ≡ v
-    pub others : (q : ℕ) → ((j : ℕ) → j < k → q ≢ saved_register j) → reg after q ≡ reg regs q
+    pub restored : (j : ℕ) (v : ℕ) → j < k → access.load m (sp + 4 * (first + j)) 4 ≡ Some v → reg after (saved_register (first + j)) ≡ v
+    pub others : (q : ℕ) → ((j : ℕ) → j < k → q ≢ saved_register (first + j)) → reg after q ≡ reg regs q
 
-  pub record Restores (k sp : ℕ) (w : World) (next : ℕ) (regs : List ℕ) (m : M) (i : ℕ) : Type 0 where
+  pub record Restores (first k sp : ℕ) (w : World) (next : ℕ) (regs : List ℕ) (m : M) (i : ℕ) : Type 0 where
     pub after : List ℕ
     pub stands : Ws w next after m i
-    pub restored : Restored k sp regs after m
+    pub restored : Restored first k sp regs after m
 
-  restored_more : (k sp v : ℕ) (regs mid : List ℕ) (m : M) → k < 10 → v < 2 ^ 32 → access.load m (sp + 4 * k) 4 ≡ Some v → Restored k sp regs mid m
-      → Restored (suc k) sp regs (put mid (saved_register k) v) m
-  restored_more k sp v regs mid m small word load before = record {
-    are = put_registers mid r v before.are (saved_free k small) word;
+  restored_more : (first k sp v : ℕ) (regs mid : List ℕ) (m : M) → first + k < 10 → v < 2 ^ 32 → access.load m (sp + 4 * (first + k)) 4 ≡ Some v → Restored first k sp regs mid m
+      → Restored first (suc k) sp regs (put mid (saved_register (first + k)) v) m
+  restored_more first k sp v regs mid m small word load before = record {
+    are = put_registers mid r v before.are (saved_free (first + k) small) word;
     restored = λ j u lt e. ⊎_elim (same j u e) (other j u lt e) (cases_eq j k);
-    others = λ q away. put_other mid r q v (saved_above k) (away k (omega arith)) ∙ before.others q (λ j lt. away j (omega (arith, lt)));
+    others = λ q away. put_other mid r q v (saved_above (first + k)) (away k (omega arith)) ∙ before.others q (λ j lt. away j (omega (arith, lt)));
   }
     where
       r : ℕ
-      r = saved_register k
+      r = saved_register (first + k)
 
-      same : (j u : ℕ) → access.load m (sp + 4 * j) 4 ≡ Some u → j ≡ k → reg (put mid (saved_register k) v) (saved_register j) ≡ u
+      same : (j u : ℕ) → access.load m (sp + 4 * (first + j)) 4 ≡ Some u → j ≡ k → reg (put mid (saved_register (first + k)) v) (saved_register (first + j)) ≡ u
       same j u e is =
-          let at : access.load m (sp + 4 * k) 4 ≡ Some u = subst (λ n. access.load m (sp + 4 * n) 4 ≡ Some u) is e in
-          subst (λ n. reg (put mid (saved_register k) v) (saved_register n) ≡ u) (sym is)
-          (put_same mid (saved_register k) v (saved_above k) (omega (arith, before.are.count, saved_below k small)) ∙ ap (λ o. unwrap_or o 0) (sym load ∙ at))
+          let at : access.load m (sp + 4 * (first + k)) 4 ≡ Some u = subst (λ n. access.load m (sp + 4 * (first + n)) 4 ≡ Some u) is e in
+          subst (λ n. reg (put mid (saved_register (first + k)) v) (saved_register (first + n)) ≡ u) (sym is)
+          (put_same mid (saved_register (first + k)) v (saved_above (first + k)) (omega (arith, before.are.count, saved_below (first + k) small)) ∙ ap (λ o. unwrap_or o 0) (sym load ∙ at))
 
-      other : (j u : ℕ) → j < suc k → access.load m (sp + 4 * j) 4 ≡ Some u → (j ≡ k → ⊥) → reg (put mid (saved_register k) v) (saved_register j) ≡ u
-      other j u lt e ne = put_other mid (saved_register k) (saved_register j) v (saved_above k) (saved_apart j k ne) ∙ before.restored j u (grind (arith, lt, ne)) e
+      other : (j u : ℕ) → j < suc k → access.load m (sp + 4 * (first + j)) 4 ≡ Some u → (j ≡ k → ⊥) → reg (put mid (saved_register (first + k)) v) (saved_register (first + j)) ≡ u
+      other j u lt e ne = put_other mid (saved_register (first + k)) (saved_register (first + j)) v (saved_above (first + k)) (saved_apart (first + j) (first + k) (λ e. ne (omega (arith, e)))) ∙ before.restored j u (grind (arith, lt, ne)) e
 
-  pub restore_walk : (k sp : ℕ) (w : World) (pc next : ℕ) (regs : List ℕ) (m : M) (i : ℕ) → k ≤ 10 → reg regs 2 ≡ sp → ((j : ℕ) → j < k → IsStack y (sp + 4 * j)) → AreRegisters regs
-      → Ps (restore_lines k) pc next → Ws w pc regs m i → Restores k sp w next regs m (i + k)
-  restore_walk zero sp w pc next regs m i small e stack are p a =
+  pub restore_walk : (first k sp : ℕ) (w : World) (pc next : ℕ) (regs : List ℕ) (m : M) (i : ℕ) → first + k ≤ 10 → reg regs 2 ≡ sp → ((j : ℕ) → j < k → IsStack y (sp + 4 * (first + j))) → AreRegisters regs
+      → Ps (restore_lines first k) pc next → Ws w pc regs m i → Restores first k sp w next regs m (i + k)
+  restore_walk first zero sp w pc next regs m i small e stack are p a =
       record {
         after = regs;
         stands = subst (Ws w next regs m) (sum_zero i) (moved w pc next regs m i (sym p) a);
@@ -215,16 +215,16 @@ module _ {M : Type 0} (access : Access M) (y : Layout) (laid : IsLaid y) (machin
     where
       sum_zero : (i : ℕ) → i ≡ i + 0
       sum_zero i = omega arith
-  restore_walk (suc k) sp w pc next regs m i small e stack are p a =
-      let q = split (restore_lines k) (one (Lw (saved_register k) 2 (pos (4 * k)))) pc next p in
-      let before = restore_walk k sp w pc q.0 regs m i (omega (arith, small)) e (λ j lt. stack j (omega (arith, lt))) are q.1 a in
+  restore_walk first (suc k) sp w pc next regs m i small e stack are p a =
+      let q = split (restore_lines first k) (one (Lw (saved_register (first + k)) 2 (pos (4 * (first + k))))) pc next p in
+      let before = restore_walk first k sp w pc q.0 regs m i (omega (arith, small)) e (λ j lt. stack j (omega (arith, lt))) are q.1 a in
       let here = stack k (omega arith) in
-      let held : reg before.after 2 ≡ sp = before.restored.others 2 (λ j lt. sp_apart j) ∙ e in
-      let at : add (reg before.after 2) (word_of (pos (4 * k))) ≡ sp + 4 * k =
-      add_word (reg before.after 2) (4 * k) ∙ ap (λ z. add z (4 * k)) held ∙ add_small sp (4 * k) (omega (arith, here.1, laid.top)) in
-      let old = memory.stack (outside w) m (sp + 4 * k) a.calm here in
-      let word = memory.words m (sp + 4 * k) old.0 (inl here) old.1 in
-      let after = put before.after (saved_register k) old.0 in
-      let b = loads_on access y laid machine memory reach ample runs budget far place (saved_register k) (sp + 4 * k) old.0 (pos (4 * k)) w q.0 q.2.0 before.after m (i + k) at here old.1 q.2.1 before.stands in
+      let held : reg before.after 2 ≡ sp = before.restored.others 2 (λ j lt. sp_apart (first + j)) ∙ e in
+      let at : add (reg before.after 2) (word_of (pos (4 * (first + k)))) ≡ sp + 4 * (first + k) =
+      add_word (reg before.after 2) (4 * (first + k)) ∙ ap (λ z. add z (4 * (first + k))) held ∙ add_small sp (4 * (first + k)) (omega (arith, here.1, laid.top)) in
+      let old = memory.stack (outside w) m (sp + 4 * (first + k)) a.calm here in
+      let word = memory.words m (sp + 4 * (first + k)) old.0 (inl here) old.1 in
+      let after = put before.after (saved_register (first + k)) old.0 in
+      let b = loads_on access y laid machine memory reach ample runs budget far place (saved_register (first + k)) (sp + 4 * (first + k)) old.0 (pos (4 * (first + k))) w q.0 q.2.0 before.after m (i + k) at here old.1 q.2.1 before.stands in
       let same : i + k + 1 ≡ i + suc k = omega arith in
-      record { after = after; stands = subst (Ws w next after m) same (moved w q.2.0 next after m (i + k + 1) (sym q.2.2) b); restored = restored_more k sp old.0 regs before.after m (omega (arith, small)) word old.1 before.restored }
+      record { after = after; stands = subst (Ws w next after m) same (moved w q.2.0 next after m (i + k + 1) (sym q.2.2) b); restored = restored_more first k sp old.0 regs before.after m (omega (arith, small)) word old.1 before.restored }

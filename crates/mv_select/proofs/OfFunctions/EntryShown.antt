@@ -91,9 +91,14 @@ module _ {M : Type 0} (access : Access M) (y : Layout) (laid : IsLaid y) (machin
     stack_cell : (x : Cell) → IsAbove y (reg regs 2) (address Here x) → IsStack y (address Here x)
     stack_cell x h = let low = h.0 in (omega (arith, low, is.low), h.1, h.2)
 
+    local_count : (a : ℕ) → length (elements (array.Local a) begin) ≡ slice_index body.arrays a
+    local_count a = ap length (arrays_at contents.arrays body.arrays a) ∙ items_count (slice_index body.arrays a) (contents.arrays a)
+
     sizes : (a : Array) → length (elements a begin) ≡ size_of Here a
     sizes (array.Global g) = globals.sizes g
-    sizes (array.Local a) = ap length (arrays_at contents.arrays body.arrays a) ∙ items_count (slice_index body.arrays a) (contents.arrays a)
+    sizes (array.Local a) = local_count a
+    sizes (array.SureGlobal g n) = globals.sizes g
+    sizes (array.SureLocal a n) = local_count a
 
     in_memory : (x : Cell) → IsThere Here x → access.load m (address Here x) 4 ≡ Some (content Here begin x)
     in_memory (TempCell t) h =
@@ -103,6 +108,8 @@ module _ {M : Type 0} (access : Access M) (y : Layout) (laid : IsLaid y) (machin
     in_memory (Element (array.Local a) i) h =
         loaded (address Here (Element (array.Local a) i)) (stack_cell (Element (array.Local a) i) (frame_word y laid reach (shape_at attributed k body) (reg regs) caller (word_at access m) is (Element (array.Local a) i) h tt))
         ∙ ap Some (sym (local_is a i h))
+    in_memory (Element (array.SureGlobal g n) i) h = absurd h
+    in_memory (Element (array.SureLocal a n) i) h = absurd h
     in_memory (Kept b) h = loaded b (stack_cell (Kept b) (frame_word y laid reach (shape_at attributed k body) (reg regs) caller (word_at access m) is (Kept b) h tt))
 
     word_below : (x : Cell) → IsWord y (address Here x) → IsThere Here x → content Here begin x < 2 ^ 32
@@ -113,6 +120,8 @@ module _ {M : Type 0} (access : Access M) (y : Layout) (laid : IsLaid y) (machin
     words (Element (array.Global g) i) h = globals.words g i h
     words (Element (array.Local a) i) h =
         word_below (Element (array.Local a) i) (inl (stack_cell (Element (array.Local a) i) (frame_word y laid reach (shape_at attributed k body) (reg regs) caller (word_at access m) is (Element (array.Local a) i) h tt))) h
+    words (Element (array.SureGlobal g n) i) h = absurd h
+    words (Element (array.SureLocal a n) i) h = absurd h
     words (Kept b) h = word_below (Kept b) (inl (stack_cell (Kept b) (frame_word y laid reach (shape_at attributed k body) (reg regs) caller (word_at access m) is (Kept b) h tt))) h
 
     pub begins_shown : Shows Here access begin regs m

@@ -13,7 +13,7 @@ use Rattle.mv_ir.specs.Measures.{total}
 use Rattle.mv_ir.specs.Trees.{found}
 use Rattle.mv_select_code.specs.Trees.TreeCode.{temp_offset, register_of}
 use Rattle.mv_select_code.specs.declared.trees.places.Keeping.{Keeping}
-use Rattle.mv_select_code.specs.declared.trees.places.Keeping.TheVariants.{Saved, Arguments}
+use Rattle.mv_select_code.specs.declared.trees.places.Keeping.TheVariants.{Saved, Arguments, Mixed}
 use Rattle.mv_select_code.proofs.OfTrees.KeepingSeats.{keeping_seats}
 use Rattle.mv_select_code.specs.Statements.Frames.{Site, Cell, TempCell, Element, Kept, IsThere, address, size_of, LeavesAlone, Stored, IsFit, Reach, IsLoaded}
 use Rattle.mv_select_code.specs.Control.Runs.{Machine}
@@ -23,8 +23,8 @@ use Rattle.mv_select.specs.Functions.FunctionCode.{words_before, Shape, HasPins,
 use Rattle.mv_select.specs.Functions.Pins.{ArePins, first_pin, pins_of}
 use Rattle.mv_select.specs.Functions.Functions as functions
 use Rattle.mv_select.specs.Functions.Functions.{IsStack, IsWord, IsLaid, IsMemory, StandsInWords, asks_by, site_of, IsAmple}
-use Rattle.mv_select.proofs.OfFunctions.Pins.{pins_off_temps, pins_off_result, pins_saved, pins_within}
-use Rattle.mv_select.proofs.OfFunctions.Seats.{SeatsSaved, LeftSaved, seats_saved, left_saved, unseated, stack_left, counters_left, left_real, left_result, left_scratch, left_temps}
+use Rattle.mv_select.proofs.OfFunctions.Pins.{first_past, pins_off_temps, pins_off_result, pins_saved, pins_within}
+use Rattle.mv_select.proofs.OfFunctions.Seats.{saves, SeatsSaved, LeftSaved, seats_saved, left_saved, unseated, stack_left, counters_left, left_real, left_result, left_scratch, left_temps}
 use Rattle.mv_num.proofs.Booleans.{and_right, and_left, or_true, or_cases}
 
 -- ---- arrays in a row
@@ -88,6 +88,12 @@ temp_is t = refl
 abbrev pub lowered_by : Keeping → List ℕ → ℕ → ℕ
 lowered_by Saved sizes bytes = bytes
 lowered_by Arguments sizes bytes = cond (eqb (total sizes) 0) 0 bytes
+lowered_by Mixed sizes bytes = bytes
+
+pub lowered_saves : (k : Keeping) (sizes : List ℕ) (bytes : ℕ) → saves k ≡ true → lowered_by k sizes bytes ≡ bytes
+lowered_saves Saved sizes bytes h = refl
+lowered_saves Arguments sizes bytes h = cc
+lowered_saves Mixed sizes bytes h = refl
 
 abbrev pub frame_of : Shape → ℕ
 frame_of shape = lowered_by shape.keeping shape.arrays (bytes_of shape)
@@ -96,9 +102,16 @@ frame_of shape = lowered_by shape.keeping shape.arrays (bytes_of shape)
 abbrev pub saved_end : Keeping → ℕ → ℕ
 saved_end Saved sp = sp + 40
 saved_end Arguments sp = sp
+saved_end Mixed sp = sp + 40
+
+pub end_saves : (k : Keeping) (sp : ℕ) → saves k ≡ true → saved_end k sp ≡ sp + 40
+end_saves Saved sp h = refl
+end_saves Arguments sp h = cc
+end_saves Mixed sp h = refl
 
 pub lowered_small : (k : Keeping) (sizes : List ℕ) (bytes : ℕ) → lowered_by k sizes bytes ≤ bytes
 lowered_small Saved sizes bytes = omega arith
+lowered_small Mixed sizes bytes = omega arith
 lowered_small Arguments sizes bytes = by (eqb (total sizes) 0)
   where
     by : (none : Bool) → cond none 0 bytes ≤ bytes
@@ -107,6 +120,7 @@ lowered_small Arguments sizes bytes = by (eqb (total sizes) 0)
 
 lowered_even : (k : Keeping) (sizes : List ℕ) (bytes : ℕ) → bytes % 4 ≡ 0 → lowered_by k sizes bytes % 4 ≡ 0
 lowered_even Saved sizes bytes e = e
+lowered_even Mixed sizes bytes e = e
 lowered_even Arguments sizes bytes e = by (eqb (total sizes) 0)
   where
     by : (none : Bool) → cond none 0 bytes % 4 ≡ 0
@@ -116,15 +130,18 @@ lowered_even Arguments sizes bytes e = by (eqb (total sizes) 0)
 -- where an array has an element, sp is moved
 lowered_whole : (k : Keeping) (sizes : List ℕ) (bytes a i : ℕ) → i < slice_index sizes a → lowered_by k sizes bytes ≡ bytes
 lowered_whole Saved sizes bytes a i lt = refl
+lowered_whole Mixed sizes bytes a i lt = refl
 lowered_whole Arguments sizes bytes a i lt = ap (λ none. cond none 0 bytes) (ne_eqb (total sizes) 0 (λ e. omega (arith, e, lt, size_within sizes a)))
 
 saved_end_low : (k : Keeping) (sp : ℕ) → saved_end k sp ≤ sp + 40
 saved_end_low Saved sp = omega arith
 saved_end_low Arguments sp = omega arith
+saved_end_low Mixed sp = omega arith
 
 saved_end_within : (k : Keeping) (sizes : List ℕ) (sp bytes : ℕ) → 40 ≤ bytes → saved_end k sp ≤ sp + lowered_by k sizes bytes
 saved_end_within Saved sizes sp bytes h = omega (arith, h)
 saved_end_within Arguments sizes sp bytes h = omega arith
+saved_end_within Mixed sizes sp bytes h = omega (arith, h)
 
 -- A frame of a function, below the sp of its caller. One that saves no registers has few temporaries. Pins have their registers.
 pub record IsFrame (y : Layout) (shape : Shape) (sp caller : ℕ) : Type 0 where
@@ -166,7 +183,7 @@ module _ (y : Layout) (laid : IsLaid y) (reach : Reach) (shape : Shape) (registe
         at = ap (λ n. register 2 + n) (temp_is t);
         low = un.0;
         high = omega (arith, lt, le-max_left shape.temps 9);
-        whole = ap (λ k. register 2 + lowered_by k shape.arrays (bytes_of shape)) (sym un.1) ∙ is.below;
+        whole = ap (λ n. register 2 + n) (sym (lowered_saves shape.keeping shape.arrays (bytes_of shape) un.1)) ∙ is.below;
       }
 
   element_place : (a i : ℕ) → i < slice_index shape.arrays a → (address S (Element (array.Local a) i) ≡ register 2 + 4 * (start + 1 + words_before shape.arrays a + i))
@@ -192,6 +209,8 @@ module _ (y : Layout) (laid : IsLaid y) (reach : Reach) (shape : Shape) (registe
   frame_word (Element (array.Local a) i) h own =
       let p = element_place a i h in
       subst (IsAbove y (register 2)) (sym p.0) (omega arith, omega (arith, p.1, is.high), omega (arith, even_sp))
+  frame_word (Element (array.SureGlobal g n) i) h own = absurd h
+  frame_word (Element (array.SureLocal a n) i) h own = absurd h
   frame_word (Kept b) h own =
       let k = kept_cases (register 2) stop caller y.top b h in
       ⊎_elim (λ (r : (register 2 ≤ b) × (b < stop)). (r.0, omega (arith, r.1, enough, is.high), k.0))
@@ -204,6 +223,8 @@ module _ (y : Layout) (laid : IsLaid y) (reach : Reach) (shape : Shape) (registe
   cell_word (TempCell t) h = inl (in_stack (address S (TempCell t)) (frame_word (TempCell t) h tt))
   cell_word (Element (array.Global g) i) h = inr (g, i, h, refl)
   cell_word (Element (array.Local a) i) h = inl (in_stack (address S (Element (array.Local a) i)) (frame_word (Element (array.Local a) i) h tt))
+  cell_word (Element (array.SureGlobal g n) i) h = absurd h
+  cell_word (Element (array.SureLocal a n) i) h = absurd h
   cell_word (Kept b) h = inl (in_stack b (frame_word (Kept b) h tt))
 
   off_global : (g i : ℕ) → i < y.size g → (x : Cell) → IsThere S x → IsOfFrame x → address S x ≡ y.place g + 4 * i → ⊥
@@ -229,11 +250,15 @@ module _ (y : Layout) (laid : IsLaid y) (reach : Reach) (shape : Shape) (registe
   cells_apart (TempCell t) (TempCell n) h k e = ap TempCell (omega (arith, e, temp_is t, temp_is n))
   cells_apart (TempCell t) (Element (array.Global g) i) h k e = absurd (off_global g i k (TempCell t) h tt e)
   cells_apart (TempCell t) (Element (array.Local a) i) h k e = absurd (temp_or_element t a i h.0 h.1 k e)
+  cells_apart (TempCell t) (Element (array.SureGlobal g n) i) h k e = absurd k
+  cells_apart (TempCell t) (Element (array.SureLocal a n) i) h k e = absurd k
   cells_apart (TempCell t) (Kept b) h k e = absurd (temp_or_kept t b h.0 h.1 k e)
   cells_apart (Element (array.Global g) i) (TempCell t) h k e = absurd (off_global g i h (TempCell t) k tt (sym e))
   cells_apart (Element (array.Global g) i) (Element (array.Global n) j) h k e =
       let r = laid.apart g i n j h k e in ap (λ m. Element (array.Global m) i) r.0 ∙ ap (Element (array.Global n)) r.1
   cells_apart (Element (array.Global g) i) (Element (array.Local a) j) h k e = absurd (off_global g i h (Element (array.Local a) j) k tt (sym e))
+  cells_apart (Element (array.Global g) i) (Element (array.SureGlobal d n) j) h k e = absurd k
+  cells_apart (Element (array.Global g) i) (Element (array.SureLocal a n) j) h k e = absurd k
   cells_apart (Element (array.Global g) i) (Kept b) h k e = absurd (off_global g i h (Kept b) k tt (sym e))
   cells_apart (Element (array.Local a) i) (TempCell t) h k e = absurd (temp_or_element t a i k.0 k.1 h (sym e))
   cells_apart (Element (array.Local a) i) (Element (array.Global g) j) h k e = absurd (off_global g j k (Element (array.Local a) i) h tt e)
@@ -241,24 +266,31 @@ module _ (y : Layout) (laid : IsLaid y) (reach : Reach) (shape : Shape) (registe
       let p = element_place a i h in let q = element_place b j k in
       let r = element_unique shape.arrays a b i j h k (omega (arith, p.0, q.0, e)) in
       ap (λ m. Element (array.Local m) i) r.0 ∙ ap (Element (array.Local b)) r.1
+  cells_apart (Element (array.Local a) i) (Element (array.SureGlobal g n) j) h k e = absurd k
+  cells_apart (Element (array.Local a) i) (Element (array.SureLocal b n) j) h k e = absurd k
   cells_apart (Element (array.Local a) i) (Kept b) h k e = absurd (element_or_kept a i b h k e)
+  cells_apart (Element (array.SureGlobal g n) i) v h k e = absurd h
+  cells_apart (Element (array.SureLocal a n) i) v h k e = absurd h
   cells_apart (Kept b) (TempCell t) h k e = absurd (temp_or_kept t b k.0 k.1 h (sym e))
   cells_apart (Kept b) (Element (array.Global g) i) h k e = absurd (off_global g i k (Kept b) h tt e)
   cells_apart (Kept b) (Element (array.Local a) i) h k e = absurd (element_or_kept a i b k h (sym e))
+  cells_apart (Kept b) (Element (array.SureGlobal g n) i) h k e = absurd k
+  cells_apart (Kept b) (Element (array.SureLocal a n) i) h k e = absurd k
   cells_apart (Kept b) (Kept c) h k e = ap Kept e
 
   pub cells_below : (x : Cell) → IsThere S x → address S x < 2 ^ 32
   cells_below (Element (array.Global g) i) h = laid.addresses g i h
   cells_below (TempCell t) h = let w = frame_word (TempCell t) h tt in omega (arith, w.1, laid.top)
   cells_below (Element (array.Local a) i) h = let w = frame_word (Element (array.Local a) i) h tt in omega (arith, w.1, laid.top)
+  cells_below (Element (array.SureGlobal g n) i) h = absurd h
+  cells_below (Element (array.SureLocal a n) i) h = absurd h
   cells_below (Kept b) h = let w = frame_word (Kept b) h tt in omega (arith, w.1, laid.top)
 
   pub own_words : StandsInWords y S
   own_words x own h = cell_word x h
 
-  sizes_below : (a : Array) → size_of S a < 2 ^ 32
-  sizes_below (array.Global g) = laid.sizes g
-  sizes_below (array.Local a) = ⊎_elim few some (cases_lt 0 (slice_index shape.arrays a))
+  local_below : (a : ℕ) → slice_index shape.arrays a < 2 ^ 32
+  local_below a = ⊎_elim few some (cases_lt 0 (slice_index shape.arrays a))
     where
       few : 0 < slice_index shape.arrays a → slice_index shape.arrays a < 2 ^ 32
       few lt = omega (arith, size_within shape.arrays a, is.below, lowered_whole shape.keeping shape.arrays (bytes_of shape) a 0 lt, is.high, laid.top)
@@ -266,13 +298,19 @@ module _ (y : Layout) (laid : IsLaid y) (reach : Reach) (shape : Shape) (registe
       some : slice_index shape.arrays a ≤ 0 → slice_index shape.arrays a < 2 ^ 32
       some le = omega (arith, le)
 
+  sizes_below : (a : Array) → size_of S a < 2 ^ 32
+  sizes_below (array.Global g) = laid.sizes g
+  sizes_below (array.Local a) = local_below a
+  sizes_below (array.SureGlobal g n) = laid.sizes g
+  sizes_below (array.SureLocal a n) = local_below a
+
   leaves_alone : LeavesAlone S
   leaves_alone = record {
     stack = stack_left shape.keeping (seated_of shape);
     real = left_real shape.keeping (seated_of shape);
     result = left_result shape.keeping (seated_of shape);
     scratch = left_scratch shape.keeping (seated_of shape);
-    temps = λ t q lt. left_temps shape.keeping (seated_of shape) t q (omega (arith, lt));
+    temps = λ t q lt. left_temps shape.keeping (seated_of shape) t q (omega (arith, lt, first_past shape.keeping shape.temps));
     pinned = pins_off_temps shape.keeping shape.params shape.temps shape.pins is.pins;
     pinned_result = pins_off_result shape.keeping shape.params shape.temps shape.pins is.pins;
   }
@@ -286,6 +324,8 @@ module _ (y : Layout) (laid : IsLaid y) (reach : Reach) (shape : Shape) (registe
     loaded ample (TempCell t) h may = ample.stack (address S (TempCell t)) (in_stack (address S (TempCell t)) (frame_word (TempCell t) h tt))
     loaded ample (Element (array.Global g) i) h may = ample.globals g i may h
     loaded ample (Element (array.Local a) i) h may = ample.stack (address S (Element (array.Local a) i)) (in_stack (address S (Element (array.Local a) i)) (frame_word (Element (array.Local a) i) h tt))
+    loaded ample (Element (array.SureGlobal g n) i) h may = absurd h
+    loaded ample (Element (array.SureLocal a n) i) h may = absurd h
     loaded ample (Kept b) h may = ample.stack b (in_stack b (frame_word (Kept b) h tt))
 
     pub frame_fits : IsAmple y reach → ((g : ℕ) → reach.is_read g ≡ true → 0 < y.size g) → ((g : ℕ) → reach.is_read g ≡ true → found frame.bound g ≡ None) → IsFit S access setting frame
@@ -304,16 +344,16 @@ module _ (y : Layout) (laid : IsLaid y) (reach : Reach) (shape : Shape) (registe
     }
 
     pub frame_calls : shape.keeping ≡ Saved → register 26 ≡ frame.live → frame.live ≤ frame.depth → register 27 + frame.depth ≡ depth_limit → y.bottom + register 27 * frame_limit ≤ register 2 → IsCaller y S setting frame
-    frame_calls saves live counts left room = record {
+    frame_calls saved live counts left room = record {
       places = λ g. refl;
       sizes = λ g. refl;
-      saved = subst SeatsSaved (sym saves) seats_saved;
-      pins = pins_saved shape.params shape.temps shape.pins (subst (λ k. ArePins k shape.params shape.temps shape.pins) saves is.pins);
-      left = λ q. subst (λ k. LeftSaved k (seated_of shape) q) (sym saves) (left_saved (seated_of shape) q);
-      counters = subst (λ k. (is_left_by k (seated_of shape) 26 ≡ true) × (is_left_by k (seated_of shape) 27 ≡ true)) (sym saves)
+      saved = subst SeatsSaved (sym saved) seats_saved;
+      pins = pins_saved shape.params shape.temps shape.pins (subst (λ k. ArePins k shape.params shape.temps shape.pins) saved is.pins);
+      left = λ q. subst (λ k. LeftSaved k (seated_of shape) q) (sym saved) (left_saved (seated_of shape) q);
+      counters = subst (λ k. (is_left_by k (seated_of shape) 26 ≡ true) × (is_left_by k (seated_of shape) 27 ≡ true)) (sym saved)
           (counters_left (seated_of shape) 26 (omega arith) (omega arith), counters_left (seated_of shape) 27 (omega arith) (omega arith));
       entries = λ f. refl;
-      may_ask = λ k. subst (λ by. asks_by by y.may_ask k ≡ true → y.may_ask k ≡ true) (sym saves) (λ e. e);
+      may_ask = λ k. subst (λ by. asks_by by y.may_ask k ≡ true → y.may_ask k ≡ true) (sym saved) (λ e. e);
       entry_places = λ f lt. (entries f lt).1;
       live = live;
       counts = counts;

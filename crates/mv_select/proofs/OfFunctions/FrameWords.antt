@@ -44,6 +44,8 @@ pub words_stand : (y : Layout) (reach : Reach) → IsLaid y → StandsInWords y 
 words_stand y reach laid (TempCell t) own h = absurd (omega (arith, h.1))
 words_stand y reach laid (Element (array.Global g) i) own h = absurd (omega (arith, h))
 words_stand y reach laid (Element (array.Local a) i) own h = let even = laid.even in inl (omega arith, omega (arith, h), omega (arith, even))
+words_stand y reach laid (Element (array.SureGlobal g n) i) own h = absurd h
+words_stand y reach laid (Element (array.SureLocal a n) i) own h = absurd h
 words_stand y reach laid (Kept b) own h = absurd own
 
 module _ {M : Type 0} (access : Access M) (y : Layout) (laid : IsLaid y) (machine : Machine M) (memory : IsMemory access y machine)

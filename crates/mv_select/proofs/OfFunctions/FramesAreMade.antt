@@ -8,20 +8,20 @@ use Rattle.mv_isa.specs.Registers.{a0, ra as link_register, s10 as live_register
 use Rattle.mv_ir.specs.Measures.{total}
 use Rattle.mv_select_code.specs.Trees.TreeCode.{one, two, minus_one, number_lines, temp_register}
 use Rattle.mv_select_code.specs.declared.trees.places.Keeping.{Keeping}
-use Rattle.mv_select_code.specs.declared.trees.places.Keeping.TheVariants.{Saved, Arguments}
+use Rattle.mv_select_code.specs.declared.trees.places.Keeping.TheVariants.{Saved, Arguments, Mixed}
 use Rattle.mv_select_code.specs.declared.trees.places.Pin.{Pin}
 use Rattle.mv_select_code.proofs.OfControl.StatementsAreMade.{LineByLine, words_made, number_made}
-use Rattle.mv_select.specs.Functions.Pins.{pin_lines}
-use Rattle.mv_select.specs.Functions.FunctionCode.{saved_count, saved_register, save_lines, restore_lines, parameter_lines, enter_lines, leave_lines, lowered_lines, prologue_lines, epilogue_lines, Shape, seated_of, bytes_of, move_lines, entry_by, return_by, led}
+use Rattle.mv_select.specs.Functions.Pins.{pin_lines, moving_words}
+use Rattle.mv_select.specs.Functions.FunctionCode.{first_saved, saved_count, saved_register, save_lines, restore_lines, parameter_lines, enter_lines, leave_lines, lowered_lines, prologue_lines, epilogue_lines, Shape, seated_of, bytes_of, move_lines, entry_by, return_by, led}
 
 module _ {P : List Line → Type 0} {L J Q : ℕ → Type 0} (made : LineByLine P L J Q) where
-  save_made : (k : ℕ) → P (save_lines k)
-  save_made zero = made.none
-  save_made (suc k) = let i = Sw 2 (saved_register k) (pos (4 * k)) in made.after (save_lines k) (one i) (save_made k) (made.word i)
+  save_made : (first k : ℕ) → P (save_lines first k)
+  save_made first zero = made.none
+  save_made first (suc k) = let i = Sw 2 (saved_register (first + k)) (pos (4 * (first + k))) in made.after (save_lines first k) (one i) (save_made first k) (made.word i)
 
-  restore_made : (k : ℕ) → P (restore_lines k)
-  restore_made zero = made.none
-  restore_made (suc k) = let i = Lw (saved_register k) 2 (pos (4 * k)) in made.after (restore_lines k) (one i) (restore_made k) (made.word i)
+  restore_made : (first k : ℕ) → P (restore_lines first k)
+  restore_made first zero = made.none
+  restore_made first (suc k) = let i = Lw (saved_register (first + k)) 2 (pos (4 * (first + k))) in made.after (restore_lines first k) (one i) (restore_made first k) (made.word i)
 
   parameter_made : (k : ℕ) → P (parameter_lines k)
   parameter_made zero = made.none
@@ -39,20 +39,20 @@ module _ {P : List Line → Type 0} {L J Q : ℕ → Type 0} (made : LineByLine 
   leave_made true = made.word (Addi live_register live_register minus_one)
   leave_made false = made.none
 
-  prologue_made : (attributed : Bool) (params seated bytes : ℕ) (pins : List Pin) → P (prologue_lines attributed params seated bytes pins)
-  prologue_made attributed params seated bytes pins =
+  prologue_made : (k : Keeping) (attributed : Bool) (params seated bytes : ℕ) (pins : List Pin) → P (prologue_lines k attributed params seated bytes pins)
+  prologue_made k attributed params seated bytes pins =
       let lower = Addi 2 2 (pos 0 -ℤ pos bytes) in
-      made.after (one lower) (lowered_lines attributed params seated pins) (made.word lower)
-      (made.after (save_lines (saved_count seated)) (parameter_lines params ++ (pin_lines pins ++ enter_lines attributed)) (save_made (saved_count seated))
-      (made.after (parameter_lines params) (pin_lines pins ++ enter_lines attributed) (parameter_made params)
+      made.after (one lower) (lowered_lines k attributed params seated pins) (made.word lower)
+      (made.after (save_lines (first_saved k) (saved_count k seated)) (parameter_lines (moving_words k params) ++ (pin_lines pins ++ enter_lines attributed)) (save_made (first_saved k) (saved_count k seated))
+      (made.after (parameter_lines (moving_words k params)) (pin_lines pins ++ enter_lines attributed) (parameter_made (moving_words k params))
       (made.after (pin_lines pins) (enter_lines attributed) (pins_made pins) (enter_made attributed))))
 
-  epilogue_made : (attributed : Bool) (temps bytes : ℕ) → P (epilogue_lines attributed temps bytes)
-  epilogue_made attributed temps bytes =
+  epilogue_made : (k : Keeping) (attributed : Bool) (temps bytes : ℕ) → P (epilogue_lines k attributed temps bytes)
+  epilogue_made k attributed temps bytes =
       let raise = Addi 2 2 (pos bytes) in
       let back = Jalr 0 link_register (pos 0) in
-      made.after (leave_lines attributed) (restore_lines (saved_count temps) ++ two raise back) (leave_made attributed)
-      (made.after (restore_lines (saved_count temps)) (two raise back) (restore_made (saved_count temps)) (words_made made raise back))
+      made.after (leave_lines attributed) (restore_lines (first_saved k) (saved_count k temps) ++ two raise back) (leave_made attributed)
+      (made.after (restore_lines (first_saved k) (saved_count k temps)) (two raise back) (restore_made (first_saved k) (saved_count k temps)) (words_made made raise back))
 
   move_made : (sizes : List ℕ) (n : ℤ) → P (move_lines sizes n)
   move_made sizes n = by (eqb (total sizes) 0)
@@ -62,12 +62,14 @@ module _ {P : List Line → Type 0} {L J Q : ℕ → Type 0} (made : LineByLine 
       by false = made.word (Addi 2 2 n)
 
   pub entry_made : (k : Keeping) (shape : Shape) → P (entry_by k shape)
-  entry_made Saved shape = prologue_made shape.attributed shape.params (seated_of shape) (bytes_of shape) shape.pins
+  entry_made Saved shape = prologue_made Saved shape.attributed shape.params (seated_of shape) (bytes_of shape) shape.pins
+  entry_made Mixed shape = prologue_made Mixed shape.attributed shape.params (seated_of shape) (bytes_of shape) shape.pins
   entry_made Arguments shape =
       let down = pos 0 -ℤ pos (bytes_of shape) in made.after (move_lines shape.arrays down) (pin_lines shape.pins) (move_made shape.arrays down) (pins_made shape.pins)
 
   pub return_made : (k : Keeping) (shape : Shape) → P (return_by k shape)
-  return_made Saved shape = epilogue_made shape.attributed (seated_of shape) (bytes_of shape)
+  return_made Saved shape = epilogue_made Saved shape.attributed (seated_of shape) (bytes_of shape)
+  return_made Mixed shape = epilogue_made Mixed shape.attributed (seated_of shape) (bytes_of shape)
   return_made Arguments shape =
       let back = Jalr 0 link_register (pos 0) in made.after (move_lines shape.arrays (pos (bytes_of shape))) (one back) (move_made shape.arrays (pos (bytes_of shape))) (made.word back)
 

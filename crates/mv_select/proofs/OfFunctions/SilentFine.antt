@@ -44,8 +44,12 @@ module _ (is_fine : Tree → Bool) (may_ask other : Known → Bool) (temps : ℕ
   layer (stm.Check a i) h silent fine = fine
   layer (stm.Read t (array.Global g) i) h silent fine = fine
   layer (stm.Read t (array.Local a) i) h silent fine = fine
+  layer (stm.Read t (array.SureGlobal g n) i) h silent fine = fine
+  layer (stm.Read t (array.SureLocal a n) i) h silent fine = fine
   layer (stm.Write (array.Global g) i v) h silent fine = fine
   layer (stm.Write (array.Local a) i v) h silent fine = fine
+  layer (stm.Write (array.SureGlobal g n) i v) h silent fine = fine
+  layer (stm.Write (array.SureLocal a n) i v) h silent fine = fine
   layer (stm.Zero a) h silent fine = fine
   layer (stm.If t a b) h silent fine =
       let lists = and_right (is_fine t) (all_true (map Fine a) && all_true (map Fine b)) fine in

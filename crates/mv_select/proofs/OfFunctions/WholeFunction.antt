@@ -1,37 +1,29 @@
 -- The code of a function, however it keeps its temporaries.
-use Rattle.std.proofs.Common.{◌≡◌, inr, ℕ, ◌+◌, ◌-◌, ◌<◌, ◌≤◌, ◌&&◌, Bool, true, eqb, List, [], ◌∷◌, ◌++◌, length, map, slice_index, Option, refl, sym, ap, ◌∙◌, subst, arith}
-use Rattle.mv_num.proofs.Booleans.{and_left, and_right}
-use Rattle.mv_ast.specs.declared.program.Known.{Known}
-use Rattle.mv_ast.specs.declared.program.Known.TheVariants.{Getchar, Putchar, Poll, Plan}
+use Rattle.std.proofs.Common.{◌≡◌, inr, ℕ, ◌+◌, ◌-◌, ◌<◌, ◌≤◌, Bool, true, List, ◌∷◌, ◌++◌, length, slice_index, pos, ◌-ℤ◌, refl, sym, ap, ◌∙◌, subst, arith}
+use Rattle.mv_isa.specs.declared.instr.Instr.TheVariants.{Addi}
 use Rattle.mv_isa.specs.Code.{IsPlace}
 use Rattle.mv_isa.specs.declared.labelled.Line.{Line}
-use Rattle.mv_isa.specs.declared.labelled.Line.TheVariants.{Label}
+use Rattle.mv_isa.specs.declared.labelled.Line.TheVariants.{Word, Label}
 use Rattle.mv_isa.specs.Execution.{Access, reg, put}
 use Rattle.mv_isa.specs.Registers.{ra as link_register, s11 as left_register}
 use Rattle.mv_ir.specs.declared.tree.Tree.{Tree}
-use Rattle.mv_ir.specs.declared.stm.Callee.{Callee}
-use Rattle.mv_ir.specs.declared.stm.Callee.TheVariants as callee
-use Rattle.mv_ir.specs.declared.stm.Stm.TheOpen as stm
 use Rattle.mv_ir.specs.declared.body.Body.{Body}
-use Rattle.mv_ir.specs.WellFormed.{known_arguments, all_true}
 use Rattle.mv_ir.specs.World as ir
 use Rattle.mv_ir.specs.World.{World}
 use Rattle.mv_ir.specs.Outcome.{State, Bound}
 use Rattle.mv_ir.specs.Meaning.{body_from}
 use Rattle.mv_select_code.specs.declared.trees.places.Keeping.{Keeping}
-use Rattle.mv_select_code.specs.declared.trees.places.Keeping.TheVariants.{Saved, Arguments}
+use Rattle.mv_select_code.specs.declared.trees.places.Keeping.TheVariants.{Saved, Arguments, Mixed}
 use Rattle.mv_select_code.specs.Statements.Frames.{Site, Shows, Reach}
-use Rattle.mv_select_code.specs.Control.FlowCode.{fine_target, fine_known, fine_layer}
-use Rattle.mv_select_code.specs.Control.Placed.{Placed}
+use Rattle.mv_select_code.specs.Control.Placed.{IsPlaced, Placed}
 use Rattle.mv_select_code.specs.Control.Runs.{Machine}
-use Rattle.mv_select_code.specs.Control.Laws.{CallsDo, LinesDo, uses_of}
+use Rattle.mv_select_code.specs.Control.Laws.{CallsDo}
 use Rattle.mv_select_code.proofs.OfControl.Walk.{placed_split, stands_at}
-use Rattle.mv_select.specs.Calls.CallCode.{call_lines, calls_of}
+use Rattle.mv_select.specs.Calls.CallCode.{calls_of}
 use Rattle.mv_select.specs.Calls.Convention.{Layout, IsTarget, Stands, FollowsCall, Conventions}
 use Rattle.mv_select.specs.Calls.Environment.{ServesKnown}
 use Rattle.mv_select.specs.Calls.Laws.{IsLinked}
-use Rattle.mv_select.proofs.OfCalls.DepthTest.{tests_depth}
-use Rattle.mv_select.specs.Functions.FunctionCode.{seated_of, bytes_of, body_lines, end_label, entry_by, return_by, led, seats_of}
+use Rattle.mv_select.specs.Functions.FunctionCode.{seated_of, bytes_of, body_lines, later_lines, end_label, entry_by, return_by, led, seats_of}
 use Rattle.mv_select.specs.Functions.Functions.{IsLaid, IsMemory, IsAmple, RunsWithin}
 use Rattle.mv_select.proofs.OfFunctions.Begun.{Begun, frame_at}
 use Rattle.mv_select.proofs.OfFunctions.BodyKeeps as body_of
@@ -42,7 +34,8 @@ use Rattle.mv_select.proofs.OfFunctions.Frame.{shape_at, room_for_saved}
 use Rattle.mv_select.proofs.OfFunctions.FrameWords.{words_site, ok, frame_course}
 use Rattle.mv_select.proofs.OfFunctions.FunctionKeeps.{later_keeps}
 use Rattle.mv_select.proofs.OfFunctions.Leaf.{LeafEntered, leaf_entered, leaf_unwound}
-use Rattle.mv_select.proofs.OfFunctions.Seats.{argument_leaves}
+use Rattle.mv_select.proofs.OfFunctions.Seats.{saves, argument_leaves}
+use Rattle.mv_select.proofs.OfFunctions.Quiet.{quiet_done}
 use Rattle.mv_select.proofs.OfFunctions.Steps.{down}
 
 -- the code from the entry on
@@ -76,15 +69,17 @@ module _ {M : Type 0} (access : Access M) (y : Layout) (laid : IsLaid y) (machin
 
   -- ---- one that saves registers
 
-  saved_keeps : IsKept y setting attributed Saved bound reach is_fine body → Placed machine.text place y.entry (whole y.place y.size is_attributed attributed Saved body) pc next → Keeps Saved
-  saved_keeps fn placed =
-      later_keeps access y laid machine memory reach ample runs setting entries budget far serves levels keep attributed bound is_fine body fn place linked is_attributed pc placed.0 next placed.2
+  saved_keeps : (k : Keeping) (saved : saves k ≡ true) → IsKept y setting attributed k bound reach is_fine body → (mid : ℕ)
+      → IsPlaced machine.text place y.entry pc mid (Word (Addi 2 2 (pos 0 -ℤ pos (bytes_of (shape_at attributed k body)))))
+      → Placed machine.text place y.entry (later_lines y.place y.size is_attributed (shape_at attributed k body) body.code) mid next → Keeps k
+  saved_keeps k saved fn mid first placed =
+      later_keeps access y laid machine memory reach ample runs setting entries budget far serves levels keep attributed k saved bound is_fine body fn place linked is_attributed pc mid next placed
       depth live args back i count target ra w stands begun (record { goes = step.is; sound = step.sound i (omega arith) })
     where
-      step : Ws w placed.0 (put (machine.run i).regs 2 (reg (machine.run i).regs 2 - bytes_of (shape_at attributed Saved body))) (machine.run i).memory (i + 1)
+      step : Ws w mid (put (machine.run i).regs 2 (reg (machine.run i).regs 2 - bytes_of (shape_at attributed k body))) (machine.run i).memory (i + 1)
       step =
-          down access y laid machine memory reach ample runs budget far place (bytes_of (shape_at attributed Saved body)) (reg (machine.run i).regs 2) w pc placed.0 (machine.run i).regs (machine.run i).memory i
-          (omega (arith, room_for_saved (shape_at attributed Saved body))) (omega (arith, begun.room, fn.small)) (omega (arith, begun.within, laid.top)) refl placed.1 here
+          down access y laid machine memory reach ample runs budget far place (bytes_of (shape_at attributed k body)) (reg (machine.run i).regs 2) w pc mid (machine.run i).regs (machine.run i).memory i
+          (omega (arith, room_for_saved (shape_at attributed k body))) (omega (arith, begun.room, fn.small)) (omega (arith, begun.within, laid.top)) refl first here
 
   -- ---- one that keeps its temporaries where arguments come
 
@@ -106,36 +101,11 @@ module _ {M : Type 0} (access : Access M) (y : Layout) (laid : IsLaid y) (machin
     abbrev S : Site
     S = body_of.S access y laid machine memory reach ample runs setting entries budget far attributed Arguments bound is_fine body fn place pc e.mid depth live args i count w stands begun e.entered
 
-    -- it asks for nothing
-    unasked : (k : Known) → fine_known is_fine S.may_ask S.temps (uses_of S) k ≡ true → ⊥
-    unasked Getchar h = cc
-    unasked Putchar h = cc
-    unasked Poll h = cc
-    unasked (Plan order index) h = cc
-
-    abbrev Done : Option ℕ → Callee → List Tree → Type 0
-    Done r f xs =
-        LinesDo access S setting (frame_at attributed bound depth live) machine place end_label budget far is_fine levels (call_lines S.seats is_attributed r f xs) (stm.Call r f xs)
-
-    -- and calls nothing, but it may test how many calls are left
-    test_done : (r : Option ℕ) (f : Callee) (xs : List Tree) → fine_layer is_fine S.may_ask S.temps (uses_of S) (stm.Call r f xs) ≡ true → Done r f xs
-    test_done r (callee.Direct f) xs fine = cc
-    test_done r (callee.Through t) xs fine = cc
-    test_done r (callee.Switched g) xs fine = cc
-    test_done r callee.Expanded [] fine =
-        let okS = body_of.okS access y laid machine memory reach ample runs setting entries budget far attributed Arguments bound is_fine body fn place pc e.mid depth live args i count w stands begun e.entered in
-        tests_depth access S machine okS budget far place end_label (frame_at attributed bound depth live)
-        (argument_leaves (seated_of (shape_at attributed Arguments body)) left_register (inr (inr (omega arith, omega arith)))) (ap (λ n. n + depth) e.entered.left_is ∙ begun.left) setting is_fine levels r
-    test_done r callee.Expanded (x ∷ xs) fine = cc
-
     calls_do : CallsDo access S setting (frame_at attributed bound depth live) machine place end_label budget far is_fine levels (calls_of (seats_of y.place (shape_at attributed Arguments body)) is_attributed)
-    calls_do = record {
-      call = test_done;
-      known = λ r k xs fine.
-          let rest = fine_target is_fine S.may_ask S.temps (uses_of S) r && all_true (map is_fine xs) in
-          let asked = fine_known is_fine S.may_ask S.temps (uses_of S) k in
-          absurd (unasked k (and_left asked rest (and_right (eqb (length xs) (known_arguments k)) (asked && rest) fine)));
-    }
+    calls_do =
+        let okS = body_of.okS access y laid machine memory reach ample runs setting entries budget far attributed Arguments bound is_fine body fn place pc e.mid depth live args i count w stands begun e.entered in
+        quiet_done access S machine okS budget far place end_label setting (frame_at attributed bound depth live) is_fine levels is_attributed refl (λ k. refl)
+        (argument_leaves (seated_of (shape_at attributed Arguments body)) left_register (inr (inr (omega arith, omega arith)))) (ap (λ n. n + depth) e.entered.left_is ∙ begun.left)
 
     unwind : (l : State) (regs : List ℕ) (m : M) (j : ℕ) → Shows S access l regs m → Ws l.world q.2.0 regs m j
         → Unwound access y laid machine memory reach ample runs budget far place (machine.run i).regs (machine.run i).memory back l.world regs m j
@@ -154,5 +124,6 @@ module _ {M : Type 0} (access : Access M) (y : Layout) (laid : IsLaid y) (machin
         at_label = subst (Ps code e.mid) (sym q.2.1.stands)
 
   pub kept_keeps : (k : Keeping) → IsKept y setting attributed k bound reach is_fine body → Placed machine.text place y.entry (whole y.place y.size is_attributed attributed k body) pc next → Keeps k
-  kept_keeps Saved fn placed = saved_keeps fn placed
+  kept_keeps Saved fn placed = saved_keeps Saved refl fn placed.0 placed.1 placed.2
+  kept_keeps Mixed fn placed = saved_keeps Mixed refl fn placed.0 placed.1 placed.2
   kept_keeps Arguments fn placed = leaf_keeps fn placed

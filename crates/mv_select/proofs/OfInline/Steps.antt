@@ -47,6 +47,8 @@ pub globals_stand : (y : Layout) (reach : Reach) → StandsInWords y (globals_si
 globals_stand y reach (TempCell t) own h = absurd (omega (arith, h.1))
 globals_stand y reach (Element (array.Global g) i) own h = inr (g, i, h, refl)
 globals_stand y reach (Element (array.Local a) i) own h = absurd (omega (arith, h))
+globals_stand y reach (Element (array.SureGlobal g n) i) own h = absurd h
+globals_stand y reach (Element (array.SureLocal a n) i) own h = absurd h
 globals_stand y reach (Kept b) own h = absurd own
 
 -- what a callee sets back isn't t0

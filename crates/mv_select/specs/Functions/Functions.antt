@@ -22,7 +22,7 @@ use Rattle.mv_select.specs.Calls.Laws.{IsLinked}
 use Rattle.mv_select.specs.Functions.FunctionCode.{Shape, seats_of, seated_of, is_left_by, calls_nothing, array_offset, bytes_of, later_lines, function_lines}
 use Rattle.mv_select.specs.Functions.Pins.{pins_of}
 use Rattle.mv_select_code.specs.declared.trees.places.Keeping.{Keeping}
-use Rattle.mv_select_code.specs.declared.trees.places.Keeping.TheVariants.{Saved, Arguments}
+use Rattle.mv_select_code.specs.declared.trees.places.Keeping.TheVariants.{Saved, Arguments, Mixed}
 use Rattle.mv_select_code.specs.Control.Laws.{uses_in}
 
 -- a word of the stack, and a word of the stack or of a global
@@ -85,14 +85,16 @@ RunsWithin access y machine reach = (s : Site) → StandsInWords y s → ((a : �
 abbrev pub IsOpen : (closed : (pc address : ℕ) → Bool) → (from to : ℕ) → Reach → Type 0
 IsOpen closed from to reach = (pc a : ℕ) → from ≤ pc → pc < to → reach.may_load a ≡ true → closed pc a ≡ false
 
--- what keeps its temporaries where arguments come calls nothing
+-- what keeps temporaries where arguments come calls nothing
 abbrev pub calls_by : Keeping → Bool
 calls_by Saved = true
 calls_by Arguments = false
+calls_by Mixed = false
 
 abbrev pub asks_by : Keeping → (Known → Bool) → Known → Bool
 asks_by Saved may_ask k = may_ask k
 asks_by Arguments may_ask k = false
+asks_by Mixed may_ask k = false
 
 -- a frame of a function, given its registers and what it is to leave alone
 abbrev pub site_of : Layout → Reach → Shape → (register : ℕ → ℕ) → (is_kept : ℕ → Bool) → (kept : ℕ → ℕ) → Site
@@ -112,9 +114,9 @@ site_of y reach shape register is_kept kept = record {
   kept = kept;
 }
 
--- A function that isn't attributed, calls nothing and has at most eight temporaries keeps them where arguments come.
+-- A function that isn't attributed and calls nothing keeps its first eight temporaries where arguments come.
 abbrev pub keeping_of : Bool → Body → Keeping
-keeping_of attributed body = cond (not attributed && (ltb body.temps 9 && calls_nothing body.code)) Arguments Saved
+keeping_of attributed body = cond (not attributed && calls_nothing body.code) (cond (ltb body.temps 9) Arguments Mixed) Saved
 
 abbrev pub shape_of : Bool → Body → Shape
 shape_of attributed body = record {

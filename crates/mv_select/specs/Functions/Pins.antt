@@ -6,7 +6,7 @@ use Rattle.mv_isa.specs.declared.labelled.Line.{Line}
 use Rattle.mv_ir.specs.declared.body.Body.{Body}
 use Rattle.mv_select_code.specs.Trees.TreeCode.{number_lines, register_of, pinned_in}
 use Rattle.mv_select_code.specs.declared.trees.places.Keeping.{Keeping}
-use Rattle.mv_select_code.specs.declared.trees.places.Keeping.TheVariants.{Saved, Arguments}
+use Rattle.mv_select_code.specs.declared.trees.places.Keeping.TheVariants.{Saved, Arguments, Mixed}
 use Rattle.mv_select_code.specs.declared.trees.places.Pin.{Pin}
 use Rattle.mv_select.specs.declared.pins.Weighed.{Weighed}
 use Rattle.mv_select.specs.declared.uses.Use.{Use}
@@ -30,11 +30,13 @@ StandFrom k t (p ∷ pins) = (register_of k t ≡ Some p.register) × ((p.number
 abbrev pub first_pin : Keeping → ℕ → ℕ
 first_pin Saved temps = temps
 first_pin Arguments temps = max temps 1
+first_pin Mixed temps = max temps 1
 
 -- how many words of an entry bring parameters to their temporaries
 abbrev pub moving_words : Keeping → ℕ → ℕ
 moving_words Saved params = params
 moving_words Arguments params = 0
+moving_words Mixed params = 0
 
 -- with these they have at most eight words, so that the greatest entry stays as long as without them
 pub record ArePins (k : Keeping) (params temps : ℕ) (pins : List Pin) : Type 0 where
@@ -90,6 +92,7 @@ pin_next k first room pins n = cond (is_new room pins n) (with_pin (register_of 
 abbrev pub pin_cost : Keeping → ℕ → ℕ
 pin_cost Saved n = number_words n + 2
 pin_cost Arguments n = number_words n
+pin_cost Mixed n = number_words n + 2
 
 -- a pin for a number that saves more than it costs
 abbrev pub pin_worth : Keeping → (first room : ℕ) → List Pin → Weighed → List Pin

@@ -14,7 +14,7 @@ use Rattle.mv_ir.specs.declared.body.Body.{Body}
 use Rattle.mv_ir.specs.Measures.{joined, callee_trees}
 use Rattle.mv_ir.specs.Operators.{logical_not, less_signed, not_equal}
 use Rattle.mv_select_code.specs.Trees.TreeCode.{upper_bits, right_of, literal_layer, literal}
-use Rattle.mv_select_code.specs.Control.FlowCode.{size_of}
+use Rattle.mv_select_code.specs.Control.FlowCode.{size_of, is_tested as tested_array}
 use Rattle.mv_select_code.specs.Control.Layouts.{size_in}
 use Rattle.mv_select.specs.declared.uses.Use.{Use}
 
@@ -92,9 +92,12 @@ deeper w = cond (ltb w (2 ^ 20)) (8 * w) w
 abbrev pub array_size : Body → Array → ℕ
 array_size body = size_of (size_in body.rooms) (λ a. slice_index_or body.arrays a 0)
 
--- an index is compared with the array's size, unless it is a number
+abbrev pub is_tested : Body → Array → Bool
+is_tested body = tested_array (size_in body.rooms) (λ a. slice_index_or body.arrays a 0)
+
+-- an index that is tested is compared with the array's size, unless it is a number
 abbrev pub index_uses : Body → ℕ → Array → Tree → List Use
-index_uses body w a i = cond (is_some (literal i)) [] (operand_uses w i ++ needed w (array_size body a))
+index_uses body w a i = cond (is_some (literal i)) [] (operand_uses w i ++ cond (is_tested body a) (needed w (array_size body a)) [])
 
 abbrev pub all_at : ℕ → List (ℕ → List Use) → List Use
 all_at w us = joined (map (λ u. u w) us)

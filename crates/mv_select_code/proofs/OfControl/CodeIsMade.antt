@@ -19,7 +19,7 @@ use Rattle.mv_select_code.specs.declared.control.enclosing.Enclosing.{Enclosing}
 use Rattle.mv_select_code.specs.declared.control.enclosing.Leading.{Leading}
 use Rattle.mv_select_code.specs.declared.control.enclosing.Leading.TheVariants as lead
 use Rattle.mv_select_code.specs.declared.control.enclosing.Way.{Way}
-use Rattle.mv_select_code.specs.Control.FlowCode.{Plan, Tested, Emitted, in_turn, enclosing_at, fall_to, jump_to, go_to, go_on, leads_to, if_leads, loop_at, block_at, straight_loop, turned_loop, loop_by, zero_lines, home, size, code_layer, code_of, loop_of, statement_code}
+use Rattle.mv_select_code.specs.Control.FlowCode.{Plan, Tested, Emitted, in_turn, enclosing_at, fall_to, jump_to, go_to, go_on, leads_to, if_leads, loop_at, block_at, straight_loop, turned_loop, loop_by, zero_lines, home, size, tests, code_layer, code_of, loop_of, statement_code}
 use Rattle.mv_select_code.specs.Control.Labels.{named_layer, stm_functions, tree_functions, callee_functions, functions_of_all, functions, callee_pointers, pointers_layer, stm_pointers, pointers}
 use Rattle.mv_select_code.proofs.OfControl.Equations.{code_roll, if_stays, loop_stays}
 use Rattle.mv_select_code.proofs.OfControl.TreeNames.{all_front, all_back, named_roll, pointers_roll}
@@ -197,9 +197,9 @@ module _ {P : List Line → Type 0} {L J Q : ℕ → Type 0} (made : LineByLine 
   layer (stm.Set t v) h names points around starts ends way behind label own = on_made _ way behind (set_made made plan.seats t v names)
   layer (stm.SetGlobal g v) h names points around starts ends way behind label own = on_made _ way behind (set_global_made made plan.seats g v names)
   layer (stm.Divide t o a b) h names points around starts ends way behind label own = on_made _ way behind (divide_made made plan.seats t o a b division (left a b names) (right a b names))
-  layer (stm.Check a i) h names points around starts ends way behind label own = on_made _ way behind (check_made made plan.seats (size plan a) i index names)
-  layer (stm.Read t a i) h names points around starts ends way behind label own = on_made _ way behind (read_made made plan.seats t (size plan a) (home plan a) i index names)
-  layer (stm.Write a i v) h names points around starts ends way behind label own = on_made _ way behind (write_made made plan.seats (size plan a) (home plan a) i v index (left i v names) (right i v names))
+  layer (stm.Check a i) h names points around starts ends way behind label own = on_made _ way behind (check_made made plan.seats (size plan a) (tests plan a) i index names)
+  layer (stm.Read t a i) h names points around starts ends way behind label own = on_made _ way behind (read_made made plan.seats t (size plan a) (home plan a) (tests plan a) i index names)
+  layer (stm.Write a i v) h names points around starts ends way behind label own = on_made _ way behind (write_made made plan.seats (size plan a) (home plan a) (tests plan a) i v index (left i v names) (right i v names))
   layer (stm.Zero a) h names points around starts ends way behind label own =
       let go = Jump 0 (label + 1) ∷ [] in
       let turn = Label label ∷ [] in

@@ -16,7 +16,7 @@ use Rattle.mv_select_code.specs.Trees.TreeCode.{Seats}
 use Rattle.mv_select_code.specs.declared.control.enclosing.Leading.{Leading}
 use Rattle.mv_select_code.specs.declared.control.enclosing.Leading.TheVariants as lead
 use Rattle.mv_select_code.specs.Statements.StatementCode.{set_lines, set_global_lines, divide_lines, check_lines, read_lines, write_lines}
-use Rattle.mv_select_code.specs.Control.FlowCode.{Plan, Tested, Emitted, plain, home, size, zero_code, nothing, in_turn, staying, if_leads, straight_loop, turned_loop, loop_by, loop_code, if_code, block_code, break_code, back_code, return_code, code_layer, statement_code, code_of, loop_of, Uses, may_read, may_write, fine_target, fine_callee, fine_known, only_tests, fine_layer, is_fine_statement, are_fine}
+use Rattle.mv_select_code.specs.Control.FlowCode.{Plan, Tested, Emitted, plain, home, size, tests, zero_code, nothing, in_turn, staying, if_leads, straight_loop, turned_loop, loop_by, loop_code, if_code, block_code, break_code, back_code, return_code, code_layer, statement_code, code_of, loop_of, Uses, may_read, may_write, fine_target, fine_callee, fine_known, only_tests, fine_layer, is_fine_statement, are_fine}
 
 pub code_roll : (plan : Plan) (x : Stm-F Stm) → statement_code plan (roll-Stm x) ≡ code_layer plan (map-Stm Stm Emitted (statement_code plan) x)
 unfolding statement_code
@@ -88,13 +88,13 @@ module _ (plan : Plan) where
   pub code_divide : (t o : ℕ) (a b : Tree) → statement_code plan (at.Divide t o a b) ≡ plain (divide_lines plan.seats t o a b)
   code_divide t o a b = ap (statement_code plan) (sym (rolls-Divide t o a b)) ∙ code_roll plan (stm.Divide t o a b)
 
-  pub code_check : (a : Array) (i : Tree) → statement_code plan (at.Check a i) ≡ plain (check_lines plan.seats (size plan a) i)
+  pub code_check : (a : Array) (i : Tree) → statement_code plan (at.Check a i) ≡ plain (check_lines plan.seats (size plan a) (tests plan a) i)
   code_check a i = ap (statement_code plan) (sym (rolls-Check a i)) ∙ code_roll plan (stm.Check a i)
 
-  pub code_read : (t : ℕ) (a : Array) (i : Tree) → statement_code plan (at.Read t a i) ≡ plain (read_lines plan.seats t (home plan a) (size plan a) i)
+  pub code_read : (t : ℕ) (a : Array) (i : Tree) → statement_code plan (at.Read t a i) ≡ plain (read_lines plan.seats t (home plan a) (size plan a) (tests plan a) i)
   code_read t a i = ap (statement_code plan) (sym (rolls-Read t a i)) ∙ code_roll plan (stm.Read t a i)
 
-  pub code_write : (a : Array) (i v : Tree) → statement_code plan (at.Write a i v) ≡ plain (write_lines plan.seats (home plan a) (size plan a) i v)
+  pub code_write : (a : Array) (i v : Tree) → statement_code plan (at.Write a i v) ≡ plain (write_lines plan.seats (home plan a) (size plan a) (tests plan a) i v)
   code_write a i v = ap (statement_code plan) (sym (rolls-Write a i v)) ∙ code_roll plan (stm.Write a i v)
 
   pub code_zero : (a : ℕ) → statement_code plan (at.Zero a) ≡ zero_code (plan.array_at a) (plan.array_size a)

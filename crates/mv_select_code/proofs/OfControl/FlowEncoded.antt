@@ -27,7 +27,7 @@ use Rattle.mv_select_code.specs.declared.control.enclosing.Enclosing.{Enclosing}
 use Rattle.mv_select_code.specs.declared.control.enclosing.Leading.{Leading}
 use Rattle.mv_select_code.specs.declared.control.enclosing.Leading.TheVariants as lead
 use Rattle.mv_select_code.specs.declared.control.enclosing.Way.{Way}
-use Rattle.mv_select_code.specs.Control.FlowCode.{Plan, Tested, Emitted, fall_to, jump_to, go_to, go_on, jumps, leads_to, if_leads, in_turn, enclosing_at, zero_lines, loop_at, block_at, straight_loop, turned_loop, loop_by, home, size, code_layer, statement_code, loop_of, may_read, may_write, fine_layer}
+use Rattle.mv_select_code.specs.Control.FlowCode.{Plan, Tested, Emitted, fall_to, jump_to, go_to, go_on, jumps, leads_to, if_leads, in_turn, enclosing_at, zero_lines, loop_at, block_at, straight_loop, turned_loop, loop_by, home, size, tests, code_layer, statement_code, loop_of, may_read, may_write, fine_layer}
 use Rattle.mv_select_code.specs.Control.Layouts.{plan_in, any_global, any_known, is_small, is_small_statement}
 use Rattle.mv_select_code.specs.Control.Encoded.{words_layer, stm_words, CallsAreEncoded, FlowIsEncoded}
 use Rattle.mv_select_code.proofs.OfControl.ArraysWithin.{plan_within}
@@ -88,6 +88,8 @@ module _ (plan : Plan) (seats : AreSeats plan.seats) (within : (a : ℕ) → pla
   home_fits : (a : Array) → home_within (home plan a) (size plan a) 2032
   home_fits (array.Global g) = tt
   home_fits (array.Local a) = within a
+  home_fits (array.SureGlobal g n) = tt
+  home_fits (array.SureLocal a n) = within a
 
   abbrev bound : (trees : List Tree) (own : ℕ) → ℕ
   bound trees own = 2 * nodes_of_all trees + own
@@ -247,14 +249,14 @@ module _ (plan : Plan) (seats : AreSeats plan.seats) (within : (a : ℕ) → pla
   layer (stm.Divide t o a b) h small around label way =
       let both = and_right (ltb t 507) (is_small a && is_small b) small in
       on _ _ way _ (parts.divide t o a b (below t (is_small a && is_small b) small) (small_tree a (and_left (is_small a) (is_small b) both)) (small_tree b (and_right (is_small a) (is_small b) both))) (omega arith)
-  layer (stm.Check a i) h small around label way = on _ _ way _ (parts.check (size plan a) i (small_tree i small)) (omega arith)
+  layer (stm.Check a i) h small around label way = on _ _ way _ (parts.check (size plan a) (tests plan a) i (small_tree i small)) (omega arith)
   layer (stm.Read t a i) h small around label way =
       let may = may_read is_small any_known 507 any_global a in
       let tree_too = and_right (ltb t 507) (may && is_small i) small in
-      on _ _ way _ (parts.read t (size plan a) (home plan a) i (below t (may && is_small i) small) (home_fits a) (small_tree i (and_right may (is_small i) tree_too))) (omega arith)
+      on _ _ way _ (parts.read t (size plan a) (home plan a) (tests plan a) i (below t (may && is_small i) small) (home_fits a) (small_tree i (and_right may (is_small i) tree_too))) (omega arith)
   layer (stm.Write a i v) h small around label way =
       let both = and_right (may_write is_small any_known 507 any_global a) (is_small i && is_small v) small in
-      on _ _ way _ (parts.write (size plan a) (home plan a) i v (home_fits a) (small_tree i (and_left (is_small i) (is_small v) both)) (small_tree v (and_right (is_small i) (is_small v) both))) (omega arith)
+      on _ _ way _ (parts.write (size plan a) (home plan a) (tests plan a) i v (home_fits a) (small_tree i (and_left (is_small i) (is_small v) both)) (small_tree v (and_right (is_small i) (is_small v) both))) (omega arith)
   layer (stm.Zero a) h small around label way =
       let at = plan.array_at a in
       let n = plan.array_size a in

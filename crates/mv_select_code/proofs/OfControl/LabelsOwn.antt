@@ -20,7 +20,7 @@ use Rattle.mv_select_code.specs.declared.control.enclosing.Enclosing.{Enclosing}
 use Rattle.mv_select_code.specs.declared.control.enclosing.Leading.{Leading}
 use Rattle.mv_select_code.specs.declared.control.enclosing.Leading.TheVariants as lead
 use Rattle.mv_select_code.specs.declared.control.enclosing.Way.{Way}
-use Rattle.mv_select_code.specs.Control.FlowCode.{Plan, Tested, Emitted, fall_to, jump_to, go_to, go_on, leads_to, if_leads, in_turn, plain, enclosing_at, zero_lines, loop_at, block_at, straight_loop, loop_by, home, size, code_layer, statement_code, loop_of}
+use Rattle.mv_select_code.specs.Control.FlowCode.{Plan, Tested, Emitted, fall_to, jump_to, go_to, go_on, leads_to, if_leads, in_turn, plain, enclosing_at, zero_lines, loop_at, block_at, straight_loop, loop_by, home, size, tests, code_layer, statement_code, loop_of}
 use Rattle.mv_select_code.specs.Control.Labels.{Names, CallsName, OwnLabels, LabelsAreOwn, LabelsAreFew, tree_functions, callee_functions, callee_pointers}
 use Rattle.mv_select_code.proofs.OfControl.Equations.{code_roll, if_stays, loop_stays}
 use Rattle.mv_select_code.proofs.OfControl.TreeNames.{AnyNumber, all_any}
@@ -274,9 +274,9 @@ module _ (plan : Plan) (calls : CallsName AnyNumber plan.calls) where
   layer (stm.Set t v) h = plain_own _ (set_made named plan.seats t v (all_any _))
   layer (stm.SetGlobal g v) h = plain_own _ (set_global_made named plan.seats g v (all_any _))
   layer (stm.Divide t o a b) h = plain_own _ (divide_made named plan.seats t o a b tt (all_any _) (all_any _))
-  layer (stm.Check a i) h = plain_own _ (check_made named plan.seats (size plan a) i tt (all_any _))
-  layer (stm.Read t a i) h = plain_own _ (read_made named plan.seats t (size plan a) (home plan a) i tt (all_any _))
-  layer (stm.Write a i v) h = plain_own _ (write_made named plan.seats (size plan a) (home plan a) i v tt (all_any _) (all_any _))
+  layer (stm.Check a i) h = plain_own _ (check_made named plan.seats (size plan a) (tests plan a) i tt (all_any _))
+  layer (stm.Read t a i) h = plain_own _ (read_made named plan.seats t (size plan a) (home plan a) (tests plan a) i tt (all_any _))
+  layer (stm.Write a i v) h = plain_own _ (write_made named plan.seats (size plan a) (home plan a) (tests plan a) i v tt (all_any _) (all_any _))
   layer (stm.Zero a) h = λ around label way.
       silent_behind label 2 (zero_lines label (plan.array_at a) (plan.array_size a)) (go_on way) (zero_own label (plan.array_at a) (plan.array_size a)) (on_silent way)
   layer (stm.Return v) h = λ around label way.

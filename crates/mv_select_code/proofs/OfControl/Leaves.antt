@@ -1,5 +1,5 @@
 -- The code of statements without control, on a run.
-use Rattle.std.proofs.Common.{◌≡◌, ℕ, ◌+◌, Bool, true, false, cond, List, length, refl, ap, ◌∙◌, subst, arith}
+use Rattle.std.proofs.Common.{◌≡◌, ℕ, ◌+◌, Bool, true, false, cond, ltb, List, length, refl, ap, ◌∙◌, subst, arith}
 use Rattle.mv_isa.specs.declared.labelled.Line.{Line}
 use Rattle.mv_isa.specs.Execution.{Access}
 use Rattle.mv_ir.specs.declared.tree.Tree.{Tree}
@@ -9,7 +9,7 @@ use Rattle.mv_ir.specs.declared.stm.Stm.TheOpen.{Stm-F}
 use Rattle.mv_ir.specs.World as ir
 use Rattle.mv_ir.specs.World.{World}
 use Rattle.mv_ir.specs.Outcome.{State, Returned, Trapped, More, Stuck, Outcome, Next, Leaves, Restarts, Ends, Bound, Meaning}
-use Rattle.mv_ir.specs.Meaning.{statement, with_elements}
+use Rattle.mv_ir.specs.Meaning.{statement, with_elements, outside as beyond}
 use Rattle.mv_select_code.specs.Statements.StatementCode.{trap_label}
 use Rattle.mv_select_code.specs.Statements.Frames.{Site}
 use Rattle.mv_select_code.specs.Statements.Leads.{Past, To}
@@ -35,6 +35,18 @@ same_either w false x y h k = k
 pub same_elements : (a : Array) (l : State) (xs : List ℕ) → outside (with_elements a l xs).world ≡ outside l.world
 same_elements (array.Global g) l xs = refl
 same_elements (array.Local a) l xs = refl
+same_elements (array.SureGlobal g n) l xs = refl
+same_elements (array.SureLocal a n) l xs = refl
+
+same_unless : (w : World) (promised : Bool) → SameOutside w (Ends (cond promised (Trapped 2 w) Stuck))
+same_unless w true = refl
+same_unless w false = tt
+
+pub same_beyond : (a : Array) (k : ℕ) (w : World) → SameOutside w (Ends (beyond a k w))
+same_beyond (array.Global g) k w = refl
+same_beyond (array.Local a) k w = refl
+same_beyond (array.SureGlobal g n) k w = same_unless w (ltb k n)
+same_beyond (array.SureLocal a n) k w = same_unless w (ltb k n)
 
 module _ {M : Type 0} (access : Access M) (s : Site) (setting : ir.Setting) (frame : ir.Frame) (machine : Machine M) (ok : IsRun access s machine)
     (place : ℕ → ℕ) (end budget far : ℕ) (is_fine : Tree → Bool) (top : Bound) where
@@ -56,7 +68,7 @@ module _ {M : Type 0} (access : Access M) (s : Site) (setting : ir.Setting) (fra
       (x.time, record { at = y.at; calm = subst (λ v. Calm access s machine v (machine.run x.time).memory) f.1 y.calm; sound = y.sound; paid = omega (arith, paid, soon) })
   leaf_follows lines cost spare k pc next around l i (Ends (Returned r w)) p same f h = absurd f
   leaf_follows lines cost spare k pc next around l i (Ends (More w)) p same f h = absurd f
-  leaf_follows lines cost spare k pc next around l i (Ends Stuck) p same f h = absurd f
+  leaf_follows lines cost spare k pc next around l i (Ends Stuck) p same f h = tt
   leaf_follows lines cost spare k pc next around l i (Leaves n l') p same f h = absurd f
   leaf_follows lines cost spare k pc next around l i (Restarts n l') p same f h = absurd f
 

@@ -16,7 +16,7 @@ use Rattle.mv_select_code.proofs.OfTrees.TreesAreMade as trees
 use Rattle.mv_select_code.specs.declared.trees.leaves.Based.{Based}
 use Rattle.mv_select_code.specs.declared.statements.elements.Home.{Home}
 use Rattle.mv_select_code.specs.declared.statements.elements.Home.TheVariants as home
-use Rattle.mv_select_code.specs.Statements.StatementCode.{first, second, third, trap_label, target, keep_in, keep_lines, is_seat, division, power_of, power_division, element_offset, base_by, element_lines, fixed, element_at, fetch_lines, store_by, store_lines, put_lines, test_lines, divisor_lines, divide_by, check_by, read_by, write_by, bounds_lines, clear_lines, set_lines, set_global_lines, divide_lines, check_lines, read_lines, write_lines, result_lines}
+use Rattle.mv_select_code.specs.Statements.StatementCode.{first, second, third, trap_label, target, keep_in, keep_lines, is_seat, division, power_of, power_division, element_offset, base_by, element_lines, fixed, element_at, fetch_lines, store_by, store_lines, put_lines, test_lines, tested_lines, divisor_lines, divide_by, check_by, read_by, write_by, bounds_lines, clear_lines, set_lines, set_global_lines, divide_lines, check_lines, read_lines, write_lines, result_lines}
 use Rattle.mv_select_code.specs.declared.control.enclosing.Way.{Way}
 use Rattle.mv_select_code.specs.Control.FlowCode.{go_to, go_on}
 use Rattle.mv_select_code.specs.Control.Labels.{tree_functions, Names}
@@ -150,18 +150,23 @@ module _ {P : List Line → Type 0} {L J Q : ℕ → Type 0} (made : LineByLine 
             let divide = power_division o n (target s t) left in
             made.after (operand_lines s a first) (Word divide ∷ keep_lines s t) (operand_made a h first) (last_made divide t)
 
-    pub check_made : (size : ℕ) (i : Tree) → J (trap_label 2) → Fs i → P (check_lines s size i)
-    check_made size i p h = by (fixed size (literal i))
+    tested_made : (tested : Bool) (size q : ℕ) → J (trap_label 2) → P (tested_lines s tested size q)
+    tested_made tested size q p = either_made tested (test_lines s size q) [] (test_made s size q p) made.none
+
+    pub check_made : (size : ℕ) (tested : Bool) (i : Tree) → J (trap_label 2) → Fs i → P (check_lines s size tested i)
+    check_made size tested i p h = by (fixed size (literal i))
       where
         q : ℕ
         q = operand_register s i first
 
-        by : (n : Option ℕ) → P (check_by s n size i)
-        by None = made.after (operand_lines s i first) (test_lines s size q) (operand_made i h first) (test_made s size q p)
+        by : (n : Option ℕ) → P (check_by s n size tested i)
+        by None =
+            let ls = operand_lines s i first ++ test_lines s size q in
+            either_made tested ls [] (made.after (operand_lines s i first) (test_lines s size q) (operand_made i h first) (test_made s size q p)) made.none
         by (Some n) = made.none
 
-    pub read_made : (t size : ℕ) (e : Home) (i : Tree) → J (trap_label 2) → Fs i → P (read_lines s t e size i)
-    read_made t size e i p h = by (fixed size (literal i))
+    pub read_made : (t size : ℕ) (e : Home) (tested : Bool) (i : Tree) → J (trap_label 2) → Fs i → P (read_lines s t e size tested i)
+    read_made t size e tested i p h = by (fixed size (literal i))
       where
         q : ℕ
         q = operand_register s i first
@@ -169,15 +174,15 @@ module _ {P : List Line → Type 0} {L J Q : ℕ → Type 0} (made : LineByLine 
         load : List Line
         load = Word (Lw (target s t) first (element_offset e)) ∷ keep_lines s t
 
-        by : (n : Option ℕ) → P (read_by s n t e size i)
+        by : (n : Option ℕ) → P (read_by s n t e size tested i)
         by None =
-            made.after (operand_lines s i first) (test_lines s size q ++ (element_lines e q ++ load)) (operand_made i h first)
-            (made.after (test_lines s size q) (element_lines e q ++ load) (test_made s size q p)
+            made.after (operand_lines s i first) (tested_lines s tested size q ++ (element_lines e q ++ load)) (operand_made i h first)
+            (made.after (tested_lines s tested size q) (element_lines e q ++ load) (tested_made tested size q p)
             (made.after (element_lines e q) load (element_made e q) (last_made (Lw (target s t) first (element_offset e)) t)))
         by (Some n) = made.after (fetch_lines (element_at e n) (target s t)) (keep_lines s t) (fetch_made (element_at e n) (target s t)) (keep_made t)
 
-    pub write_made : (size : ℕ) (e : Home) (i v : Tree) → J (trap_label 2) → Fs i → Fs v → P (write_lines s e size i v)
-    write_made size e i v p h k = by (fixed size (literal i))
+    pub write_made : (size : ℕ) (e : Home) (tested : Bool) (i v : Tree) → J (trap_label 2) → Fs i → Fs v → P (write_lines s e size tested i v)
+    write_made size e tested i v p h k = by (fixed size (literal i))
       where
         q : ℕ
         q = operand_register s i first
@@ -185,18 +190,18 @@ module _ {P : List Line → Type 0} {L J Q : ℕ → Type 0} (made : LineByLine 
         store : Instr
         store = Sw first (operand_register s v second) (element_offset e)
 
-        by : (n : Option ℕ) → P (write_by s n e size i v)
+        by : (n : Option ℕ) → P (write_by s n e size tested i v)
         by None =
-            made.after (operand_lines s i first) (operand_lines s v second ++ (test_lines s size q ++ (element_lines e q ++ one store))) (operand_made i h first)
-            (made.after (operand_lines s v second) (test_lines s size q ++ (element_lines e q ++ one store)) (operand_made v k second)
-            (made.after (test_lines s size q) (element_lines e q ++ one store) (test_made s size q p)
+            made.after (operand_lines s i first) (operand_lines s v second ++ (tested_lines s tested size q ++ (element_lines e q ++ one store))) (operand_made i h first)
+            (made.after (operand_lines s v second) (tested_lines s tested size q ++ (element_lines e q ++ one store)) (operand_made v k second)
+            (made.after (tested_lines s tested size q) (element_lines e q ++ one store) (tested_made tested size q p)
             (made.after (element_lines e q) (one store) (element_made e q) (made.word store))))
         by (Some n) =
             let r = operand_register s v first in
             made.after (operand_lines s v first) (put_lines (element_at e n) r) (operand_made v k first) (put_made (element_at e n) r)
 
     pub result_made : (v : Tree) → Fs v → P (result_lines s v)
-    result_made v h = into_made v h 10 first
+    result_made v h = either_made (is_seat (Some 10) (own_register s v)) [] (tree_into s v 10 first) made.none (into_made v h 10 first)
 
     -- ---- branches by a tree
 

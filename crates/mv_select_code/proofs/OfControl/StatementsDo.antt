@@ -15,7 +15,7 @@ use Rattle.mv_ir.specs.declared.stm.Stm.TheFolds.{map-Stm}
 use Rattle.mv_ir.specs.World as ir
 use Rattle.mv_bindings.specs.Traps as trap
 use Rattle.mv_ir.specs.Outcome.{State, End, Returned, Trapped, More, Stuck, Outcome, Next, Leaves, Restarts, Ends, Run, Call, Calls, Bound, Meaning, spend, now, goes_on, then_do, in_order}
-use Rattle.mv_ir.specs.Meaning.{Goal, Nowhere, Null, At, Inside, of_tree, elements, with_temp, with_elements, traps, call_end, within, made_call, call_to, goal, statement, meaning}
+use Rattle.mv_ir.specs.Meaning.{Goal, Nowhere, Null, At, Inside, of_tree, elements, with_temp, with_elements, traps, call_end, within, made_call, call_to, goal, statement, meaning, outside as beyond}
 use Rattle.mv_ir.specs.Trees.{nodes, divide}
 use Rattle.mv_ir.proofs.Induction.{Each, StmChildren, stm_ind, stms_ind}
 use Rattle.mv_ir.proofs.Keeping.{meaning_roll}
@@ -37,7 +37,7 @@ use Rattle.mv_select_code.proofs.OfControl.Composition.{Gets, rest, arrived, wit
 use Rattle.mv_select_code.proofs.OfControl.Control.{Falls, IsAhead, led, nothing_gets, break_gets, back_gets, plain_gets, return_gets, block_stands, loop_stands, branch_gets, either_gets, IsTested, turned_stands, gets_same}
 use Rattle.mv_select_code.proofs.OfControl.Equations.{code_roll, fine_roll, if_alone, if_stays, loop_alone, loop_stays}
 use Rattle.mv_select_code.specs.Statements.Laws as statements
-use Rattle.mv_select_code.proofs.OfControl.Leaves.{SameOutside, same_either, same_elements, leaf_does}
+use Rattle.mv_select_code.proofs.OfControl.Leaves.{SameOutside, same_either, same_elements, same_beyond, leaf_does}
 use Rattle.mv_select_code.proofs.OfControl.Walk.{placed_split}
 use Rattle.mv_select_code.proofs.OfControl.Zeroing.{zero_stands}
 use Rattle.mv_select_code.proofs.OfControl.Course.{course}
@@ -214,10 +214,14 @@ module _ {M : Type 0} (access : Access M) (s : Site) (setting : ir.Setting) (fra
   array_read : (a : Array) → may_read is_fine s.may_ask s.temps (uses_of s) a ≡ true → IsRead s a
   array_read (array.Global g) e = e
   array_read (array.Local a) e = tt
+  array_read (array.SureGlobal g n) e = e
+  array_read (array.SureLocal a n) e = tt
 
   array_written : (a : Array) → may_write is_fine s.may_ask s.temps (uses_of s) a ≡ true → IsWritten s a
   array_written (array.Global g) e = e
   array_written (array.Local a) e = tt
+  array_written (array.SureGlobal g n) e = e
+  array_written (array.SureLocal a n) e = tt
 
   -- a branch, by where its lists lead that do nothing else
   if_does : (t : Tree) (a b : List Stm) → IsFine s setting frame t → Performs (in_turn (map Code a)) (in_order (map Mean a)) → Performs (in_turn (map Code b)) (in_order (map Mean b))
@@ -379,21 +383,22 @@ module _ {M : Type 0} (access : Access M) (s : Site) (setting : ir.Setting) (fra
       (λ bound l. ahead_either (eqb (V b l) 0) (traps 1 l) (Next (with_temp l t (divide o (V a l) (V b l)))) tt tt)
   layer (stm.Check a i) h fine =
       leaf _ (stm.Check a i) (check_done access s setting frame fit a i (fine_trees i fine))
-      (λ bound l. same_either l.world (ltb (V i l) (length (elements a l))) (Next l) (traps 2 l) refl refl) (λ bound l. ahead_either (ltb (V i l) (length (elements a l))) (Next l) (traps 2 l) tt tt)
+      (λ bound l. same_either l.world (ltb (V i l) (length (elements a l))) (Next l) (Ends (beyond a (V i l) l.world)) refl (same_beyond a (V i l) l.world))
+      (λ bound l. ahead_either (ltb (V i l) (length (elements a l))) (Next l) (Ends (beyond a (V i l) l.world)) tt tt)
   layer (stm.Read t a i) h fine =
       let may = may_read is_fine s.may_ask s.temps (uses_of s) a in
       let rest = and_right (ltb t s.temps) (may && is_fine i) fine in
       leaf _ (stm.Read t a i)
       (read_done access s setting frame fit t a i (below t (may && is_fine i) fine) (array_read a (and_left may (is_fine i) rest)) (fine_trees i (and_right may (is_fine i) rest)))
-      (λ bound l. same_either l.world (ltb (V i l) (length (elements a l))) (Next (with_temp l t (slice_index (elements a l) (V i l)))) (traps 2 l) refl refl)
-      (λ bound l. ahead_either (ltb (V i l) (length (elements a l))) (Next (with_temp l t (slice_index (elements a l) (V i l)))) (traps 2 l) tt tt)
+      (λ bound l. same_either l.world (ltb (V i l) (length (elements a l))) (Next (with_temp l t (slice_index (elements a l) (V i l)))) (Ends (beyond a (V i l) l.world)) refl (same_beyond a (V i l) l.world))
+      (λ bound l. ahead_either (ltb (V i l) (length (elements a l))) (Next (with_temp l t (slice_index (elements a l) (V i l)))) (Ends (beyond a (V i l) l.world)) tt tt)
   layer (stm.Write a i v) h fine =
       let may = may_write is_fine s.may_ask s.temps (uses_of s) a in
       let rest = and_right may (is_fine i && is_fine v) fine in
       leaf _ (stm.Write a i v)
       (write_done access s setting frame fit a i v (array_written a (and_left may (is_fine i && is_fine v) fine)) (fine_trees i (and_left (is_fine i) (is_fine v) rest)) (fine_trees v (and_right (is_fine i) (is_fine v) rest)))
-      (λ bound l. same_either l.world (ltb (V i l) (length (elements a l))) (Next (with_elements a l (slice_set (elements a l) (V i l) (V v l)))) (traps 2 l) (same_elements a l _) refl)
-      (λ bound l. ahead_either (ltb (V i l) (length (elements a l))) (Next (with_elements a l (slice_set (elements a l) (V i l) (V v l)))) (traps 2 l) tt tt)
+      (λ bound l. same_either l.world (ltb (V i l) (length (elements a l))) (Next (with_elements a l (slice_set (elements a l) (V i l) (V v l)))) (Ends (beyond a (V i l) l.world)) (same_elements a l _) (same_beyond a (V i l) l.world))
+      (λ bound l. ahead_either (ltb (V i l) (length (elements a l))) (Next (with_elements a l (slice_set (elements a l) (V i l) (V v l)))) (Ends (beyond a (V i l) l.world)) tt tt)
   layer (stm.Zero a) h fine =
       (λ bar spare label le around way pc stop bound under p falls.
       plain_gets access s setting frame fit machine ok place end budget far bar spare (length bound) pc stop around way (zero_lines label (s.array_at a) (s.array_size a)) (statement setting frame (stm.Zero a) bound) (λ l. tt) p falls

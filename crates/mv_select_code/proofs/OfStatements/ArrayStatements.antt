@@ -1,6 +1,6 @@
 -- The code of the statements that test an index, read and write.
-use Rattle.std.proofs.Common.{◌≡◌, ◌≢◌, ◌⊎◌, inl, inr, ℕ, ◌+◌, ◌*◌, ◌<◌, ◌≤◌, Bool, true, false, not, cond, ltb, List, [], ◌∷◌, ◌++◌, length, slice_index, slice_set, Option, Some, None, unwrap_or, sum_by, refl, sym, ap, ◌∙◌, subst, arith, append_assoc}
-use Rattle.std.proofs.lemmas.Bool.{cases_lt, ltb-true, ltb-false, lt-ltb, le-ltb}
+use Rattle.std.proofs.Common.{◌≡◌, ◌≢◌, ◌⊎◌, inl, inr, ℕ, ◌+◌, ◌*◌, ◌<◌, ◌≤◌, Bool, true, false, not, cond, leb, ltb, List, [], ◌∷◌, ◌++◌, length, slice_index, slice_set, Option, Some, None, unwrap_or, sum_by, refl, sym, ap, ◌∙◌, subst, arith, append_assoc}
+use Rattle.std.proofs.lemmas.Bool.{cases_lt, not-false, leb-true, ltb-true, ltb-false, lt-ltb, le-ltb}
 use Rattle.mv_num.specs.Words.{lt_u}
 use Rattle.mv_isa.specs.declared.instr.Instr.TheVariants.{Lw, Sw}
 use Rattle.mv_isa.specs.declared.labelled.Line.{Line}
@@ -9,11 +9,12 @@ use Rattle.mv_isa.specs.Code.{greatest_words}
 use Rattle.mv_isa.specs.Execution.{Access, reg, put}
 use Rattle.mv_ir.specs.declared.tree.Tree.{Tree}
 use Rattle.mv_ir.specs.declared.stm.Array.{Array}
+use Rattle.mv_ir.specs.declared.stm.Array.TheVariants as array
 use Rattle.mv_ir.specs.declared.stm.Stm.TheOpen as stm
 use Rattle.mv_ir.specs.World as ir
-use Rattle.mv_ir.specs.Outcome.{State, Next}
+use Rattle.mv_ir.specs.Outcome.{State, Trapped, Stuck, Outcome, Next, Ends}
 use Rattle.mv_ir.specs.Trees.{nodes}
-use Rattle.mv_ir.specs.Meaning.{of_tree, elements, with_temp, with_elements, traps}
+use Rattle.mv_ir.specs.Meaning.{of_tree, elements, with_temp, with_elements, outside}
 use Rattle.mv_select_code.specs.Trees.TreeCode.{Seats, one, number_lines, literal, unless, operand_lines, operand_register}
 use Rattle.mv_select_code.specs.Trees.Straight.{Straight}
 use Rattle.mv_select_code.specs.Trees.View.{AreSeats, Changes}
@@ -21,12 +22,13 @@ use Rattle.mv_select_code.proofs.OfTrees.Gives.{Within, number_gives}
 use Rattle.mv_select_code.proofs.OfTrees.Instructions.{lw_sets}
 use Rattle.mv_select_code.proofs.OfTrees.Registers.{changes_none, free_above, put_same, put_other, put_registers}
 use Rattle.mv_select_code.proofs.OfTrees.TreesAreShort.{number_size}
-use Rattle.mv_select_code.specs.Statements.StatementCode.{first, second, third, trap_label, target, keep_lines, element_offset, element_lines, fixed, element_at, fetch_lines, put_lines, test_lines, check_by, check_lines, read_by, read_lines, write_by, write_lines}
+use Rattle.mv_select_code.specs.Statements.StatementCode.{first, second, third, trap_label, target, keep_lines, element_offset, element_lines, fixed, element_at, fetch_lines, put_lines, test_lines, tested_lines, check_by, check_lines, read_by, read_lines, write_by, write_lines}
 use Rattle.mv_select_code.specs.Statements.Leads.{Exit, Past, To, limited, Leads}
-use Rattle.mv_select_code.specs.Statements.Frames.{Site, Element, IsRead, IsWritten, home_of, size_of, address, IsFine, IsFit, Shows}
-use Rattle.mv_select_code.specs.Statements.Laws.{Follows, Does}
+use Rattle.mv_select_code.specs.Statements.Frames.{Site, Element, IsRead, IsWritten, home_of, size_of, is_tested, address, IsFine, IsFit, Shows}
+use Rattle.mv_select_code.specs.Statements.Laws.{Follows, LeadsTo, Does}
 use Rattle.mv_select_code.proofs.OfStatements.ElementPlaces.{fixed_is, element_placed, element_size, element_fetched, fetch_size}
 use Rattle.mv_select_code.proofs.OfStatements.FrameChanges.{updates_element, frame_scratch}
+use Rattle.mv_select_code.proofs.OfStatements.PlainArrays.{plain, plain_there, plain_loaded, plain_own, element_word, element_stands}
 use Rattle.mv_select_code.proofs.OfStatements.ScalarStatements.{at_first, at_second, after_operand}
 use Rattle.mv_select_code.proofs.OfStatements.Stores.{element_put}
 use Rattle.mv_select_code.proofs.OfStatements.TempsKept.{target_free, temp_kept}
@@ -126,6 +128,33 @@ module _ {M : Type 0} (access : Access M) (s : Site) (setting : ir.Setting) (fra
   passed : (a : Array) (q k n : ℕ) (ks : List Line) (l : State) (regs : List ℕ) (m : M) (regs' : List ℕ) (m' : M) (z : IsSized a l regs m) → reg z.after q ≡ k → k < size_of s a → L ks n z.after m Past regs' m' → L (branch a q ∷ ks) (n + 1) z.after m Past regs' m'
   passed a q k n ks l regs m regs' m' z index lt h = inr (less_is (reg z.after q) (reg z.after (limit a)) (omega (arith, index, z.holds, lt)), n, omega arith, h)
 
+  -- ---- an index that isn't below the length
+
+  -- lines do what an outcome says, at an index of an array
+  abbrev F : List Line → ℕ → List ℕ → M → Outcome → Type 0
+  F = Follows access s setting frame
+
+  -- a trap is right, whatever is promised of the index
+  trap_unless : (promised : Bool) (w : ir.World) (ls : List Line) (c : ℕ) (regs : List ℕ) (m : M) → F ls c regs m (Ends (Trapped 2 w)) → F ls c regs m (Ends (cond promised (Trapped 2 w) Stuck))
+  trap_unless true w ls c regs m h = h
+  trap_unless false w ls c regs m h = tt
+
+  trap_does : (a : Array) (k : ℕ) (w : ir.World) (ls : List Line) (c : ℕ) (regs : List ℕ) (m : M) → F ls c regs m (Ends (Trapped 2 w)) → F ls c regs m (Ends (outside a k w))
+  trap_does (array.Global g) k w ls c regs m h = h
+  trap_does (array.Local a) k w ls c regs m h = h
+  trap_does (array.SureGlobal g n) k w ls c regs m h = trap_unless (ltb k n) w ls c regs m h
+  trap_does (array.SureLocal a n) k w ls c regs m h = trap_unless (ltb k n) w ls c regs m h
+
+  -- and where no index is tested, code at one that isn't below the length has no meaning
+  none_meant : (n size k : ℕ) (w : ir.World) → not (leb n size) ≡ false → size ≤ k → cond (ltb k n) (Trapped 2 w) Stuck ≡ Stuck
+  none_meant n size k w e above = ap (λ b. cond b (Trapped 2 w) Stuck) (le-ltb k n (grind (arith, leb-true n size (not-false (leb n size) e), above)))
+
+  untested_does : (a : Array) (k : ℕ) (w : ir.World) (ls : List Line) (c : ℕ) (regs : List ℕ) (m : M) → is_tested s a ≡ false → size_of s a ≤ k → F ls c regs m (Ends (outside a k w))
+  untested_does (array.Global g) k w ls c regs m e above = absurd cc
+  untested_does (array.Local a) k w ls c regs m e above = absurd cc
+  untested_does (array.SureGlobal g n) k w ls c regs m e above = subst (λ x. F ls c regs m (Ends x)) (sym (none_meant n (s.size g) k w e above)) tt
+  untested_does (array.SureLocal a n) k w ls c regs m e above = subst (λ x. F ls c regs m (Ends x)) (sym (none_meant n (s.array_size a) k w e above)) tt
+
   -- ---- an index that is known
 
   known : (a : Array) (i : Tree) (n : ℕ) (l : State) (regs : List ℕ) (m : M) → fixed (size_of s a) (literal i) ≡ Some n → Shows s access l regs m → (V i l ≡ n) × (n < size_of s a) × (ltb n (length (elements a l)) ≡ true)
@@ -134,15 +163,68 @@ module _ {M : Type 0} (access : Access M) (s : Site) (setting : ir.Setting) (fra
       let lt = h.1 in
       (written_value setting.numbers frame.bound l.temps l.world.globals i n h.0, lt, lt-ltb n (length (elements a l)) (omega (arith, f.sizes a)))
 
-  -- what a statement does there, of what it does where the index is below the length
+  -- what a statement on an element does, by its index
+  abbrev at_index : Array → Tree → State → (ℕ → State) → Outcome
+  at_index a i l next = cond (ltb (V i l) (length (elements a l))) (Next (next (V i l))) (Ends (outside a (V i l) l.world))
+
+  -- that, of what it does where the index is below the length
   at_known : (ls : List Line) (c : ℕ) (regs : List ℕ) (m : M) (a : Array) (i : Tree) (n : ℕ) (l : State) (next : ℕ → State) → fixed (size_of s a) (literal i) ≡ Some n → Shows s access l regs m
-      → Follows access s setting frame ls c regs m (Next (next n)) → Follows access s setting frame ls c regs m (cond (ltb (V i l) (length (elements a l))) (Next (next (V i l))) (traps 2 l))
+      → F ls c regs m (Next (next n)) → F ls c regs m (at_index a i l next)
   at_known ls c regs m a i n l next is f h =
       let k = known a i n l regs m is f in
-      subst (λ v. Follows access s setting frame ls c regs m (cond (ltb v (length (elements a l))) (Next (next v)) (traps 2 l))) (sym k.0)
-      (subst (λ d. Follows access s setting frame ls c regs m (cond d (Next (next n)) (traps 2 l))) (sym k.2) h)
+      subst (λ v. F ls c regs m (cond (ltb v (length (elements a l))) (Next (next v)) (Ends (outside a v l.world)))) (sym k.0)
+      (subst (λ d. F ls c regs m (cond d (Next (next n)) (Ends (outside a n l.world)))) (sym k.2) h)
 
-  pub check_done : (a : Array) (i : Tree) → IsFine s setting frame i → Does access s setting frame (check_lines s.seats (size_of s a) i) (stm.Check a i)
+  -- ---- an index that is computed
+
+  -- what a statement does of lines by whether it tests the index: where the index is below the length, and of those that test one that isn't
+  by_test : (ls : Bool → List Line) (c : ℕ) (regs : List ℕ) (m : M) (a : Array) (i : Tree) (l : State) (next : State) → Shows s access l regs m
+      → ((tested : Bool) → V i l < size_of s a → F (ls tested) c regs m (Next next)) → (size_of s a ≤ V i l → F (ls true) c regs m (Ends (Trapped 2 l.world)))
+      → F (ls (is_tested s a)) c regs m (cond (ltb (V i l) (length (elements a l))) (Next next) (Ends (outside a (V i l) l.world)))
+  by_test ls c regs m a i l next f inside beyond = by_index (ltb (V i l) (length (elements a l))) refl
+    where
+      by_index : (d : Bool) → ltb (V i l) (length (elements a l)) ≡ d → F (ls (is_tested s a)) c regs m (cond d (Next next) (Ends (outside a (V i l) l.world)))
+      by_index true is = inside (is_tested s a) (omega (arith, ltb-true (V i l) (length (elements a l)) is, f.sizes a))
+      by_index false is = by_tested (is_tested s a) refl
+        where
+          above : size_of s a ≤ V i l
+          above = omega (arith, ltb-false (V i l) (length (elements a l)) is, f.sizes a)
+
+          by_tested : (tested : Bool) → is_tested s a ≡ tested → F (ls tested) c regs m (Ends (outside a (V i l) l.world))
+          by_tested true e = trap_does a (V i l) l.world (ls true) c regs m (beyond above)
+          by_tested false e = untested_does a (V i l) l.world (ls false) c regs m e above
+
+  -- registers that the number of elements doesn't come into are kept
+  abbrev IsBeside : ℕ → Type 0
+  IsBeside o = (o < third) ⊎ (third + 1 ≤ o)
+
+  abbrev Keeps : List ℕ → List ℕ → Type 0
+  Keeps regs after = (o : ℕ) → IsBeside o → reg after o ≡ reg regs o
+
+  -- what lines lead to from an index in a register that is below the length, behind its test if it is tested
+  after_tested : (a : Array) (q k : ℕ) (ks : List Line) (n : ℕ) (l next : State) (regs : List ℕ) (m : M) (tested : Bool) → IsSized a l regs m → IsBeside q → reg regs q ≡ k → k < size_of s a → Shows s access l regs m
+      → ((b : List ℕ) → Keeps regs b → Shows s access l b m → LeadsTo access s setting frame ks n b m Past next)
+      → LeadsTo access s setting frame (tested_lines s.seats tested (size_of s a) q ++ ks) (n + 3) regs m Past next
+  after_tested a q k ks n l next regs m true z beside index below f leads =
+      let g = leads z.after z.changes.others z.shown in
+      let test = test_lines s.seats (size_of s a) q in (
+        g.0,
+        g.1,
+        leads_more access s (test ++ ks) (n + 1 + 2) (n + 3) regs m Past g.0 g.1 (omega arith)
+            (after_test a q ks (n + 1) l regs m Past g.0 g.1 z (passed a q k n ks l regs m g.0 g.1 z (z.changes.others q beside ∙ index) below g.2)),
+        g.3,
+      )
+  after_tested a q k ks n l next regs m false z beside index below f leads =
+      let g = leads regs (λ o h. refl) f in
+      (g.0, g.1, leads_more access s ks n (n + 3) regs m Past g.0 g.1 (omega arith) g.2, g.3)
+
+  -- and from one that isn't
+  beyond_test : (a : Array) (q k : ℕ) (ks : List Line) (l : State) (regs : List ℕ) (m : M) → IsSized a l regs m → IsBeside q → reg regs q ≡ k → size_of s a ≤ k
+      → LeadsTo access s setting frame (test_lines s.seats (size_of s a) q ++ ks) 4 regs m (To (trap_label 2)) l
+  beyond_test a q k ks l regs m z beside index above =
+      (z.after, m, after_test a q ks 2 l regs m (To (trap_label 2)) z.after m z (failed a q k ks l regs m z (z.changes.others q beside ∙ index) above), z.shown)
+
+  pub check_done : (a : Array) (i : Tree) → IsFine s setting frame i → Does access s setting frame (check_lines s.seats (size_of s a) (is_tested s a) i) (stm.Check a i)
   check_done a i fine bound l regs m f = by_fixed (fixed (size_of s a) (literal i)) refl
     where
       q : ℕ
@@ -157,34 +239,34 @@ module _ {M : Type 0} (access : Access M) (s : Site) (setting : ir.Setting) (fra
       index : reg z.after q ≡ V i l
       index = z.changes.others q (size_beside s.seats fit.seats i first (omega arith)) ∙ x.holds
 
-      by_index : (d : Bool) → ltb (V i l) (length (elements a l)) ≡ d → Follows access s setting frame (check_by s.seats None (size_of s a) i) (8 + 3 * nodes i) regs m (cond d (Next l) (traps 2 l))
-      by_index true is =
-          let below : V i l < size_of s a = omega (arith, ltb-true (V i l) (length (elements a l)) is, f.sizes a) in (
-            z.after,
-            m,
-            after_operand access s setting frame fit first i (test_lines s.seats (size_of s a) q) (0 + 1 + 2) (8 + 3 * nodes i) l regs m Past z.after m (omega arith) x
-                (after_size a q [] (0 + 1) l x.after m Past z.after m z (passed a q (V i l) 0 [] l x.after m z.after m z index below (refl, (refl, refl)))),
-            z.shown,
-          )
-      by_index false is =
-          let above : size_of s a ≤ V i l = omega (arith, ltb-false (V i l) (length (elements a l)) is, f.sizes a) in (
-            l,
-            refl,
-            (
-              z.after,
-              m,
-              after_operand access s setting frame fit first i (test_lines s.seats (size_of s a) q) (2 + 2) (8 + 3 * nodes i) l regs m (To (trap_label 2)) z.after m (omega arith) x
-                  (after_size a q [] 2 l x.after m (To (trap_label 2)) z.after m z (failed a q (V i l) [] l x.after m z index above)),
-              z.shown,
-            ),
-          )
+      inside : (tested : Bool) → V i l < size_of s a → F (check_by s.seats None (size_of s a) tested i) (8 + 3 * nodes i) regs m (Next l)
+      inside true below = (
+        z.after,
+        m,
+        after_operand access s setting frame fit first i (test_lines s.seats (size_of s a) q) (0 + 1 + 2) (8 + 3 * nodes i) l regs m Past z.after m (omega arith) x
+            (after_size a q [] (0 + 1) l x.after m Past z.after m z (passed a q (V i l) 0 [] l x.after m z.after m z index below (refl, (refl, refl)))),
+        z.shown,
+      )
+      inside false below = (regs, m, (refl, (refl, refl)), f)
 
-      by_fixed : (index : Option ℕ) → fixed (size_of s a) (literal i) ≡ index
-          → Follows access s setting frame (check_by s.seats index (size_of s a) i) (8 + 3 * nodes i) regs m (cond (ltb (V i l) (length (elements a l))) (Next l) (traps 2 l))
-      by_fixed None is = by_index (ltb (V i l) (length (elements a l))) refl
+      beyond : size_of s a ≤ V i l → F (check_by s.seats None (size_of s a) true i) (8 + 3 * nodes i) regs m (Ends (Trapped 2 l.world))
+      beyond above = (
+        l,
+        refl,
+        (
+          z.after,
+          m,
+          after_operand access s setting frame fit first i (test_lines s.seats (size_of s a) q) (2 + 2) (8 + 3 * nodes i) l regs m (To (trap_label 2)) z.after m (omega arith) x
+              (after_size a q [] 2 l x.after m (To (trap_label 2)) z.after m z (failed a q (V i l) [] l x.after m z index above)),
+          z.shown,
+        ),
+      )
+
+      by_fixed : (index : Option ℕ) → fixed (size_of s a) (literal i) ≡ index → F (check_by s.seats index (size_of s a) (is_tested s a) i) (8 + 3 * nodes i) regs m (at_index a i l (λ k. l))
+      by_fixed None is = by_test (λ tested. check_by s.seats None (size_of s a) tested i) (8 + 3 * nodes i) regs m a i l l f inside beyond
       by_fixed (Some n) is = at_known [] (8 + 3 * nodes i) regs m a i n l (λ k. l) is f (regs, m, (refl, (refl, refl)), f)
 
-  pub read_done : (t : ℕ) (a : Array) (i : Tree) → t < s.temps → IsRead s a → IsFine s setting frame i → Does access s setting frame (read_lines s.seats t (home_of s a) (size_of s a) i) (stm.Read t a i)
+  pub read_done : (t : ℕ) (a : Array) (i : Tree) → t < s.temps → IsRead s a → IsFine s setting frame i → Does access s setting frame (read_lines s.seats t (home_of s a) (size_of s a) (is_tested s a) i) (stm.Read t a i)
   read_done t a i lt may fine bound l regs m f = by_fixed (fixed (size_of s a) (literal i)) refl
     where
       q : ℕ
@@ -202,59 +284,51 @@ module _ {M : Type 0} (access : Access M) (s : Site) (setting : ir.Setting) (fra
       z : IsSized a l x.after m
       z = sized a l x.after m x.shown
 
-      index : reg z.after q ≡ V i l
-      index = z.changes.others q (size_beside s.seats fit.seats i first (omega arith)) ∙ x.holds
+      beside : IsBeside q
+      beside = size_beside s.seats fit.seats i first (omega arith)
 
-      by_index : (d : Bool) → ltb (V i l) (length (elements a l)) ≡ d
-          → Follows access s setting frame (read_by s.seats None t (home_of s a) (size_of s a) i) (8 + 3 * nodes i) regs m (cond d (Next (with_temp l t (slice_index (elements a l) (V i l)))) (traps 2 l))
-      by_index true is =
-          let below : V i l < size_of s a = omega (arith, ltb-true (V i l) (length (elements a l)) is, f.sizes a) in
-          let p = element_placed access s setting frame fit a q (V i l) l z.after m below index z.shown in
+      read : ℕ → State
+      read k = with_temp l t (slice_index (elements a l) k)
+
+      loaded : V i l < size_of s a → (b : List ℕ) → reg b q ≡ V i l → Shows s access l b m → LeadsTo access s setting frame ks 5 b m Past (read (V i l))
+      loaded below b holds shown =
+          let p = element_placed access s setting frame fit a q (V i l) l b m below holds shown in
           let w = slice_index (elements a l) (V i l) in
-          let word = p.shown.words (Element a (V i l)) below in
+          let word = element_word s access a (V i l) l p.after m below p.shown in
           let d = target s.seats t in
           let free = target_free s.seats fit.seats t in
           let mid = put p.after d w in
           let are = put_registers p.after d w p.shown.are free word in
           let g = temp_kept access s setting frame fit t w l p.after mid m lt word are (λ z o ne. put_other p.after d z w free.above ne) (put_same p.after d w free.above (omega (arith, p.shown.are.count, free.below))) p.shown in
           let lw = Lw d first (element_offset (home_of s a)) in
+          let cell = Element (plain a) (V i l) in
           let loads = leads_next access s lw (keep_lines s.seats t) 1 p.after m mid m Past g.after g.memory (
-            lw_sets (limited access s) m d first (element_offset (home_of s a)) p.after (address s (Element a (V i l))) w p.to
-                (cell_loaded access s setting frame fit m (Element a (V i l)) w below may (p.shown.in_memory (Element a (V i l)) below)),
+            lw_sets (limited access s) m d first (element_offset (home_of s a)) p.after (address s cell) w p.to
+                (cell_loaded access s setting frame fit m cell w (plain_there s a (V i l) below) (plain_loaded s a (V i l) may) (element_stands s access a (V i l) l p.after m below p.shown)),
             inl refl,
           )
           g.leads in
-          let placed = leads_more access s ks (sum_by greatest_words (element_lines (home_of s a) q) + 2) 5 z.after m Past g.after g.memory (omega (arith, element_size access s setting frame fit a q))
-          (leads_straight access s (element_lines (home_of s a) q) load 2 z.after p.after m Past g.after g.memory p.runs loads) in (
-            g.after,
-            g.memory,
-            after_operand access s setting frame fit first i (test_lines s.seats (size_of s a) q ++ ks) (5 + 1 + 2) (8 + 3 * nodes i) l regs m Past g.after g.memory (omega arith) x
-                (after_test a q ks (5 + 1) l x.after m Past g.after g.memory z (passed a q (V i l) 5 ks l x.after m g.after g.memory z index below placed)),
-            g.shown,
-          )
-      by_index false is =
-          let above : size_of s a ≤ V i l = omega (arith, ltb-false (V i l) (length (elements a l)) is, f.sizes a) in (
-            l,
-            refl,
-            (
-              z.after,
-              m,
-              after_operand access s setting frame fit first i (test_lines s.seats (size_of s a) q ++ ks) (2 + 2) (8 + 3 * nodes i) l regs m (To (trap_label 2)) z.after m (omega arith) x
-                  (after_test a q ks 2 l x.after m (To (trap_label 2)) z.after m z (failed a q (V i l) ks l x.after m z index above)),
-              z.shown,
-            ),
-          )
+          let placed = leads_more access s ks (sum_by greatest_words (element_lines (home_of s a) q) + 2) 5 b m Past g.after g.memory (omega (arith, element_size access s setting frame fit a q))
+          (leads_straight access s (element_lines (home_of s a) q) load 2 b p.after m Past g.after g.memory p.runs loads) in
+          (g.after, g.memory, placed, g.shown)
 
-      read : ℕ → State
-      read k = with_temp l t (slice_index (elements a l) k)
+      inside : (tested : Bool) → V i l < size_of s a → F (read_by s.seats None t (home_of s a) (size_of s a) tested i) (8 + 3 * nodes i) regs m (Next (read (V i l)))
+      inside tested below =
+          let g = after_tested a q (V i l) ks 5 l (read (V i l)) x.after m tested z beside x.holds below x.shown (λ b keeps shown. loaded below b (keeps q beside ∙ x.holds) shown) in
+          (g.0, g.1, after_operand access s setting frame fit first i (tested_lines s.seats tested (size_of s a) q ++ ks) (5 + 3) (8 + 3 * nodes i) l regs m Past g.0 g.1 (omega arith) x g.2, g.3)
 
-      fetched : (n : ℕ) → n < size_of s a → Follows access s setting frame (read_by s.seats (Some n) t (home_of s a) (size_of s a) i) (8 + 3 * nodes i) regs m (Next (read n))
+      beyond : size_of s a ≤ V i l → F (read_by s.seats None t (home_of s a) (size_of s a) true i) (8 + 3 * nodes i) regs m (Ends (Trapped 2 l.world))
+      beyond above =
+          let g = beyond_test a q (V i l) ks l x.after m z beside x.holds above in
+          (l, refl, (g.0, g.1, after_operand access s setting frame fit first i (test_lines s.seats (size_of s a) q ++ ks) 4 (8 + 3 * nodes i) l regs m (To (trap_label 2)) g.0 g.1 (omega arith) x g.2, g.3))
+
+      fetched : (n : ℕ) → n < size_of s a → F (read_by s.seats (Some n) t (home_of s a) (size_of s a) (is_tested s a) i) (8 + 3 * nodes i) regs m (Next (read n))
       fetched n below =
           let d = target s.seats t in
           let w = slice_index (elements a l) n in
           let free = target_free s.seats fit.seats t in
           let p = element_fetched access s setting frame fit a n d l regs m may below free f in
-          let g = temp_kept access s setting frame fit t w l regs p.after m lt (f.words (Element a n) below) p.changes.are (λ z o ne. p.changes.others z (apart z d ne (cases_lt z d))) p.holds f in
+          let g = temp_kept access s setting frame fit t w l regs p.after m lt (element_word s access a n l regs m below f) p.changes.are (λ z o ne. p.changes.others z (apart z d ne (cases_lt z d))) p.holds f in
           let ls = fetch_lines (element_at (home_of s a) n) d in
           let ks = keep_lines s.seats t in (
             g.after,
@@ -264,12 +338,14 @@ module _ {M : Type 0} (access : Access M) (s : Site) (setting : ir.Setting) (fra
             g.shown,
           )
 
-      by_fixed : (index : Option ℕ) → fixed (size_of s a) (literal i) ≡ index
-          → Follows access s setting frame (read_by s.seats index t (home_of s a) (size_of s a) i) (8 + 3 * nodes i) regs m (cond (ltb (V i l) (length (elements a l))) (Next (read (V i l))) (traps 2 l))
-      by_fixed None is = by_index (ltb (V i l) (length (elements a l))) refl
-      by_fixed (Some n) is = let k = known a i n l regs m is f in at_known (read_by s.seats (Some n) t (home_of s a) (size_of s a) i) (8 + 3 * nodes i) regs m a i n l read is f (fetched n k.1)
+      by_fixed : (index : Option ℕ) → fixed (size_of s a) (literal i) ≡ index → F (read_by s.seats index t (home_of s a) (size_of s a) (is_tested s a) i) (8 + 3 * nodes i) regs m (at_index a i l read)
+      by_fixed None is = by_test (λ tested. read_by s.seats None t (home_of s a) (size_of s a) tested i) (8 + 3 * nodes i) regs m a i l (read (V i l)) f inside beyond
+      by_fixed (Some n) is =
+          let k = known a i n l regs m is f in
+          at_known (read_by s.seats (Some n) t (home_of s a) (size_of s a) (is_tested s a) i) (8 + 3 * nodes i) regs m a i n l read is f (fetched n k.1)
 
-  pub write_done : (a : Array) (i v : Tree) → IsWritten s a → IsFine s setting frame i → IsFine s setting frame v → Does access s setting frame (write_lines s.seats (home_of s a) (size_of s a) i v) (stm.Write a i v)
+  pub write_done : (a : Array) (i v : Tree) → IsWritten s a → IsFine s setting frame i → IsFine s setting frame v
+      → Does access s setting frame (write_lines s.seats (home_of s a) (size_of s a) (is_tested s a) i v) (stm.Write a i v)
   write_done a i v may fi fv bound l regs m f = by_fixed (fixed (size_of s a) (literal i)) refl
     where
       q : ℕ
@@ -293,46 +369,57 @@ module _ {M : Type 0} (access : Access M) (s : Site) (setting : ir.Setting) (fra
       z : IsSized a l y.after m
       z = sized a l y.after m y.shown
 
-      index : reg z.after q ≡ V i l
-      index = z.changes.others q (size_beside s.seats fit.seats i first (omega arith)) ∙ y.changes.others q (operand_aside s.seats fit.seats i first second (second + 4) at_second (inr (omega arith))) ∙ x.holds
+      beside : IsBeside q
+      beside = size_beside s.seats fit.seats i first (omega arith)
 
-      both : (n : ℕ) (exit : Exit) (regs' : List ℕ) (m' : M) → n ≤ 8 → L (test_lines s.seats (size_of s a) q ++ ks) n y.after m exit regs' m'
-          → L (write_by s.seats None (home_of s a) (size_of s a) i v) (8 + 3 * (nodes i + nodes v)) regs m exit regs' m'
-      both n exit regs' m' le h =
-          after_operand access s setting frame fit first i (operand_lines s.seats v second ++ (test_lines s.seats (size_of s a) q ++ ks)) (8 + 2 * nodes v) (8 + 3 * (nodes i + nodes v)) l regs m exit regs' m' (omega arith) x
-          (after_operand access s setting frame fit second v (test_lines s.seats (size_of s a) q ++ ks) n (8 + 2 * nodes v) l x.after m exit regs' m' (omega arith) y h)
+      index : reg y.after q ≡ V i l
+      index = y.changes.others q (operand_aside s.seats fit.seats i first second (second + 4) at_second (inr (omega arith))) ∙ x.holds
 
-      by_index : (d : Bool) → ltb (V i l) (length (elements a l)) ≡ d
-          → Follows access s setting frame (write_by s.seats None (home_of s a) (size_of s a) i v) (8 + 3 * (nodes i + nodes v)) regs m (cond d (Next (with_elements a l (slice_set (elements a l) (V i l) (V v l)))) (traps 2 l))
-      by_index true is =
-          let many = ltb-true (V i l) (length (elements a l)) is in
-          let below : V i l < size_of s a = omega (arith, many, f.sizes a) in
-          let p = element_placed access s setting frame fit a q (V i l) l z.after m below index z.shown in
-          let value : reg p.after w ≡ V v l = p.beside w (operand_beside s.seats fit.seats v second first (inr (omega arith, omega arith)) (inl (omega arith))) (operand_beside s.seats fit.seats v second third (inr (omega arith, omega arith)) (inl (omega arith)))
-          ∙ z.changes.others w (size_beside s.seats fit.seats v second (omega arith)) ∙ y.holds in
-          let l' = with_elements a l (slice_set (elements a l) (V i l) (V v l)) in
-          let g = cell_written access s setting frame fit first w (element_offset (home_of s a)) (Element a (V i l)) (V v l) l l' p.after m p.to value y.below may below (updates_element s l a (V i l) (V v l) many) p.shown in
-          let placed = leads_more access s ks (sum_by greatest_words (element_lines (home_of s a) q) + 1) 4 z.after m Past g.after g.memory (omega (arith, element_size access s setting frame fit a q))
-          (leads_straight access s (element_lines (home_of s a) q) store 1 z.after p.after m Past g.after g.memory p.runs (leads_one access s (Sw first w (element_offset (home_of s a))) p.after m g.after g.memory g.moves)) in
-          (g.after, g.memory, both (4 + 1 + 2) Past g.after g.memory (omega arith) (after_test a q ks (4 + 1) l y.after m Past g.after g.memory z (passed a q (V i l) 4 ks l y.after m g.after g.memory z index below placed)), g.shown)
-      by_index false is =
-          let above : size_of s a ≤ V i l = omega (arith, ltb-false (V i l) (length (elements a l)) is, f.sizes a) in
-          (l, refl, (z.after, m, both (2 + 2) (To (trap_label 2)) z.after m (omega arith) (after_test a q ks 2 l y.after m (To (trap_label 2)) z.after m z (failed a q (V i l) ks l y.after m z index above)), z.shown))
+      both : (tested : Bool) (n : ℕ) (exit : Exit) (regs' : List ℕ) (m' : M) → n ≤ 8 → L (tested_lines s.seats tested (size_of s a) q ++ ks) n y.after m exit regs' m'
+          → L (write_by s.seats None (home_of s a) (size_of s a) tested i v) (8 + 3 * (nodes i + nodes v)) regs m exit regs' m'
+      both tested n exit regs' m' le h =
+          let rest = tested_lines s.seats tested (size_of s a) q ++ ks in
+          after_operand access s setting frame fit first i (operand_lines s.seats v second ++ rest) (8 + 2 * nodes v) (8 + 3 * (nodes i + nodes v)) l regs m exit regs' m' (omega arith) x
+          (after_operand access s setting frame fit second v rest n (8 + 2 * nodes v) l x.after m exit regs' m' (omega arith) y h)
 
       written : ℕ → State
       written k = with_elements a l (slice_set (elements a l) k (V v l))
 
-      stored : (n : ℕ) → n < size_of s a → ltb n (length (elements a l)) ≡ true
-          → Follows access s setting frame (write_by s.seats (Some n) (home_of s a) (size_of s a) i v) (8 + 3 * (nodes i + nodes v)) regs m (Next (written n))
-      stored n below is =
+      stored : V i l < size_of s a → (b : List ℕ) → reg b w ≡ V v l → reg b q ≡ V i l → Shows s access l b m → LeadsTo access s setting frame ks 4 b m Past (written (V i l))
+      stored below b value holds shown =
+          let many : V i l < length (elements a l) = omega (arith, below, f.sizes a) in
+          let p = element_placed access s setting frame fit a q (V i l) l b m below holds shown in
+          let kept : reg p.after w ≡ V v l = p.beside w (operand_beside s.seats fit.seats v second first (inr (omega arith, omega arith)) (inl (omega arith))) (operand_beside s.seats fit.seats v second third (inr (omega arith, omega arith)) (inl (omega arith)))
+          ∙ value in
+          let cell = Element (plain a) (V i l) in
+          let g = cell_written access s setting frame fit first w (element_offset (home_of s a)) cell (V v l) l (written (V i l)) p.after m p.to kept y.below (plain_own s a (V i l) may) (plain_there s a (V i l) below)
+          (updates_element s l a (V i l) (V v l) many) p.shown in
+          let placed = leads_more access s ks (sum_by greatest_words (element_lines (home_of s a) q) + 1) 4 b m Past g.after g.memory (omega (arith, element_size access s setting frame fit a q))
+          (leads_straight access s (element_lines (home_of s a) q) store 1 b p.after m Past g.after g.memory p.runs (leads_one access s (Sw first w (element_offset (home_of s a))) p.after m g.after g.memory g.moves)) in
+          (g.after, g.memory, placed, g.shown)
+
+      inside : (tested : Bool) → V i l < size_of s a → F (write_by s.seats None (home_of s a) (size_of s a) tested i v) (8 + 3 * (nodes i + nodes v)) regs m (Next (written (V i l)))
+      inside tested below =
+          let g = after_tested a q (V i l) ks 4 l (written (V i l)) y.after m tested z beside index below y.shown
+          (λ b keeps shown. stored below b (keeps w (size_beside s.seats fit.seats v second (omega arith)) ∙ y.holds) (keeps q beside ∙ index) shown) in
+          (g.0, g.1, both tested (4 + 3) Past g.0 g.1 (omega arith) g.2, g.3)
+
+      beyond : size_of s a ≤ V i l → F (write_by s.seats None (home_of s a) (size_of s a) true i v) (8 + 3 * (nodes i + nodes v)) regs m (Ends (Trapped 2 l.world))
+      beyond above =
+          let g = beyond_test a q (V i l) ks l y.after m z beside index above in
+          (l, refl, (g.0, g.1, both true 4 (To (trap_label 2)) g.0 g.1 (omega arith) g.2, g.3))
+
+      at_fixed : (n : ℕ) → n < size_of s a → ltb n (length (elements a l)) ≡ true → F (write_by s.seats (Some n) (home_of s a) (size_of s a) (is_tested s a) i v) (8 + 3 * (nodes i + nodes v)) regs m (Next (written n))
+      at_fixed n below is =
           let u = operand_register s.seats v first in
           let o = operand_first access s setting frame fit first v l regs m at_first fv f in
-          let beside = operand_beside s.seats fit.seats v first second (inl (omega arith, omega arith)) (inr (omega arith)) in
-          let g = element_put access s setting frame fit a n (V v l) l (written n) u o.after m o.below may below (updates_element s l a n (V v l) (ltb-true n (length (elements a l)) is)) beside o.holds o.shown in
+          let apart = operand_beside s.seats fit.seats v first second (inl (omega arith, omega arith)) (inr (omega arith)) in
+          let g = element_put access s setting frame fit a n (V v l) l (written n) u o.after m o.below may below (updates_element s l a n (V v l) (ltb-true n (length (elements a l)) is)) apart o.holds o.shown in
           let ks = put_lines (element_at (home_of s a) n) u in
           (g.after, g.memory, after_operand access s setting frame fit first v ks 2 (8 + 3 * (nodes i + nodes v)) l regs m Past g.after g.memory (omega arith) o g.leads, g.shown)
 
-      by_fixed : (index : Option ℕ) → fixed (size_of s a) (literal i) ≡ index
-          → Follows access s setting frame (write_by s.seats index (home_of s a) (size_of s a) i v) (8 + 3 * (nodes i + nodes v)) regs m (cond (ltb (V i l) (length (elements a l))) (Next (written (V i l))) (traps 2 l))
-      by_fixed None is = by_index (ltb (V i l) (length (elements a l))) refl
-      by_fixed (Some n) is = let k = known a i n l regs m is f in at_known (write_by s.seats (Some n) (home_of s a) (size_of s a) i v) (8 + 3 * (nodes i + nodes v)) regs m a i n l written is f (stored n k.1 k.2)
+      by_fixed : (index : Option ℕ) → fixed (size_of s a) (literal i) ≡ index → F (write_by s.seats index (home_of s a) (size_of s a) (is_tested s a) i v) (8 + 3 * (nodes i + nodes v)) regs m (at_index a i l written)
+      by_fixed None is = by_test (λ tested. write_by s.seats None (home_of s a) (size_of s a) tested i v) (8 + 3 * (nodes i + nodes v)) regs m a i l (written (V i l)) f inside beyond
+      by_fixed (Some n) is =
+          let k = known a i n l regs m is f in
+          at_known (write_by s.seats (Some n) (home_of s a) (size_of s a) (is_tested s a) i v) (8 + 3 * (nodes i + nodes v)) regs m a i n l written is f (at_fixed n k.1 k.2)

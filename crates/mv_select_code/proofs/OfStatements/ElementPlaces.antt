@@ -29,6 +29,7 @@ use Rattle.mv_select_code.specs.Statements.StatementCode.{first, third, offset_b
 use Rattle.mv_select_code.specs.Statements.Leads.{limited}
 use Rattle.mv_select_code.specs.Statements.Frames.{Site, Element, IsRead, home_of, size_of, address, IsFit, Shows}
 use Rattle.mv_select_code.proofs.OfStatements.FrameChanges.{frame_scratch}
+use Rattle.mv_select_code.proofs.OfStatements.PlainArrays.{plain}
 use Rattle.mv_select_code.proofs.OfStatements.TreesFirst.{add_small, cell_loaded}
 use Rattle.mv_num.proofs.Numbers.{word_of_pos}
 
@@ -141,26 +142,33 @@ module _ {M : Type 0} (access : Access M) (s : Site) (setting : ir.Setting) (fra
         shown = frame_scratch s access fit.left fit.seats 28 32 l regs r2 m (inr (omega arith, omega arith)) (changes_both 28 32 regs r1 r2 c1 c2) f;
       }
 
-  pub element_placed : (a : Array) (q k : ℕ) (l : State) (regs : List ℕ) (m : M) → k < size_of s a → reg regs q ≡ k → Shows s access l regs m → IsPlaced (element_lines (home_of s a) q) (element_offset (home_of s a)) (address s (Element a k)) l regs m
+  pub element_placed : (a : Array) (q k : ℕ) (l : State) (regs : List ℕ) (m : M) → k < size_of s a → reg regs q ≡ k → Shows s access l regs m → IsPlaced (element_lines (home_of s a) q) (element_offset (home_of s a)) (address s (Element (plain a) k)) l regs m
   element_placed (array.Global g) q k l regs m lt index f = data_placed (s.seats.place g) q k l regs m (fit.addresses (Element (array.Global g) k) lt) index f
   element_placed (array.Local a) q k l regs m lt index f = frame_placed a q k l regs m (fit.addresses (Element (array.Local a) k) lt) index f
+  element_placed (array.SureGlobal g n) q k l regs m lt index f = data_placed (s.seats.place g) q k l regs m (fit.addresses (Element (array.Global g) k) lt) index f
+  element_placed (array.SureLocal a n) q k l regs m lt index f = frame_placed a q k l regs m (fit.addresses (Element (array.Local a) k) lt) index f
 
   base_size : (base : Option Based) (at : ℕ) → sum_by greatest_words (base_by base at) ≤ 2
   base_size (Some n) at = omega arith
   base_size None at = omega arith
 
+  data_size : (at q : ℕ) → sum_by greatest_words (element_lines (home.Data at) q) ≤ 3
+  data_size at q = omega (arith, base_size (near at) at, sum_by-cons greatest_words (Word (Slli first q (pos 2))) (base_by (near at) at))
+
   pub element_size : (a : Array) (q : ℕ) → sum_by greatest_words (element_lines (home_of s a) q) ≤ 3
-  element_size (array.Global g) q =
-      let at = s.seats.place g in
-      let rest = base_by (near at) at in
-      omega (arith, base_size (near at) at, sum_by-cons greatest_words (Word (Slli first q (pos 2))) rest)
+  element_size (array.Global g) q = data_size (s.seats.place g) q
   element_size (array.Local a) q = omega arith
+  element_size (array.SureGlobal g n) q = data_size (s.seats.place g) q
+  element_size (array.SureLocal a n) q = omega arith
 
   -- ---- at an index that is known
 
-  pub element_fetched : (a : Array) (k d : ℕ) (l : State) (regs : List ℕ) (m : M) → IsRead s a → k < size_of s a → IsFree d → Shows s access l regs m
+  abbrev FetchedFrom : Array → Type 0
+  FetchedFrom a = (k d : ℕ) (l : State) (regs : List ℕ) (m : M) → IsRead s a → k < size_of s a → IsFree d → Shows s access l regs m
       → Gives (limited access s) m s.entry d (d + 1) d (slice_index (elements a l) k) (fetch_lines (element_at (home_of s a) k) d) regs
-  element_fetched (array.Global g) k d l regs m may lt free f =
+
+  global_fetched : (g : ℕ) → FetchedFrom (array.Global g)
+  global_fetched g k d l regs m may lt free f =
       let x = Element (array.Global g) k in
       let at = s.seats.place g in
       let small = fit.addresses x lt in
@@ -168,7 +176,9 @@ module _ {M : Type 0} (access : Access M) (s : Site) (setting : ir.Setting) (fra
       let v = slice_index (elements (array.Global g) l) k in
       load_gives (limited access s) m s.entry d (d + 1) d (add at (4 * k)) v regs f.are (record { from = omega arith; below = omega arith; free = free }) (omega (arith, same, small)) (f.words x lt)
       (ap (λ a. (limited access s).load m a 4) same ∙ cell_loaded access s setting frame fit m x v lt may (f.in_memory x lt))
-  element_fetched (array.Local a) k d l regs m may lt free f =
+
+  local_fetched : (a : ℕ) → FetchedFrom (array.Local a)
+  local_fetched a k d l regs m may lt free f =
       let x = Element (array.Local a) k in
       let at = s.array_at a + 4 * k in
       let sp = s.register 2 in
@@ -179,6 +189,14 @@ module _ {M : Type 0} (access : Access M) (s : Site) (setting : ir.Setting) (fra
       one_gives (limited access s) m s.entry d (d + 1) d v (Lw d 2 (pos at)) regs f.are (record { from = omega arith; below = omega arith; free = free }) (f.words x lt)
       (lw_sets (limited access s) m d 2 (pos at) regs (address s x) v to (cell_loaded access s setting frame fit m x v lt may (f.in_memory x lt)))
 
+  pub element_fetched : (a : Array) → FetchedFrom a
+  element_fetched (array.Global g) = global_fetched g
+  element_fetched (array.Local a) = local_fetched a
+  element_fetched (array.SureGlobal g n) = global_fetched g
+  element_fetched (array.SureLocal a n) = local_fetched a
+
   pub fetch_size : (a : Array) (k d : ℕ) → sum_by greatest_words (fetch_lines (element_at (home_of s a) k) d) ≤ 2
   fetch_size (array.Global g) k d = load_size (add (s.seats.place g) (4 * k)) d
   fetch_size (array.Local a) k d = omega arith
+  fetch_size (array.SureGlobal g n) k d = load_size (add (s.seats.place g) (4 * k)) d
+  fetch_size (array.SureLocal a n) k d = omega arith

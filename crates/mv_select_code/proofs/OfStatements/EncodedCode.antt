@@ -30,7 +30,7 @@ use Rattle.mv_select_code.proofs.OfTrees.TreesAreShort.{number_size, load_size, 
 use Rattle.mv_select_code.proofs.OfTrees.TreesFit.{one_fits, small_fits, lower_fits, upper_fits, number_fits, load_fits, offset_fits, trees_fit, into_fits, operand_fits}
 use Rattle.mv_select_code.specs.declared.statements.elements.Home.{Home}
 use Rattle.mv_select_code.specs.declared.statements.elements.Home.TheVariants as home
-use Rattle.mv_select_code.specs.Statements.StatementCode.{first, second, third, trap_label, write_to, write_temp, target, keep_in, keep_lines, is_seat, division, power_of, power_division, offset_by, element_offset, base_by, element_lines, home_within, fixed, element_at, fetch_lines, store_by, store_lines, put_lines, test_lines, bounds_lines, clear_lines, divisor_lines, divide_by, check_by, read_by, write_by}
+use Rattle.mv_select_code.specs.Statements.StatementCode.{first, second, third, trap_label, write_to, write_temp, target, keep_in, keep_lines, is_seat, division, power_of, power_division, offset_by, element_offset, base_by, element_lines, home_within, fixed, element_at, fetch_lines, store_by, store_lines, put_lines, test_lines, tested_lines, bounds_lines, clear_lines, divisor_lines, divide_by, check_by, read_by, write_by}
 use Rattle.mv_select_code.specs.Statements.Encoded.{IsCode, IsSmall, AreEncoded, StatementsAreEncoded}
 use Rattle.mv_select_code.proofs.OfStatements.ElementPlaces.{fixed_is}
 use Rattle.mv_select_code.proofs.OfStatements.Powers.{power_fits}
@@ -266,6 +266,12 @@ module _ (s : Seats) (seats : AreSeats s) where
   set_code t v lt h true = (All-nil LineFits, omega arith)
   set_code t v lt h false = both (2 * nodes v) 1 (tree_into s v (target s t) first) (keep_lines s t) (into_code v (target s t) (target_below t) h) (keep_code s t lt)
 
+  -- ---- a result, by the same
+
+  result_code : (v : Tree) → IsSmall v → (there : Bool) → IsCode (2 * nodes v) (cond there [] (tree_into s v a0 first))
+  result_code v h true = (All-nil LineFits, omega arith)
+  result_code v h false = into_code v a0 (omega arith) h
+
   -- ---- a division, by whether the divisor is a power of two
 
   divide_code : (t o : ℕ) (a b : Tree) → t < 507 → IsSmall a → IsSmall b → (power : Option ℕ) → power_of o (literal b) ≡ power → IsCode (2 * nodes a + (2 * nodes b + 4)) (divide_by s power t o a b)
@@ -290,35 +296,41 @@ module _ (s : Seats) (seats : AreSeats s) where
   abbrev load : ℕ → Home → List Line
   load t h = Word (Lw (target s t) first (element_offset h)) ∷ keep_lines s t
 
-  check_code : (size : ℕ) (i : Tree) → IsSmall i → (index : Option ℕ) → IsCode (2 * nodes i + 4) (check_by s index size i)
-  check_code size i h None =
+  tested_code : (tested : Bool) (size q : ℕ) → q < 32 → IsCode 4 (tested_lines s tested size q)
+  tested_code true size q lt = test_code s seats size q lt
+  tested_code false size q lt = (All-nil LineFits, omega arith)
+
+  check_code : (size : ℕ) (tested : Bool) (i : Tree) → IsSmall i → (index : Option ℕ) → IsCode (2 * nodes i + 4) (check_by s index size tested i)
+  check_code size true i h None =
       let q = operand_register s i first in
       both (2 * nodes i) 4 (operand_lines s i first) (test_lines s size q) (first_code i h) (test_code s seats size q (below i first (omega arith)))
-  check_code size i h (Some n) = (All-nil LineFits, omega arith)
+  check_code size false i h None = (All-nil LineFits, omega arith)
+  check_code size tested i h (Some n) = (All-nil LineFits, omega arith)
 
-  read_code : (t size : ℕ) (h : Home) (i : Tree) → t < 507 → home_within h size 2032 → IsSmall i → (index : Option ℕ) → fixed size (literal i) ≡ index → IsCode (2 * nodes i + 9) (read_by s index t h size i)
-  read_code t size h i lt b l None is =
+  read_code : (t size : ℕ) (h : Home) (tested : Bool) (i : Tree) → t < 507 → home_within h size 2032 → IsSmall i → (index : Option ℕ) → fixed size (literal i) ≡ index
+      → IsCode (2 * nodes i + 9) (read_by s index t h size tested i)
+  read_code t size h tested i lt b l None is =
       let q = operand_register s i first in
       let under = below i first (omega arith) in
-      both (2 * nodes i) 9 (operand_lines s i first) (test_lines s size q ++ (element_lines h q ++ load t h)) (first_code i l)
-      (both 4 5 (test_lines s size q) (element_lines h q ++ load t h) (test_code s seats size q under)
+      both (2 * nodes i) 9 (operand_lines s i first) (tested_lines s tested size q ++ (element_lines h q ++ load t h)) (first_code i l)
+      (both 4 5 (tested_lines s tested size q) (element_lines h q ++ load t h) (tested_code tested size q under)
       (both 3 2 (element_lines h q) (load t h) (element_code h q under) (last_code (Lw (target s t) first (element_offset h)) t (target_below t, omega arith, element_fits h size b) lt)))
-  read_code t size h i lt b l (Some n) is =
+  read_code t size h tested i lt b l (Some n) is =
       let d = target s t in
       let ls = fetch_lines (element_at h n) d in
       wider 3 (2 * nodes i + 9) (ls ++ keep_lines s t) (omega arith) (both 2 1 ls (keep_lines s t) (fetch_code h size n d b (fixed_below size n (literal i) is) (target_below t)) (keep_code s t lt))
 
-  write_code : (size : ℕ) (h : Home) (i v : Tree) → home_within h size 2032 → IsSmall i → IsSmall v → (index : Option ℕ) → fixed size (literal i) ≡ index
-      → IsCode (2 * nodes i + (2 * nodes v + 8)) (write_by s index h size i v)
-  write_code size h i v b l k None is =
+  write_code : (size : ℕ) (h : Home) (tested : Bool) (i v : Tree) → home_within h size 2032 → IsSmall i → IsSmall v → (index : Option ℕ) → fixed size (literal i) ≡ index
+      → IsCode (2 * nodes i + (2 * nodes v + 8)) (write_by s index h size tested i v)
+  write_code size h tested i v b l k None is =
       let q = operand_register s i first in
       let under = below i first (omega arith) in
       let store = Sw first (operand_register s v second) (element_offset h) in
-      both (2 * nodes i) (2 * nodes v + 8) (operand_lines s i first) (operand_lines s v second ++ (test_lines s size q ++ (element_lines h q ++ one store))) (first_code i l)
-      (both (2 * nodes v) 8 (operand_lines s v second) (test_lines s size q ++ (element_lines h q ++ one store)) (second_code v k)
-      (both 4 4 (test_lines s size q) (element_lines h q ++ one store) (test_code s seats size q under)
+      both (2 * nodes i) (2 * nodes v + 8) (operand_lines s i first) (operand_lines s v second ++ (tested_lines s tested size q ++ (element_lines h q ++ one store))) (first_code i l)
+      (both (2 * nodes v) 8 (operand_lines s v second) (tested_lines s tested size q ++ (element_lines h q ++ one store)) (second_code v k)
+      (both 4 4 (tested_lines s tested size q) (element_lines h q ++ one store) (tested_code tested size q under)
       (both 3 1 (element_lines h q) (one store) (element_code h q under) (single store (omega arith, below v second (omega arith), element_fits h size b)))))
-  write_code size h i v b l k (Some n) is =
+  write_code size h tested i v b l k (Some n) is =
       let q = operand_register s v first in
       let ks = put_lines (element_at h n) q in
       wider (2 * nodes v + 2) (2 * nodes i + (2 * nodes v + 8)) (operand_lines s v first ++ ks) (omega arith)
@@ -331,13 +343,13 @@ module _ (s : Seats) (seats : AreSeats s) where
         let store = store_lines (s.place g) q in
         both (2 * nodes v) 2 (operand_lines s v first) store (first_code v h) (store_code (s.place g) q (below v first (omega arith)));
     divide = λ t o a b lt h l. divide_code t o a b lt h l (power_of o (literal b)) refl;
-    check = λ size i h. check_code size i h (fixed size (literal i));
-    read = λ t size h i lt b l. read_code t size h i lt b l (fixed size (literal i)) refl;
-    write = λ size h i v b l k. write_code size h i v b l k (fixed size (literal i)) refl;
+    check = λ size tested i h. check_code size tested i h (fixed size (literal i));
+    read = λ t size h tested i lt b l. read_code t size h tested i lt b l (fixed size (literal i)) refl;
+    write = λ size h tested i v b l k. write_code size h tested i v b l k (fixed size (literal i)) refl;
     bounds = bounds_code;
     clear = clear_code;
     branch = λ sense label v h. branch_code v h sense label;
-    result = λ v h. into_code v a0 (omega arith) h;
+    result = λ v h. result_code v h (is_seat (Some a0) (own_register s v));
   }
 
 pub statements_are_encoded : StatementsAreEncoded

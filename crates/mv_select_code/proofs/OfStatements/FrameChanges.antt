@@ -13,12 +13,15 @@ use Rattle.mv_select_code.specs.Trees.TreeCode.{Seats, temp_offset}
 use Rattle.mv_select_code.specs.Trees.View.{AreRegisters, AreScratch, AreSeats, Changes}
 use Rattle.mv_select_code.proofs.OfTrees.Registers.{put_same, put_other, put_registers, scratch_part, pin_outside, seat_free, seat_apart}
 use Rattle.mv_select_code.specs.Statements.Frames.{Site, Cell, TempCell, Element, Kept, LeavesAlone, IsThere, address, content, Stored, IsFit, Shows}
+use Rattle.mv_select_code.proofs.OfStatements.PlainArrays.{plain, plain_elements, same_plain, plain_address}
 
 -- ---- arrays
 
 elements_temp : (a : Array) (l : State) (t v : ℕ) → elements a (with_temp l t v) ≡ elements a l
 elements_temp (array.Global g) l t v = refl
 elements_temp (array.Local a) l t v = refl
+elements_temp (array.SureGlobal g n) l t v = refl
+elements_temp (array.SureLocal a n) l t v = refl
 
 -- only an index below the length has an element
 in_range : (xs : List (List ℕ)) (g i : ℕ) → i < length (get_or xs g []) → g < length xs
@@ -29,17 +32,42 @@ in_range (x ∷ xs) (suc g) i h = omega (arith, in_range xs g i h)
 pub elements_same : (a : Array) (l : State) (xs : List ℕ) (i : ℕ) → i < length (elements a l) → elements a (with_elements a l xs) ≡ xs
 elements_same (array.Global g) l xs i h = get_or-set_same l.world.globals g xs [] (in_range l.world.globals g i h)
 elements_same (array.Local a) l xs i h = get_or-set_same l.arrays a xs [] (in_range l.arrays a i h)
+elements_same (array.SureGlobal g n) l xs i h = get_or-set_same l.world.globals g xs [] (in_range l.world.globals g i h)
+elements_same (array.SureLocal a n) l xs i h = get_or-set_same l.arrays a xs [] (in_range l.arrays a i h)
 
--- an array is another one, or the other one is left alone
-array_cases : (a b : Array) → (b ≡ a) ⊎ ((l : State) (xs : List ℕ) → elements b (with_elements a l xs) ≡ elements b l)
-array_cases (array.Global g) (array.Global h) = ⊎_elim (λ (e : h ≡ g). inl (ap array.Global e)) (λ (ne : h ≡ g → ⊥). inr (λ l xs. get_or-set_other l.world.globals g h xs [] ne)) (cases_eq h g)
-array_cases (array.Global g) (array.Local b) = inr (λ l xs. refl)
-array_cases (array.Local a) (array.Global h) = inr (λ l xs. refl)
-array_cases (array.Local a) (array.Local b) = ⊎_elim (λ (e : b ≡ a). inl (ap array.Local e)) (λ (ne : b ≡ a → ⊥). inr (λ l xs. get_or-set_other l.arrays a b xs [] ne)) (cases_eq b a)
+-- an array has the elements of another one, or these are left alone
+abbrev ArrayCases : (a b : Array) → Type 0
+ArrayCases a b = (plain b ≡ plain a) ⊎ ((l : State) (xs : List ℕ) → elements b (with_elements a l xs) ≡ elements b l)
+
+globals_apart : (g h : ℕ) → ArrayCases (array.Global g) (array.Global h)
+globals_apart g h = ⊎_elim (λ (e : h ≡ g). inl (ap array.Global e)) (λ (ne : h ≡ g → ⊥). inr (λ l xs. get_or-set_other l.world.globals g h xs [] ne)) (cases_eq h g)
+
+locals_apart : (a b : ℕ) → ArrayCases (array.Local a) (array.Local b)
+locals_apart a b = ⊎_elim (λ (e : b ≡ a). inl (ap array.Local e)) (λ (ne : b ≡ a → ⊥). inr (λ l xs. get_or-set_other l.arrays a b xs [] ne)) (cases_eq b a)
+
+global_cases : (g : ℕ) (b : Array) → ArrayCases (array.Global g) b
+global_cases g (array.Global h) = globals_apart g h
+global_cases g (array.Local b) = inr (λ l xs. refl)
+global_cases g (array.SureGlobal h n) = globals_apart g h
+global_cases g (array.SureLocal b n) = inr (λ l xs. refl)
+
+local_cases : (a : ℕ) (b : Array) → ArrayCases (array.Local a) b
+local_cases a (array.Global h) = inr (λ l xs. refl)
+local_cases a (array.Local b) = locals_apart a b
+local_cases a (array.SureGlobal h n) = inr (λ l xs. refl)
+local_cases a (array.SureLocal b n) = locals_apart a b
+
+array_cases : (a b : Array) → ArrayCases a b
+array_cases (array.Global g) b = global_cases g b
+array_cases (array.Local a) b = local_cases a b
+array_cases (array.SureGlobal g n) b = global_cases g b
+array_cases (array.SureLocal a n) b = local_cases a b
 
 temps_elements : (a : Array) (l : State) (xs : List ℕ) → (with_elements a l xs).temps ≡ l.temps
 temps_elements (array.Global g) l xs = refl
 temps_elements (array.Local a) l xs = refl
+temps_elements (array.SureGlobal g n) l xs = refl
+temps_elements (array.SureLocal a n) l xs = refl
 
 -- ---- registers
 
@@ -89,36 +117,39 @@ module _ (s : Site) where
       others (Element a i) h ne = ap (λ xs. slice_index xs i) (elements_temp a l t v)
       others (Kept b) h ne = refl
 
-  pub updates_element : (l : State) (a : Array) (i v : ℕ) → i < length (elements a l) → Updates l (with_elements a l (slice_set (elements a l) i v)) (Element a i) v
+  pub updates_element : (l : State) (a : Array) (i v : ℕ) → i < length (elements a l) → Updates l (with_elements a l (slice_set (elements a l) i v)) (Element (plain a) i) v
   updates_element l a i v lt = record {
     count = ap length (temps_elements a l xs);
     sizes = sizes;
     seated = λ t q h. ap (λ ts. slice_index ts t) (temps_elements a l xs);
-    same = ap (λ ys. slice_index ys i) (elements_same a l xs i lt) ∙ get_or-set_same (elements a l) i v 0 lt;
+    same = ap (λ ys. slice_index ys i) (plain_elements a changed ∙ elements_same a l xs i lt) ∙ get_or-set_same (elements a l) i v 0 lt;
     others = others;
   }
     where
       xs : List ℕ
       xs = slice_set (elements a l) i v
 
+      changed : State
+      changed = with_elements a l xs
+
       sizes : (b : Array) → length (elements b (with_elements a l (slice_set (elements a l) i v))) ≡ length (elements b l)
       sizes b = ⊎_elim same other (array_cases a b)
         where
-          same : b ≡ a → length (elements b (with_elements a l (slice_set (elements a l) i v))) ≡ length (elements b l)
-          same e = rw e (ap length (elements_same a l (slice_set (elements a l) i v) i lt) ∙ length-set (elements a l) i v)
+          same : plain b ≡ plain a → length (elements b (with_elements a l (slice_set (elements a l) i v))) ≡ length (elements b l)
+          same e = ap length (same_plain a b changed e ∙ elements_same a l xs i lt) ∙ length-set (elements a l) i v ∙ ap length (sym (same_plain a b l e))
 
           other : ((l : State) (xs : List ℕ) → elements b (with_elements a l xs) ≡ elements b l) → length (elements b (with_elements a l (slice_set (elements a l) i v))) ≡ length (elements b l)
           other h = ap length (h l (slice_set (elements a l) i v))
 
-      others : (y : Cell) → IsThere s y → address s y ≢ address s (Element a i) → content s (with_elements a l (slice_set (elements a l) i v)) y ≡ content s l y
+      others : (y : Cell) → IsThere s y → address s y ≢ address s (Element (plain a) i) → content s (with_elements a l (slice_set (elements a l) i v)) y ≡ content s l y
       others (TempCell u) h ne = ap (λ ts. slice_index ts u) (temps_elements a l (slice_set (elements a l) i v))
       others (Kept b) h ne = refl
       others (Element b j) h ne = ⊎_elim same other (array_cases a b)
         where
-          same : b ≡ a → slice_index (elements b (with_elements a l (slice_set (elements a l) i v))) j ≡ slice_index (elements b l) j
+          same : plain b ≡ plain a → slice_index (elements b (with_elements a l (slice_set (elements a l) i v))) j ≡ slice_index (elements b l) j
           same e =
-              let away : j ≢ i = λ q. ne (ap (λ c. address s (Element c j)) e ∙ ap (λ n. address s (Element a n)) q) in
-              rw e (ap (λ ys. slice_index ys j) (elements_same a l (slice_set (elements a l) i v) i lt) ∙ get_or-set_other (elements a l) i j v 0 away)
+              let away : j ≢ i = λ q. ne (sym (plain_address s b j) ∙ ap (λ c. address s (Element c j)) e ∙ ap (λ n. address s (Element (plain a) n)) q) in
+              ap (λ ys. slice_index ys j) (same_plain a b changed e ∙ elements_same a l xs i lt) ∙ get_or-set_other (elements a l) i j v 0 away ∙ ap (λ ys. slice_index ys j) (sym (same_plain a b l e))
 
           other : ((l : State) (xs : List ℕ) → elements b (with_elements a l xs) ≡ elements b l) → slice_index (elements b (with_elements a l (slice_set (elements a l) i v))) j ≡ slice_index (elements b l) j
           other k = ap (λ ys. slice_index ys j) (k l (slice_set (elements a l) i v))

@@ -102,15 +102,32 @@ module _ {M : Type 0} (access : Access M) (s : Site) (setting : ir.Setting) (fra
         below = subst (λ z. z < 2 ^ 32) g.holds (g.are.words d);
       }
 
-  -- a value that stands in the temporary's register already
+  -- a value that stands in a register already
+  record Stands (q : ℕ) (v : Tree) (l : State) (regs : List ℕ) (m : M) : Type 0 where
+    pub after : List ℕ
+    pub same : after ≡ regs
+    pub shown : Shows s access l after m
+    pub holds : reg after q ≡ V v l
+    pub below : V v l < 2 ^ 32
+
+  stands : (q : ℕ) (v : Tree) (l : State) (regs : List ℕ) (m : M) → own_register s.seats v ≡ Some q → Fine v → Shows s access l regs m → Stands q v l regs m
+  unfolding operand_lines operand_register
+  stands q v l regs m own fine f =
+      let x = operand_first access s setting frame fit first v l regs m at_first fine f in
+      record {
+        after = x.after;
+        same = subst (λ o. Straight (limited access s) m s.entry (unless o (tree_lines s.seats v first)) regs x.after) own x.runs;
+        shown = x.shown;
+        holds = subst (λ o. reg x.after (unwrap_or o first) ≡ V v l) own x.holds;
+        below = x.below;
+      }
+
+  -- in the temporary's register
   stands_there : (t q : ℕ) (v : Tree) (l : State) (regs : List ℕ) (m : M) → t < s.temps → s.seats.register t ≡ Some q → own_register s.seats v ≡ Some q → Fine v → Shows s access l regs m
       → LeadsTo access s setting frame [] (8 + 3 * nodes v) regs m Past (with_temp l t (V v l))
-  unfolding operand_lines operand_register
   stands_there t q v l regs m lt is own fine f =
-      let x = operand_first access s setting frame fit first v l regs m at_first fine f in
-      let same : x.after ≡ regs = subst (λ o. Straight (limited access s) m s.entry (unless o (tree_lines s.seats v first)) regs x.after) own x.runs in
-      let holds : reg x.after q ≡ V v l = subst (λ o. reg x.after (unwrap_or o first) ≡ V v l) own x.holds in
-      (x.after, m, (refl, (same, refl)), seat_shown access s setting frame fit t q (V v l) l x.after x.after m lt is x.below x.shown.are (λ z aside ne. refl) holds x.shown)
+      let x = stands q v l regs m own fine f in
+      (x.after, m, (refl, (x.same, refl)), seat_shown access s setting frame fit t q (V v l) l x.after x.after m lt is x.below x.shown.are (λ z aside ne. refl) x.holds x.shown)
 
   pub set_done : (t : ℕ) (v : Tree) → t < s.temps → Fine v → Does access s setting frame (set_lines s.seats t v) (stm.Set t v)
   set_done t v lt fine bound l regs m f = by_seat (s.seats.register t) (own_register s.seats v) refl refl
@@ -151,24 +168,28 @@ module _ {M : Type 0} (access : Access M) (s : Site) (setting : ir.Setting) (fra
       let w = stored_at access s setting frame fit (Element a 0) (V v l) x.below may lt l l' (updates_element s l a 0 (V v l) (omega (arith, lt, f.sizes a))) q m at x.after same beside x.holds x.shown in
       (w.after, w.memory, after_operand first v (store_lines at q) 2 (8 + 3 * nodes v) l regs m Past w.after w.memory (omega arith) x w.leads, w.shown)
 
-  pub result_done : (v : Tree) → Fine v → (l : State) (regs : List ℕ) (m : M) → Shows s access l regs m → Gives access s setting frame (result_lines s.seats v) (2 * nodes v) regs m (V v l) l.world
-  result_done v fine l regs m f = ⊎_elim own alone (is_seated s.seats.register s.temps a0)
+  -- a result that is computed into a0
+  result_computed : (v : Tree) → Fine v → (l : State) (regs : List ℕ) (m : M) → Shows s access l regs m → Gives access s setting frame (tree_into s.seats v a0 first) (2 * nodes v) regs m (V v l) l.world
+  result_computed v fine l regs m f = ⊎_elim own alone (is_seated s.seats.register s.temps a0)
     where
+      ls : List Line
+      ls = tree_into s.seats v a0 first
+
       free : IsFree a0
       free = free_above a0 (omega arith) (omega arith)
 
       x : IsComputed a0 v l regs m
       x = tree_computed a0 v l regs m free fine f
 
-      leads : L (result_lines s.seats v) (2 * nodes v) regs m Past x.after m
-      leads = subst (λ z. L z (2 * nodes v) regs m Past x.after m) (append-nil (result_lines s.seats v))
-          (leads_more access s (result_lines s.seats v ++ []) (2 * nodes v + 0) (2 * nodes v) regs m Past x.after m (omega arith) (x.leads [] 0 Past x.after m (refl, (refl, refl))))
+      leads : L ls (2 * nodes v) regs m Past x.after m
+      leads = subst (λ z. L z (2 * nodes v) regs m Past x.after m) (append-nil ls)
+          (leads_more access s (ls ++ []) (2 * nodes v + 0) (2 * nodes v) regs m Past x.after m (omega arith) (x.leads [] 0 Past x.after m (refl, (refl, refl))))
 
       -- a temporary stands in a0, and has the value then
-      own : IsSeated s.seats.register s.temps a0 → Gives access s setting frame (result_lines s.seats v) (2 * nodes v) regs m (V v l) l.world
+      own : IsSeated s.seats.register s.temps a0 → Gives access s setting frame ls (2 * nodes v) regs m (V v l) l.world
       own h = (with_temp l h.0 (V v l), refl, x.after, m, leads, seat_shown access s setting frame fit h.0 a0 (V v l) l regs x.after m h.1 h.2 x.below x.are x.others x.holds f, x.holds)
 
-      alone : ((t : ℕ) → t < s.temps → s.seats.register t ≢ Some a0) → Gives access s setting frame (result_lines s.seats v) (2 * nodes v) regs m (V v l) l.world
+      alone : ((t : ℕ) → t < s.temps → s.seats.register t ≢ Some a0) → Gives access s setting frame ls (2 * nodes v) regs m (V v l) l.world
       alone none = (
         l,
         refl,
@@ -182,6 +203,25 @@ module _ {M : Type 0} (access : Access M) (s : Site) (setting : ir.Setting) (fra
             f,
         x.holds,
       )
+
+  pub result_done : (v : Tree) → Fine v → (l : State) (regs : List ℕ) (m : M) → Shows s access l regs m → Gives access s setting frame (result_lines s.seats v) (2 * nodes v) regs m (V v l) l.world
+  result_done v fine l regs m f = by_own (own_register s.seats v) refl
+    where
+      Gets : List Line → Type 0
+      Gets lines = Gives access s setting frame lines (2 * nodes v) regs m (V v l) l.world
+
+      computed : Gets (tree_into s.seats v a0 first)
+      computed = result_computed v fine l regs m f
+
+      by_own : (own : Option ℕ) → own_register s.seats v ≡ own → Gets (cond (is_seat (Some a0) own) [] (tree_into s.seats v a0 first))
+      by_own None h = computed
+      by_own (Some p) h = by_register (eqb a0 p) refl
+        where
+          by_register : (same : Bool) → eqb a0 p ≡ same → Gets (cond same [] (tree_into s.seats v a0 first))
+          by_register true e =
+              let x = stands a0 v l regs m (h ∙ ap Some (sym (eqb-true a0 p e))) fine f in
+              (l, refl, x.after, m, (refl, (x.same, refl)), x.shown, x.holds)
+          by_register false e = computed
 
   -- by a divisor that isn't written as such a power of two
   division_done : (t o : ℕ) (a b : Tree) → t < s.temps → Fine a → Fine b → Does access s setting frame (divide_by s.seats None t o a b) (stm.Divide t o a b)

@@ -16,8 +16,9 @@ use Rattle.mv_select_code.proofs.OfTrees.Registers.{free_above, put_same, put_ot
 use Rattle.mv_select_code.proofs.OfTrees.Words.{add_word, parts_add, upper_below}
 use Rattle.mv_select_code.specs.Statements.StatementCode.{second, element_at, store_by, store_lines, put_lines}
 use Rattle.mv_select_code.specs.Statements.Leads.{Past, limited, Leads}
-use Rattle.mv_select_code.specs.Statements.Frames.{Site, Cell, Element, IsOwn, IsThere, address, home_of, size_of, IsFit, Shows}
+use Rattle.mv_select_code.specs.Statements.Frames.{Site, Cell, Element, IsWritten, IsOwn, IsThere, address, home_of, size_of, IsFit, Shows}
 use Rattle.mv_select_code.proofs.OfStatements.FrameChanges.{Updates, frame_scratch}
+use Rattle.mv_select_code.proofs.OfStatements.PlainArrays.{plain}
 use Rattle.mv_select_code.proofs.OfStatements.TreesFirst.{add_small, cell_written}
 use Rattle.mv_select_code.proofs.OfStatements.Walks.{leads_more, leads_one, leads_next}
 
@@ -62,11 +63,16 @@ module _ {M : Type 0} (access : Access M) (s : Site) (setting : ir.Setting) (fra
             }
 
   -- to an element at an index that is known
-  pub element_put : (a : Array) (k v : ℕ) (l l' : State) (q : ℕ) (regs : List ℕ) (m : M) → v < 2 ^ 32 → IsOwn s (Element a k) → k < size_of s a → Updates s l l' (Element a k) v
+  abbrev PutsAt : Array → Type 0
+  PutsAt a = (k v : ℕ) (l l' : State) (q : ℕ) (regs : List ℕ) (m : M) → v < 2 ^ 32 → IsWritten s a → k < size_of s a → Updates s l l' (Element (plain a) k) v
       → q ≢ second → reg regs q ≡ v → Shows s access l regs m → Puts (put_lines (element_at (home_of s a) k) q) l' regs m
-  element_put (array.Global g) k v l l' q regs m below own there updates beside value f =
+
+  global_put : (g : ℕ) → PutsAt (array.Global g)
+  global_put g k v l l' q regs m below own there updates beside value f =
       stored_at (Element (array.Global g) k) v below own there l l' updates q m (add (s.seats.place g) (4 * k)) regs (add_small (s.seats.place g) (4 * k) (fit.addresses (Element (array.Global g) k) there)) beside value f
-  element_put (array.Local a) k v l l' q regs m below own there updates beside value f =
+
+  local_put : (a : ℕ) → PutsAt (array.Local a)
+  local_put a k v l l' q regs m below own there updates beside value f =
       let at = s.array_at a + 4 * k in
       let same : s.register 2 + at ≡ address s (Element (array.Local a) k) = omega arith in
       let small : s.register 2 + at < 2 ^ 32 = omega (arith, same, fit.addresses (Element (array.Local a) k) there) in
@@ -75,3 +81,9 @@ module _ {M : Type 0} (access : Access M) (s : Site) (setting : ir.Setting) (fra
       let w = cell_written access s setting frame fit 2 q (pos at) (Element (array.Local a) k) v l l' regs m to value below own there updates f in
       let store = Sw 2 q (pos at) in
       record { after = w.after; memory = w.memory; leads = leads_more access s (one store) 1 2 regs m Past w.after w.memory (omega arith) (leads_one access s store regs m w.after w.memory w.moves); shown = w.shown }
+
+  pub element_put : (a : Array) → PutsAt a
+  element_put (array.Global g) = global_put g
+  element_put (array.Local a) = local_put a
+  element_put (array.SureGlobal g n) = global_put g
+  element_put (array.SureLocal a n) = local_put a

@@ -1,5 +1,5 @@
 -- The code of statements within one another, by where control goes behind it. Its labels are counted on from a first free one.
-use Rattle.std.specs.Prelude.{ℕ, zero, suc, ◌+◌, ◌^◌, ◌&&◌, ◌||◌, Bool, true, false, not, cond, eqb, ltb, length, List, [], ◌∷◌, ◌++◌, map, Option, Some, None}
+use Rattle.std.specs.Prelude.{ℕ, zero, suc, ◌+◌, ◌^◌, ◌&&◌, ◌||◌, Bool, true, false, not, cond, eqb, ltb, leb, length, List, [], ◌∷◌, ◌++◌, map, Option, Some, None}
 use Rattle.mv_ast.specs.declared.program.Known.{Known}
 use Rattle.mv_ast.specs.declared.program.Known.TheVariants as known
 use Rattle.mv_isa.specs.declared.labelled.Line.{Line}
@@ -226,10 +226,21 @@ zero_code at n = record { labels = 2; alone = None; stays = None; lines = λ aro
 abbrev pub home_of : (place array_at : ℕ → ℕ) → Array → Home
 home_of place array_at (array.Global g) = place_at.Data (place g)
 home_of place array_at (array.Local a) = place_at.Frame (array_at a)
+home_of place array_at (array.SureGlobal g n) = place_at.Data (place g)
+home_of place array_at (array.SureLocal a n) = place_at.Frame (array_at a)
 
 abbrev pub size_of : (size array_size : ℕ → ℕ) → Array → ℕ
 size_of size array_size (array.Global g) = size g
 size_of size array_size (array.Local a) = array_size a
+size_of size array_size (array.SureGlobal g n) = size g
+size_of size array_size (array.SureLocal a n) = array_size a
+
+-- whether an index is tested: not one that is promised to be below a number up to that of the elements
+abbrev pub is_tested : (size array_size : ℕ → ℕ) → Array → Bool
+is_tested size array_size (array.Global g) = true
+is_tested size array_size (array.Local a) = true
+is_tested size array_size (array.SureGlobal g n) = not (leb n (size g))
+is_tested size array_size (array.SureLocal a n) = not (leb n (array_size a))
 
 module _ (plan : Plan) where
   abbrev pub home : Array → Home
@@ -238,13 +249,16 @@ module _ (plan : Plan) where
   abbrev pub size : Array → ℕ
   size = size_of plan.size plan.array_size
 
+  abbrev pub tests : Array → Bool
+  tests = is_tested plan.size plan.array_size
+
   abbrev pub code_layer : Stm-F Emitted → Emitted
   code_layer (stm.Set t v) = plain (set_lines plan.seats t v)
   code_layer (stm.SetGlobal g v) = plain (set_global_lines plan.seats g v)
   code_layer (stm.Divide t o a b) = plain (divide_lines plan.seats t o a b)
-  code_layer (stm.Check a i) = plain (check_lines plan.seats (size a) i)
-  code_layer (stm.Read t a i) = plain (read_lines plan.seats t (home a) (size a) i)
-  code_layer (stm.Write a i v) = plain (write_lines plan.seats (home a) (size a) i v)
+  code_layer (stm.Check a i) = plain (check_lines plan.seats (size a) (tests a) i)
+  code_layer (stm.Read t a i) = plain (read_lines plan.seats t (home a) (size a) (tests a) i)
+  code_layer (stm.Write a i v) = plain (write_lines plan.seats (home a) (size a) (tests a) i v)
   code_layer (stm.Zero a) = zero_code (plan.array_at a) (plan.array_size a)
   code_layer (stm.If t a b) = if_code plan.seats plan.end t (in_turn a) (in_turn b)
   code_layer (stm.Loop b) = loop_code plan.seats b
@@ -292,10 +306,14 @@ module _ (is_fine : Tree → Bool) (may_ask : Known → Bool) (temps : ℕ) (use
   abbrev pub may_read : Array → Bool
   may_read (array.Global g) = uses.is_read g
   may_read (array.Local a) = true
+  may_read (array.SureGlobal g n) = uses.is_read g
+  may_read (array.SureLocal a n) = true
 
   abbrev pub may_write : Array → Bool
   may_write (array.Global g) = uses.is_written g
   may_write (array.Local a) = true
+  may_write (array.SureGlobal g n) = uses.is_written g
+  may_write (array.SureLocal a n) = true
 
   abbrev pub fine_target : Option ℕ → Bool
   fine_target None = true

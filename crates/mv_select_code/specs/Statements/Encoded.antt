@@ -22,9 +22,9 @@ pub record AreEncoded (s : Seats) : Type 0 where
   pub set : (t : ℕ) (v : Tree) → t < temp_limit → IsSmall v → IsCode (2 * nodes v + 1) (set_lines s t v)
   pub set_global : (g : ℕ) (v : Tree) → IsSmall v → IsCode (2 * nodes v + 2) (set_global_lines s g v)
   pub divide : (t o : ℕ) (a b : Tree) → t < temp_limit → IsSmall a → IsSmall b → IsCode (2 * nodes a + (2 * nodes b + 4)) (divide_lines s t o a b)
-  pub check : (size : ℕ) (i : Tree) → IsSmall i → IsCode (2 * nodes i + 4) (check_lines s size i)
-  pub read : (t size : ℕ) (h : Home) (i : Tree) → t < temp_limit → home_within h size frame_limit → IsSmall i → IsCode (2 * nodes i + 9) (read_lines s t h size i)
-  pub write : (size : ℕ) (h : Home) (i v : Tree) → home_within h size frame_limit → IsSmall i → IsSmall v → IsCode (2 * nodes i + (2 * nodes v + 8)) (write_lines s h size i v)
+  pub check : (size : ℕ) (tested : Bool) (i : Tree) → IsSmall i → IsCode (2 * nodes i + 4) (check_lines s size tested i)
+  pub read : (t size : ℕ) (h : Home) (tested : Bool) (i : Tree) → t < temp_limit → home_within h size frame_limit → IsSmall i → IsCode (2 * nodes i + 9) (read_lines s t h size tested i)
+  pub write : (size : ℕ) (h : Home) (tested : Bool) (i v : Tree) → home_within h size frame_limit → IsSmall i → IsSmall v → IsCode (2 * nodes i + (2 * nodes v + 8)) (write_lines s h size tested i v)
   pub bounds : (at n : ℕ) → at + 4 * n ≤ frame_limit → IsCode 2 (bounds_lines at n)
   pub clear : IsCode 2 clear_lines
   pub branch : (sense : Bool) (label : ℕ) (v : Tree) → IsSmall v → IsCode (2 * nodes v + 2) (branch_lines s v sense first label)

@@ -1,5 +1,5 @@
 -- How registers and memory show the state of a frame.
-use Rattle.std.specs.Prelude.{ℕ, ◌≡◌, ◌≢◌, ◌+◌, ◌*◌, ◌^◌, ◌<◌, ◌≤◌, Bool, true, List, length, slice_index, Some, None}
+use Rattle.std.specs.Prelude.{ℕ, ◌≡◌, ◌≢◌, ◌+◌, ◌*◌, ◌^◌, ◌<◌, ◌≤◌, Bool, true, not, leb, List, length, slice_index, Some, None}
 use Rattle.mv_ast.specs.declared.program.Known.{Known}
 use Rattle.mv_isa.specs.Execution.{Access, reg}
 use Rattle.mv_isa.specs.Registers.{x0, sp, a0}
@@ -50,10 +50,14 @@ module _ (s : Site) where
   abbrev pub IsRead : Array → Type 0
   IsRead (array.Global g) = s.reach.is_read g ≡ true
   IsRead (array.Local a) = Unit {0}
+  IsRead (array.SureGlobal g n) = s.reach.is_read g ≡ true
+  IsRead (array.SureLocal a n) = Unit {0}
 
   abbrev pub IsWritten : Array → Type 0
   IsWritten (array.Global g) = s.reach.is_written g ≡ true
   IsWritten (array.Local a) = Unit {0}
+  IsWritten (array.SureGlobal g n) = s.reach.is_written g ≡ true
+  IsWritten (array.SureLocal a n) = Unit {0}
 
   -- it may load all else that the frame counts on, and store to its temporaries
   abbrev pub IsLoaded : Cell → Type 0
@@ -68,10 +72,21 @@ module _ (s : Site) where
   abbrev pub home_of : Array → Home
   home_of (array.Global g) = home.Data (s.seats.place g)
   home_of (array.Local a) = home.Frame (s.array_at a)
+  home_of (array.SureGlobal g n) = home.Data (s.seats.place g)
+  home_of (array.SureLocal a n) = home.Frame (s.array_at a)
 
   abbrev pub size_of : Array → ℕ
   size_of (array.Global g) = s.size g
   size_of (array.Local a) = s.array_size a
+  size_of (array.SureGlobal g n) = s.size g
+  size_of (array.SureLocal a n) = s.array_size a
+
+  -- whether the code tests an index: not one that is promised to be below a number up to that of the elements
+  abbrev pub is_tested : Array → Bool
+  is_tested (array.Global g) = true
+  is_tested (array.Local a) = true
+  is_tested (array.SureGlobal g n) = not (leb n (s.size g))
+  is_tested (array.SureLocal a n) = not (leb n (s.array_size a))
 
   abbrev pub home_address : Home → ℕ
   home_address (home.Data at) = at
@@ -82,10 +97,13 @@ module _ (s : Site) where
   address (Element a i) = home_address (home_of a) + 4 * i
   address (Kept b) = b
 
-  -- a temporary that has a register has no cell
+  -- a temporary that has a register has no cell, and the elements of an array have one each, whatever is promised of an index
   abbrev pub IsThere : Cell → Type 0
   IsThere (TempCell t) = (s.seats.register t ≡ None) × (t < s.temps)
-  IsThere (Element a i) = i < size_of a
+  IsThere (Element (array.Global g) i) = i < s.size g
+  IsThere (Element (array.Local a) i) = i < s.array_size a
+  IsThere (Element (array.SureGlobal g n) i) = ⊥
+  IsThere (Element (array.SureLocal a n) i) = ⊥
   IsThere (Kept b) = s.is_kept b ≡ true
 
   -- what a state has there

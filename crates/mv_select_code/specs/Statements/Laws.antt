@@ -11,13 +11,13 @@ use Rattle.mv_ir.specs.declared.stm.Array.TheVariants as array
 use Rattle.mv_ir.specs.declared.stm.Stm.TheOpen.{Stm-F}
 use Rattle.mv_ir.specs.declared.stm.Stm.TheOpen as stm
 use Rattle.mv_ir.specs.World as ir
-use Rattle.mv_ir.specs.Outcome.{State, Outcome, Next, Ends, Trapped, Bound, Meaning}
+use Rattle.mv_ir.specs.Outcome.{State, Outcome, Next, Ends, Trapped, Stuck, Bound, Meaning}
 use Rattle.mv_ir.specs.Trees.{nodes}
 use Rattle.mv_ir.specs.Meaning.{of_tree, elements, with_elements, statement}
 use Rattle.mv_select_code.specs.Trees.TreeCode.{is_taken, branch_lines}
 use Rattle.mv_select_code.specs.Statements.StatementCode.{first, second, trap_label, set_lines, set_global_lines, divide_lines, check_lines, read_lines, write_lines, bounds_lines, clear_lines, result_lines}
 use Rattle.mv_select_code.specs.Statements.Leads.{Exit, Past, To, exit_by, Leads}
-use Rattle.mv_select_code.specs.Statements.Frames.{Site, IsRead, IsWritten, home_of, size_of, IsFine, IsFit, Shows}
+use Rattle.mv_select_code.specs.Statements.Frames.{Site, IsRead, IsWritten, home_of, size_of, is_tested, IsFine, IsFit, Shows}
 
 -- a list whose first elements are 0
 abbrev pub cleared : ℕ → List ℕ → List ℕ
@@ -36,10 +36,12 @@ module _ {M : Type 0} (access : Access M) (s : Site) (setting : ir.Setting) (fra
   Gives lines n regs m value w =
       (l : State) × (l.world ≡ w) × (regs' : List ℕ) × (m' : M) × Leads access s lines n regs m Past regs' m' × Shows s access l regs' m' × (reg regs' a0 ≡ value)
 
-  -- Lines do what an outcome says: they go on past their end, or to the stub of a trap, with what the state has there.
+  -- Lines do what an outcome says: they go on past their end, or to the stub of a trap, with what the state has there. Code that has no meaning promises
+  -- nothing.
   abbrev pub Follows : List Line → ℕ → List ℕ → M → Outcome → Type 0
   Follows lines n regs m (Next l) = LeadsTo lines n regs m Past l
   Follows lines n regs m (Ends (Trapped c w)) = (l : State) × (l.world ≡ w) × LeadsTo lines n regs m (To (trap_label c)) l
+  Follows lines n regs m (Ends Stuck) = Unit {0}
   Follows lines n regs m _ = ⊥
 
   -- wherever a state is shown, lines do what a statement means there, in no more instructions than it costs
@@ -66,9 +68,9 @@ module _ {M : Type 0} (access : Access M) (s : Site) (setting : ir.Setting) (fra
     pub set : (t : ℕ) (v : Tree) → t < s.temps → Fine v → Does (set_lines s.seats t v) (stm.Set t v)
     pub set_global : (g : ℕ) (v : Tree) → 0 < s.size g → IsWritten s (array.Global g) → Fine v → Does (set_global_lines s.seats g v) (stm.SetGlobal g v)
     pub divide : (t o : ℕ) (a b : Tree) → t < s.temps → Fine a → Fine b → Does (divide_lines s.seats t o a b) (stm.Divide t o a b)
-    pub check : (a : Array) (i : Tree) → Fine i → Does (check_lines s.seats (size_of s a) i) (stm.Check a i)
-    pub read : (t : ℕ) (a : Array) (i : Tree) → t < s.temps → IsRead s a → Fine i → Does (read_lines s.seats t (home_of s a) (size_of s a) i) (stm.Read t a i)
-    pub write : (a : Array) (i v : Tree) → IsWritten s a → Fine i → Fine v → Does (write_lines s.seats (home_of s a) (size_of s a) i v) (stm.Write a i v)
+    pub check : (a : Array) (i : Tree) → Fine i → Does (check_lines s.seats (size_of s a) (is_tested s a) i) (stm.Check a i)
+    pub read : (t : ℕ) (a : Array) (i : Tree) → t < s.temps → IsRead s a → Fine i → Does (read_lines s.seats t (home_of s a) (size_of s a) (is_tested s a) i) (stm.Read t a i)
+    pub write : (a : Array) (i v : Tree) → IsWritten s a → Fine i → Fine v → Does (write_lines s.seats (home_of s a) (size_of s a) (is_tested s a) i v) (stm.Write a i v)
     pub bounds : (a : ℕ) (l : State) (regs : List ℕ) (m : M) → Shows s access l regs m → Clears (bounds_lines (s.array_at a) (s.array_size a)) 2 regs m a 0 l
     pub clear : (a n : ℕ) (l : State) (regs : List ℕ) (m : M) → n < s.array_size a → IsCleared a n l regs m → Clears clear_lines 2 regs m a (n + 1) l
     pub branch : (sense : Bool) (label : ℕ) (v : Tree) → Fine v → (l : State) (regs : List ℕ) (m : M) → Shows s access l regs m →

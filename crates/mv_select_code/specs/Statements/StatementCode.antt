@@ -130,6 +130,10 @@ test_lines s size q =
     let own = s.pinned size in
     unless own (number_lines size third) ++ (Branch 7 q (unwrap_or own third) (trap_label traps.index_outside) ∷ [])
 
+-- the same where the index is to be tested
+abbrev pub tested_lines : Seats → Bool → ℕ → ℕ → List Line
+tested_lines s tested size q = cond tested (test_lines s size q) []
+
 -- the addresses of the first of so many words of the frame, from a place on, and of their end into the first two registers
 abbrev pub bounds_lines : ℕ → ℕ → List Line
 bounds_lines at n = two (Addi first sp (pos at)) (Addi second sp (pos (at + 4 * n)))
@@ -164,32 +168,32 @@ module _ (s : Seats) where
   divide_lines t o a b = divide_by (power_of o (literal b)) t o a b
 
   -- of an index that isn't fixed, and of one that is
-  abbrev pub check_by : Option ℕ → ℕ → Tree → List Line
-  check_by None size i = operand_lines s i first ++ test_lines s size (operand_register s i first)
-  check_by (Some n) size i = []
+  abbrev pub check_by : Option ℕ → ℕ → (tested : Bool) → Tree → List Line
+  check_by None size tested i = cond tested (operand_lines s i first ++ test_lines s size (operand_register s i first)) []
+  check_by (Some n) size tested i = []
 
-  abbrev pub check_lines : ℕ → Tree → List Line
-  check_lines size i = check_by (fixed size (literal i)) size i
+  abbrev pub check_lines : ℕ → (tested : Bool) → Tree → List Line
+  check_lines size tested i = check_by (fixed size (literal i)) size tested i
 
-  abbrev pub read_by : Option ℕ → ℕ → Home → ℕ → Tree → List Line
-  read_by None t h size i =
+  abbrev pub read_by : Option ℕ → ℕ → Home → ℕ → (tested : Bool) → Tree → List Line
+  read_by None t h size tested i =
       let q = operand_register s i first in
-      operand_lines s i first ++ (test_lines s size q ++ (element_lines h q ++ (Word (Lw (target s t) first (element_offset h)) ∷ keep_lines s t)))
-  read_by (Some n) t h size i = fetch_lines (element_at h n) (target s t) ++ keep_lines s t
+      operand_lines s i first ++ (tested_lines s tested size q ++ (element_lines h q ++ (Word (Lw (target s t) first (element_offset h)) ∷ keep_lines s t)))
+  read_by (Some n) t h size tested i = fetch_lines (element_at h n) (target s t) ++ keep_lines s t
 
-  abbrev pub read_lines : ℕ → Home → ℕ → Tree → List Line
-  read_lines t h size i = read_by (fixed size (literal i)) t h size i
+  abbrev pub read_lines : ℕ → Home → ℕ → (tested : Bool) → Tree → List Line
+  read_lines t h size tested i = read_by (fixed size (literal i)) t h size tested i
 
-  abbrev pub write_by : Option ℕ → Home → ℕ → Tree → Tree → List Line
-  write_by None h size i v =
+  abbrev pub write_by : Option ℕ → Home → ℕ → (tested : Bool) → Tree → Tree → List Line
+  write_by None h size tested i v =
       let q = operand_register s i first in
       let store = one (Sw first (operand_register s v second) (element_offset h)) in
-      operand_lines s i first ++ (operand_lines s v second ++ (test_lines s size q ++ (element_lines h q ++ store)))
-  write_by (Some n) h size i v = operand_lines s v first ++ put_lines (element_at h n) (operand_register s v first)
+      operand_lines s i first ++ (operand_lines s v second ++ (tested_lines s tested size q ++ (element_lines h q ++ store)))
+  write_by (Some n) h size tested i v = operand_lines s v first ++ put_lines (element_at h n) (operand_register s v first)
 
-  abbrev pub write_lines : Home → ℕ → Tree → Tree → List Line
-  write_lines h size i v = write_by (fixed size (literal i)) h size i v
+  abbrev pub write_lines : Home → ℕ → (tested : Bool) → Tree → Tree → List Line
+  write_lines h size tested i v = write_by (fixed size (literal i)) h size tested i v
 
-  -- the result of a function, in a0
+  -- the result of a function, in a0, where it may stand already
   abbrev pub result_lines : Tree → List Line
-  result_lines v = tree_into s v a0 first
+  result_lines v = cond (is_seat (Some a0) (own_register s v)) [] (tree_into s v a0 first)

@@ -1,6 +1,6 @@
 -- The code of trees: lines that leave a tree's value in a register. They go by way of a register r and those above it, as many as the tree is deep; the
 -- left operand is computed first. An operand that stands in a register already stays there.
-use Rattle.std.specs.Prelude.{ℕ, ◌+◌, ◌*◌, ◌/◌, ◌%◌, max, Bool, true, false, not, ◌&&◌, cond, eqb, leb, ltb, List, [], ◌∷◌, ◌++◌, Option, Some, None, unwrap_or, ℤ, pos, ◌-ℤ◌, slice_index_or}
+use Rattle.std.specs.Prelude.{ℕ, ◌+◌, ◌-◌, ◌*◌, ◌/◌, ◌%◌, max, Bool, true, false, not, ◌&&◌, cond, eqb, leb, ltb, List, [], ◌∷◌, ◌++◌, Option, Some, None, unwrap_or, ℤ, pos, ◌-ℤ◌, slice_index_or}
 use Rattle.mv_num.specs.Words.{sub}
 use Rattle.mv_num.specs.Regions.{data_start, gp_value, tp_value}
 use Rattle.mv_num.specs.declared.kind.Kind.{Kind}
@@ -17,7 +17,7 @@ use Rattle.mv_ir.specs.declared.tree.Tree.TheFolds.{fold-Tree, map-Tree}
 use Rattle.mv_ir.specs.declared.body.Room.{Room}
 use Rattle.mv_select_code.specs.Trees.Rooms.{place_in}
 use Rattle.mv_select_code.specs.declared.trees.places.Keeping.{Keeping}
-use Rattle.mv_select_code.specs.declared.trees.places.Keeping.TheVariants.{Saved, Arguments}
+use Rattle.mv_select_code.specs.declared.trees.places.Keeping.TheVariants.{Saved, Arguments, Mixed}
 use Rattle.mv_select_code.specs.declared.trees.leaves.Based.{Based}
 use Rattle.mv_select_code.specs.declared.trees.places.Pin.{Pin}
 
@@ -62,11 +62,12 @@ load_lines a r = load_by (near a) a r
 unfoldable pub temp_register : ℕ → ℕ
 temp_register t = cond (eqb t 0) s1 (a7 + t)
 
--- The register of a temporary, if it has one: the first nine have s1 to s9, which the function saves; or, in a function that calls nothing and has no more, the
--- first eight those in which arguments come, a0 to a7.
+-- The register of a temporary, if it has one: the first nine have s1 to s9, which the function saves; or, in a function that calls nothing, the first eight
+-- those in which arguments come, a0 to a7, and the next nine, if it has more, s1 to s9.
 unfoldable pub register_of : Keeping → ℕ → Option ℕ
 register_of Saved t = cond (ltb t 9) (Some (temp_register t)) None
 register_of Arguments t = cond (ltb t 8) (Some (a0 + t)) None
+register_of Mixed t = cond (ltb t 8) (Some (a0 + t)) (cond (ltb t 17) (Some (temp_register (t - 8))) None)
 
 -- where values stand: the address of each global, and the register of each temporary and of each number that has one
 pub record Seats : Type 0 where

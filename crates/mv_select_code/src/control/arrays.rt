@@ -4,18 +4,18 @@ ghost use Rattle.std.specs.Prelude.{◌≡◌, ◌<◌, ◌++◌, true, All, OnO
 ghost use Rattle.mv_select_code.specs.Statements.StatementCode.{check_lines, read_lines, write_lines};
 ghost use Rattle.mv_select_code.specs.Trees.Rooms.{place_in};
 ghost use Rattle.mv_select_code.specs.Trees.TreeCode.{seats_at};
-ghost use Rattle.mv_select_code.specs.Control.FlowCode.{home_of, size_of};
+ghost use Rattle.mv_select_code.specs.Control.FlowCode.{home_of, size_of, is_tested};
 ghost use Rattle.mv_select_code.specs.Control.Layouts.{size_in, array_at_in, array_size_in, IsInFrame, is_small};
 
-use crate::control::layout::{Layout, home_of, size_of};
-use crate::statements::elements::{push_check, push_read, push_write};
+use crate::control::layout::Layout;
+use crate::statements::elements::{Elements, push_check, push_read, push_write};
 use mv_ir::stm::Array;
 use mv_ir::tree::Tree;
 use mv_isa::labelled::Line;
 use mv_num::list::List;
 use std::alloc::AllocError;
 
-/// Tests an index.
+/// Tests an index, unless what is promised of it is enough.
 pub fn push_check_of(
     code: &mut List<Line>,
     layout: &Layout,
@@ -25,11 +25,11 @@ pub fn push_check_of(
     requires arrays { All IsInFrame layout.now.arrays }
     requires index { is_small index.now ≡ true }
     ensures { OnOk result (code.new ≡ code.old ++ check_lines (seats_at layout.now.rooms layout.now.keeping layout.now.pins)
-        (size_of (size_in layout.now.rooms) (array_size_in layout.now.arrays) array) index.now) }
+        (size_of (size_in layout.now.rooms) (array_size_in layout.now.arrays) array)
+        (is_tested (size_in layout.now.rooms) (array_size_in layout.now.arrays) array) index.now) }
 {
-    let rooms = layout.rooms.as_slice();
-    let size = size_of(rooms, layout.arrays.as_slice(), array);
-    push_check(code, layout.places(), size, index)
+    let Elements { size, tested, .. } = layout.elements(array);
+    push_check(code, layout.places(), size, tested, index)
 }
 
 /// Puts an element into a temporary.
@@ -45,19 +45,10 @@ pub fn push_read_of(
     requires index { is_small index.now ≡ true }
     ensures { OnOk result (code.new ≡ code.old ++ read_lines (seats_at layout.now.rooms layout.now.keeping layout.now.pins) temp
         (home_of (place_in layout.now.rooms) (array_at_in layout.now.arrays) array)
-        (size_of (size_in layout.now.rooms) (array_size_in layout.now.arrays) array) index.now) }
+        (size_of (size_in layout.now.rooms) (array_size_in layout.now.arrays) array)
+        (is_tested (size_in layout.now.rooms) (array_size_in layout.now.arrays) array) index.now) }
 {
-    let rooms = layout.rooms.as_slice();
-    let arrays = layout.arrays.as_slice();
-    let home = home_of(rooms, arrays, array);
-    push_read(
-        code,
-        layout.places(),
-        temp,
-        home,
-        size_of(rooms, arrays, array),
-        index,
-    )
+    push_read(code, layout.places(), temp, layout.elements(array), index)
 }
 
 /// Puts a value into an element.
@@ -73,17 +64,8 @@ pub fn push_write_of(
     requires value { is_small value.now ≡ true }
     ensures { OnOk result (code.new ≡ code.old ++ write_lines (seats_at layout.now.rooms layout.now.keeping layout.now.pins)
         (home_of (place_in layout.now.rooms) (array_at_in layout.now.arrays) array)
-        (size_of (size_in layout.now.rooms) (array_size_in layout.now.arrays) array) index.now value.now) }
+        (size_of (size_in layout.now.rooms) (array_size_in layout.now.arrays) array)
+        (is_tested (size_in layout.now.rooms) (array_size_in layout.now.arrays) array) index.now value.now) }
 {
-    let rooms = layout.rooms.as_slice();
-    let arrays = layout.arrays.as_slice();
-    let home = home_of(rooms, arrays, array);
-    push_write(
-        code,
-        layout.places(),
-        home,
-        size_of(rooms, arrays, array),
-        index,
-        value,
-    )
+    push_write(code, layout.places(), layout.elements(array), index, value)
 }

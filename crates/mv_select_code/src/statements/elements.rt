@@ -3,7 +3,7 @@
 ghost use Rattle.std.specs.Prelude.{◌≡◌, ◌+◌, ◌*◌, ◌<◌, ◌≤◌, ◌++◌, OnOk, None};
 ghost use Rattle.mv_ir.specs.Trees.{depth};
 ghost use Rattle.mv_select_code.specs.Trees.TreeCode.{near, seats_at, temps_of, literal};
-ghost use Rattle.mv_select_code.specs.Statements.StatementCode.{home_within, element_offset, base_by, element_lines, fixed, element_at, fetch_lines, store_lines, put_lines, test_lines, check_lines, read_by, read_lines, write_by, write_lines, bounds_lines, clear_lines};
+ghost use Rattle.mv_select_code.specs.Statements.StatementCode.{home_within, element_offset, base_by, element_lines, fixed, element_at, fetch_lines, store_lines, put_lines, test_lines, tested_lines, check_lines, read_by, read_lines, write_by, write_lines, bounds_lines, clear_lines};
 
 use crate::statements::instructions::{FIRST, SECOND, THIRD, push_keep, target};
 use crate::trees::places::{Places, pinned};
@@ -26,6 +26,14 @@ pub enum Home {
     Data(u32),
     /// So many bytes above sp.
     Frame(u32),
+}
+
+/// Where the elements of an array stand, how many there are, and whether an index is tested.
+#[derive(Clone, Copy)]
+pub struct Elements {
+    pub home: Home,
+    pub size: u32,
+    pub tested: bool,
 }
 
 // The lower part of the place of an element.
@@ -201,48 +209,64 @@ fn push_test(
     Ok(())
 }
 
-/// Tests an index. One that isn't below the array's length is trap 2.
+// The same where the index is to be tested.
+fn push_tested(
+    code: &mut List<Line>,
+    places: Places<'_>,
+    elements: Elements,
+    index: u8,
+) -> Result<(), AllocError>
+    ensures { OnOk result (code.new ≡ code.old ++ tested_lines (seats_at places.entry.rooms.now places.entry.keeping places.entry.pins.now) elements.tested elements.size index) }
+{
+    if elements.tested {
+        push_test(code, places, elements.size, index)
+    } else {
+        Ok(())
+    }
+}
+
+/// Tests an index, if it is to be tested. One that isn't below the array's length is trap 2.
 pub fn push_check(
     code: &mut List<Line>,
     places: Places<'_>,
     size: u32,
+    tested: bool,
     index: &Tree,
 ) -> Result<(), AllocError>
     requires depth { depth index.now ≤ 4 }
     requires temps { temps_of index.now ≤ 507 }
-    ensures { OnOk result (code.new ≡ code.old ++ check_lines (seats_at places.entry.rooms.now places.entry.keeping places.entry.pins.now) size index.now) }
+    ensures { OnOk result (code.new ≡ code.old ++ check_lines (seats_at places.entry.rooms.now places.entry.keeping places.entry.pins.now) size tested index.now) }
 {
-    if fixed(size, index).is_some() {
+    if !tested || fixed(size, index).is_some() {
         return Ok(());
     }
     push_operand(code, places, index, FIRST)?;
     push_test(code, places, size, operand_register(places, index, FIRST))
 }
 
-// An element at an index that is computed, with a test.
+// An element at an index that is computed.
 fn push_computed_read(
     code: &mut List<Line>,
     places: Places<'_>,
     temp: u32,
-    home: Home,
-    size: u32,
+    elements: Elements,
     index: &Tree,
 ) -> Result<(), AllocError>
     requires temp { temp < 507 }
-    requires home { home_within home size 2032 }
+    requires home { home_within elements.home elements.size 2032 }
     requires depth { depth index.now ≤ 4 }
     requires temps { temps_of index.now ≤ 507 }
     ensures { OnOk result (code.new ≡ code.old ++ read_by (seats_at places.entry.rooms.now places.entry.keeping places.entry.pins.now)
-        None temp home size index.now) }
+        None temp elements.home elements.size elements.tested index.now) }
 {
     push_operand(code, places, index, FIRST)?;
     let place = operand_register(places, index, FIRST);
-    push_test(code, places, size, place)?;
-    push_element(code, home, place)?;
+    push_tested(code, places, elements, place)?;
+    push_element(code, elements.home, place)?;
     let load = Instr::Lw {
         rd: target(places, temp),
         rs1: FIRST,
-        imm: element_offset(home, size),
+        imm: element_offset(elements.home, elements.size),
     };
     push_one(code, load)?;
     push_keep(code, places, temp)
@@ -253,54 +277,53 @@ pub fn push_read(
     code: &mut List<Line>,
     places: Places<'_>,
     temp: u32,
-    home: Home,
-    size: u32,
+    elements: Elements,
     index: &Tree,
 ) -> Result<(), AllocError>
     requires temp { temp < 507 }
-    requires home { home_within home size 2032 }
+    requires home { home_within elements.home elements.size 2032 }
     requires depth { depth index.now ≤ 4 }
     requires temps { temps_of index.now ≤ 507 }
     ensures { OnOk result (code.new ≡ code.old ++ read_lines (seats_at places.entry.rooms.now places.entry.keeping places.entry.pins.now)
-        temp home size index.now) }
+        temp elements.home elements.size elements.tested index.now) }
 {
-    match fixed(size, index) {
+    match fixed(elements.size, index) {
         Some(n) => {
-            push_fetch(code, element_at(home, size, n), target(places, temp))?;
+            let home = element_at(elements.home, elements.size, n);
+            push_fetch(code, home, target(places, temp))?;
             push_keep(code, places, temp)
         }
-        None => push_computed_read(code, places, temp, home, size, index),
+        None => push_computed_read(code, places, temp, elements, index),
     }
 }
 
-// An element at an index that is computed, with a test.
+// An element at an index that is computed.
 fn push_computed_write(
     code: &mut List<Line>,
     places: Places<'_>,
-    home: Home,
-    size: u32,
+    elements: Elements,
     index: &Tree,
     value: &Tree,
 ) -> Result<(), AllocError>
-    requires home { home_within home size 2032 }
+    requires home { home_within elements.home elements.size 2032 }
     requires index_depth { depth index.now ≤ 4 }
     requires index_temps { temps_of index.now ≤ 507 }
     requires value_depth { depth value.now ≤ 4 }
     requires value_temps { temps_of value.now ≤ 507 }
     ensures { OnOk result (code.new ≡ code.old ++ write_by (seats_at places.entry.rooms.now places.entry.keeping places.entry.pins.now)
-        None home size index.now value.now) }
+        None elements.home elements.size elements.tested index.now value.now) }
 {
     push_operand(code, places, index, FIRST)?;
     push_operand(code, places, value, SECOND)?;
     let place = operand_register(places, index, FIRST);
-    push_test(code, places, size, place)?;
-    push_element(code, home, place)?;
+    push_tested(code, places, elements, place)?;
+    push_element(code, elements.home, place)?;
     push_one(
         code,
         Instr::Sw {
             rs1: FIRST,
             rs2: operand_register(places, value, SECOND),
-            imm: element_offset(home, size),
+            imm: element_offset(elements.home, elements.size),
         },
     )
 }
@@ -309,26 +332,25 @@ fn push_computed_write(
 pub fn push_write(
     code: &mut List<Line>,
     places: Places<'_>,
-    home: Home,
-    size: u32,
+    elements: Elements,
     index: &Tree,
     value: &Tree,
 ) -> Result<(), AllocError>
-    requires home { home_within home size 2032 }
+    requires home { home_within elements.home elements.size 2032 }
     requires index_depth { depth index.now ≤ 4 }
     requires index_temps { temps_of index.now ≤ 507 }
     requires value_depth { depth value.now ≤ 4 }
     requires value_temps { temps_of value.now ≤ 507 }
     ensures { OnOk result (code.new ≡ code.old ++ write_lines (seats_at places.entry.rooms.now places.entry.keeping places.entry.pins.now)
-        home size index.now value.now) }
+        elements.home elements.size elements.tested index.now value.now) }
 {
-    match fixed(size, index) {
+    match fixed(elements.size, index) {
         Some(n) => {
             push_operand(code, places, value, FIRST)?;
             let register = operand_register(places, value, FIRST);
-            push_put(code, element_at(home, size, n), register)
+            push_put(code, element_at(elements.home, elements.size, n), register)
         }
-        None => push_computed_write(code, places, home, size, index, value),
+        None => push_computed_write(code, places, elements, index, value),
     }
 }
 

@@ -130,7 +130,7 @@ pub fn push_divide(
     }
 }
 
-/// Leaves a value as the result of the function.
+/// Leaves a value as the result of the function: no lines where it stands in a0 already.
 pub fn push_result(
     code: &mut List<Line>,
     places: Places<'_>,
@@ -140,5 +140,8 @@ pub fn push_result(
     requires temps { temps_of value.now ≤ 507 }
     ensures { OnOk result (code.new ≡ code.old ++ result_lines (seats_at places.entry.rooms.now places.entry.keeping places.entry.pins.now) value.now) }
 {
+    if is_seat(Some(RESULT), own_register(places, value)) {
+        return Ok(());
+    }
     push_into(code, places, value, RESULT, FIRST)
 }

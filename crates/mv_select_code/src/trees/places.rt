@@ -13,6 +13,8 @@ pub enum Keeping {
     Saved,
     /// The first eight in a0 to a7, where its arguments come: it calls nothing.
     Arguments,
+    /// The first eight as those, and the next nine in s1 to s9, which it saves.
+    Mixed,
 }
 
 impl Keeping {
@@ -29,6 +31,13 @@ impl Keeping {
             },
             Keeping::Arguments => if temp < 8 {
                 Some(10 + temp as u8)
+            } else {
+                None
+            },
+            Keeping::Mixed => if temp < 8 {
+                Some(10 + temp as u8)
+            } else if temp < 17 {
+                Some(temp_register(temp - 8))
             } else {
                 None
             },

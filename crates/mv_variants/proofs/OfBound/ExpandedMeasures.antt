@@ -1,5 +1,5 @@
 -- A measure of calls isn't more where short bodies stand in place of calls, and it is the same where calls of their functions count nothing.
-use Rattle.std.proofs.Common.{arith, ◌≡◌, ℕ, suc, ◌+◌, ◌≤◌, Bool, true, false, cond, List, [], ◌∷◌, ◌++◌, map, slice_get, Option, None, Some, ◌∙◌, ap, refl, sym, subst}
+use Rattle.std.proofs.Common.{arith, ◌≡◌, ℕ, suc, ◌+◌, ◌≤◌, Bool, true, false, cond, List, [], ◌∷◌, ◌++◌, map, slice_get, Option, None, Some, ◌∙◌, ap, refl, subst}
 use Rattle.mv_ir.specs.declared.tree.Tree.{Tree}
 use Rattle.mv_ir.specs.declared.stm.Callee.TheVariants as callee
 use Rattle.mv_ir.specs.declared.stm.Stm.{Stm, out-Stm}
@@ -8,7 +8,7 @@ use Rattle.mv_ir.specs.declared.stm.Stm.TheOpen as stm
 use Rattle.mv_ir.specs.declared.stm.Stm.TheViews.{roll-out-Stm}
 use Rattle.mv_ir.specs.declared.stm.Stm.TheFolds.{map-Stm}
 use Rattle.mv_ir.specs.declared.body.Body.{Body}
-use Rattle.mv_ir.specs.Measures.{joined, total, calls}
+use Rattle.mv_ir.specs.Measures.{total, calls}
 use Rattle.mv_ir.specs.Rolled.{set, divide, call}
 use Rattle.mv_ir.specs.Shorts.{Shorts}
 use Rattle.mv_ir.proofs.Rolls.{calls_roll}

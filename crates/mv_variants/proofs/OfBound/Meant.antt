@@ -1,5 +1,5 @@
--- A body with short bodies in place of calls, tidied, bound, with numbers carried, folded and renamed.
-use Rattle.std.proofs.Common.{arith, ◌≡◌, ℕ, true, not, ◌≤◌, List, Option, None, Some, is_some, refl, sym, ◌∙◌, ap, subst, All, Contains}
+-- A body that is made ready, bound, with numbers carried, folded and renamed.
+use Rattle.std.proofs.Common.{arith, ◌≡◌, ℕ, true, not, ◌≤◌, List, Option, None, Some, is_some, refl, sym, ◌∙◌, ap, subst, ◌⊎◌, inl, inr, All, Contains}
 use Rattle.std.specs.List.{filter, zip}
 use Rattle.std.proofs.lemmas.List.Elements.{All-filter, All-contains, All-contains_itself, filter_passes, All-weaker}
 use Rattle.mv_ir.specs.declared.body.Body.{Body}
@@ -12,9 +12,14 @@ use Rattle.mv_clone.specs.Bind.{is_free}
 use Rattle.mv_lower_spec.specs.Functions.{lower_function}
 use Rattle.mv_fold.specs.Form.{IsFoldedForm}
 use Rattle.mv_expand.specs.Expanded.{IsExpanded}
+use Rattle.mv_fold.specs.Folded.{IsNoGreater}
+use Rattle.mv_arms.specs.Armed.{IsArmed}
 use Rattle.mv_tidy.specs.Tidied.{IsTidied}
+use Rattle.mv_propagate.specs.Propagated.{IsPropagated}
+use Rattle.mv_ranges.specs.Marked.{IsMarkedBody}
+use Rattle.mv_ranges.proofs.Same.{marked_no_greater, marked_whole, marked_has_temps, marked_well_formed}
 use Rattle.mv_variants.specs.Bound.Shorts as way
-use Rattle.mv_variants.specs.Bound.Shorts.{IsReady}
+use Rattle.mv_variants.specs.Bound.Shorts.{IsCleaned, IsFinished, IsReady}
 use Rattle.mv_variants.specs.Bound.Meant.{IsWorked, IsMadeUnder, IsVariantOf, MadeAreVariants, LoweredAreVariants}
 use Rattle.mv_variants.proofs.OfBound.RenamedForm.{renaming_keeps_form}
 
@@ -58,8 +63,64 @@ module _ (shorts : Shorts) where
     switches = refl;
   }
 
-  tidied_kept : (body ready : Body) → IsTidied body ready → IsKeptReady shorts body ready
-  tidied_kept body ready t = record {
+  -- one after the other
+  after : (a b c : Body) → IsKeptReady shorts a b → IsKeptReady shorts b c → IsKeptReady shorts a c
+  after a b c h k = record {
+    means = λ setting frame contents args bound w known.
+        let first = h.means setting frame contents args bound w known in
+        let second = k.means setting frame contents args bound w known in
+        record { same = first.same ∙ second.same; cheaper = omega (arith, first.cheaper, second.cheaper) };
+    scalars = λ g e. h.scalars g (k.scalars g e);
+    arrays = λ g e. h.arrays g (k.arrays g e);
+    deepest = λ e. k.deepest (h.deepest e);
+    calls = omega (arith, h.calls, k.calls);
+    whole = λ e. k.whole (h.whole e);
+    has_temps = λ e. k.has_temps (h.has_temps e);
+    well_formed = λ e. k.well_formed (h.well_formed e);
+    params = k.params ∙ h.params;
+    sizes = k.sizes ∙ h.sizes;
+    rooms = k.rooms ∙ h.rooms;
+    marked = k.marked ∙ h.marked;
+    switches = k.switches ∙ h.switches;
+  }
+
+  expanded_kept : (body e : Body) → IsExpanded shorts body e → IsKeptReady shorts body e
+  expanded_kept body e x = record {
+    means = x.means;
+    scalars = x.scalars;
+    arrays = x.arrays;
+    deepest = x.deepest;
+    calls = x.calls;
+    whole = x.whole;
+    has_temps = x.has_temps;
+    well_formed = x.well_formed;
+    params = x.params;
+    sizes = x.sizes;
+    rooms = x.rooms;
+    marked = x.marked;
+    switches = x.switches;
+  }
+
+  armed_kept : (body arms : Body) → IsArmed body arms ⊎ (arms ≡ body) → IsKeptReady shorts body arms
+  armed_kept body arms (inl a) = record {
+    means = λ setting frame contents args bound w known. a.means setting frame contents args bound w;
+    scalars = a.smaller.scalars;
+    arrays = a.smaller.arrays;
+    deepest = λ h. omega (arith, h, a.smaller.deepest);
+    calls = a.smaller.calls;
+    whole = a.whole;
+    has_temps = a.has_temps;
+    well_formed = a.well_formed;
+    params = a.params;
+    sizes = a.sizes;
+    rooms = a.rooms;
+    marked = a.marked;
+    switches = a.switches;
+  }
+  armed_kept body arms (inr is) = subst (IsKeptReady shorts body) (sym is) (untouched body)
+
+  tidied_kept : (body tidied : Body) → IsTidied body tidied → IsKeptReady shorts body tidied
+  tidied_kept body tidied t = record {
     means = λ setting frame contents args bound w known. t.means setting frame contents args bound w;
     scalars = t.smaller.scalars;
     arrays = t.smaller.arrays;
@@ -75,29 +136,56 @@ module _ (shorts : Shorts) where
     switches = t.switches;
   }
 
-  expanded_kept : (body e ready : Body) → IsExpanded shorts body e → IsTidied e ready → IsKeptReady shorts body ready
-  expanded_kept body e ready x t = record {
-    means = λ setting frame contents args bound w known.
-        let first = x.means setting frame contents args bound w known in
-        let second = t.means setting frame contents args bound w in
-        record { same = first.same ∙ second.same; cheaper = omega (arith, first.cheaper, second.cheaper) };
-    scalars = λ g c. x.scalars g (t.smaller.scalars g c);
-    arrays = λ g c. x.arrays g (t.smaller.arrays g c);
-    deepest = λ h. (let shallow = x.deepest h in omega (arith, shallow, t.smaller.deepest));
-    calls = omega (arith, x.calls, t.smaller.calls);
-    whole = λ h. t.whole (x.whole h);
-    has_temps = λ h. t.has_temps (x.has_temps h);
-    well_formed = λ h. t.well_formed (x.well_formed h);
-    params = t.params ∙ x.params;
-    sizes = t.sizes ∙ x.sizes;
-    rooms = t.rooms ∙ x.rooms;
-    marked = t.marked ∙ x.marked;
-    switches = t.switches ∙ x.switches;
+  propagated_kept : (body propagated : Body) → IsPropagated body propagated → IsKeptReady shorts body propagated
+  propagated_kept body propagated p = record {
+    means = λ setting frame contents args bound w known. p.means setting frame contents args bound w;
+    scalars = p.smaller.scalars;
+    arrays = p.smaller.arrays;
+    deepest = λ h. omega (arith, h, p.smaller.deepest);
+    calls = p.smaller.calls;
+    whole = p.whole;
+    has_temps = p.has_temps;
+    well_formed = p.well_formed;
+    params = p.params;
+    sizes = p.sizes;
+    rooms = p.rooms;
+    marked = p.marked;
+    switches = p.switches;
   }
 
+  marked_kept : (body marked : Body) → IsMarkedBody body marked → IsKeptReady shorts body marked
+  marked_kept body marked m = record {
+    means = λ setting frame contents args bound w known. m.means setting frame contents args bound w;
+    scalars = smaller.scalars;
+    arrays = smaller.arrays;
+    deepest = λ h. omega (arith, h, smaller.deepest);
+    calls = smaller.calls;
+    whole = marked_whole body marked m;
+    has_temps = marked_has_temps body marked m;
+    well_formed = marked_well_formed body marked m;
+    params = m.params;
+    sizes = m.sizes;
+    rooms = m.rooms;
+    marked = m.marked;
+    switches = m.switches;
+  }
+    where
+      smaller : IsNoGreater body.code marked.code
+      smaller = marked_no_greater body.code marked.code m.code
+
+  cleaned_kept : (body result : Body) → IsCleaned body result → IsKeptReady shorts body result
+  cleaned_kept body result h =
+      after body h.propagated result (after body h.tidied h.propagated (tidied_kept body h.tidied h.is_tidied) (propagated_kept h.tidied h.propagated h.is_propagated))
+      (tidied_kept h.propagated result h.again)
+
+  finished_kept : (body result : Body) → IsFinished body result → IsKeptReady shorts body result
+  finished_kept body result h =
+      after body h.cleaned result (after body h.arms h.cleaned (armed_kept body h.arms h.are_arms) (cleaned_kept h.arms h.cleaned h.is_cleaned))
+      (marked_kept h.cleaned result h.is_marked)
+
   pub ready_kept : (body ready : Body) → IsReady shorts body ready → IsKeptReady shorts body ready
-  ready_kept body ready (way.expanded e x t words) = expanded_kept body e ready x t
-  ready_kept body ready (way.tidied t) = tidied_kept body ready t
+  ready_kept body ready (way.expanded e x h words) = after body e ready (expanded_kept body e x) (finished_kept e ready h)
+  ready_kept body ready (way.finished h) = finished_kept body ready h
   ready_kept body ready (way.same is) = subst (IsKeptReady shorts body) (sym is) (untouched body)
 
 module _ (shorts : Shorts) (ps : List (ℕ × ℕ)) (body result : Body) (m : IsMadeUnder shorts ps body result) where

@@ -49,7 +49,7 @@ SameGoal callee.Expanded callee.Expanded = Unit {0}
 SameGoal _ _ = ⊥
 
 -- What a statement counts, by what its parts count: it is the same whatever its trees, temporaries and globals, and no more with parts that count no more,
--- with the parts of a loop or a block alone, and with a value in place of a division. A choice counts what its sides do and the same besides, and a jump out of
+-- with the parts of a loop or a block alone, and with a value in place of a division or an element. A choice counts what its sides do and the same besides, and a jump out of
 -- a block or to the start of a loop no more than a set.
 pub record Measure (layer : Stm-F ℕ → ℕ) (m : Stm → ℕ) : Type 0 where
   pub roll : (x : Stm-F Stm) → m (roll-Stm x) ≡ layer (map-Stm Stm ℕ m x)
@@ -58,6 +58,7 @@ pub record Measure (layer : Stm-F ℕ → ℕ) (m : Stm → ℕ) : Type 0 where
   pub divide : (t u o p : ℕ) (a b c d : Tree) → layer (stm.Divide t o a b) ≡ layer (stm.Divide u p c d)
   pub divided : (t u o : ℕ) (v a b : Tree) → layer (stm.Set t v) ≤ layer (stm.Divide u o a b)
   pub check : (r s : Array) (i j : Tree) → layer (stm.Check r i) ≡ layer (stm.Check s j)
+  pub fetched : (t u : ℕ) (v : Tree) (r : Array) (i : Tree) → layer (stm.Set t v) ≤ layer (stm.Read u r i)
   pub read : (t u : ℕ) (r s : Array) (i j : Tree) → layer (stm.Read t r i) ≡ layer (stm.Read u s j)
   pub write : (r s : Array) (i j v w : Tree) → layer (stm.Write r i v) ≡ layer (stm.Write s j w)
   pub branch : (t u : Tree) (a b : List ℕ) → layer (stm.If t a b) ≡ layer (stm.If u [] []) + (total a + total b)

@@ -1,13 +1,20 @@
--- Short bodies in place of calls, binding, carrying, tidying and folding name no more.
-use Rattle.std.proofs.Common.{arith, ℕ, false, List, [], ◌∷◌, sym, subst, Contains}
+-- Short bodies in place of calls, arms reached by one jump, promises, binding, carrying, tidying, propagating and folding name no more.
+use Rattle.std.proofs.Common.{arith, ◌≡◌, ℕ, false, List, [], ◌∷◌, refl, sym, ap, subst, All, Contains}
 use Rattle.std.proofs.lemmas.List.Elements.{All-contains, All-contains_itself}
 use Rattle.mv_ast.specs.declared.program.Known.{Known}
 use Rattle.mv_ir.specs.declared.stm.Stm.{Stm}
 use Rattle.mv_ir.proofs.Induction.{Each}
-use Rattle.mv_select_code.specs.Control.Labels.{functions}
-use Rattle.mv_select_code.proofs.OfControl.TreeNames.{AnyNumber, each_any}
-use Rattle.mv_select.specs.Bodies.SelectedBodies.{HasWords, IsOrder, constants, knowns}
+use Rattle.mv_ir.specs.Measures.{joined}
+use Rattle.mv_select_code.specs.Control.Labels.{named_layer, stm_functions, functions}
+use Rattle.mv_select_code.proofs.OfControl.TreeNames.{AnyNumber, each_any, named_roll}
+use Rattle.mv_select.specs.Bodies.SelectedBodies.{AreWords, HasWords, IsOrder, constants_of_all, constants, knowns_layer, stm_knowns, knowns}
 use Rattle.mv_select.proofs.OfBodies.NamedTrees.{IsWord}
+use Rattle.mv_select.proofs.OfBodies.FineCode.{knowns_roll}
+use Rattle.mv_arms.specs.Arms.{Arms}
+use Rattle.mv_propagate.specs.declared.facts.Fact.{Fact}
+use Rattle.mv_propagate.specs.Propagating.{Propagated}
+use Rattle.mv_ranges.specs.Plain.{plain_code}
+use Rattle.mv_ranges.proofs.Same.{Blind, same_of_all, same_trees}
 use Rattle.mv_clone.specs.Bind.{bound_code}
 use Rattle.mv_regalloc.specs.Rename.{renamed_code}
 use Rattle.mv_carry.specs.declared.facts.Reach.TheVariants.{Knowing}
@@ -21,6 +28,8 @@ use Rattle.mv_variants.proofs.OfBound.BoundNames.{bound_names}
 use Rattle.mv_variants.proofs.OfBound.FoldedNames.{IsClosed, folded_names}
 use Rattle.mv_variants.proofs.OfBound.CarriedNames.{carried_names}
 use Rattle.mv_variants.proofs.OfBound.TidiedNames.{tidied_names}
+use Rattle.mv_variants.proofs.OfBound.PropagatedNames.{propagated_names}
+use Rattle.mv_variants.proofs.OfBound.ArmedNames.{armed_names}
 use Rattle.mv_variants.proofs.OfBound.RenamedNames.{renamed_names}
 use Rattle.mv_variants.proofs.OfBound.ExpandedNames.{AnyKnown, expanded_names, short_names}
 use Rattle.mv_ir.specs.declared.body.Body.{Body}
@@ -91,6 +100,35 @@ carrying_names temps code =
 pub tidying_names : TidyingNamesNoMore
 tidying_names temps code tidied k =
     no_more code tidied (tidied_names (Contains (functions code)) (Contains (knowns code)) AnyNumber anything_closed temps code tidied k) (tidied_names AnyNumber IsOrder IsWord words_closed temps code tidied k)
+
+pub propagating_names : (temps : ℕ) (code propagated : List Stm) (last : List Fact) → Propagated temps [] code propagated last → NamesNoMore code propagated
+propagating_names temps code propagated last h =
+    no_more code propagated (propagated_names (Contains (functions code)) (Contains (knowns code)) AnyNumber (λ n lt. tt) temps code propagated last h)
+    (propagated_names AnyNumber IsOrder IsWord (λ n lt. lt) temps code propagated last h)
+
+pub arming_names : (temps : ℕ) (code armed : List Stm) → Arms temps [] code armed → NamesNoMore code armed
+arming_names temps code armed h =
+    no_more code armed (armed_names (Contains (functions code)) (Contains (knowns code)) AnyNumber temps [] code armed h) (armed_names AnyNumber IsOrder IsWord temps [] code armed h)
+
+-- it names the same
+pub marking_names : (code marked : List Stm) → plain_code marked ≡ plain_code code → NamesNoMore code marked
+marking_names code marked e = record {
+  functions = λ f. subst (λ l. Contains l f) (ap joined (same_of_all (List ℕ) named_layer stm_functions functions_blind code marked e));
+  knowns = λ k. subst (λ l. Contains l k) same_knowns;
+  words = λ w. record {
+    constants = subst (λ ts. AreWords (constants_of_all ts)) (sym (same_trees code marked e)) w.constants;
+    orders = subst (λ ks. All IsOrder ks) (sym same_knowns) w.orders;
+  };
+}
+  where
+    functions_blind : Blind (List ℕ) named_layer stm_functions
+    functions_blind = record { roll = named_roll; check = λ a i. refl; read = λ t a i. refl; write = λ a i v. refl }
+
+    knowns_blind : Blind (List Known) knowns_layer stm_knowns
+    knowns_blind = record { roll = knowns_roll; check = λ a i. refl; read = λ t a i. refl; write = λ a i v. refl }
+
+    same_knowns : knowns marked ≡ knowns code
+    same_knowns = ap joined (same_of_all (List Known) knowns_layer stm_knowns knowns_blind code marked e)
 
 pub folding_names : FoldingNamesNoMore
 folding_names temps code folded (needed, is, e) =

@@ -19,7 +19,7 @@ use Rattle.mv_select_code.specs.declared.control.enclosing.Enclosing.{Enclosing}
 use Rattle.mv_select_code.specs.declared.control.enclosing.Leading.{Leading}
 use Rattle.mv_select_code.specs.declared.control.enclosing.Leading.TheVariants as lead
 use Rattle.mv_select_code.specs.declared.control.enclosing.Way.{Way}
-use Rattle.mv_select_code.specs.Control.FlowCode.{Plan, Tested, Emitted, enclosing_at, fall_to, jump_to, go_to, go_on, leads_to, plain, in_turn, staying, branch_code, if_leads, loop_at, block_at, straight_loop, turned_loop, loop_by, loop_of, zero_lines, home, size, code_layer, statement_code}
+use Rattle.mv_select_code.specs.Control.FlowCode.{Plan, Tested, Emitted, enclosing_at, fall_to, jump_to, go_to, go_on, leads_to, plain, in_turn, staying, branch_code, if_leads, loop_at, block_at, straight_loop, turned_loop, loop_by, loop_of, zero_lines, home, size, tests, code_layer, statement_code}
 use Rattle.mv_select_code.proofs.OfControl.Equations.{code_roll}
 use Rattle.mv_select_code.proofs.OfControl.TreeNames.{AnyNumber, all_any}
 use Rattle.mv_select_code.proofs.OfControl.StatementsAreMade.{LineByLine, tree_made, branch_made, result_made as returned_made, go_to_made, go_on_made, set_made, set_global_made, divide_made, check_made, read_made, write_made}
@@ -246,9 +246,9 @@ module _ (slot point : ℕ → ℕ) where
       layer (stm.Set t v) h = on_weighs _ (set_made none_made seats t v (all_any _))
       layer (stm.SetGlobal g v) h = on_weighs _ (set_global_made none_made seats g v (all_any _))
       layer (stm.Divide t o a b) h = on_weighs _ (divide_made none_made seats t o a b tt (all_any _) (all_any _))
-      layer (stm.Check a i) h = on_weighs _ (check_made none_made seats (size P a) i tt (all_any _))
-      layer (stm.Read t a i) h = on_weighs _ (read_made none_made seats t (size P a) (home P a) i tt (all_any _))
-      layer (stm.Write a i v) h = on_weighs _ (write_made none_made seats (size P a) (home P a) i v tt (all_any _) (all_any _))
+      layer (stm.Check a i) h = on_weighs _ (check_made none_made seats (size P a) (tests P a) i tt (all_any _))
+      layer (stm.Read t a i) h = on_weighs _ (read_made none_made seats t (size P a) (home P a) (tests P a) i tt (all_any _))
+      layer (stm.Write a i v) h = on_weighs _ (write_made none_made seats (size P a) (home P a) (tests P a) i v tt (all_any _) (all_any _))
       layer (stm.Zero a) h = record {
         lines = λ around label way. ahead (zero_lines label (P.array_at a) (P.array_size a)) (go_on way) refl (go_on_made none_made seats way tt);
         alone = tt;

@@ -23,12 +23,13 @@ use Rattle.mv_tidy.specs.Tidied.{IsTidiedCode}
 use Rattle.mv_tidy.proofs.Structure.{IsCongruence, IsClosed, joined_is, chosen_is}
 use Rattle.mv_variants.proofs.OfBound.Measures.{SameGoal, Measure, all_append, branch_same, loop_same, block_same}
 
--- Where there is no call, nothing counts, nor does what is left of one that is expanded.
+-- Where there is no call, nothing counts, nor does what is left of one that is expanded; and a block counts what is in it.
 pub record CountsCalls (layer : Stm-F ℕ → ℕ) : Type 0 where
   pub others : (x : Stm-F ℕ) → layer_calls x ≡ 0 → layer x ≡ 0
   pub expanded : (r : Option ℕ) (args : List Tree) → layer (stm.Call r callee.Expanded args) ≡ 0
+  pub blocks : (a : List ℕ) → layer (stm.Block a) ≡ total a
 
-same_goal : (f : Callee) → SameGoal f f
+pub same_goal : (f : Callee) → SameGoal f f
 same_goal (callee.Direct f) = refl
 same_goal (callee.Through t) = tt
 same_goal (callee.Switched g) = refl

@@ -11,7 +11,7 @@ use Rattle.mv_ir.specs.Operators as operator
 use Rattle.mv_ir.specs.Rolled.{number, temp, unary, binary, set, choose}
 use Rattle.mv_ir.proofs.Induction.{each_append, TreeChildren, tree_ind}
 use Rattle.mv_select.proofs.OfBodies.Naming.{TreeNames, StmNames, CodeNames, TreeParts, tree_in, tree_out, stm_in, stm_out}
-use Rattle.mv_tidy.specs.Tidying.{taking_node, taking, Takes, whole, through, IsOne, divided, fetched, called, asked, carried, stored, written}
+use Rattle.mv_tidy.specs.Tidying.{taking_node, taking, Takes, whole, truth, twice_truth, narrowed_truth, through, IsOne, divided, fetched, called, asked, carried, stored, written}
 use Rattle.mv_tidy.specs.Choosing as chosen
 use Rattle.mv_tidy.specs.Choosing.{Attached, taken, sides}
 use Rattle.mv_tidy.specs.Tidied.{IsTidiedCode}
@@ -43,6 +43,9 @@ module _ (F : ℕ → Type 0) (K : Known → Type 0) (C : ℕ → Type 0) where
 
     taken_names : (v w : Tree) → Takes t e v w → TreeNames F K C v → TreeNames F K C w
     taken_names v w whole n = names
+    taken_names v w (truth h) n = names
+    taken_names v w (twice_truth h) n = names
+    taken_names v w (narrowed_truth k h) n = names
     taken_names v w (through u h) n = taking_names u n
 
   abbrev NamesStay : List Stm → List Stm → Type 0

@@ -1,5 +1,5 @@
 -- A body that is made of another counts no more calls and names no more, and is one that code can be selected for.
-use Rattle.std.proofs.Common.{arith, ◌≡◌, ℕ, ◌+◌, ◌*◌, ◌/◌, ◌<◌, ◌≤◌, true, false, None, List, length, map, sym, ◌∙◌, ap, subst, inl, inr}
+use Rattle.std.proofs.Common.{arith, ◌≡◌, ℕ, ◌+◌, ◌*◌, ◌/◌, ◌<◌, ◌≤◌, true, false, None, List, length, map, sym, ◌∙◌, ap, subst, ◌⊎◌, inl, inr}
 use Rattle.mv_ir.specs.declared.stm.Stm.{Stm}
 use Rattle.mv_ir.specs.declared.stm.Stm.TheOpen.{Stm-F}
 use Rattle.mv_ir.specs.declared.body.Body.{Body}
@@ -16,15 +16,17 @@ use Rattle.mv_ir.specs.Shorts.{Shorts}
 use Rattle.mv_select.specs.Calls.Convention.{frame_limit}
 use Rattle.mv_select.specs.Selected.{FitsFrame}
 use Rattle.mv_variants.specs.Bound.Shorts as way
-use Rattle.mv_variants.specs.Bound.Shorts.{IsReady, HasRoom, ShortsHaveWords}
+use Rattle.mv_arms.specs.Armed.{IsArmed}
+use Rattle.mv_variants.specs.Bound.Shorts.{IsCleaned, IsFinished, IsReady, HasRoom, ShortsHaveWords}
 use Rattle.mv_variants.specs.Bound.Meant.{IsMadeUnder}
 use Rattle.mv_variants.specs.Sizes.{HasSmallFrame}
 use Rattle.mv_variants.specs.Bound.Names.{NamesNoMore}
 use Rattle.mv_variants.specs.Bound.Variants.{MadeNameNoMore, MadeCallNoMore, MadeAreInProgram, MadeFramesFit}
 use Rattle.mv_variants.proofs.OfBound.Meant.{reads_array, made}
-use Rattle.mv_variants.proofs.OfBound.NamesKept.{binding_names, carrying_names, expanding_names, tidying_names, folding_names, renaming_names}
+use Rattle.mv_variants.proofs.OfBound.NamesKept.{binding_names, carrying_names, expanding_names, arming_names, tidying_names, propagating_names, marking_names, folding_names, renaming_names}
 use Rattle.mv_variants.proofs.OfBound.Measures.{Measure, bound_no_more, carried_no_more, folded_no_more, renamed_no_more}
-use Rattle.mv_variants.proofs.OfBound.TidiedMeasures.{CountsCalls, tidied_no_more, tidied_same}
+use Rattle.mv_variants.proofs.OfBound.TidiedMeasures.{CountsCalls}
+use Rattle.mv_variants.proofs.OfBound.FinishedMeasures.{finished_same}
 use Rattle.mv_variants.proofs.OfBound.ExpandedMeasures.{ShortsCountNothing, expanded_no_more, expanded_same}
 use Rattle.mv_variants.proofs.OfBound.Weights.{weights, weights_of_calls}
 use Rattle.mv_num.proofs.Lists.{contains_all}
@@ -41,10 +43,27 @@ names_after a b c h k = record {
 names_stay : (code : List Stm) → NamesNoMore code code
 names_stay code = record { functions = λ f c. c; knowns = λ k c. c; words = λ w. w }
 
+armed_or_not : (body arms : Body) → IsArmed body arms ⊎ (arms ≡ body) → NamesNoMore body.code arms.code
+armed_or_not body arms (inl is) = arming_names body.temps body.code arms.code is.code
+armed_or_not body arms (inr is) = subst (λ (b : Body). NamesNoMore body.code b.code) (sym is) (names_stay body.code)
+
+cleaned_names : (body result : Body) → IsCleaned body result → NamesNoMore body.code result.code
+cleaned_names body result h =
+    let tidied = tidying_names body.temps body.code h.tidied.code h.is_tidied.code in
+    let propagated = propagating_names h.tidied.temps h.tidied.code h.propagated.code h.is_propagated.last h.is_propagated.code in
+    names_after body.code h.propagated.code result.code (names_after body.code h.tidied.code h.propagated.code tidied propagated)
+    (tidying_names h.propagated.temps h.propagated.code result.code h.again.code)
+
+finished_names : (body result : Body) → IsFinished body result → NamesNoMore body.code result.code
+finished_names body result h =
+    names_after body.code h.cleaned.code result.code
+    (names_after body.code h.arms.code h.cleaned.code (armed_or_not body h.arms h.are_arms) (cleaned_names h.arms h.cleaned h.is_cleaned))
+    (marking_names h.cleaned.code result.code h.is_marked.code)
+
 pub ready_names : (shorts : Shorts) (body ready : Body) → ShortsHaveWords shorts → IsReady shorts body ready → NamesNoMore body.code ready.code
 ready_names shorts body ready all (way.expanded e x t words) =
-    names_after body.code e.code ready.code (expanding_names shorts all body.temps body.code e.code x.code) (tidying_names e.temps e.code ready.code t.code)
-ready_names shorts body ready all (way.tidied t) = tidying_names body.temps body.code ready.code t.code
+    names_after body.code e.code ready.code (expanding_names shorts all body.temps body.code e.code x.code) (finished_names e ready t)
+ready_names shorts body ready all (way.finished t) = finished_names body ready t
 ready_names shorts body ready all (way.same is) = subst (λ (b : Body). NamesNoMore body.code b.code) (sym is) (names_stay body.code)
 
 pub made_names : MadeNameNoMore
@@ -80,15 +99,15 @@ module _ {layer : Stm-F ℕ → ℕ} {m : Stm → ℕ} (of : Measure layer m) wh
   module _ (calls : CountsCalls layer) (shorts : Shorts) where
     pub ready_no_more : (body ready : Body) → IsReady shorts body ready → all ready.code ≤ all body.code
     ready_no_more body ready (way.expanded e x t words) =
-        omega (arith, expanded_no_more of calls shorts body.temps false body.code e.code x.code, tidied_no_more of e.temps e.code ready.code t.code)
-    ready_no_more body ready (way.tidied t) = tidied_no_more of body.temps body.code ready.code t.code
+        omega (arith, expanded_no_more of calls shorts body.temps false body.code e.code x.code, finished_same of calls e ready t)
+    ready_no_more body ready (way.finished t) = omega (arith, finished_same of calls body ready t)
     ready_no_more body ready (way.same is) = subst (λ (b : Body). all b.code ≤ all body.code) (sym is) (omega arith)
 
     -- it is the same where calls of functions with short bodies count nothing
     pub ready_same : ShortsCountNothing layer shorts → (body ready : Body) → IsReady shorts body ready → all ready.code ≡ all body.code
     ready_same free body ready (way.expanded e x t words) =
-        tidied_same of calls e.temps e.code ready.code t.code ∙ expanded_same of calls shorts free body.temps false body.code e.code x.code
-    ready_same free body ready (way.tidied t) = tidied_same of calls body.temps body.code ready.code t.code
+        finished_same of calls e ready t ∙ expanded_same of calls shorts free body.temps false body.code e.code x.code
+    ready_same free body ready (way.finished t) = finished_same of calls body ready t
     ready_same free body ready (way.same is) = ap (λ (b : Body). all b.code) is
 
     pub made_no_more : (ps : List (ℕ × ℕ)) (body result : Body) → IsMadeUnder shorts ps body result → all result.code ≤ all body.code

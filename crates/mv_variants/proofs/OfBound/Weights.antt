@@ -32,6 +32,7 @@ module _ (direct : ℕ → ℕ) (through : ℕ) where
     divide = λ t u o p a b c d. refl;
     divided = λ t u o v a b. omega arith;
     check = λ r s i j. refl;
+    fetched = λ t u v r i. omega arith;
     read = λ t u r s i j. refl;
     write = λ r s i j v w. refl;
     branch = λ t u a b. omega arith;
@@ -48,7 +49,7 @@ module _ (direct : ℕ → ℕ) (through : ℕ) where
   }
 
   pub weights_of_calls : CountsCalls (layer_weight direct through)
-  weights_of_calls = record { others = by; expanded = λ r args. refl }
+  weights_of_calls = record { others = by; expanded = λ r args. refl; blocks = λ a. refl }
     where
       by : (x : Stm-F ℕ) → layer_calls x ≡ 0 → layer_weight direct through x ≡ 0
       by (stm.If t a b) e = e
@@ -77,6 +78,7 @@ module _ (counts : ℕ → Bool) where
     divide = λ t u o p a b c d. refl;
     divided = λ t u o v a b. omega arith;
     check = λ r s i j. refl;
+    fetched = λ t u v r i. omega arith;
     read = λ t u r s i j. refl;
     write = λ r s i j v w. refl;
     branch = λ t u a b. omega arith;
@@ -93,7 +95,7 @@ module _ (counts : ℕ → Bool) where
   }
 
   pub throughs_of_calls : CountsCalls (layer_through counts)
-  throughs_of_calls = record { others = by; expanded = λ r args. refl }
+  throughs_of_calls = record { others = by; expanded = λ r args. refl; blocks = λ a. refl }
     where
       by : (x : Stm-F ℕ) → layer_calls x ≡ 0 → layer_through counts x ≡ 0
       by (stm.If t a b) e = e

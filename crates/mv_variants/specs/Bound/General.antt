@@ -7,8 +7,7 @@ use Rattle.mv_regalloc.specs.Intervals.{IsRenamed}
 use Rattle.mv_variants.specs.Bound.Shorts.{IsReady, HasRoom}
 use Rattle.mv_variants.specs.Sizes.{HasSmallFrame}
 
--- A body whose constants are words, with short bodies in place of calls, tidied, and then with its temporaries renamed. It is left as it was where its frame would
--- be too large.
+-- A body whose constants are words, made ready, and then with its temporaries renamed. It is left as it was where its frame would be too large.
 pub record IsGeneral (shorts : Shorts) (body result : Body) : Type 0 where
   pub words : HasWords body.code
   pub ready : Body

@@ -29,7 +29,7 @@ pub record IsWorked (ps : List (ℕ × ℕ)) (body result : Body) : Type 0 where
   pub is_folded : IsFolded carried folded
   pub is_renamed : IsRenamed folded result
 
--- A body with short bodies in place of calls, tidied, and then worked under these values.
+-- A body that is made ready, and then worked under these values.
 pub record IsMadeUnder (shorts : Shorts) (ps : List (ℕ × ℕ)) (body result : Body) : Type 0 where
   pub ready : Body
   pub is_ready : IsReady shorts body ready

@@ -10,4 +10,4 @@ returns-in_ok-copy_tree-in-Some c =
     let taken : Takes s.t s.e v c.in-Some.w = subst (λ w. IfSome w (Takes s.t s.e v)) c.in-Some.is c.in_ok-w-in-Set.ensures in
     let gone = c.is_gone.ensures c.if-not-is_gone.false in
     let unread = sym c.reads.ensures ∙ c.if-reads.false in
-    writes _ c.args.first.now s.t s.e v c.in-Some.w gone s.is taken c.args.array c.args.index.now _ unread c.in_ok-copy_tree-in-Some.ensures
+    writes _ c.args.first.now s.t s.e v c.in-Some.w s.is taken c.args.array c.args.index.now _ gone unread c.in_ok-copy_tree-in-Some.ensures

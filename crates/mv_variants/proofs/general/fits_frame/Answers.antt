@@ -1,4 +1,4 @@
-use Rattle.std.proofs.Common.{arith, ◌≡◌, ◌+◌, ◌<◌, List, length, get_or, subst, take, ℕ}
+use Rattle.std.proofs.Common.{arith, ◌≡◌, ◌+◌, List, get_or, subst, take, ℕ}
 use Rattle.mv_ir.specs.Measures.{total}
 use Rattle.mv_select.proofs.Totals.{total_more}
 use Rattle.mv_variants.proofs.general.fits_frame.Goals as goal

@@ -3,4 +3,4 @@ use Rattle.mv_select.specs.Functions.FunctionCode.{save_lines}
 use Rattle.mv_select.proofs.functions.frames.push_save.Given as goal
 
 abbrev pub invariant-loop-index : goal.invariant-loop-index
-invariant-loop-index l = l.code ≡ l.initial.code ++ save_lines l.index
+invariant-loop-index l = l.code ≡ l.initial.code ++ save_lines l.first l.index

@@ -5,7 +5,7 @@ use Rattle.mv_ir.specs.Measures.{statements}
 use Rattle.mv_select_code.specs.Statements.StatementCode.{set_lines, set_global_lines, divide_lines, check_lines, read_lines, write_lines}
 use Rattle.mv_select_code.specs.declared.control.emitter.Emitter.{Emitter}
 use Rattle.mv_select_code.specs.declared.control.layout.Space.{Space}
-use Rattle.mv_select_code.specs.Control.FlowCode.{Emitted, home, size, go_on, zero_lines, zero_code, if_code, loop_of, block_code, break_code, back_code, return_code, statement_code, code_of}
+use Rattle.mv_select_code.specs.Control.FlowCode.{Emitted, home, size, tests, go_on, zero_lines, zero_code, if_code, loop_of, block_code, break_code, back_code, return_code, statement_code, code_of}
 use Rattle.mv_select_code.specs.Control.Emitters.{with_lines, emitted}
 use Rattle.mv_select_code.specs.Control.Layouts.{space_in, plan_in, is_small_statement, are_small}
 use Rattle.mv_select_code.specs.Control.Staying.{TurnsBy}
@@ -191,9 +191,9 @@ push_statement-returns g t c =
       | push_statement-in-Set+in_ok-push_set-in-Set w ↦ as_plain plan e s (at.Set w.in-Set.t w.in-Set.v) w.in-Set.is way (set_lines plan.seats w.in-Set.t w.in-Set.v) w.push_set.new.code c.go_on.new.self (code_set plan w.in-Set.t w.in-Set.v) (subst (λ s. w.push_set.new.code ≡ e.lines ++ set_lines s w.in-Set.t w.in-Set.v) seats w.in_ok-push_set-in-Set.ensures) (h ∙ ap (λ x. with_lines x (go_on way)) w.emitter-is)
       | push_statement-in-SetGlobal+in_ok-push_set_global-in-SetGlobal w ↦ as_plain plan e s (at.SetGlobal w.in-SetGlobal.g w.in-SetGlobal.v) w.in-SetGlobal.is way (set_global_lines plan.seats w.in-SetGlobal.g w.in-SetGlobal.v) w.push_set_global.new.code c.go_on.new.self (code_setglobal plan w.in-SetGlobal.g w.in-SetGlobal.v) (subst (λ s. w.push_set_global.new.code ≡ e.lines ++ set_global_lines s w.in-SetGlobal.g w.in-SetGlobal.v) seats w.in_ok-push_set_global-in-SetGlobal.ensures) (h ∙ ap (λ x. with_lines x (go_on way)) w.emitter-is)
       | push_statement-in-Divide+in_ok-push_divide-in-Divide w ↦ as_plain plan e s (at.Divide w.in-Divide.t w.in-Divide.o w.in-Divide.a w.in-Divide.b) w.in-Divide.is way (divide_lines plan.seats w.in-Divide.t w.in-Divide.o w.in-Divide.a w.in-Divide.b) w.push_divide.new.code c.go_on.new.self (code_divide plan w.in-Divide.t w.in-Divide.o w.in-Divide.a w.in-Divide.b) (subst (λ s. w.push_divide.new.code ≡ e.lines ++ divide_lines s w.in-Divide.t w.in-Divide.o w.in-Divide.a w.in-Divide.b) seats w.in_ok-push_divide-in-Divide.ensures) (h ∙ ap (λ x. with_lines x (go_on way)) w.emitter-is)
-      | push_statement-in-Check+in_ok-push_check_of-in-Check w ↦ as_plain plan e s (at.Check w.in-Check.a w.in-Check.i) w.in-Check.is way (check_lines plan.seats (size plan w.in-Check.a) w.in-Check.i) w.push_check_of.new.code c.go_on.new.self (code_check plan w.in-Check.a w.in-Check.i) w.in_ok-push_check_of-in-Check.ensures (h ∙ ap (λ x. with_lines x (go_on way)) w.emitter-is)
-      | push_statement-in-Read+in_ok-push_read_of-in-Read w ↦ as_plain plan e s (at.Read w.in-Read.t w.in-Read.a w.in-Read.i) w.in-Read.is way (read_lines plan.seats w.in-Read.t (home plan w.in-Read.a) (size plan w.in-Read.a) w.in-Read.i) w.push_read_of.new.code c.go_on.new.self (code_read plan w.in-Read.t w.in-Read.a w.in-Read.i) w.in_ok-push_read_of-in-Read.ensures (h ∙ ap (λ x. with_lines x (go_on way)) w.emitter-is)
-      | push_statement-in-Write+in_ok-push_write_of-in-Write w ↦ as_plain plan e s (at.Write w.in-Write.a w.in-Write.i w.in-Write.v) w.in-Write.is way (write_lines plan.seats (home plan w.in-Write.a) (size plan w.in-Write.a) w.in-Write.i w.in-Write.v) w.push_write_of.new.code c.go_on.new.self (code_write plan w.in-Write.a w.in-Write.i w.in-Write.v) w.in_ok-push_write_of-in-Write.ensures (h ∙ ap (λ x. with_lines x (go_on way)) w.emitter-is)
+      | push_statement-in-Check+in_ok-push_check_of-in-Check w ↦ as_plain plan e s (at.Check w.in-Check.a w.in-Check.i) w.in-Check.is way (check_lines plan.seats (size plan w.in-Check.a) (tests plan w.in-Check.a) w.in-Check.i) w.push_check_of.new.code c.go_on.new.self (code_check plan w.in-Check.a w.in-Check.i) w.in_ok-push_check_of-in-Check.ensures (h ∙ ap (λ x. with_lines x (go_on way)) w.emitter-is)
+      | push_statement-in-Read+in_ok-push_read_of-in-Read w ↦ as_plain plan e s (at.Read w.in-Read.t w.in-Read.a w.in-Read.i) w.in-Read.is way (read_lines plan.seats w.in-Read.t (home plan w.in-Read.a) (size plan w.in-Read.a) (tests plan w.in-Read.a) w.in-Read.i) w.push_read_of.new.code c.go_on.new.self (code_read plan w.in-Read.t w.in-Read.a w.in-Read.i) w.in_ok-push_read_of-in-Read.ensures (h ∙ ap (λ x. with_lines x (go_on way)) w.emitter-is)
+      | push_statement-in-Write+in_ok-push_write_of-in-Write w ↦ as_plain plan e s (at.Write w.in-Write.a w.in-Write.i w.in-Write.v) w.in-Write.is way (write_lines plan.seats (home plan w.in-Write.a) (size plan w.in-Write.a) (tests plan w.in-Write.a) w.in-Write.i w.in-Write.v) w.push_write_of.new.code c.go_on.new.self (code_write plan w.in-Write.a w.in-Write.i w.in-Write.v) w.in_ok-push_write_of-in-Write.ensures (h ∙ ap (λ x. with_lines x (go_on way)) w.emitter-is)
       | push_statement-in-Zero+in_ok-push_zero-in-Zero w ↦ let a = w.in-Zero.a in
           let space = w.space_of.ensures.value ∙ ap (λ l. space_in l a) w.as_slice.ensures in
           let written = w.in_ok-push_zero-in-Zero.ensures ∙ ap (λ (x : Space). let r : Emitter = record e { lines = e.lines ++ zero_lines e.free x.at x.size; free = e.free + 2 } in r) space in

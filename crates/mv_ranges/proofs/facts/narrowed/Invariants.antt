@@ -1,0 +1,7 @@
+use Rattle.std.proofs.Common.{take}
+use Rattle.mv_ir.specs.Outcome.{State}
+use Rattle.mv_ranges.specs.Facts.{AllHold}
+use Rattle.mv_ranges.proofs.facts.narrowed.Given as goal
+
+abbrev pub invariant-loop-fact : goal.invariant-loop-fact
+invariant-loop-fact l = (s : State) → AllHold s (take l.fact-index l.facts) → AllHold s l.kept

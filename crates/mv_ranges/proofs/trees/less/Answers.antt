@@ -1,0 +1,15 @@
+use Rattle.std.proofs.Common.{sym, subst, arith}
+use Rattle.mv_ranges.specs.Facts.{AllHold}
+use Rattle.mv_ranges.proofs.Values.{then_known}
+use Rattle.mv_ranges.proofs.trees.less.Goals as goal
+
+pub returns-in-Some : goal.returns-in-Some
+returns-in-Some c = then_known c.at_least.result c.args.facts c.in_ok-facts.facts _ _ c.at_least.ensures (λ numbers bound s h lt.
+    let a = c.in-Some.ensures numbers bound s (subst (AllHold s) (sym c.as_slice.ensures) h) in
+    let b = c.range_of-b.ensures numbers bound s (subst (AllHold s) (sym c.as_slice-2.ensures) h) in
+    (c.in_ok-facts.ensures numbers bound s h (c.below.ensures _ _ b lt), omega arith))
+
+pub returns-in_default : goal.returns-in_default
+returns-in_default c numbers bound s h lt =
+    let b = c.range_of-b.ensures numbers bound s (subst (AllHold s) (sym c.as_slice-2.ensures) h) in
+    c.in_ok-facts.ensures numbers bound s h (c.below.ensures _ _ b lt)

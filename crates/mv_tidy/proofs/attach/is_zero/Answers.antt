@@ -1,7 +1,0 @@
-use Rattle.std.proofs.Common.{sym, ◌∙◌, ap, eqb-true}
-use Rattle.mv_ir.specs.Rolled.{number}
-use Rattle.mv_tidy.proofs.Attaching.{number_is}
-use Rattle.mv_tidy.proofs.attach.is_zero.Goals as goal
-
-pub returns-in-Some : goal.returns-in-Some
-returns-in-Some c h = number_is c.args.tree.now c.in-Some.n (sym c.constant.ensures ∙ c.in-Some.is) ∙ ap number (eqb-true c.in-Some.n 0 h)
