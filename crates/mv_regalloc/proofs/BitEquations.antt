@@ -6,7 +6,7 @@ use Rattle.mv_num.specs.declared.kind.Kind.{Kind}
 use Rattle.mv_ir.specs.declared.tree.Tree.{Tree, Number, Temp, Global, Function, Unary, Binary, Narrow}
 use Rattle.mv_ir.specs.declared.tree.Tree.TheOpen as tree
 use Rattle.mv_ir.specs.declared.tree.Tree.TheVariants.{rolls-Number, rolls-Temp, rolls-Global, rolls-Function, rolls-Unary, rolls-Binary, rolls-Narrow}
-use Rattle.mv_regalloc.specs.Rows.{Bits, with_reads, with_all_reads, with_temps}
+use Rattle.mv_regalloc.specs.Rows.{Bits, with_reads, with_all_reads}
 use Rattle.mv_regalloc.proofs.RowBits.{with_reads_roll}
 
 module _ (bits : Bits) where
@@ -43,12 +43,3 @@ all_append (x ∷ xs) ys bits = all_append xs ys (with_reads x bits)
 
 pub all_more : (xs : List Tree) (i : ℕ) (d : Tree) (bits : Bits) → i < length xs → with_all_reads (take (i + 1) xs) bits ≡ with_reads (get_or xs i d) (with_all_reads (take i xs) bits)
 all_more xs i d bits h = ap (λ l. with_all_reads l bits) (take_more xs i d h) ∙ all_append (take i xs) (get_or xs i d ∷ []) bits
-
--- ---- temporaries in a list
-
-pub temps_append : (ts us : List ℕ) (bits : Bits) → with_temps (ts ++ us) bits ≡ with_temps us (with_temps ts bits)
-temps_append [] us bits = refl
-temps_append (t ∷ ts) us bits = temps_append ts us (slice_set bits t true)
-
-pub temps_more : (ts : List ℕ) (i d : ℕ) (bits : Bits) → i < length ts → with_temps (take (i + 1) ts) bits ≡ slice_set (with_temps (take i ts) bits) (get_or ts i d) true
-temps_more ts i d bits h = ap (λ l. with_temps l bits) (take_more ts i d h) ∙ temps_append (take i ts) (get_or ts i d ∷ []) bits

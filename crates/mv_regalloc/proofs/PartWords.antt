@@ -118,6 +118,14 @@ keeps_two a b d h k = record { long = (let l = h.long in let m = k.long in omega
 
 -- ---- another word at a place
 
+-- the word that is there
+pub word_there : (parts : List Part) (number place w : ℕ) → w ≡ word_of parts number place → (p : ℕ) → word_of parts number p ≡ cond (eqb p place) w (word_of parts number p)
+word_there parts number place w e p = by (cases_eq p place)
+  where
+    by : (p ≡ place) ⊎ (p ≡ place → ⊥) → word_of parts number p ≡ cond (eqb p place) w (word_of parts number p)
+    by (inl k) = ap (word_of parts number) k ∙ sym e ∙ ap (λ c. cond c w (word_of parts number p)) (sym (eq-eqb p place k))
+    by (inr n) = ap (λ c. cond c w (word_of parts number p)) (sym (ne_eqb p place n))
+
 module _ (a b : List Part) (keeps : Keeps a b) (root made w : ℕ) (o : (part_at a root).odd < length a) (v : (part_at a root).even < length a) where
   pub put_here : part_at b made ≡ record { word = w; odd = (part_at a root).odd; even = (part_at a root).even } → (p : ℕ) → word_of b made p ≡ cond (eqb p 0) w (word_of a root p)
   put_here e zero = word_here b made ∙ ap (λ q. q.word) e

@@ -1,5 +1,5 @@
 -- What one temporary sees of what is live around some code.
-use Rattle.std.specs.Prelude.{ℕ, ◌≡◌, Bool, false, length}
+use Rattle.std.specs.Prelude.{ℕ, ◌≡◌, false, length}
 use Rattle.mv_ir.specs.Live.{mark_at, Around}
 use Rattle.mv_regalloc.specs.Rows.{Sets, behind, at_start}
 

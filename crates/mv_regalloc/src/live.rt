@@ -6,7 +6,7 @@ ghost use Rattle.mv_regalloc.specs.Shared.{with_live};
 ghost use Rattle.mv_regalloc.specs.Spanned.{with_params};
 
 use crate::liveness::{Liveness, Row};
-use crate::reads::own_reads;
+use crate::reads::live_own;
 use mv_ir::stm::Stm;
 use mv_num::list::List;
 use std::alloc::{AllocError, Global};
@@ -22,9 +22,8 @@ pub fn live_plain(
         liveness.new ≡ with_live liveness.old (with_all_reads (own_trees stm.now) (put_bit written false liveness.old.live))
         ) }
 {
-    let reads = own_reads(alloc, stm)?;
     liveness.remove_some(written)?;
-    liveness.insert_all(reads.as_slice())
+    live_own(stm, liveness)
 }
 
 /// The parameters are there at the start.

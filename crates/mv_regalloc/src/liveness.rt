@@ -4,13 +4,13 @@
 ghost use Rattle.std.specs.Prelude.{ℕ, ◌≡◌, ◌<◌, ◌≤◌, ◌∷◌, IfOk, OnErr, OnOk, MatchOption, false, true, [], drop, length, replicate, reverse, slice_index_or, slice_set};
 ghost use Rattle.mv_ir.specs.Live.{mark_at};
 ghost use Rattle.mv_regalloc.specs.Parts.{Keeps};
-ghost use Rattle.mv_regalloc.specs.Rows.{either_bits, put_bit, with_temps};
+ghost use Rattle.mv_regalloc.specs.Rows.{either_bits, put_bit};
 ghost use Rattle.mv_regalloc.specs.Shared.{bits_at, entered, forgotten, left, number_of, numbered, row_of, with_live, with_rows, with_saved};
 ghost use Rattle.mv_regalloc.specs.Spanned.{AreRowSpans};
 
 use crate::parts::Parts;
 use crate::table::Spans;
-use crate::words::{cleared, is_set, set};
+use crate::words::{is_set, put};
 use std::alloc::{AllocError, Global};
 use std::marker::Model;
 
@@ -93,15 +93,19 @@ fn drop_last(saved: &mut Vec<u32>)
     saved.pop();
 }
 
-// The number of a set with one temporary more.
-fn with_bit(parts: &mut Parts, number: u32, temp: u32) -> Result<u32, AllocError>
+// The number of a set with or without a temporary. It is the given one where that is so already, so sets are shared.
+fn with_bit(parts: &mut Parts, number: u32, temp: u32, bit: bool) -> Result<u32, AllocError>
     requires { number < length parts.old }
     ensures keeps { Keeps parts.old parts.new }
     ensures within { IfOk result (λ made. made < length parts.new) }
     ensures bits { IfOk result (λ made.
-        (temps : ℕ) → bits_at temps parts.new made ≡ slice_set (bits_at temps parts.old number) temp true) }
+        (temps : ℕ) → bits_at temps parts.new made ≡ slice_set (bits_at temps parts.old number) temp bit) }
 {
-    let word = set(parts.word(number, temp / 64), temp);
+    let old = parts.word(number, temp / 64);
+    let word = put(old, temp, bit);
+    if word == old {
+        return Ok(number);
+    }
     parts.with_word(number, temp / 64, word)
 }
 
@@ -114,7 +118,7 @@ fn with_some(parts: &mut Parts, number: u32, temp: Option<u32>) -> Result<u32, A
         (temps : ℕ) → bits_at temps parts.new made ≡ put_bit temp true (bits_at temps parts.old number)) }
 {
     match temp {
-        Some(temp) => with_bit(parts, number, temp),
+        Some(temp) => with_bit(parts, number, temp, true),
         None => Ok(number),
     }
 }
@@ -183,17 +187,7 @@ impl Liveness {
         ensures err { OnErr result (self.new ≡ self.old) }
     {
         let live = self.numbers.live;
-        self.numbers.live = with_bit(&mut self.parts, live, temp)?;
-        Ok(())
-    }
-
-    /// Inserts temporaries in order. Where memory lacks, the first of them may be live.
-    pub fn insert_all(&mut self, temps: &[u32]) -> Result<(), AllocError>
-        ensures { OnOk result (self.new ≡ with_live self.old (with_temps temps.now self.old.live)) }
-    {
-        for temp in temps {
-            self.insert(*temp)?;
-        }
+        self.numbers.live = with_bit(&mut self.parts, live, temp, true)?;
         Ok(())
     }
 
@@ -203,8 +197,7 @@ impl Liveness {
         ensures err { OnErr result (self.new ≡ self.old) }
     {
         let live = self.numbers.live;
-        let word = cleared(self.parts.word(live, temp / 64), temp);
-        self.numbers.live = self.parts.with_word(live, temp / 64, word)?;
+        self.numbers.live = with_bit(&mut self.parts, live, temp, false)?;
         Ok(())
     }
 

@@ -1,100 +1,87 @@
-// The temporaries that statements and trees read, as a list.
+// What trees and statements read is live before them.
 
-ghost use Rattle.std.specs.Prelude.{◌≡◌, IfOk, OnOk};
+ghost use Rattle.std.specs.Prelude.{◌≡◌, OnOk};
 ghost use Rattle.mv_ir.specs.Measures.{callee_trees};
-ghost use Rattle.mv_regalloc.specs.Rows.{Bits, own_trees, with_reads, with_all_reads, with_temps};
+ghost use Rattle.mv_regalloc.specs.Rows.{own_trees, with_reads, with_all_reads};
+ghost use Rattle.mv_regalloc.specs.Shared.{with_live};
 
+use crate::liveness::Liveness;
 use mv_ir::stm::{Callee, Stm};
 use mv_ir::tree::Tree;
-use mv_num::list::List;
-use std::alloc::{AllocError, Global};
+use std::alloc::AllocError;
 
-// Puts the temporaries that a tree reads at the end.
+// The temporaries that a tree reads are live before it.
 #[tactic(auto, using(crate::proofs::BitEquations::read_trees))]
-fn read_tree(temps: &mut List<u32>, tree: &Tree) -> Result<(), AllocError>
-    ensures { OnOk result ((bits : Bits) → with_temps temps.new bits ≡ with_reads tree.now (with_temps temps.old bits)) }
+fn live_tree(tree: &Tree, liveness: &mut Liveness) -> Result<(), AllocError>
+    ensures { OnOk result (liveness.new ≡ with_live liveness.old (with_reads tree.now liveness.old.live)) }
 {
     match tree {
         Tree::Number(_) => Ok(()),
-        Tree::Temp(t) => {
-            temps.push(*t)?;
-            Ok(())
-        }
+        Tree::Temp(t) => liveness.insert(*t),
         Tree::Global(_) => Ok(()),
         Tree::Function(_) => Ok(()),
-        Tree::Unary(_, a) => read_tree(temps, a.get()),
+        Tree::Unary(_, a) => live_tree(a.get(), liveness),
         Tree::Binary(_, a, b) => {
-            read_tree(temps, a.get())?;
-            read_tree(temps, b.get())
+            live_tree(a.get(), liveness)?;
+            live_tree(b.get(), liveness)
         }
-        Tree::Narrow(_, a) => read_tree(temps, a.get()),
+        Tree::Narrow(_, a) => live_tree(a.get(), liveness),
     }
 }
 
-// Puts the temporaries that some trees read at the end.
-fn read_trees(temps: &mut List<u32>, trees: &[Tree]) -> Result<(), AllocError>
-    ensures { OnOk result ((bits : Bits) → with_temps temps.new bits ≡ with_all_reads trees.now (with_temps temps.old bits)) }
+// The temporaries that some trees read are live before them.
+fn live_trees(trees: &[Tree], liveness: &mut Liveness) -> Result<(), AllocError>
+    ensures { OnOk result (liveness.new ≡ with_live liveness.old (with_all_reads trees.now liveness.old.live)) }
 {
     for tree in trees {
-        read_tree(temps, tree)?;
+        live_tree(tree, liveness)?;
     }
     Ok(())
 }
 
-// Puts the temporaries that the callee of a call reads at the end.
-fn read_callee(temps: &mut List<u32>, callee: &Callee) -> Result<(), AllocError>
+// The temporaries that the callee of a call reads are live before it.
+fn live_callee(callee: &Callee, liveness: &mut Liveness) -> Result<(), AllocError>
     ensures { OnOk result (
-        (bits : Bits) → with_temps temps.new bits ≡ with_all_reads (callee_trees callee.now) (with_temps temps.old bits)
+        liveness.new ≡ with_live liveness.old (with_all_reads (callee_trees callee.now) liveness.old.live)
         ) }
 {
     match callee {
         Callee::Direct(_) => Ok(()),
-        Callee::Through(t) => read_tree(temps, t),
+        Callee::Through(t) => live_tree(t, liveness),
         Callee::Switched(_) => Ok(()),
         Callee::Expanded => Ok(()),
     }
 }
 
-// Puts the temporaries that a statement's own trees read at the end.
+/// The temporaries that a statement reads are live before it, without those that only statements within it read.
 #[tactic(auto, using(crate::proofs::RowEquations::owned_stms))]
-fn read_own(temps: &mut List<u32>, stm: &Stm) -> Result<(), AllocError>
-    ensures { OnOk result (
-        (bits : Bits) → with_temps temps.new bits ≡ with_all_reads (own_trees stm.now) (with_temps temps.old bits)
-        ) }
+pub fn live_own(stm: &Stm, liveness: &mut Liveness) -> Result<(), AllocError>
+    ensures { OnOk result (liveness.new ≡ with_live liveness.old (with_all_reads (own_trees stm.now) liveness.old.live)) }
 {
     match stm {
-        Stm::Set(_, v) => read_tree(temps, v),
-        Stm::SetGlobal(_, v) => read_tree(temps, v),
+        Stm::Set(_, v) => live_tree(v, liveness),
+        Stm::SetGlobal(_, v) => live_tree(v, liveness),
         Stm::Divide(_, _, a, b) => {
-            read_tree(temps, a)?;
-            read_tree(temps, b)
+            live_tree(a, liveness)?;
+            live_tree(b, liveness)
         }
-        Stm::Check(_, i) => read_tree(temps, i),
-        Stm::Read(_, _, i) => read_tree(temps, i),
+        Stm::Check(_, i) => live_tree(i, liveness),
+        Stm::Read(_, _, i) => live_tree(i, liveness),
         Stm::Write(_, i, v) => {
-            read_tree(temps, i)?;
-            read_tree(temps, v)
+            live_tree(i, liveness)?;
+            live_tree(v, liveness)
         }
         Stm::Zero(_) => Ok(()),
-        Stm::If(t, _, _) => read_tree(temps, t),
+        Stm::If(t, _, _) => live_tree(t, liveness),
         Stm::Loop(_) => Ok(()),
         Stm::Block(_) => Ok(()),
         Stm::Break(_) => Ok(()),
         Stm::Back(_) => Ok(()),
         Stm::Call(_, f, args) => {
-            read_callee(temps, f)?;
-            read_trees(temps, args.as_slice())
+            live_callee(f, liveness)?;
+            live_trees(args.as_slice(), liveness)
         }
-        Stm::Known(_, _, args) => read_trees(temps, args.as_slice()),
-        Stm::Return(v) => read_tree(temps, v),
+        Stm::Known(_, _, args) => live_trees(args.as_slice(), liveness),
+        Stm::Return(v) => live_tree(v, liveness),
     }
-}
-
-/// The temporaries that a statement reads, without those that only statements within it read.
-pub fn own_reads(alloc: Global, stm: &Stm) -> Result<List<u32>, AllocError>
-    ensures { IfOk result (λ temps. (bits : Bits) → with_temps temps bits ≡ with_all_reads (own_trees stm.now) bits) }
-{
-    let mut temps = List::new(alloc);
-    read_own(&mut temps, stm)?;
-    Ok(temps)
 }

@@ -13,18 +13,12 @@ pub fn word_at(words: &[u64], place: usize) -> u64
     }
 }
 
-/// The word with the bit of a temporary set.
-pub fn set(word: u64, temp: u32) -> u64
-    ensures { (t : ℕ) → t / 64 ≡ temp / 64 → in_word result t ≡ cond (eqb temp t) true (in_word word t) }
+/// The word with the bit of a temporary set or cleared.
+pub fn put(word: u64, temp: u32, bit: bool) -> u64
+    ensures { (t : ℕ) → t / 64 ≡ temp / 64 → in_word result t ≡ cond (eqb temp t) bit (in_word word t) }
 {
-    word | 1 << (temp % 64)
-}
-
-/// The word with the bit of a temporary cleared.
-pub fn cleared(word: u64, temp: u32) -> u64
-    ensures { (t : ℕ) → t / 64 ≡ temp / 64 → in_word result t ≡ cond (eqb temp t) false (in_word word t) }
-{
-    word & !(1 << (temp % 64))
+    let mask = 1 << (temp % 64);
+    if bit { word | mask } else { word & !mask }
 }
 
 /// Whether the bit of a temporary is set in a word.

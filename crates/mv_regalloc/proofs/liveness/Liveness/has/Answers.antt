@@ -1,7 +1,6 @@
-use Rattle.std.proofs.Common.{◌/◌, sym, ap, ◌∙◌}
+use Rattle.std.proofs.Common.{sym, ap, ◌∙◌}
 use Rattle.mv_ir.specs.Live.{mark_at}
 use Rattle.mv_regalloc.specs.LiveBits.{in_word}
-use Rattle.mv_regalloc.specs.Parts.{word_of}
 use Rattle.mv_regalloc.specs.Shared.{bits_at, numbered, row_of}
 use Rattle.mv_regalloc.proofs.SharedSets.{bit_in, bit_out, row_at}
 use Rattle.mv_regalloc.proofs.liveness.Liveness.has.Goals as goal
