@@ -1,12 +1,11 @@
 -- What a body with arms that are reached by one jump is, as a whole.
-use Rattle.std.proofs.Common.{◌≡◌, ℕ, List, [], refl, sym, ◌∙◌, ap, subst}
+use Rattle.std.proofs.Common.{◌≡◌, ℕ, List, [], refl, sym, subst}
 use Rattle.mv_ir.specs.declared.stm.Stm.{Stm}
 use Rattle.mv_ir.specs.declared.body.Body.{Body}
 use Rattle.mv_arms.specs.Arms.{Arms}
 use Rattle.mv_arms.specs.Armed.{IsArmed}
 use Rattle.mv_arms.specs.Walking.{with_code}
 use Rattle.mv_arms.proofs.Means.{arms_mean}
-use Rattle.mv_arms.proofs.Structure.{arms_stay}
 use Rattle.mv_arms.proofs.Counts.{arms_no_greater}
 use Rattle.mv_arms.proofs.Thinning.{arms_whole, arms_have_temps}
 use Rattle.mv_arms.proofs.Targets.{arms_well_formed}
@@ -30,7 +29,3 @@ armed_is body code h = record {
 
 pub made_is : (body made : Body) (levels : List ℕ) (code : List Stm) → levels ≡ [] → Arms body.temps levels body.code code → made ≡ with_code body code → IsArmed body made
 made_is body made levels code none h e = subst (IsArmed body) (sym e) (armed_is body code (subst (λ l. Arms body.temps l body.code code) none h))
-
--- a copy
-pub copy_is : (body made : Body) (code : List Stm) → code ≡ body.code → made ≡ with_code body code → IsArmed body made
-copy_is body made code same e = subst (IsArmed body) (sym (e ∙ ap (with_code body) same)) (armed_is body body.code (arms_stay body.temps body.code))

@@ -1,16 +1,11 @@
 -- A relation holds of code and what becomes of it where it is kept by each step of that.
-use Rattle.std.proofs.Common.{◌≡◌, ℕ, zero, suc, ◌∙◌, ◌≤◌, List, [], ◌∷◌, ◌++◌, length, refl, sym, ap, subst, append_assoc, append-nil, arith}
+use Rattle.std.proofs.Common.{◌≡◌, ℕ, ◌∙◌, ◌≤◌, List, [], ◌∷◌, ◌++◌, length, refl, sym, ap, subst, append_assoc, append-nil, arith}
 use Rattle.mv_ir.specs.declared.tree.Tree.{Tree}
 use Rattle.mv_ir.specs.declared.stm.Stm.{Stm}
-use Rattle.mv_ir.specs.declared.stm.Stm.TheOpen.{Stm-F}
-use Rattle.mv_ir.specs.declared.stm.Stm.TheOpen as stm
-use Rattle.mv_ir.specs.declared.stm.Stm.TheViews.{roll-Stm}
 use Rattle.mv_ir.specs.Rolled.{number, set, choose, break, repeat, enclosed}
-use Rattle.mv_ir.proofs.Induction.{Each, StmChildren, stm_ind, stms_ind}
 use Rattle.mv_arms.specs.Arms.{level, back, passed, Steered, other, test, skips, EndsAtZero, IsArm, AreArms, Arms, Nests, none, still, leave, again, branch, turns, block, switch, all, arm}
 use Rattle.mv_arms.specs.Walking.{leaving}
 use Rattle.mv_arms.proofs.Steering.{same_right}
-use Rattle.mv_arms.proofs.Walked.{still_roll}
 
 -- A relation of code that is kept by doing nothing, by one thing after the other, by what is done to parts, by other numbers of jumps, and where an arm gives way
 -- to what becomes of its statements: the first with a jump behind the tests before it, and each other one with a block of all that was made before it.
@@ -100,41 +95,3 @@ module _ (Q : List Stm → List Stm → Type 0) (q : IsClosed Q) where
         (subst (λ y. Q y ((enclosed x ∷ b') ++ rest)) (append_assoc x (choose c a b ∷ []) rest)
         (q.both (x ++ choose c a b ∷ []) (enclosed x ∷ b') rest rest (next_of t i c a b are.0 x b' (arms_is temps _ b b' hb)) (q.itself rest)))
         (next_is temps l t places (enclosed x ∷ b') rest all_made are.1 hn)
-
--- ---- code that stays
-
--- no blocks were added
-abbrev IsFlat : List ℕ → Type 0
-IsFlat levels = (n : ℕ) → level levels n ≡ n
-
-flat_inside : (levels : List ℕ) → IsFlat levels → IsFlat (0 ∷ levels)
-flat_inside levels h zero = refl
-flat_inside levels h (suc n) = omega (arith, h n)
-
-module _ (temps : ℕ) where
-  abbrev Stays : Stm → Type 0
-  Stays s = (levels : List ℕ) → IsFlat levels → (rest rest' : List Stm) → Arms temps levels rest rest' → Arms temps levels (s ∷ rest) (s ∷ rest')
-
-  all_stay : (code : List Stm) → Each Stays code → (levels : List ℕ) → IsFlat levels → Arms temps levels code code
-  all_stay [] h levels f = none levels
-  all_stay (s ∷ code) h levels f = h.0 levels f code code (all_stay code h.1 levels f)
-
-  stays_layer : (x : Stm-F Stm) → StmChildren Stays x → Stays (roll-Stm x)
-  stays_layer (stm.Set t v) k levels f rest rest' h = still levels _ rest rest' (still_roll (stm.Set t v)) h
-  stays_layer (stm.SetGlobal g v) k levels f rest rest' h = still levels _ rest rest' (still_roll (stm.SetGlobal g v)) h
-  stays_layer (stm.Divide t o a b) k levels f rest rest' h = still levels _ rest rest' (still_roll (stm.Divide t o a b)) h
-  stays_layer (stm.Check a i) k levels f rest rest' h = still levels _ rest rest' (still_roll (stm.Check a i)) h
-  stays_layer (stm.Read t a i) k levels f rest rest' h = still levels _ rest rest' (still_roll (stm.Read t a i)) h
-  stays_layer (stm.Write a i v) k levels f rest rest' h = still levels _ rest rest' (still_roll (stm.Write a i v)) h
-  stays_layer (stm.Zero l) k levels f rest rest' h = still levels _ rest rest' (still_roll (stm.Zero l)) h
-  stays_layer (stm.If t a b) k levels f rest rest' h = branch levels t a b a b rest rest' (all_stay a k.0 levels f) (all_stay b k.1 levels f) h
-  stays_layer (stm.Loop b) k levels f rest rest' h = turns levels b b rest rest' (all_stay b k (0 ∷ levels) (flat_inside levels f)) h
-  stays_layer (stm.Block b) k levels f rest rest' h = block levels b b rest rest' (all_stay b k (0 ∷ levels) (flat_inside levels f)) h
-  stays_layer (stm.Break n) k levels f rest rest' h = subst (λ j. Arms temps levels (break n ∷ rest) (break j ∷ rest')) (f n) (leave levels n rest rest' h)
-  stays_layer (stm.Back n) k levels f rest rest' h = subst (λ j. Arms temps levels (back n ∷ rest) (back j ∷ rest')) (f n) (again levels n rest rest' h)
-  stays_layer (stm.Call u c args) k levels f rest rest' h = still levels _ rest rest' (still_roll (stm.Call u c args)) h
-  stays_layer (stm.Known u c args) k levels f rest rest' h = still levels _ rest rest' (still_roll (stm.Known u c args)) h
-  stays_layer (stm.Return v) k levels f rest rest' h = still levels _ rest rest' (still_roll (stm.Return v)) h
-
-  pub arms_stay : (code : List Stm) → Arms temps [] code code
-  arms_stay code = all_stay code (stms_ind Stays (stm_ind Stays stays_layer) code) [] (λ n. refl)

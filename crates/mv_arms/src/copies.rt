@@ -1,26 +1,13 @@
-//! Copies of code.
+//! Copies of statements.
 ghost use Rattle.std.specs.Prelude.{◌≡◌, IfOk};
 
+use crate::stop::Stop;
 use mv_fold::copies::{copy_callee, copy_tree, copy_trees};
 use mv_ir::stm::Stm;
-use mv_num::list::List;
-use std::alloc::{AllocError, Global};
+use std::alloc::Global;
 
-/// A copy of some code.
-#[cycle(copies)]
-pub fn copy_code(alloc: Global, code: &List<Stm>) -> Result<List<Stm>, AllocError>
-    ensures { IfOk result (λ copy. copy ≡ code.now) }
-{
-    let mut copy = List::new(alloc);
-    for stm in code.as_slice() {
-        copy.push(copy_stm(alloc, stm)?)?;
-    }
-    Ok(copy)
-}
-
-/// A copy of a statement.
-#[cycle(copies)]
-pub fn copy_stm(alloc: Global, stm: &Stm) -> Result<Stm, AllocError>
+/// A copy of a statement, where it has no others in it and is no jump to a loop or block.
+pub fn copy_still(alloc: Global, stm: &Stm) -> Result<Stm, Stop>
     ensures { IfOk result (λ copy. copy ≡ stm.now) }
 {
     match stm {
@@ -39,15 +26,6 @@ pub fn copy_stm(alloc: Global, stm: &Stm) -> Result<Stm, AllocError>
             Ok(Stm::Write(*a, i, v))
         }
         Stm::Zero(l) => Ok(Stm::Zero(*l)),
-        Stm::If(t, a, b) => {
-            let a = copy_code(alloc, a)?;
-            let b = copy_code(alloc, b)?;
-            Ok(Stm::If(copy_tree(alloc, t)?, a, b))
-        }
-        Stm::Loop(b) => Ok(Stm::Loop(copy_code(alloc, b)?)),
-        Stm::Block(b) => Ok(Stm::Block(copy_code(alloc, b)?)),
-        Stm::Break(n) => Ok(Stm::Break(*n)),
-        Stm::Back(n) => Ok(Stm::Back(*n)),
         Stm::Call(r, f, args) => {
             let f = copy_callee(alloc, f)?;
             let args = copy_trees(alloc, args)?;
@@ -55,5 +33,6 @@ pub fn copy_stm(alloc: Global, stm: &Stm) -> Result<Stm, AllocError>
         }
         Stm::Known(r, k, args) => Ok(Stm::Known(*r, *k, copy_trees(alloc, args)?)),
         Stm::Return(v) => Ok(Stm::Return(copy_tree(alloc, v)?)),
+        _ => Err(Stop::Unfit),
     }
 }

@@ -230,3 +230,41 @@ pub fn plan(
         _ => Ok(None),
     }
 }
+
+// ---- a look beforehand
+
+// Whether code may be a `switch` of which there is a plan, by its tests' last statement and its first arm.
+fn may_be_switch(code: &List<Stm>) -> bool {
+    let Some((Stm::Block(tests), arms)) = code.as_slice().split_first() else {
+        return false;
+    };
+    let Some((last, _)) = tests.as_slice().split_last() else {
+        return false;
+    };
+    let Some((temp, _)) = number_set(last) else {
+        return false;
+    };
+    let count = arms.len();
+    count >= 2 && count <= ARMS && place_of(temp, &arms[0]).is_some()
+}
+
+/// Whether some of the code may be a `switch` of which there is a plan.
+#[cycle(look)]
+pub fn may_have_arms(code: &List<Stm>) -> bool {
+    for stm in code.as_slice() {
+        if stm_may_have_arms(stm) {
+            return true;
+        }
+    }
+    false
+}
+
+#[cycle(look)]
+fn stm_may_have_arms(stm: &Stm) -> bool {
+    match stm {
+        Stm::If(_, a, b) => may_have_arms(a) || may_have_arms(b),
+        Stm::Loop(b) => may_have_arms(b),
+        Stm::Block(b) => may_be_switch(b) || may_have_arms(b),
+        _ => false,
+    }
+}

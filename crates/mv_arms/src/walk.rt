@@ -5,7 +5,7 @@ ghost use Rattle.mv_ir.specs.Rolled as rolled;
 ghost use Rattle.mv_arms.specs.Arms.{Arms, Nests};
 ghost use Rattle.mv_arms.specs.Walking.{Becomes, NestsCode, IsNextArm};
 
-use crate::copies::copy_stm;
+use crate::copies::copy_still;
 use crate::levels::{level, within};
 use crate::plan::{ARMS, plan};
 use crate::stop::Stop;
@@ -70,7 +70,7 @@ fn arms_stm(
             Some(m) => Ok(Stm::Back(m)),
             None => Err(Stop::Unfit),
         },
-        _ => Ok(copy_stm(alloc, stm)?),
+        _ => copy_still(alloc, stm),
     }
 }
 

@@ -16,6 +16,7 @@ use Rattle.mv_tidy.specs.Tidied.{IsTidied}
 use Rattle.mv_propagate.specs.Propagated.{IsPropagated}
 use Rattle.mv_ranges.specs.Marked.{IsMarkedBody}
 use Rattle.mv_regalloc.specs.Intervals.{IsRenamed}
+use Rattle.mv_regalloc.proofs.Whole.{few_intervals}
 use Rattle.mv_variants.specs.Bound.General.{IsGeneral}
 use Rattle.mv_variants.specs.Bound.Shorts as way
 use Rattle.mv_variants.specs.Bound.Shorts.{IsCleaned, IsFinished, IsReady, IsShortened}
@@ -48,20 +49,24 @@ plain_general shorts body plain words renamed = record {
   room = inl (omega (arith, renamed.temps));
 }
 
-pub ready_general : (shorts : Shorts) (body plain ready made : Body) → HasWords body.code → IsRenamed body plain → plain.temps + total plain.arrays ≤ slot_limit → IsReady shorts body ready →
-    IsRenamed ready made → made.temps + total made.arrays ≤ slot_limit → IsGeneral shorts body made
-ready_general shorts body plain ready made words other few is_ready renamed fits = record {
+pub ready_general : (shorts : Shorts) (body ready made : Body) → HasWords body.code → HasSmallFrame body → IsReady shorts body ready → IsRenamed ready made →
+    made.temps + total made.arrays ≤ slot_limit → IsGeneral shorts body made
+ready_general shorts body ready made words small is_ready renamed fits = record {
   words = words;
   ready = ready;
   is_ready = inl (is_ready, small);
   is_renamed = renamed;
   room = inr fits;
 }
-  where
-    small : HasSmallFrame body
-    small =
-        let sizes = ap (λ (b : Body). total b.arrays) other.changes in
-        few_fit (most_intervals body) body.arrays (omega (arith, few, other.temps, sizes))
+
+-- the frame is small enough where the body fits as it is, or renamed
+pub fits_small : (body : Body) → body.temps + total body.arrays ≤ slot_limit → HasSmallFrame body
+fits_small body fits = few_fit (most_intervals body) body.arrays (omega (arith, fits, few_intervals body))
+
+pub plain_small : (body plain : Body) → IsRenamed body plain → plain.temps + total plain.arrays ≤ slot_limit → HasSmallFrame body
+plain_small body plain renamed fits =
+    let sizes = ap (λ (b : Body). total b.arrays) renamed.changes in
+    few_fit (most_intervals body) body.arrays (omega (arith, fits, renamed.temps, sizes))
 
 -- ---- short bodies
 

@@ -63,7 +63,7 @@ pub(crate) fn merged_under(
 {
     added_rows_are_merged();
     made_bodies_are_variants();
-    let most = rename(alloc, body)?.temps;
+    let most = least_temps(alloc, body)?;
     let ready = ready(alloc, shorts, body, false)?;
     let mut with = size;
     let mut variants = Variants {
@@ -107,6 +107,20 @@ fn with_body(alloc: Global, size: Size, body: &Body) -> Result<Size, AllocError>
         Ok(code) => Ok(with_lines(size, code.items.as_slice())),
         Err(SelectError::Memory(e)) => Err(e),
         Err(SelectError::Frame { .. }) => Err(AllocError),
+    }
+}
+
+// So many temporaries the body needs at least. Where its frame is small enough in any case, 0 will do: what is made of it has as many words of arrays, so where
+// that one's frame may be too large, it has more temporaries than the body.
+fn least_temps(alloc: Global, body: &Body) -> Result<u32, AllocError>
+    requires formed { IsWellFormed body.now }
+    requires whole { IsWhole body.now }
+    ensures { IfOk result (λ most. most ≤ most_intervals body.now) }
+{
+    if fits_frame(body) {
+        Ok(0)
+    } else {
+        Ok(rename(alloc, body)?.temps)
     }
 }
 

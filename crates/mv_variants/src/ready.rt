@@ -41,11 +41,11 @@ fn finished(alloc: Global, body: &Body, is_general: bool) -> Result<Body, AllocE
     ensures { IfOk result (IsFinished body.now) }
 {
     if is_general {
-        let arms = with_arms(alloc, body)?;
-        with_promises(alloc, cleaned(alloc, &arms)?)
-    } else {
-        with_promises(alloc, cleaned(alloc, body)?)
+        if let Some(arms) = with_arms(alloc, body)? {
+            return with_promises(alloc, cleaned(alloc, &arms)?);
+        }
     }
+    with_promises(alloc, cleaned(alloc, body)?)
 }
 
 // What temporaries hold, read in their place, leaves sets that nothing reads any more, so it is tidied again.

@@ -1,5 +1,6 @@
 use Rattle.std.proofs.Common.{◌≡◌, [], ◌∷◌, ◌++◌, length, take, arith, ap, ◌∙◌}
 use Rattle.std.proofs.lemmas.List.{take_all}
+use Rattle.std.proofs.lemmas.Result.{IfOk-weaker}
 use Rattle.mv_ir.specs.declared.stm.Stm as at
 use Rattle.mv_arms.proofs.Walked.{other_becomes, walk_ends, next_arm, leads_end}
 use Rattle.mv_arms.proofs.walk.+arms.Goals as goal
@@ -16,10 +17,11 @@ arms_next-returns-in_ok-append-in-If t c =
     next_arm c.args.temps c.args.levels.now c.args.behind c.in-If.field-0 c.in-If.field-1 c.in-If.b c.in_ok-code-in-If.code c.args.inner c.push.new.self c.append.new.self c.args.arm.now
     c.in_ok-levels-in-If.levels c.in-If.is c.in_ok-levels-in-If.ensures c.in_ok-code-in-If.ensures (c.in_ok-push-in-If.ensures.ok ∙ ap (λ l. l ++ at.Block c.args.inner ∷ []) c.new-made.ensures) c.in_ok-append-in-If.ensures.ok
 
-pub arms_stm-returns-in_ok-copy_stm-in_default : goal.arms_stm-returns-in_ok-copy_stm-in_default
-arms_stm-returns-in_ok-copy_stm-in_default t c =
+pub arms_stm-returns-in_default : goal.arms_stm-returns-in_default
+arms_stm-returns-in_default t c =
     let o = c.in_default in
-    other_becomes c.args.temps c.args.levels.now c.args.stm.now c.in_ok-copy_stm-in_default.field-0 (o.not-If, o.not-Loop, o.not-Block, o.not-Break, o.not-Back) c.in_ok-copy_stm-in_default.ensures
+    IfOk-weaker c.copy_still.result _ _ (λ made e. other_becomes c.args.temps c.args.levels.now c.args.stm.now made (o.not-If, o.not-Loop, o.not-Block, o.not-Break, o.not-Back) e)
+    c.copy_still.ensures
 
 pub arms_switch-returns : goal.arms_switch-returns
 arms_switch-returns t c =
