@@ -15,7 +15,7 @@ use mv_ir::body::Body;
 use mv_isa::labelled::Labelled;
 use mv_link_data::data_words;
 use mv_linker::PartFunction;
-use mv_lower::lower_each;
+use mv_lower::lower_bodies;
 use mv_num::list::List;
 use mv_num::regions;
 use mv_parts::{
@@ -54,22 +54,16 @@ pub(crate) fn code_of(alloc: Global, program: &Program) -> Result<Coded, BuildEr
     ensures ok { IfOk result (λ c. IsCode program.now c) }
     ensures err { IfErr result (λ e. OnRefusal e (PassesLimit program.now)) }
 {
-    let lowered = lower_each(alloc, program)?;
-    let shorts = shorts_of(alloc, program, &lowered.bodies)?;
-    let generics = generics_of(alloc, program, shorts.as_slice(), &lowered.bodies)?;
+    let lowered = lower_bodies(alloc, program)?;
+    let shorts = shorts_of(alloc, program, &lowered)?;
+    let generics = generics_of(alloc, program, shorts.as_slice(), &lowered)?;
     let functions = codes_of(alloc, program, &generics)?;
     let size = size_of(program, functions.as_slice());
     test_size(program, size)?;
     let Varied {
         variants,
         attributed,
-    } = attributed_code(
-        alloc,
-        program,
-        shorts.as_slice(),
-        lowered.bodies.as_slice(),
-        size,
-    )?;
+    } = attributed_code(alloc, program, shorts.as_slice(), lowered.as_slice(), size)?;
     have_words(generics.as_slice());
     Ok(Coded {
         generics,

@@ -1,11 +1,11 @@
-// The lowering of functions and programs.
+// The lowering of functions.
 ghost use Rattle.std.specs.Prelude.{◌≡◌, ◌<◌, ◌^◌, ◌&&◌, false, IfOk, map, length, replicate};
 ghost use Rattle.mv_ast.specs.Switches.{switch_global};
 ghost use Rattle.mv_ast.specs.Flags.{is_set};
 ghost use Rattle.mv_ast.specs.Counts.{elements_of};
 ghost use Rattle.mv_lower_spec.specs.Functions.{array_sizes, lower_function_code, rooms_from, marked_from, lower_function};
 ghost use Rattle.mv_lower.specs.Statements.{seen_code};
-ghost use Rattle.mv_lower.specs.Programs.{ended, no_marks, is_named, AreMarks, HasRoom, IsSmall};
+ghost use Rattle.mv_lower.specs.Programs.{ended, no_marks, is_named, AreMarks, HasRoom};
 ghost use Rattle.mv_lower.specs.Naming.{seen_marks};
 
 use crate::code::{Code, Jumps};
@@ -206,17 +206,4 @@ pub fn lower_function(
         marked,
         switches,
     })
-}
-
-/// The bodies of a program's functions, in their order.
-pub fn lower_functions(alloc: Global, program: &Program) -> Result<List<Body>, AllocError>
-    requires { IsSmall program.now }
-    ensures { IfOk result (λ bodies. bodies ≡ map (lower_function program.now) program.now.functions) }
-{
-    let mut bodies = List::new(alloc);
-    for function in program.functions.as_slice() {
-        let body = lower_function(alloc, program, function)?;
-        bodies.push(body)?;
-    }
-    Ok(bodies)
 }

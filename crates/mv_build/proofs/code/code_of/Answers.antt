@@ -9,8 +9,8 @@ use Rattle.mv_parts.specs.Fronts.{IsSizeOf}
 use Rattle.mv_build.proofs.Limits.{frame_refused, frames_fit, functions_refused, variants_refused}
 use Rattle.mv_build.proofs.code.code_of.Goals as goal
 
-pub lower_each-requires : goal.lower_each-requires
-lower_each-requires c = small_enough c.args.program.now c.requires.formed
+pub lower_bodies-requires : goal.lower_bodies-requires
+lower_bodies-requires c = small_enough c.args.program.now c.requires.formed
 
 pub returns-in_err-functions-clause-err : goal.returns-in_err-functions-clause-err
 returns-in_err-functions-clause-err c =

@@ -6,7 +6,7 @@ use Rattle.mv_ir.specs.declared.body.Body.{Body}
 use Rattle.mv_lower_spec.specs.Functions.{lower_function}
 use Rattle.mv_lower.specs.Programs.{HasRoom}
 use Rattle.mv_lower.proofs.Bodies.{map_step}
-use Rattle.mv_lower.proofs.function.lower_functions.Goals as goal
+use Rattle.mv_lower.proofs.lower_bodies.Goals as goal
 
 pub lower_function-requires-clause-size : goal.lower_function-requires-clause-size
 lower_function-requires-clause-size c =
