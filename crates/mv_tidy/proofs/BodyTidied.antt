@@ -1,16 +1,17 @@
 -- A body with the code that tidying gives is tidied.
-use Rattle.std.proofs.Common.{◌≡◌, ℕ, List, refl, sym, subst}
+use Rattle.std.proofs.Common.{ℕ, List, refl}
 use Rattle.mv_ir.specs.declared.stm.Stm.{Stm}
 use Rattle.mv_ir.specs.declared.body.Body.{Body}
-use Rattle.mv_ir.specs.declared.body.Room.{Room}
+use Rattle.mv_ir.specs.Live.{nowhere}
 use Rattle.mv_tidy.specs.Tidying.{IsJoinedCode}
-use Rattle.mv_tidy.specs.Tidied.{IsTidiedCode, IsTidied}
+use Rattle.mv_tidy.specs.Tidied.{IsPlainJoined, IsTidiedCode, IsTidied}
 use Rattle.mv_tidy.proofs.AsGood.{IsAsGood, after}
 use Rattle.mv_tidy.proofs.Thinning.{tidied_whole, tidied_temps}
 use Rattle.mv_tidy.proofs.Measures.{tidied_no_greater, tidied_well_formed}
 use Rattle.mv_tidy.proofs.TidiedKept.{tidied_keeps}
 use Rattle.mv_tidy.proofs.PlainGood.{plain_good}
 use Rattle.mv_tidy.proofs.ChosenGood.{chosen_good}
+use Rattle.mv_tidy.proofs.ChoosingWalked.{itself}
 
 -- ---- the steps
 
@@ -31,7 +32,17 @@ steps_good b code k =
 
 -- ---- a body
 
-tidied_is_so : (b : Body) (code : List Stm) → IsTidiedCode b.temps b.code code → IsTidied b (record b { code = code })
+-- code after the first two steps is put together from itself
+pub joined_is_tidied : (temps : ℕ) (code joined : List Stm) → IsPlainJoined temps code joined → IsTidiedCode temps code joined
+joined_is_tidied temps code joined k = record {
+  plain = k.plain;
+  joined = joined;
+  is_plain = k.is_plain;
+  is_joined = k.is_joined;
+  is_chosen = itself temps (λ t. nowhere) joined;
+}
+
+pub tidied_is_so : (b : Body) (code : List Stm) → IsTidiedCode b.temps b.code code → IsTidied b (record b { code = code })
 tidied_is_so b code k =
     let good = steps_good b code k in
     record {
@@ -48,11 +59,3 @@ tidied_is_so b code k =
       marked = refl;
       switches = refl;
     }
-
-pub body_is_tidied : (b : Body) (arrays : List ℕ) (code : List Stm) (rooms : List Room) (marked switches : List ℕ) → arrays ≡ b.arrays → IsTidiedCode b.temps b.code code → rooms ≡ b.rooms → marked ≡ b.marked → switches ≡ b.switches →
-    IsTidied b (record { params = b.params; temps = b.temps; arrays = arrays; code = code; rooms = rooms; marked = marked; switches = switches })
-body_is_tidied b arrays code rooms marked switches ea k er em es =
-    let same : record b { code = code } ≡ record { params = b.params; temps = b.temps; arrays = arrays; code = code; rooms = rooms; marked = marked; switches = switches } =
-    λ i. record { params = b.params; temps = b.temps; arrays = sym ea i; code = code; rooms = sym er i; marked = sym em i; switches = sym es i }
-    in
-    subst (IsTidied b) same (tidied_is_so b code k)

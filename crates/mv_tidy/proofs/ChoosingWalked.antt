@@ -77,7 +77,7 @@ no_choice x c a b f e = from_falsity (sym f ∙ ap is_choice (sym (out-roll-Stm 
 -- ---- what becomes of a choice
 
 module _ (temps : ℕ) where
-  itself : (r : ℕ → Around) (code : List Stm) → Chosen temps r code code
+  pub itself : (r : ℕ → Around) (code : List Stm) → Chosen temps r code code
   itself r [] = chosen.none r
   itself r (s ∷ code) = chosen.put r s s code code (itself r code) (chosen.same (before r code) s)
 

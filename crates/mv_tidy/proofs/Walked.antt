@@ -1,27 +1,30 @@
 -- The walk over code gives what becomes of it.
-use Rattle.std.proofs.Common.{arith, ◌≡◌, ℕ, ◌+◌, ◌-◌, ◌<◌, false, List, [], ◌∷◌, ◌++◌, length, map, drop, get_or, reverse, Option, Result, Ok, Err, OnOk, IfOk, IfSome, true, refl, sym, ◌∙◌, ap, subst, ◌⊎◌, inl, inr}
+use Rattle.std.proofs.Common.{arith, ◌≡◌, ℕ, suc, ◌+◌, ◌-◌, ◌<◌, ◌≤◌, false, List, [], ◌∷◌, ◌++◌, length, map, get_or, reverse, append-nil, option_to_list, Option, Some, Result, Ok, Err, OnOk, IfOk, IfSome, true, refl, sym, ◌∙◌, ap, subst, ◌⊎◌, inl, inr}
 use Rattle.std.specs.Prelude.{replicate, slice_set}
-use Rattle.std.proofs.lemmas.List.{drop_all, get_or-reverse, length-append, length-reverse, reverse-append, reverse-reverse, length-replicate}
+use Rattle.std.proofs.lemmas.List.{get_or-reverse, length-append, length-reverse, reverse-append, reverse-reverse, length-replicate}
 use Rattle.std.proofs.lemmas.Option.{IfSome_then}
 use Rattle.std.proofs.lemmas.Result.{IfOk-weaker}
 use Rattle.mv_ir.specs.declared.tree.Tree.{Tree}
 use Rattle.mv_ir.specs.declared.stm.Stm.{Stm}
 use Rattle.mv_ir.specs.declared.stm.Stm as at
 use Rattle.mv_ir.specs.declared.stm.Stm.TheVariants.{rolls-If, rolls-Loop, rolls-Block}
-use Rattle.mv_ir.specs.Measures.{calls}
+use Rattle.mv_ir.specs.declared.stm.Stm.TheOpen as stm
+use Rattle.mv_ir.specs.Measures.{calls, statements, stm_size, total}
+use Rattle.mv_ir.proofs.Rolls.{size_roll}
+use Rattle.mv_ir.proofs.Keeping.{map_append}
+use Rattle.mv_ir.proofs.Joining.{total_append}
 use Rattle.mv_ir.specs.Rolled.{temp, set}
 use Rattle.mv_fold.specs.Simple.{jumps}
 use Rattle.mv_ir.specs.Live.{mark_at, Around, with_after, around_block, around_loop, live_in_order, live_at_loop, flow, nowhere}
-use Rattle.mv_regalloc.specs.Rows.{Bits, Sets, sets, sets_inside, live_before, loop_bits, stm_rows, no_sets}
+use Rattle.mv_regalloc.specs.Rows.{Bits, Sets, sets, sets_inside, live_before, loop_bits, own_trees, stm_rows, no_sets, with_all_reads}
 use Rattle.mv_regalloc.specs.Seen.{seen}
-use Rattle.mv_regalloc.specs.Shared.{LiveSets, entered, forgotten, row_of, with_live, with_saved}
-use Rattle.mv_regalloc.specs.declared.liveness.Row.TheVariants.{Saved}
-use Rattle.mv_regalloc.proofs.RowEquations.{live_loop}
+use Rattle.mv_regalloc.specs.Shared.{LiveSets, entered, forgotten, left, row_of, with_live, with_saved}
+use Rattle.mv_regalloc.specs.declared.liveness.Row.TheVariants.{Saved, Start}
+use Rattle.mv_regalloc.proofs.RowEquations.{own_if, live_if, live_loop, live_block}
 use Rattle.mv_regalloc.proofs.RowsShow.{code_shows, wide_after, wide_inside, seen_inside, seen_nowhere}
 use Rattle.mv_regalloc.proofs.BodySpans.{clear_at}
-use Rattle.mv_regalloc.proofs.Positions.{from_end}
 use Rattle.mv_tidy.specs.Tidying.{IsOne, divided, fetched, called, asked, carried, stored, written, lives, before, in_loop, in_block, Left, Becomes, none, put, one, dropped, idle, ended, same, choice, turns, block, IsJoinedCode}
-use Rattle.mv_tidy.specs.Walking.{IsGone, IsSeen, IsBehind, IsLeft, HasBecome, turning, IsOneOfLast, IsIdle, passed, IsWalked}
+use Rattle.mv_tidy.specs.Walking.{IsGone, IsSeen, IsBehind, IsLeft, HasBecome, turning, IsOneOfLast, IsIdle, passed, sides_bits, IsWalked, IsWalkedTo}
 use Rattle.mv_tidy.proofs.QuietCode.{calls_reverse}
 
 -- ---- what one temporary sees
@@ -84,22 +87,22 @@ pub on_ok_both : {T E A B C : Type 0} (r : Result T E) → (A → B → C) → O
 on_ok_both (Ok x) f a b = f a b
 on_ok_both (Err e) f a b = tt
 
-pub walk_starts : (temps : ℕ) (s now : LiveSets) → now ≡ with_saved (with_saved s s.live) s.around.none → IsWalked temps s [] [] now
+walk_starts : (temps : ℕ) (s now : LiveSets) → now ≡ with_saved (with_saved s s.live) s.around.none → IsWalked temps s [] [] now
 walk_starts temps s now e = record {
   live = s.around.none;
   is = e;
   left = λ r k. record { behind = λ t. false; same = λ t lt. k.wide.clear t; left = none r };
 }
 
-module _ (temps : ℕ) (start : LiveSets) (code kept : List Stm) (s : Stm) (now : LiveSets) (w : IsWalked temps start code kept now) where
+module _ (temps : ℕ) (start : LiveSets) (code kept : List Stm) (s : Stm) (now now' : LiveSets) (w : IsWalked temps start code kept now) where
   abbrev around : Sets
   around = sets start.around start.live
 
   -- the statement does nothing
-  pub walk_passes : IsIdle temps now.live s → IsWalked temps start (s ∷ code) kept (passed s now)
-  walk_passes k = record {
+  pub walk_passes : IsIdle temps now.live s → now' ≡ passed s now → IsWalked temps start (s ∷ code) kept now'
+  walk_passes k e = record {
     live = w.live;
-    is = ap (passed s) w.is;
+    is = e ∙ ap (passed s) w.is;
     left = λ r seen. let b = w.left r seen in record { behind = b.behind; same = b.same; left = goes r seen b };
   }
     where
@@ -113,13 +116,13 @@ module _ (temps : ℕ) (start : LiveSets) (code kept : List Stm) (s : Stm) (now 
           by (inr same_value) = subst (λ v. Left temps r (set k.temp v ∷ code) b.behind (reverse kept)) (sym same_value)
               (idle r k.temp code (reverse kept) b.behind b.left k.within)
 
-  module _ (kept' : List Stm) (now' : LiveSets) where
+  module _ (kept' : List Stm) where
     -- the statement is a jump behind which nothing calls
-    pub walk_jumps : jumps s ≡ true → calls kept ≡ 0 → kept' ≡ s ∷ [] → now' ≡ with_saved (forgotten now) (row_of (forgotten now) (Saved 0)) →
-        IsWalked temps start (s ∷ code) kept' (passed s now')
+    pub walk_jumps : jumps s ≡ true → calls kept ≡ 0 → kept' ≡ s ∷ [] → now' ≡ passed s (with_saved (forgotten now) (row_of (forgotten now) (Saved 0))) →
+        IsWalked temps start (s ∷ code) kept' now'
     walk_jumps j quiet is e = record {
       live = start.live;
-      is = ap (passed s) (e ∙ ap (λ l. with_saved (forgotten l) (row_of (forgotten l) (Saved 0))) w.is);
+      is = e ∙ ap (λ l. passed s (with_saved (forgotten l) (row_of (forgotten l) (Saved 0)))) w.is;
       left = λ r seen. record {
         behind = lives r [];
         same = λ t lt. live_seen temps around r seen [] t lt;
@@ -131,10 +134,10 @@ module _ (temps : ℕ) (start : LiveSets) (code kept : List Stm) (s : Stm) (now 
 
     -- the statement is one with the last
     pub walk_joins : (z : Stm) → IsOneOfLast temps (row_of now (Saved 0)) s kept z →
-        ((n : Stm) (rest : List Stm) → reverse kept ≡ n ∷ rest → reverse kept' ≡ z ∷ rest) → now' ≡ now → IsWalked temps start (s ∷ code) kept' (passed s now')
+        ((n : Stm) (rest : List Stm) → reverse kept ≡ n ∷ rest → reverse kept' ≡ z ∷ rest) → now' ≡ passed s now → IsWalked temps start (s ∷ code) kept' now'
     walk_joins z (n, rest, is, k) put_there e = record {
       live = w.live;
-      is = ap (passed s) (e ∙ w.is);
+      is = e ∙ ap (passed s) w.is;
       left = λ r seen. behind r seen (w.left r seen);
     }
       where
@@ -149,51 +152,58 @@ module _ (temps : ℕ) (start : LiveSets) (code kept : List Stm) (s : Stm) (now 
         }
 
     -- the statement stands
-    pub walk_goes_on : (y : Stm) → HasBecome temps now s y → kept' ≡ kept ++ y ∷ [] → now' ≡ with_saved (forgotten now) now.live →
-        IsWalked temps start (s ∷ code) kept' (passed s now')
-    walk_goes_on y h is e = record {
+    pub walk_goes_on : (y : Stm) (mid : LiveSets) → mid ≡ with_saved (forgotten now) now.live → HasBecome temps mid s y → kept' ≡ kept ++ y ∷ [] →
+        now' ≡ passed s mid → IsWalked temps start (s ∷ code) kept' now'
+    walk_goes_on y mid aside becomes is e = record {
       live = now.live;
-      is = ap (passed s) (e ∙ ap (λ l. with_saved (forgotten l) now.live) w.is);
+      is = e ∙ ap (passed s) (aside ∙ ap (λ l. with_saved (forgotten l) now.live) w.is);
       left = λ r seen. record {
         behind = lives r code;
         same = λ t lt. ap (λ l. mark_at l.live t) w.is ∙ live_seen temps around r seen code t lt;
         left =
             let b = w.left r seen in
             let here = seen_before temps around r seen code in
-            let becomes = h (before r code) (subst (λ l. IsSeen temps (sets l.around l.live) (before r code)) (sym w.is) here) in
+            let so = becomes (before r code) (subst (λ l. IsSeen temps (sets l.around l.live) (before r code))
+            (sym (aside ∙ ap (λ l. with_saved (forgotten l) now.live) w.is)) here)
+            in
             subst (Left temps r (s ∷ code) (lives r code)) (sym (ap reverse is ∙ reverse-append kept (y ∷ [])))
-            (put r s y code (reverse kept) b.behind b.left becomes);
+            (put r s y code (reverse kept) b.behind b.left so);
       };
     }
 
--- one statement further towards the start of a list
-pub walk_next : (temps : ℕ) (start : LiveSets) (items kept kept' : List Stm) (done : ℕ) (s : Stm) (now behind now' : LiveSets) → done < length items →
-    s ≡ get_or items (length items - 1 - done) s → IsWalked temps start (drop (length items - done) items) kept now →
-    ((from : LiveSets) (code : List Stm) → IsWalked temps from code kept now → IsWalked temps from (s ∷ code) kept' (passed s behind)) →
-    now' ≡ passed s behind →
-    IsWalked temps start (drop (length items - (done + 1)) items) kept' now'
-walk_next temps start items kept kept' done s now behind now' lt is w h e =
-    subst (λ c. IsWalked temps start c kept' now') (sym (from_end items done s lt is))
-    (subst (IsWalked temps start (s ∷ drop (length items - done) items) kept') (sym e) (h start (drop (length items - done) items) w))
+-- at the start of the walk over some code all of it is left
+pub walk_begins : (temps : ℕ) (s now : LiveSets) (code left kept : List Stm) → left ≡ code → kept ≡ [] →
+    now ≡ with_saved (with_saved s s.live) s.around.none → IsWalkedTo temps s code left kept now
+walk_begins temps s now code left kept all none_kept e =
+    ([], sym all ∙ sym (append-nil left), subst (λ k. IsWalked temps s [] k now) (sym none_kept) (walk_starts temps s now e))
 
-pub walk_begins : (temps : ℕ) (s now : LiveSets) (items kept : List Stm) → kept ≡ [] → now ≡ with_saved (with_saved s s.live) s.around.none →
-    IsWalked temps s (drop (length items - 0) items) kept now
-walk_begins temps s now items kept none_kept e =
-    let whole : length items - 0 ≡ length items = omega arith in
-    subst (λ c. IsWalked temps s c kept now) (sym (ap (λ k. drop k items) whole ∙ drop_all (length items) items (omega arith)))
-    (subst (λ k. IsWalked temps s [] k now) (sym none_kept) (walk_starts temps s now e))
+pub walk_ends : (temps : ℕ) (s now : LiveSets) (code left kept result : List Stm) → left ≡ [] → IsWalkedTo temps s code left kept now → result ≡ reverse kept →
+    IsLeft temps s code result
+walk_ends temps s now code left kept result none_left w e r seen =
+    let whole = subst (λ c. IsWalked temps s c kept now) (sym (w.1 ∙ ap (λ l. l ++ w.0) none_left)) w.2 in
+    let b = whole.left r seen in
+    (b.behind, subst (Left temps r code b.behind) (sym e) b.left)
 
--- none of it is left
-module _ (temps : ℕ) (s : LiveSets) (items kept : List Stm) (done : ℕ) (now : LiveSets) (all : done ≡ length items)
-    (w : IsWalked temps s (drop (length items - done) items) kept now) where
-  walk_whole : IsWalked temps s items kept now
-  walk_whole = let none_left : length items - done ≡ 0 = omega (arith, all) in subst (λ k. IsWalked temps s (drop k items) kept now) none_left w
+-- ---- how many statements there are
 
-  pub walk_ends : (result : List Stm) → result ≡ reverse kept → IsLeft temps s items result
-  walk_ends result e r seen = let b = walk_whole.left r seen in (b.behind, subst (Left temps r items b.behind) (sym e) b.left)
+statements_append : (xs ys : List Stm) → statements (xs ++ ys) ≡ statements xs + statements ys
+statements_append xs ys = ap total (map_append stm_size xs ys) ∙ total_append (map stm_size xs) (map stm_size ys)
 
-  pub walk_live : (now' : LiveSets) → now' ≡ forgotten (forgotten now) → now' ≡ with_live s (live_before (map stm_rows items) (sets s.around s.live))
-  walk_live now' e = e ∙ ap (λ l. forgotten (forgotten l)) walk_whole.is
+-- the last of those that are left of some code has no more than the code
+pub fewer_in_last : (code left left' rest : List Stm) (popped : Option Stm) (s : Stm) → code ≡ left ++ rest → left ≡ left' ++ option_to_list popped → popped ≡ Some s →
+    stm_size s ≤ statements code
+fewer_in_last code left left' rest popped s ec el ep =
+    let last : left ≡ left' ++ s ∷ [] = el ∙ ap (λ o. left' ++ option_to_list o) ep in
+    omega (arith, ap statements (ec ∙ ap (λ l. l ++ rest) last), statements_append (left' ++ s ∷ []) rest, statements_append left' (s ∷ []))
+
+pub fewer_in_if : (s : Stm) (t : Tree) (a b : List Stm) → s ≡ at.If t a b → stm_size s ≡ suc (statements a + statements b)
+fewer_in_if s t a b e = ap stm_size (e ∙ sym (rolls-If t a b)) ∙ size_roll (stm.If t a b)
+
+pub fewer_in_loop : (s : Stm) (b : List Stm) → s ≡ at.Loop b → stm_size s ≡ suc (statements b)
+fewer_in_loop s b e = ap stm_size (e ∙ sym (rolls-Loop b)) ∙ size_roll (stm.Loop b)
+
+pub fewer_in_block : (s : Stm) (b : List Stm) → s ≡ at.Block b → stm_size s ≡ suc (statements b)
+fewer_in_block s b e = ap stm_size (e ∙ sym (rolls-Block b)) ∙ size_roll (stm.Block b)
 
 -- ---- what becomes of a statement
 
@@ -218,16 +228,46 @@ module _ (temps : ℕ) (s : LiveSets) where
       let l = h (in_block r) (seen_in_block temps (sets s.around s.live) r seen) in
       subst (λ x. Becomes temps r x (at.Block b')) (rolls-Block b) (subst (Becomes temps r _) (rolls-Block b') (block r b b' l.0 l.1))
 
-pub ruleset becoming = (leaf_becomes, if_becomes, loop_becomes, block_becomes)
+pub ruleset becoming = (leaf_becomes, loop_becomes, block_becomes)
+
+-- ---- from behind a statement to its start
+
+pub choice_live : (t t' : Tree) (a a' b b' : List Stm) (s sides now : LiveSets) → t' ≡ t → sides ≡ with_live s (sides_bits a b s) →
+    now ≡ with_live sides (with_all_reads (own_trees (at.If t' a' b')) sides.live) → now ≡ passed (at.If t a b) s
+choice_live t t' a a' b b' s sides now et es e =
+    let own = own_if t' a' b' ∙ ap (λ x. x ∷ []) et ∙ sym (own_if t a b) in
+    e ∙ ap (λ x. with_live sides (with_all_reads x sides.live)) own ∙ ap (λ l. with_live l (with_all_reads (own_trees (at.If t a b)) l.live)) es ∙
+    ap (with_live s) (sym (live_if (sets s.around s.live) t a b))
+
+pub loop_live : (b : List Stm) (s within behind out now : LiveSets) → within ≡ turning s b →
+    behind ≡ with_live within (live_before (map stm_rows b) (sets within.around within.live)) → out ≡ with_live behind (row_of behind (Start 0)) →
+    now ≡ left out → now ≡ passed (at.Loop b) s
+loop_live b s within behind out now ew eb eo e =
+    e ∙ ap left (eo ∙ ap (λ l. with_live l (row_of l (Start 0))) (eb ∙ ap (λ l. with_live l (live_before (map stm_rows b) (sets l.around l.live))) ew)) ∙
+    ap (with_live s) (sym (live_loop (sets s.around s.live) b))
+
+pub block_live : (b : List Stm) (s within behind now : LiveSets) → within ≡ entered s s.live s.around.none →
+    behind ≡ with_live within (live_before (map stm_rows b) (sets within.around within.live)) → now ≡ left behind → now ≡ passed (at.Block b) s
+block_live b s within behind now ew eb e =
+    e ∙ ap left (eb ∙ ap (λ l. with_live l (live_before (map stm_rows b) (sets l.around l.live))) ew) ∙
+    ap (with_live s) (sym (live_block (sets s.around s.live) b))
 
 -- what is live at the start of a loop is known before the loop is entered
-pub loop_left : (temps : ℕ) (s put_aside behind within : LiveSets) (b result : List Stm) → put_aside ≡ with_saved s s.live →
+pub loop_turned : (s put_aside behind within now : LiveSets) (b : List Stm) → put_aside ≡ with_saved s s.live →
     behind ≡ with_live put_aside ((stm_rows (at.Loop b)).live (sets put_aside.around put_aside.live)) →
-    within ≡ entered behind (row_of behind (Saved 0)) behind.live → IsLeft temps within b result → IsLeft temps (turning s b) b result
-loop_left temps s put_aside behind within b result ep eb ew =
-    subst (λ l. IsLeft temps l b result)
-    (ew ∙ ap (λ l. entered l (row_of l (Saved 0)) l.live) (eb ∙ ap (λ l. with_live l ((stm_rows (at.Loop b)).live (sets l.around l.live))) ep) ∙
-    ap (λ start. entered (with_live (with_saved s s.live) start) s.live start) (live_loop (sets s.around s.live) b))
+    within ≡ entered behind (row_of behind (Saved 0)) behind.live → now ≡ forgotten within → now ≡ turning s b
+loop_turned s put_aside behind within now b ep eb ew e =
+    e ∙ ap forgotten (ew ∙ ap (λ l. entered l (row_of l (Saved 0)) l.live) (eb ∙ ap (λ l. with_live l ((stm_rows (at.Loop b)).live (sets l.around l.live))) ep)) ∙
+    ap (λ start. with_live (entered s s.live start) start) (live_loop (sets s.around s.live) b)
+
+-- the first side of a choice is walked from behind the choice, as the second was before it
+pub first_left : (temps : ℕ) (a b made : List Stm) (s l1 l2 l3 l4 : LiveSets) → l1 ≡ with_saved s s.live →
+    l2 ≡ with_live l1 (live_before (map stm_rows b) (sets l1.around l1.live)) → l3 ≡ with_saved l2 l2.live → l4 ≡ with_live l3 (row_of l3 (Saved 1)) →
+    IsLeft temps l4 a made → IsLeft temps s a made
+first_left temps a b made s l1 l2 l3 l4 e1 e2 e3 e4 =
+    subst (λ l. IsLeft temps l a made)
+    (e4 ∙ ap (λ l. with_live l (row_of l (Saved 1)))
+    (e3 ∙ ap (λ l. with_saved l l.live) (e2 ∙ ap (λ l. with_live l (live_before (map stm_rows b) (sets l.around l.live))) e1)))
 
 -- ---- a body
 

@@ -10,6 +10,12 @@ use Rattle.mv_tidy.specs.Plain.{PlainCode}
 use Rattle.mv_tidy.specs.Tidying.{IsJoinedCode}
 use Rattle.mv_tidy.specs.Choosing.{Chosen}
 
+-- the code of a body with so many temporaries, with plainer trees, then with statements joined
+pub record IsPlainJoined (temps : ℕ) (code joined : List Stm) : Type 0 where
+  pub plain : List Stm
+  pub is_plain : PlainCode code plain
+  pub is_joined : IsJoinedCode temps plain joined
+
 -- the code of a body with so many temporaries, with plainer trees, then with statements joined, then with choices put together
 pub record IsTidiedCode (temps : ℕ) (code result : List Stm) : Type 0 where
   pub plain : List Stm

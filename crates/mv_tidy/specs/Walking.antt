@@ -1,10 +1,10 @@
 -- Where a walk from the end of some code to its start has come to.
-use Rattle.std.specs.Prelude.{ℕ, ◌≡◌, ◌<◌, ◌⊎◌, Bool, false, List, ◌∷◌, map, reverse}
+use Rattle.std.specs.Prelude.{ℕ, ◌≡◌, ◌<◌, ◌⊎◌, Bool, false, List, ◌∷◌, ◌++◌, map, reverse}
 use Rattle.mv_ir.specs.declared.tree.Tree.{Tree}
 use Rattle.mv_ir.specs.declared.stm.Stm.{Stm}
 use Rattle.mv_ir.specs.Live.{mark_at, Around}
 use Rattle.mv_ir.specs.Rolled.{temp as temp_of, set}
-use Rattle.mv_regalloc.specs.Rows.{Bits, Sets, live_before, loop_bits, sets, stm_rows}
+use Rattle.mv_regalloc.specs.Rows.{Bits, Sets, either_bits, live_before, loop_bits, sets, stm_rows}
 use Rattle.mv_regalloc.specs.Seen.{seen, Wide}
 use Rattle.mv_regalloc.specs.Shared.{LiveSets, entered, with_live}
 use Rattle.mv_tidy.specs.Tidying.{IsOne, Left, Becomes}
@@ -50,9 +50,17 @@ pub record IsIdle (temps : ℕ) (live : Bits) (s : Stm) : Type 0 where
 abbrev pub passed : Stm → LiveSets → LiveSets
 passed s l = with_live l ((stm_rows s).live (sets l.around l.live))
 
+-- what is live where either side of a choice begins
+abbrev pub sides_bits : List Stm → List Stm → LiveSets → Bits
+sides_bits a b l = let r = sets l.around l.live in either_bits (live_before (map stm_rows a) r) (live_before (map stm_rows b) r)
+
 -- The walk has come from a place to the start of some code. What has become of that was kept with the last one first. What is live behind the first was put
 -- aside last, and before it what is live behind the code.
 pub record IsWalked (temps : ℕ) (start : LiveSets) (code kept : List Stm) (now : LiveSets) : Type 0 where
   pub live : Bits
   pub is : now ≡ record start { live = live_before (map stm_rows code) (sets start.around start.live); saved = live ∷ start.live ∷ start.saved }
   pub left : (r : ℕ → Around) → IsSeen temps (sets start.around start.live) r → IsBehind temps r live code (reverse kept)
+
+-- The walk over some code has come to where these statements are left.
+abbrev pub IsWalkedTo : ℕ → LiveSets → List Stm → List Stm → List Stm → LiveSets → Type 0
+IsWalkedTo temps start code left kept now = (rest : List Stm) × (code ≡ left ++ rest) × IsWalked temps start rest kept now

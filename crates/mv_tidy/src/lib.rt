@@ -8,6 +8,7 @@
 //!      statement only asks whether it is one. A set of a temporary goes that nothing reads, or that gives it what it has, and so does what stands behind a
 //!      jump, unless it calls (`specs/Tidying.antt`).
 //!   3. Two choices as one, where both sides of the first end by setting what alone the second asks for, one of them to a number (`specs/Choosing.antt`).
+//! - `join`: the same after the first two steps alone, with no choices put together.
 //! - A whole body stays whole, and a well-formed one well formed. It reads no global scalar and no global array that the given one doesn't read. Its
 //!   greatest tree depth, statements, tree nodes and calls are at most those of the given one. `params`, `temps`, `arrays`, `rooms`, `marked` and `switches`
 //!   are the same.
@@ -15,9 +16,8 @@
 //!   tidies a body compares (`mv_variants`).
 #![tactic(auto)]
 
-ghost use Rattle.std.specs.Prelude.{IfOk};
-ghost use Rattle.mv_tidy.specs.Tidied.{IsTidied, IsTidiedCode};
-ghost use Rattle.mv_tidy.specs.Tidying.{IsJoinedCode};
+ghost use Rattle.std.specs.Prelude.{◌≡◌, IfOk};
+ghost use Rattle.mv_tidy.specs.Tidied.{IsPlainJoined, IsTidied, IsTidiedCode};
 
 mod attach;
 mod choices;
@@ -40,30 +40,46 @@ use std::alloc::{AllocError, Global};
 pub fn tidy(alloc: Global, body: &Body) -> Result<Body, AllocError>
     ensures { IfOk result (λ tidied. IsTidied body.now tidied) }
 {
-    Ok(Body {
-        params: body.params,
-        temps: body.temps,
-        arrays: body.arrays.copied(alloc)?,
-        code: tidied(alloc, body.temps, &body.code)?,
-        rooms: body.rooms.copied(alloc)?,
-        marked: body.marked.copied(alloc)?,
-        switches: body.switches.copied(alloc)?,
-    })
+    let code = tidied(alloc, body.temps, &body.code)?;
+    with_code(alloc, body, code)
+}
+
+/// The body after the first two of the three steps alone: it is what is done first where `tidy` follows after another step.
+pub fn join(alloc: Global, body: &Body) -> Result<Body, AllocError>
+    ensures { IfOk result (λ joined. IsTidied body.now joined) }
+{
+    let code = plain_joined(alloc, body.temps, &body.code)?;
+    with_code(alloc, body, code)
 }
 
 // The three steps.
 fn tidied(alloc: Global, temps: u32, code: &List<Stm>) -> Result<List<Stm>, AllocError>
     ensures { IfOk result (IsTidiedCode temps code.now) }
 {
-    let plain = plain_code(alloc, code)?;
-    let joined = in_one(alloc, temps, &plain)?;
+    let joined = plain_joined(alloc, temps, code)?;
     choose(alloc, temps, &joined)
 }
 
-// Statements that hand a value on in one with those that take it.
-fn in_one(alloc: Global, temps: u32, code: &List<Stm>) -> Result<List<Stm>, AllocError>
-    ensures { IfOk result (λ left. IsJoinedCode temps code.now left) }
+// The first two steps.
+fn plain_joined(alloc: Global, temps: u32, code: &List<Stm>) -> Result<List<Stm>, AllocError>
+    ensures { IfOk result (IsPlainJoined temps code.now) }
 {
     let mut liveness = Liveness::new(alloc, temps as usize)?;
-    tidy_code(alloc, temps, code, &mut liveness)
+    let plain = plain_code(alloc, code)?;
+    tidy_code(alloc, temps, plain, &mut liveness)
+}
+
+// The body with other code.
+fn with_code(alloc: Global, body: &Body, code: List<Stm>) -> Result<Body, AllocError>
+    ensures { IfOk result (λ made. made ≡ record body.now { code = code }) }
+{
+    Ok(Body {
+        params: body.params,
+        temps: body.temps,
+        arrays: body.arrays.copied(alloc)?,
+        code,
+        rooms: body.rooms.copied(alloc)?,
+        marked: body.marked.copied(alloc)?,
+        switches: body.switches.copied(alloc)?,
+    })
 }

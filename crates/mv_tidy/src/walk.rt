@@ -5,16 +5,17 @@ ghost use Rattle.mv_ir.specs.Measures.{calls};
 ghost use Rattle.mv_regalloc.specs.Rows.{live_before, sets, stm_rows};
 ghost use Rattle.mv_regalloc.specs.declared.liveness.Row.TheVariants.{Saved};
 ghost use Rattle.mv_regalloc.specs.Shared.{LiveSets, entered, forgotten, row_of, with_live, with_saved};
-ghost use Rattle.mv_tidy.specs.Walking.{IsIdle, IsOneOfLast, IsLeft, IsWalked, HasBecome, passed, turning};
+ghost use Rattle.mv_tidy.specs.Walking.{IsIdle, IsOneOfLast, IsLeft, IsWalked, HasBecome, passed, sides_bits, turning};
 
 use crate::one::as_one;
 use crate::quiet::calls_nothing;
 use crate::trees::is_temp;
-use mv_fold::copies::{copy_callee, copy_tree, copy_trees};
 use mv_fold::simple::jumps;
 use mv_ir::stm::Stm;
+use mv_ir::tree::Tree;
 use mv_num::list::List;
-use mv_regalloc::live::{live_loop, live_stm};
+use mv_num::results::both;
+use mv_regalloc::live::{live_loop, live_plain, live_stm};
 use mv_regalloc::liveness::{Liveness, Row};
 use std::alloc::{AllocError, Global};
 use std::mem;
@@ -62,36 +63,35 @@ fn is_idle(temps: u32, stm: &Stm, liveness: &Liveness) -> bool
     }
 }
 
-// A copy of a jump.
-fn copy_jump(alloc: Global, stm: &Stm) -> Result<Option<Stm>, AllocError>
-    ensures { IfOk result (λ copy. IfSome copy (λ s. s ≡ stm.now)) }
-{
-    match stm {
-        Stm::Break(n) => Ok(Some(Stm::Break(*n))),
-        Stm::Back(n) => Ok(Some(Stm::Back(*n))),
-        Stm::Return(v) => Ok(Some(Stm::Return(copy_tree(alloc, v)?))),
-        _ => Ok(None),
-    }
-}
-
-// A jump behind which what was kept calls nothing. Whether it does is asked until it does: what calls stays in the list.
-fn ending(
-    alloc: Global,
-    stm: &Stm,
-    kept: &[Stm],
-    calling: &mut bool,
-) -> Result<Option<Stm>, AllocError>
-    ensures { IfOk result (λ jump. IfSome jump (λ s. (s ≡ stm.now) × ((jumps stm.now ≡ true) × (calls kept.now ≡ 0)))) }
+// Whether a statement is a jump behind which what was kept calls nothing. That is asked until something there calls: what calls stays in the list.
+fn ends(stm: &Stm, kept: &[Stm], calling: &mut bool) -> bool
+    ensures { result ≡ true → (jumps stm.now ≡ true) × (calls kept.now ≡ 0) }
 {
     if *calling || !jumps(stm) {
-        return Ok(None);
+        return false;
     }
-    if calls_nothing(kept) {
-        copy_jump(alloc, stm)
-    } else {
-        *calling = true;
-        Ok(None)
-    }
+    let quiet = calls_nothing(kept);
+    *calling = !quiet;
+    quiet
+}
+
+// The same statement, and from what is live behind it to what is live before it.
+fn pass(alloc: Global, stm: Stm, liveness: &mut Liveness) -> Result<Stm, AllocError>
+    ensures same { IfOk result (λ same. same ≡ stm) }
+    ensures live { IfOk result (λ same. liveness.new ≡ passed stm liveness.old) }
+{
+    let step = live_stm(alloc, &stm, liveness);
+    let (stm, ()) = both(stm, step)?;
+    Ok(stm)
+}
+
+// Drops a statement, and from what is live behind it to what is live before it.
+fn leave_out(alloc: Global, stm: Stm, liveness: &mut Liveness) -> Result<(), AllocError>
+    ensures { OnOk result (liveness.new ≡ passed stm liveness.old) }
+{
+    let step = live_stm(alloc, &stm, liveness);
+    drop(stm);
+    step
 }
 
 // A jump in place of all that was kept. What is live behind it is what is live behind the code.
@@ -102,12 +102,21 @@ fn end(
     liveness: &mut Liveness,
 ) -> Result<(), AllocError>
     ensures kept { OnOk result (kept.new ≡ jump ∷ []) }
-    ensures live { OnOk result (liveness.new ≡ with_saved (forgotten liveness.old) (row_of (forgotten liveness.old) (Saved 0))) }
+    ensures live { OnOk result (liveness.new ≡ passed jump (with_saved (forgotten liveness.old) (row_of (forgotten liveness.old) (Saved 0)))) }
 {
-    drop(mem::replace(kept, List::new(alloc)));
-    kept.push(jump)?;
     liveness.forget();
-    liveness.save(Row::Saved(0))
+    let (jump, ()) = both(jump, liveness.save(Row::Saved(0)))?;
+    let jump = pass(alloc, jump, liveness)?;
+    drop(mem::replace(kept, List::new(alloc)));
+    Ok(kept.push(jump)?)
+}
+
+// Puts aside what is live behind some code and, since nothing was kept yet, an empty set for what is live behind that.
+fn start(liveness: &mut Liveness) -> Result<(), AllocError>
+    ensures { OnOk result (liveness.new ≡ with_saved (with_saved liveness.old liveness.old.live) liveness.old.around.none) }
+{
+    liveness.save(Row::Live)?;
+    liveness.save(Row::Empty)
 }
 
 /// The code with statements joined to their neighbours and without those that do nothing, and from what is live behind it to what is live before it.
@@ -115,23 +124,20 @@ fn end(
 pub fn tidy_code(
     alloc: Global,
     temps: u32,
-    code: &List<Stm>,
+    code: List<Stm>,
     liveness: &mut Liveness,
 ) -> Result<List<Stm>, AllocError>
     ensures live { IfOk result (λ left.
-        liveness.new ≡ with_live liveness.old (live_before (map stm_rows code.now) (sets liveness.old.around liveness.old.live))
+        liveness.new ≡ with_live liveness.old (live_before (map stm_rows code) (sets liveness.old.around liveness.old.live))
         ) }
-    ensures left { IfOk result (IsLeft temps liveness.old code.now) }
+    ensures left { IfOk result (IsLeft temps liveness.old code) }
 {
-    liveness.save(Row::Live)?;
-    liveness.save(Row::Empty)?;
-    let stms = code.as_slice();
+    let (code, ()) = both(code, start(liveness))?;
+    let mut stms = code.into_vec();
     let mut kept = List::new(alloc);
     let mut calling = false;
-    for done in 0..stms.len() {
-        let stm = &stms[stms.len() - 1 - done];
+    while let Some(stm) = stms.pop() {
         tidy_next(alloc, temps, stm, &mut kept, &mut calling, liveness)?;
-        live_stm(alloc, stm, liveness)?;
     }
     liveness.forget();
     liveness.forget();
@@ -140,28 +146,27 @@ pub fn tidy_code(
     Ok(List::from_vec(left))
 }
 
-// The next statement towards the start. What is live behind it is live still.
+// The next statement towards the start.
 #[cycle(tidy)]
 fn tidy_next(
     alloc: Global,
     temps: u32,
-    stm: &Stm,
+    stm: Stm,
     kept: &mut List<Stm>,
     calling: &mut bool,
     liveness: &mut Liveness,
 ) -> Result<(), AllocError>
     ensures { OnOk result (
-        (start : LiveSets) (code : List Stm) → IsWalked temps start code kept.old liveness.old →
-        IsWalked temps start (stm.now ∷ code) kept.new (passed stm.now liveness.new)
+        (start : LiveSets) (code : List Stm) → IsWalked temps start code kept.old liveness.old → IsWalked temps start (stm ∷ code) kept.new liveness.new
         ) }
 {
-    if is_idle(temps, stm, liveness) {
-        return Ok(());
+    if is_idle(temps, &stm, liveness) {
+        return leave_out(alloc, stm, liveness);
     }
-    match ending(alloc, stm, kept.as_slice(), calling)? {
-        Some(jump) => end(alloc, jump, kept, liveness),
-        None => keep(alloc, temps, stm, kept, liveness),
+    if ends(&stm, kept.as_slice(), calling) {
+        return end(alloc, stm, kept, liveness);
     }
+    keep(alloc, temps, stm, kept, liveness)
 }
 
 // A statement that stands, or is one with the last one.
@@ -169,92 +174,112 @@ fn tidy_next(
 fn keep(
     alloc: Global,
     temps: u32,
-    stm: &Stm,
+    stm: Stm,
     kept: &mut List<Stm>,
     liveness: &mut Liveness,
 ) -> Result<(), AllocError>
     ensures { OnOk result (
-        (start : LiveSets) (code : List Stm) → IsWalked temps start code kept.old liveness.old →
-        IsWalked temps start (stm.now ∷ code) kept.new (passed stm.now liveness.new)
+        (start : LiveSets) (code : List Stm) → IsWalked temps start code kept.old liveness.old → IsWalked temps start (stm ∷ code) kept.new liveness.new
         ) }
 {
-    match one_of_last(alloc, temps, stm, kept.as_slice(), liveness)? {
+    let one = one_of_last(alloc, temps, &stm, kept.as_slice(), liveness);
+    let (stm, one) = both(stm, one)?;
+    match one {
         Some(one) => {
             replace_last(kept, one);
-            Ok(())
+            leave_out(alloc, stm, liveness)
         }
-        None => {
-            let becomes = tidy_stm(alloc, temps, stm, liveness)?;
-            kept.push(becomes)?;
-            liveness.forget();
-            liveness.save(Row::Live)
-        }
+        None => put(alloc, temps, stm, kept, liveness),
     }
 }
 
-// What becomes of a statement. What is live behind it is live again.
+// A statement that stands. What is live behind it is put aside.
+#[cycle(tidy)]
+fn put(
+    alloc: Global,
+    temps: u32,
+    stm: Stm,
+    kept: &mut List<Stm>,
+    liveness: &mut Liveness,
+) -> Result<(), AllocError>
+    ensures { OnOk result (
+        (start : LiveSets) (code : List Stm) → IsWalked temps start code kept.old liveness.old → IsWalked temps start (stm ∷ code) kept.new liveness.new
+        ) }
+{
+    liveness.forget();
+    let (stm, ()) = both(stm, liveness.save(Row::Live))?;
+    let becomes = tidy_stm(alloc, temps, stm, liveness)?;
+    Ok(kept.push(becomes)?)
+}
+
+// What becomes of a statement, and from what is live behind it to what is live before it.
 #[cycle(tidy)]
 #[tactic(auto, using(crate::proofs::Walked::becoming))]
-fn tidy_stm(
-    alloc: Global,
-    temps: u32,
-    stm: &Stm,
-    liveness: &mut Liveness,
-) -> Result<Stm, AllocError>
-    ensures same { IfOk result (λ made. liveness.new ≡ liveness.old) }
-    ensures made { IfOk result (HasBecome temps liveness.old stm.now) }
+fn tidy_stm(alloc: Global, temps: u32, stm: Stm, liveness: &mut Liveness) -> Result<Stm, AllocError>
+    ensures live { IfOk result (λ made. liveness.new ≡ passed stm liveness.old) }
+    ensures made { IfOk result (HasBecome temps liveness.old stm) }
 {
     match stm {
-        Stm::Set(t, v) => Ok(Stm::Set(*t, copy_tree(alloc, v)?)),
-        Stm::SetGlobal(g, v) => Ok(Stm::SetGlobal(*g, copy_tree(alloc, v)?)),
-        Stm::Divide(t, o, a, b) => {
-            let a = copy_tree(alloc, a)?;
-            let b = copy_tree(alloc, b)?;
-            Ok(Stm::Divide(*t, *o, a, b))
-        }
-        Stm::Check(a, i) => Ok(Stm::Check(*a, copy_tree(alloc, i)?)),
-        Stm::Read(t, a, i) => Ok(Stm::Read(*t, *a, copy_tree(alloc, i)?)),
-        Stm::Write(a, i, v) => {
-            let i = copy_tree(alloc, i)?;
-            let v = copy_tree(alloc, v)?;
-            Ok(Stm::Write(*a, i, v))
-        }
-        Stm::Zero(l) => Ok(Stm::Zero(*l)),
-        Stm::If(t, a, b) => {
-            let a = tidy_side(alloc, temps, a, liveness)?;
-            let b = tidy_side(alloc, temps, b, liveness)?;
-            Ok(Stm::If(copy_tree(alloc, t)?, a, b))
-        }
-        Stm::Loop(b) => Ok(Stm::Loop(tidy_loop(alloc, temps, b, liveness)?)),
-        Stm::Block(b) => Ok(Stm::Block(tidy_block(alloc, temps, b, liveness)?)),
-        Stm::Break(n) => Ok(Stm::Break(*n)),
-        Stm::Back(n) => Ok(Stm::Back(*n)),
-        Stm::Call(r, f, args) => {
-            let f = copy_callee(alloc, f)?;
-            let args = copy_trees(alloc, args)?;
-            Ok(Stm::Call(*r, f, args))
-        }
-        Stm::Known(r, k, args) => Ok(Stm::Known(*r, *k, copy_trees(alloc, args)?)),
-        Stm::Return(v) => Ok(Stm::Return(copy_tree(alloc, v)?)),
+        Stm::If(test, a, b) => tidy_choice(alloc, temps, test, a, b, liveness),
+        Stm::Loop(code) => Ok(Stm::Loop(tidy_loop(alloc, temps, code, liveness)?)),
+        Stm::Block(code) => Ok(Stm::Block(tidy_block(alloc, temps, code, liveness)?)),
+        other => pass(alloc, other, liveness),
     }
 }
 
-// What becomes of one side of a choice.
+// What becomes of a choice.
 #[cycle(tidy)]
-fn tidy_side(
+fn tidy_choice(
     alloc: Global,
     temps: u32,
-    code: &List<Stm>,
+    test: Tree,
+    a: List<Stm>,
+    b: List<Stm>,
     liveness: &mut Liveness,
-) -> Result<List<Stm>, AllocError>
-    ensures same { IfOk result (λ left. liveness.new ≡ liveness.old) }
-    ensures left { IfOk result (IsLeft temps liveness.old code.now) }
+) -> Result<Stm, AllocError>
+    ensures live { IfOk result (λ made. liveness.new ≡ passed (Stm.If test a b) liveness.old) }
+    ensures made { IfOk result (HasBecome temps liveness.old (Stm.If test a b)) }
+{
+    let (test, (a, b)) = both(test, tidy_sides(alloc, temps, a, b, liveness))?;
+    let made = Stm::If(test, a, b);
+    let step = live_plain(alloc, &made, None, liveness);
+    let (made, ()) = both(made, step)?;
+    Ok(made)
+}
+
+// What becomes of the sides of a choice, and from what is live behind it to what is live at the start of either.
+#[cycle(tidy)]
+fn tidy_sides(
+    alloc: Global,
+    temps: u32,
+    a: List<Stm>,
+    b: List<Stm>,
+    liveness: &mut Liveness,
+) -> Result<(List<Stm>, List<Stm>), AllocError>
+    ensures live { IfOk result (λ sides. liveness.new ≡ with_live liveness.old (sides_bits a b liveness.old)) }
+    ensures a { IfOk result (λ sides. IsLeft temps liveness.old a sides.0) }
+    ensures b { IfOk result (λ sides. IsLeft temps liveness.old b sides.1) }
+{
+    let ((a, b), ()) = both((a, b), liveness.save(Row::Live))?;
+    let (a, b) = both(a, tidy_code(alloc, temps, b, liveness))?;
+    let ((a, b), ()) = both((a, b), liveness.save(Row::Live))?;
+    liveness.turn(Row::Saved(1));
+    let (b, a) = both(b, tidy_code(alloc, temps, a, liveness))?;
+    let (sides, ()) = both((a, b), liveness.join(Row::Saved(0)))?;
+    liveness.forget();
+    liveness.forget();
+    Ok(sides)
+}
+
+// From behind a loop to the end of its statements. What is live at its start has to be known before, since they go back there.
+fn turn_in(alloc: Global, code: &List<Stm>, liveness: &mut Liveness) -> Result<(), AllocError>
+    ensures { OnOk result (liveness.new ≡ turning liveness.old code.now) }
 {
     liveness.save(Row::Live)?;
-    let left = tidy_code(alloc, temps, code, liveness)?;
-    liveness.turn(Row::Saved(0));
+    live_loop(alloc, code, liveness)?;
+    liveness.enter(Row::Saved(0), Row::Live)?;
     liveness.forget();
-    Ok(left)
+    Ok(())
 }
 
 // What becomes of the statements of a loop.
@@ -262,19 +287,17 @@ fn tidy_side(
 fn tidy_loop(
     alloc: Global,
     temps: u32,
-    code: &List<Stm>,
+    code: List<Stm>,
     liveness: &mut Liveness,
 ) -> Result<List<Stm>, AllocError>
-    ensures same { IfOk result (λ left. liveness.new ≡ liveness.old) }
-    ensures left { IfOk result (IsLeft temps (turning liveness.old code.now) code.now) }
+    ensures live { IfOk result (λ left. liveness.new ≡ passed (Stm.Loop code) liveness.old) }
+    ensures left { IfOk result (IsLeft temps (turning liveness.old code) code) }
 {
-    liveness.save(Row::Live)?;
-    live_loop(alloc, code, liveness)?;
-    liveness.enter(Row::Saved(0), Row::Live)?;
+    let step = turn_in(alloc, &code, liveness);
+    let (code, ()) = both(code, step)?;
     let left = tidy_code(alloc, temps, code, liveness)?;
+    liveness.turn(Row::Start(0));
     liveness.leave();
-    liveness.turn(Row::Saved(0));
-    liveness.forget();
     Ok(left)
 }
 
@@ -283,17 +306,14 @@ fn tidy_loop(
 fn tidy_block(
     alloc: Global,
     temps: u32,
-    code: &List<Stm>,
+    code: List<Stm>,
     liveness: &mut Liveness,
 ) -> Result<List<Stm>, AllocError>
-    ensures same { IfOk result (λ left. liveness.new ≡ liveness.old) }
-    ensures left { IfOk result (IsLeft temps (entered liveness.old liveness.old.live liveness.old.around.none) code.now) }
+    ensures live { IfOk result (λ left. liveness.new ≡ passed (Stm.Block code) liveness.old) }
+    ensures left { IfOk result (IsLeft temps (entered liveness.old liveness.old.live liveness.old.around.none) code) }
 {
-    liveness.save(Row::Live)?;
-    liveness.enter(Row::Live, Row::Empty)?;
+    let (code, ()) = both(code, liveness.enter(Row::Live, Row::Empty))?;
     let left = tidy_code(alloc, temps, code, liveness)?;
     liveness.leave();
-    liveness.turn(Row::Saved(0));
-    liveness.forget();
     Ok(left)
 }
