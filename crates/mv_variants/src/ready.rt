@@ -10,7 +10,7 @@ use mv_expand::expand;
 use mv_ir::body::Body;
 use mv_propagate::propagate;
 use mv_ranges::with_promises;
-use mv_tidy::tidy;
+use mv_tidy::{join, tidy};
 use std::alloc::{AllocError, Global};
 
 /// The body with short bodies in place of calls, tidied and with promises of indices, where its code has no more words by that; else without short bodies.
@@ -48,12 +48,12 @@ fn finished(alloc: Global, body: &Body, is_general: bool) -> Result<Body, AllocE
     with_promises(alloc, cleaned(alloc, body)?)
 }
 
-// What temporaries hold, read in their place, leaves sets that nothing reads any more, so it is tidied again.
+// What temporaries hold is read in their place between two tidyings: it leaves sets that nothing reads any more. Choices are put together by the second alone.
 #[tactic(auto, using(crate::proofs::Tidied::steps_cleaned))]
 fn cleaned(alloc: Global, body: &Body) -> Result<Body, AllocError>
     ensures { IfOk result (IsCleaned body.now) }
 {
-    let tidied = tidy(alloc, body)?;
-    let propagated = propagate(alloc, &tidied)?;
+    let joined = join(alloc, body)?;
+    let propagated = propagate(alloc, &joined)?;
     tidy(alloc, &propagated)
 }
