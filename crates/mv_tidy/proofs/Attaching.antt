@@ -111,7 +111,7 @@ merge_is r v n zero x y is e h =
 
 -- ---- the side that a choice goes to
 
-count_append : (xs ys : List Stm) → statements (xs ++ ys) ≡ statements xs + statements ys
+pub count_append : (xs ys : List Stm) → statements (xs ++ ys) ≡ statements xs + statements ys
 count_append xs ys = ap (λ m. m.statements) (amount_append xs ys)
 
 count_choice : (c : Tree) (a b : List Stm) → statements (choose c a b ∷ []) ≡ 1 + (statements a + statements b)

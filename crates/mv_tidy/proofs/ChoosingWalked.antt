@@ -1,7 +1,7 @@
 -- The walk over code puts choices together.
-use Rattle.std.proofs.Common.{arith, ◌≡◌, ℕ, ◌+◌, ◌-◌, ◌<◌, Bool, true, false, ◌||◌, cond, eqb, List, [], ◌∷◌, ◌++◌, length, map, drop, get_or, reverse, Option, Some, option_to_list, refl, sym, ◌∙◌, ap, subst}
+use Rattle.std.proofs.Common.{arith, ◌≡◌, ℕ, suc, ◌+◌, ◌<◌, ◌≤◌, Bool, true, false, ◌||◌, cond, eqb, List, [], ◌∷◌, ◌++◌, length, map, reverse, Option, Some, option_to_list, append-nil, refl, sym, ◌∙◌, ap, subst}
 use Rattle.std.specs.Prelude.{replicate}
-use Rattle.std.proofs.lemmas.List.{drop_all, length-replicate, reverse-append}
+use Rattle.std.proofs.lemmas.List.{length-replicate, reverse-append}
 use Rattle.mv_num.proofs.Booleans.{from_falsity}
 use Rattle.mv_ir.specs.declared.tree.Tree.{Tree}
 use Rattle.mv_ir.specs.declared.tree.Tree.TheOpen as tree
@@ -10,25 +10,26 @@ use Rattle.mv_ir.specs.declared.stm.Stm.TheOpen.{Stm-F}
 use Rattle.mv_ir.specs.declared.stm.Stm.TheOpen as stm
 use Rattle.mv_ir.specs.declared.stm.Stm as at
 use Rattle.mv_ir.specs.declared.stm.Stm.TheVariants.{rolls-If, rolls-Loop, rolls-Block}
-use Rattle.mv_ir.specs.declared.stm.Stm.TheViews.{roll-Stm, out-roll-Stm}
+use Rattle.mv_ir.specs.declared.stm.Stm.TheViews.{roll-Stm, roll-out-Stm, out-roll-Stm}
 use Rattle.mv_ir.specs.Live.{Around, mark_at, reads_temp, nowhere}
+use Rattle.mv_ir.specs.Measures.{statements, stm_size}
 use Rattle.mv_ir.specs.Rolled.{number, temp, set, choose}
-use Rattle.mv_ir.proofs.Rolls.{flow_roll, reads_temp_roll}
-use Rattle.mv_regalloc.specs.Rows.{Bits, either_bits, sets, live_before, stm_rows, no_sets, own_trees, with_all_reads}
-use Rattle.mv_regalloc.specs.Shared.{LiveSets, entered, forgotten, row_of, with_live, with_saved}
+use Rattle.mv_ir.proofs.Rolls.{flow_roll, reads_temp_roll, size_roll}
+use Rattle.mv_regalloc.specs.Rows.{Bits, sets, live_before, stm_rows, no_sets, own_trees, with_all_reads}
+use Rattle.mv_regalloc.specs.Shared.{LiveSets, entered, forgotten, left, row_of, with_live, with_saved}
 use Rattle.mv_regalloc.specs.declared.liveness.Row.TheVariants.{Saved}
-use Rattle.mv_regalloc.proofs.RowEquations.{live_loop, live_if}
+use Rattle.mv_regalloc.proofs.RowEquations.{live_block, live_if, live_loop, own_if}
 use Rattle.mv_regalloc.proofs.RowsShow.{code_shows, seen_nowhere}
 use Rattle.mv_regalloc.proofs.BodySpans.{clear_at}
 use Rattle.mv_regalloc.proofs.BitLists.{either_or}
-use Rattle.mv_regalloc.proofs.Positions.{from_end}
 use Rattle.mv_fold.proofs.Thinner.{FitsAround}
 use Rattle.mv_fold.proofs.FoldedThinner.{every}
 use Rattle.mv_tidy.specs.Tidying.{lives, before, in_loop, in_block}
 use Rattle.mv_tidy.specs.Choosing.{taken, sides, Attached, apart, denied, unequal, equal, pushed, jumped, IsUnread, Chosen, ChosenIn}
 use Rattle.mv_tidy.specs.Choosing as chosen
-use Rattle.mv_tidy.specs.ChoosingWalk.{passed, sides_row, layer_sides, IsPut, stands, taken_in, AreChosen, HasChosen, IsUnreadFirst, IsChosenFrom}
+use Rattle.mv_tidy.specs.ChoosingWalk.{passed, passed_within, either_before, sides_row, layer_sides, IsPut, stands, taken_in, AreChosen, HasChosen, IsUnreadFirst, IsChosenFrom, IsChosenBehind}
 use Rattle.mv_tidy.specs.Walking.{IsGone, IsSeen, turning}
+use Rattle.mv_tidy.proofs.Attaching.{count_append}
 use Rattle.mv_tidy.proofs.ChosenThin.{chosen_thin}
 use Rattle.mv_tidy.proofs.Walked.{live_seen, seen_before, seen_in_loop, seen_in_block}
 
@@ -271,9 +272,12 @@ module _ (temps : ℕ) (r : ℕ → Around) (code made : List Stm) (live : Bits)
             ),
           )
 
+sides_of : (x : Stm-F Stm) (s : Stm) (l : LiveSets) → s ≡ roll-Stm x → sides_row s l ≡ layer_sides x (sets l.around l.live)
+sides_of x s l is = ap (λ u. layer_sides (out-Stm u) (sets l.around l.live)) is ∙ ap (λ u. layer_sides u (sets l.around l.live)) (out-roll-Stm x)
+
 -- ---- the walk
 
-pub walk_starts : (temps : ℕ) (s now : LiveSets) → now ≡ with_saved s s.around.none → IsChosenFrom temps s [] [] now
+walk_starts : (temps : ℕ) (s now : LiveSets) → now ≡ with_saved s s.around.none → IsChosenFrom temps s [] [] now
 walk_starts temps s now e = record {
   live = s.around.none;
   is = e;
@@ -312,72 +316,108 @@ walk_goes temps start code made made' s y now now' w k p e = record {
         let now_sets = sets here.around here.live in
         let there = seen_before temps (sets start.around start.live) r seen code in
         let shown = code_shows temps first now_sets there.wide in
-        let row : sides_row s here ≡ either_bits (live_before (map stm_rows first) now_sets) (live_before (map stm_rows second) now_sets) =
-        ap (λ u. layer_sides (out-Stm u) now_sets) is ∙ ap (λ u. layer_sides u now_sets) (out-roll-Stm (stm.If q first second))
-        in
         unread_of false (lives (before r code) first t) (lives (before r code) second t)
         (ap (λ b. b || lives (before r code) second t) (sym (live_seen temps now_sets (before r code) there first t gone.0)) ∙
         ap (λ b. mark_at (live_before (map stm_rows first) now_sets) t || b) (sym (live_seen temps now_sets (before r code) there second t gone.0)) ∙
         sym (either_or (live_before (map stm_rows first) now_sets) (live_before (map stm_rows second) now_sets) t (omega (arith, shown.long, gone.0))) ∙
-        ap (λ l. mark_at l t) (sym row) ∙ gone.1)
+        ap (λ l. mark_at l t) (sym (sides_of (stm.If q first second) s here is)) ∙ gone.1)
 
-pub walk_next : (temps : ℕ) (start : LiveSets) (items made made' : List Stm) (done : ℕ) (s : Stm) (now now' : LiveSets) → done < length items →
-    s ≡ get_or items (length items - 1 - done) s → IsChosenFrom temps start (drop (length items - done) items) made now →
-    ((from : LiveSets) (code : List Stm) → IsChosenFrom temps from code made now → IsChosenFrom temps from (s ∷ code) made' now') →
-    IsChosenFrom temps start (drop (length items - (done + 1)) items) made' now'
-walk_next temps start items made made' done s now now' lt is w h =
-    subst (λ c. IsChosenFrom temps start c made' now') (sym (from_end items done s lt is)) (h start (drop (length items - done) items) w)
+-- some of the code is left
+pub walk_begins : (temps : ℕ) (s now : LiveSets) (code left made : List Stm) → left ≡ code → made ≡ [] → now ≡ with_saved s s.around.none →
+    IsChosenBehind temps s code left made now
+walk_begins temps s now code left made is none_made e = record {
+  behind = [];
+  is = sym is ∙ sym (append-nil left);
+  chosen = subst (λ k. IsChosenFrom temps s [] k now) (sym none_made) (walk_starts temps s now e);
+}
 
-pub walk_begins : (temps : ℕ) (s now : LiveSets) (items made : List Stm) → made ≡ [] → now ≡ with_saved s s.around.none →
-    IsChosenFrom temps s (drop (length items - 0) items) made now
-walk_begins temps s now items made none_made e =
-    let whole : length items - 0 ≡ length items = omega arith in
-    subst (λ c. IsChosenFrom temps s c made now) (sym (ap (λ k. drop k items) whole ∙ drop_all (length items) items (omega arith)))
-    (subst (λ k. IsChosenFrom temps s [] k now) (sym none_made) (walk_starts temps s now e))
+-- ---- how much is left
 
--- none of it is left
-module _ (temps : ℕ) (s : LiveSets) (items made : List Stm) (done : ℕ) (now : LiveSets) (all : done ≡ length items)
-    (w : IsChosenFrom temps s (drop (length items - done) items) made now) where
-  walk_whole : IsChosenFrom temps s items made now
-  walk_whole = let none_left : length items - done ≡ 0 = omega (arith, all) in subst (λ k. IsChosenFrom temps s (drop k items) made now) none_left w
+pub last_less : (left left' : List Stm) (last : Option Stm) (s : Stm) (code behind : List Stm) → left ≡ left' ++ option_to_list last → last ≡ Some s →
+    code ≡ left ++ behind → stm_size s ≤ statements code
+last_less left left' last s code behind popped is whole =
+    let parts : code ≡ (left' ++ s ∷ []) ++ behind = whole ∙ ap (λ l. l ++ behind) (popped ∙ ap (λ o. left' ++ option_to_list o) is) in
+    omega (arith, ap statements parts, count_append (left' ++ s ∷ []) behind, count_append left' (s ∷ []))
 
-  pub walk_ends : (result : List Stm) → result ≡ made → AreChosen temps s items result
-  walk_ends result e r seen = subst (Chosen temps r items) (sym e) (walk_whole.chosen r seen)
+pub if_size : (t : Tree) (a b : List Stm) → stm_size (at.If t a b) ≡ suc (statements a + statements b)
+if_size t a b = ap stm_size (sym (rolls-If t a b)) ∙ size_roll (stm.If t a b)
 
-  pub walk_live : (now' : LiveSets) → now' ≡ forgotten now → now' ≡ with_live s (live_before (map stm_rows items) (sets s.around s.live))
-  walk_live now' e = e ∙ ap forgotten walk_whole.is
+pub loop_size : (b : List Stm) → stm_size (at.Loop b) ≡ suc (statements b)
+loop_size b = ap stm_size (sym (rolls-Loop b)) ∙ size_roll (stm.Loop b)
+
+pub block_size : (b : List Stm) → stm_size (at.Block b) ≡ suc (statements b)
+block_size b = ap stm_size (sym (rolls-Block b)) ∙ size_roll (stm.Block b)
 
 -- ---- what becomes of a statement
 
-pub leaf_chosen : (temps : ℕ) (s : LiveSets) (x y : Stm) → y ≡ x → HasChosen temps s x y
-leaf_chosen temps s x y e r seen = subst (ChosenIn temps r x) (sym e) (chosen.same r x)
-
 module _ (temps : ℕ) (s : LiveSets) where
-  pub if_chosen : (t t' : Tree) (a a' b b' : List Stm) → t' ≡ t → AreChosen temps s a a' → AreChosen temps s b b' → HasChosen temps s (at.If t a b) (at.If t' a' b')
-  if_chosen t t' a a' b b' e ha hb r seen =
-      subst (λ u. ChosenIn temps r (at.If t a b) (at.If u a' b')) (sym e)
-      (subst (λ x. ChosenIn temps r x (at.If t a' b')) (rolls-If t a b) (subst (ChosenIn temps r _) (rolls-If t a' b') (chosen.choice r t a a' b b' (ha r seen) (hb r seen))))
+  pub if_chosen : (t : Tree) (a a' b b' : List Stm) → AreChosen temps s a a' → AreChosen temps s b b' → HasChosen temps s (at.If t a b) (at.If t a' b')
+  if_chosen t a a' b b' ha hb r seen =
+      subst (λ x. ChosenIn temps r x (at.If t a' b')) (rolls-If t a b) (subst (ChosenIn temps r _) (rolls-If t a' b') (chosen.choice r t a a' b b' (ha r seen) (hb r seen)))
 
-  pub loop_chosen : (b b' : List Stm) → AreChosen temps (turning s b) b b' → HasChosen temps s (at.Loop b) (at.Loop b')
-  loop_chosen b b' h r seen =
-      let l = h (in_loop r b) (seen_in_loop temps (sets s.around s.live) r seen b) in
+  -- what is live at the start of a loop is known before the loop is entered
+  pub loop_chosen : (saved behind within : LiveSets) (b b' : List Stm) → saved ≡ with_saved s s.live →
+      behind ≡ with_live saved ((stm_rows (at.Loop b)).live (sets saved.around saved.live)) → within ≡ entered behind (row_of behind (Saved 0)) behind.live →
+      AreChosen temps within b b' → HasChosen temps s (at.Loop b) (at.Loop b')
+  loop_chosen saved behind within b b' es eb ew h r seen =
+      let is : within ≡ entered (with_live (with_saved s s.live) (turning s b).live) s.live (turning s b).live =
+      ew ∙ ap (λ l. entered l (row_of l (Saved 0)) l.live) (eb ∙ ap (λ l. with_live l ((stm_rows (at.Loop b)).live (sets l.around l.live))) es) ∙
+      ap (λ start. entered (with_live (with_saved s s.live) start) s.live start) (live_loop (sets s.around s.live) b)
+      in
+      let l = subst (λ l. AreChosen temps l b b') is h (in_loop r b) (seen_in_loop temps (sets s.around s.live) r seen b) in
       subst (λ x. ChosenIn temps r x (at.Loop b')) (rolls-Loop b) (subst (ChosenIn temps r _) (rolls-Loop b') (chosen.turns r b b' l))
 
-  pub block_chosen : (b b' : List Stm) → AreChosen temps (entered s s.live s.around.none) b b' → HasChosen temps s (at.Block b) (at.Block b')
-  block_chosen b b' h r seen =
-      let l = h (in_block r) (seen_in_block temps (sets s.around s.live) r seen) in
+  pub block_chosen : (within : LiveSets) (b b' : List Stm) → within ≡ entered s s.live s.around.none → AreChosen temps within b b' →
+      HasChosen temps s (at.Block b) (at.Block b')
+  block_chosen within b b' e h r seen =
+      let l = subst (λ l. AreChosen temps l b b') e h (in_block r) (seen_in_block temps (sets s.around s.live) r seen) in
       subst (λ x. ChosenIn temps r x (at.Block b')) (rolls-Block b) (subst (ChosenIn temps r _) (rolls-Block b') (chosen.block r b b' l))
 
-pub ruleset choosing = (leaf_chosen, if_chosen, loop_chosen, block_chosen)
+-- ---- from behind a statement to its start
 
--- what is live at the start of a loop is known before the loop is entered
-pub loop_made : (temps : ℕ) (s put_aside behind within : LiveSets) (b result : List Stm) → put_aside ≡ with_saved s s.live →
-    behind ≡ with_live put_aside ((stm_rows (at.Loop b)).live (sets put_aside.around put_aside.live)) →
-    within ≡ entered behind (row_of behind (Saved 0)) behind.live → AreChosen temps within b result → AreChosen temps (turning s b) b result
-loop_made temps s put_aside behind within b result ep eb ew =
-    subst (λ l. AreChosen temps l b result)
-    (ew ∙ ap (λ l. entered l (row_of l (Saved 0)) l.live) (eb ∙ ap (λ l. with_live l ((stm_rows (at.Loop b)).live (sets l.around l.live))) ep) ∙
-    ap (λ start. entered (with_live (with_saved s s.live) start) s.live start) (live_loop (sets s.around s.live) b))
+-- of a statement that is no choice
+pub no_sides : (s : Stm) (l : LiveSets) → ((t : Tree) (a b : List Stm) → s ≡ at.If t a b → ⊥) → sides_row s l ≡ l.around.none
+no_sides s l none = by (out-Stm s) refl
+  where
+    by : (x : Stm-F Stm) → out-Stm s ≡ x → layer_sides x (sets l.around l.live) ≡ l.around.none
+    by (stm.If t a b) e = absurd (none t a b (sym (roll-out-Stm s) ∙ ap roll-Stm e ∙ rolls-If t a b))
+    by (stm.Set t v) e = refl
+    by (stm.SetGlobal g v) e = refl
+    by (stm.Divide t o a b) e = refl
+    by (stm.Check a i) e = refl
+    by (stm.Read t a i) e = refl
+    by (stm.Write a i v) e = refl
+    by (stm.Zero k) e = refl
+    by (stm.Loop b) e = refl
+    by (stm.Block b) e = refl
+    by (stm.Break n) e = refl
+    by (stm.Back n) e = refl
+    by (stm.Call u f args) e = refl
+    by (stm.Known u k args) e = refl
+    by (stm.Return v) e = refl
+
+module _ (l : LiveSets) where
+  pub choice_passed : (t : Tree) (a a' b b' : List Stm) (l1 l2 l3 : LiveSets) → l1 ≡ with_live l (either_before a b (sets l.around l.live)) →
+      l2 ≡ entered l1 l1.live l1.around.none → l3 ≡ with_live l2 (with_all_reads (own_trees (at.If t a' b')) l2.live) → l3 ≡ passed_within (at.If t a b) l
+  choice_passed t a a' b b' l1 l2 l3 e1 e2 e3 =
+      let around = sets l.around l.live in
+      let either = either_before a b around in
+      let reads : own_trees (at.If t a' b') ≡ own_trees (at.If t a b) = own_if t a' b' ∙ sym (own_if t a b) in
+      e3 ∙ ap (λ k. with_live k (with_all_reads (own_trees (at.If t a' b')) k.live)) (e2 ∙ ap (λ k. entered k k.live k.around.none) e1) ∙
+      ap (λ live. entered (with_live l live) either l.around.none) (ap (λ ts. with_all_reads ts either) reads ∙ sym (live_if around t a b)) ∙
+      ap (λ e. entered (passed (at.If t a b) l) e l.around.none) (sym (sides_of (stm.If t a b) (at.If t a b) l (sym (rolls-If t a b))))
+
+  pub plain_passed : (s : Stm) (l1 l2 : LiveSets) → sides_row s l ≡ l.around.none → l1 ≡ passed s l → l2 ≡ entered l1 l1.around.none l1.around.none →
+      l2 ≡ passed_within s l
+  plain_passed s l1 l2 none e1 e2 = e2 ∙ ap (λ k. entered k k.around.none k.around.none) e1 ∙ ap (λ e. entered (passed s l) e l.around.none) (sym none)
+
+  pub block_passed : (b : List Stm) (l1 l2 l3 l4 : LiveSets) → l1 ≡ entered l l.live l.around.none →
+      l2 ≡ with_live l1 (live_before (map stm_rows b) (sets l1.around l1.live)) → l3 ≡ left l2 → l4 ≡ entered l3 l3.around.none l3.around.none →
+      l4 ≡ passed_within (at.Block b) l
+  block_passed b l1 l2 l3 l4 e1 e2 e3 =
+      plain_passed (at.Block b) l3 l4 (sides_of (stm.Block b) (at.Block b) l (sym (rolls-Block b)))
+      (e3 ∙ ap left (e2 ∙ ap (λ k. with_live k (live_before (map stm_rows b) (sets k.around k.live))) e1) ∙
+      ap (with_live l) (sym (live_block (sets l.around l.live) b)))
 
 -- ---- a body
 
@@ -399,29 +439,6 @@ body_chosen temps s code result el en ee er h = h (λ t. nowhere) (subst (λ x. 
       wide = record { none = long; clear = clear_at temps; next = long; leaves = λ k. long; restarts = λ k. long };
       same = λ t lt. seen_nowhere temps bare t (clear_at temps t);
     }
-
--- ---- from behind a choice to its start
-
-pub choice_live : (s : Stm) (t : Tree) (a b : List Stm) (l l1 l2 l3 l4 l5 l6 l7 l8 l9 l10 : LiveSets) → l1 ≡ with_saved l l.live →
-    l2 ≡ with_live l1 (live_before (map stm_rows b) (sets l1.around l1.live)) → l3 ≡ with_saved l2 l2.live → l4 ≡ with_live l3 (row_of l3 (Saved 1)) →
-    l5 ≡ with_live l4 (live_before (map stm_rows a) (sets l4.around l4.live)) → l6 ≡ with_live l5 (either_bits l5.live (row_of l5 (Saved 0))) →
-    l7 ≡ forgotten l6 → l8 ≡ forgotten l7 → l9 ≡ with_saved l8 l8.live → l10 ≡ with_live l9 (with_all_reads (own_trees s) l9.live) → s ≡ choose t a b →
-    l10 ≡ with_saved (passed s l) (sides_row s l)
-choice_live s t a b l l1 l2 l3 l4 l5 l6 l7 l8 l9 l10 e1 e2 e3 e4 e5 e6 e7 e8 e9 e10 is =
-    let around = sets l.around l.live in
-    let either = either_bits (live_before (map stm_rows a) around) (live_before (map stm_rows b) around) in
-    let q = is ∙ rolls-If t a b in
-    let live : with_all_reads (own_trees s) either ≡ (stm_rows s).live around =
-    ap (λ u. with_all_reads (own_trees u) either) q ∙ sym (live_if around t a b) ∙ ap (λ u. (stm_rows u).live around) (sym q)
-    in
-    let row : either ≡ sides_row s l = sym (ap (λ u. layer_sides (out-Stm u) around) is ∙ ap (λ u. layer_sides u around) (out-roll-Stm (stm.If t a b))) in
-    e10 ∙ ap (λ k. with_live k (with_all_reads (own_trees s) k.live))
-    (e9 ∙ ap (λ k. with_saved k k.live) (e8 ∙ ap forgotten (e7 ∙ ap forgotten
-    (e6 ∙ ap (λ k. with_live k (either_bits k.live (row_of k (Saved 0))))
-    (e5 ∙ ap (λ k. with_live k (live_before (map stm_rows a) (sets k.around k.live)))
-    (e4 ∙ ap (λ k. with_live k (row_of k (Saved 1)))
-    (e3 ∙ ap (λ k. with_saved k k.live) (e2 ∙ ap (λ k. with_live k (live_before (map stm_rows b) (sets k.around k.live))) e1)))))))) ∙
-    ap (with_live (with_saved l either)) live ∙ ap (λ e. with_live (with_saved l e) ((stm_rows s).live around)) row
 
 -- ---- a statement before code that is kept with the last one first
 

@@ -7,7 +7,7 @@ use Rattle.mv_ir.specs.declared.stm.Stm.TheOpen as stm
 use Rattle.mv_ir.specs.Live.{Around}
 use Rattle.mv_ir.specs.Rolled.{choose}
 use Rattle.mv_regalloc.specs.Rows.{Bits, Sets, either_bits, live_before, sets, stm_rows}
-use Rattle.mv_regalloc.specs.Shared.{LiveSets, with_live}
+use Rattle.mv_regalloc.specs.Shared.{LiveSets, entered, with_live}
 use Rattle.mv_tidy.specs.Tidying.{before}
 use Rattle.mv_tidy.specs.Choosing.{Attached, IsUnread, Chosen, ChosenIn}
 use Rattle.mv_tidy.specs.Walking.{IsGone, IsSeen}
@@ -16,13 +16,21 @@ use Rattle.mv_tidy.specs.Walking.{IsGone, IsSeen}
 abbrev pub passed : Stm → LiveSets → LiveSets
 passed s l = with_live l ((stm_rows s).live (sets l.around l.live))
 
+-- what is live where either of two sides begins
+abbrev pub either_before : (a b : List Stm) → Sets → Bits
+either_before a b r = either_bits (live_before (map stm_rows a) r) (live_before (map stm_rows b) r)
+
 abbrev pub layer_sides : Stm-F Stm → Sets → Bits
-layer_sides (stm.If t a b) r = either_bits (live_before (map stm_rows a) r) (live_before (map stm_rows b) r)
+layer_sides (stm.If t a b) r = either_before a b r
 layer_sides _ r = r.none
 
 -- what is live where either side of a choice begins
 abbrev pub sides_row : Stm → LiveSets → Bits
 sides_row s l = layer_sides (out-Stm s) (sets l.around l.live)
+
+-- from behind a statement to its start, in a level behind which that is live
+abbrev pub passed_within : Stm → LiveSets → LiveSets
+passed_within s l = entered (passed s l) (sides_row s l) l.around.none
 
 -- a statement before some code: it stands there, or is one choice with the first
 pub data IsPut (gone : ℕ → Type 0) : List Stm → Stm → List Stm → Type 0 where
@@ -46,3 +54,9 @@ pub record IsChosenFrom (temps : ℕ) (start : LiveSets) (code made : List Stm) 
   pub is : now ≡ record start { live = live_before (map stm_rows code) (sets start.around start.live); saved = live ∷ start.saved }
   pub chosen : AreChosen temps start code made
   pub unread : (r : ℕ → Around) → IsSeen temps (sets start.around start.live) r → IsUnreadFirst temps r live made
+
+-- the same where some of the code is left, which stands before what the walk has come over
+pub record IsChosenBehind (temps : ℕ) (start : LiveSets) (code left made : List Stm) (now : LiveSets) : Type 0 where
+  pub behind : List Stm
+  pub is : code ≡ left ++ behind
+  pub chosen : IsChosenFrom temps start behind made now

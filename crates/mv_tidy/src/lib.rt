@@ -57,7 +57,7 @@ fn tidied(alloc: Global, temps: u32, code: &List<Stm>) -> Result<List<Stm>, Allo
     ensures { IfOk result (IsTidiedCode temps code.now) }
 {
     let joined = plain_joined(alloc, temps, code)?;
-    choose(alloc, temps, &joined)
+    choose(alloc, temps, joined)
 }
 
 // The first two steps.
