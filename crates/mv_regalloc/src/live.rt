@@ -9,11 +9,10 @@ use crate::liveness::{Liveness, Row};
 use crate::reads::live_own;
 use mv_ir::stm::Stm;
 use mv_num::list::List;
-use std::alloc::{AllocError, Global};
+use std::alloc::AllocError;
 
 /// The temporary that a statement writes isn't live before it, and those that its own trees read are.
 pub fn live_plain(
-    alloc: Global,
     stm: &Stm,
     written: Option<u32>,
     liveness: &mut Liveness,
@@ -39,14 +38,14 @@ pub fn live_params(liveness: &mut Liveness, params: u32) -> Result<(), AllocErro
 
 /// From what is live behind some code to what is live before it.
 #[cycle(live)]
-pub fn live_code(alloc: Global, code: &List<Stm>, liveness: &mut Liveness) -> Result<(), AllocError>
+pub fn live_code(code: &List<Stm>, liveness: &mut Liveness) -> Result<(), AllocError>
     ensures { OnOk result (
         liveness.new ≡ with_live liveness.old (live_before (map stm_rows code.now) (sets liveness.old.around liveness.old.live))
         ) }
 {
     let stms = code.as_slice();
     for done in 0..stms.len() {
-        live_stm(alloc, &stms[stms.len() - 1 - done], liveness)?;
+        live_stm(&stms[stms.len() - 1 - done], liveness)?;
     }
     Ok(())
 }
@@ -54,32 +53,32 @@ pub fn live_code(alloc: Global, code: &List<Stm>, liveness: &mut Liveness) -> Re
 /// From what is live behind a statement to what is live before it.
 #[cycle(live)]
 #[tactic(auto, using(crate::proofs::RowEquations::live_stms))]
-pub fn live_stm(alloc: Global, stm: &Stm, liveness: &mut Liveness) -> Result<(), AllocError>
+pub fn live_stm(stm: &Stm, liveness: &mut Liveness) -> Result<(), AllocError>
     ensures { OnOk result (
         liveness.new ≡ with_live liveness.old ((stm_rows stm.now).live (sets liveness.old.around liveness.old.live))
         ) }
 {
     match stm {
-        Stm::Set(t, _) => live_plain(alloc, stm, Some(*t), liveness),
-        Stm::SetGlobal(_, _) => live_plain(alloc, stm, None, liveness),
-        Stm::Divide(t, _, _, _) => live_plain(alloc, stm, Some(*t), liveness),
-        Stm::Check(_, _) => live_plain(alloc, stm, None, liveness),
-        Stm::Read(t, _, _) => live_plain(alloc, stm, Some(*t), liveness),
-        Stm::Write(_, _, _) => live_plain(alloc, stm, None, liveness),
+        Stm::Set(t, _) => live_plain(stm, Some(*t), liveness),
+        Stm::SetGlobal(_, _) => live_plain(stm, None, liveness),
+        Stm::Divide(t, _, _, _) => live_plain(stm, Some(*t), liveness),
+        Stm::Check(_, _) => live_plain(stm, None, liveness),
+        Stm::Read(t, _, _) => live_plain(stm, Some(*t), liveness),
+        Stm::Write(_, _, _) => live_plain(stm, None, liveness),
         Stm::Zero(_) => Ok(()),
         Stm::If(_, a, b) => {
             liveness.save(Row::Live)?;
-            live_code(alloc, b, liveness)?;
+            live_code(b, liveness)?;
             liveness.save(Row::Live)?;
             liveness.turn(Row::Saved(1));
-            live_code(alloc, a, liveness)?;
+            live_code(a, liveness)?;
             liveness.join(Row::Saved(0))?;
             liveness.forget();
             liveness.forget();
-            live_plain(alloc, stm, None, liveness)
+            live_plain(stm, None, liveness)
         }
-        Stm::Loop(b) => live_loop(alloc, b, liveness),
-        Stm::Block(b) => live_block(alloc, b, liveness),
+        Stm::Loop(b) => live_loop(b, liveness),
+        Stm::Block(b) => live_block(b, liveness),
         Stm::Break(n) => {
             liveness.turn(Row::Behind(*n));
             Ok(())
@@ -88,11 +87,11 @@ pub fn live_stm(alloc: Global, stm: &Stm, liveness: &mut Liveness) -> Result<(),
             liveness.turn(Row::Start(*n));
             Ok(())
         }
-        Stm::Call(t, _, _) => live_plain(alloc, stm, *t, liveness),
-        Stm::Known(t, _, _) => live_plain(alloc, stm, *t, liveness),
+        Stm::Call(t, _, _) => live_plain(stm, *t, liveness),
+        Stm::Known(t, _, _) => live_plain(stm, *t, liveness),
         Stm::Return(_) => {
             liveness.turn(Row::Empty);
-            live_plain(alloc, stm, None, liveness)
+            live_plain(stm, None, liveness)
         }
     }
 }
@@ -100,14 +99,14 @@ pub fn live_stm(alloc: Global, stm: &Stm, liveness: &mut Liveness) -> Result<(),
 /// From what is live behind a loop to what is live at its start: a path that goes back goes through the start again.
 #[cycle(live)]
 #[tactic(auto, using(crate::proofs::RowEquations::live_loop))]
-pub fn live_loop(alloc: Global, code: &List<Stm>, liveness: &mut Liveness) -> Result<(), AllocError>
+pub fn live_loop(code: &List<Stm>, liveness: &mut Liveness) -> Result<(), AllocError>
     ensures { OnOk result (
         liveness.new ≡ with_live liveness.old ((stm_rows (Stm.Loop code.now)).live (sets liveness.old.around liveness.old.live))
         ) }
 {
     liveness.enter(Row::Live, Row::Empty)?;
     liveness.turn(Row::Empty);
-    live_code(alloc, code, liveness)?;
+    live_code(code, liveness)?;
     liveness.leave();
     Ok(())
 }
@@ -115,17 +114,13 @@ pub fn live_loop(alloc: Global, code: &List<Stm>, liveness: &mut Liveness) -> Re
 /// From what is live behind a block to what is live at its start.
 #[cycle(live)]
 #[tactic(auto, using(crate::proofs::RowEquations::live_block))]
-pub fn live_block(
-    alloc: Global,
-    code: &List<Stm>,
-    liveness: &mut Liveness,
-) -> Result<(), AllocError>
+pub fn live_block(code: &List<Stm>, liveness: &mut Liveness) -> Result<(), AllocError>
     ensures { OnOk result (
         liveness.new ≡ with_live liveness.old ((stm_rows (Stm.Block code.now)).live (sets liveness.old.around liveness.old.live))
         ) }
 {
     liveness.enter(Row::Live, Row::Empty)?;
-    live_code(alloc, code, liveness)?;
+    live_code(code, liveness)?;
     liveness.leave();
     Ok(())
 }

@@ -135,7 +135,7 @@ fn choose_stm(
         Stm::Loop(b) => choose_loop(alloc, temps, b, liveness),
         Stm::Block(b) => choose_block(alloc, temps, b, liveness),
         other => {
-            live_stm(alloc, &other, liveness)?;
+            live_stm(&other, liveness)?;
             liveness.enter(Row::Empty, Row::Empty)?;
             Ok(other)
         }
@@ -158,7 +158,7 @@ fn choose_choice(
     let (a, b) = choose_sides(alloc, temps, a, b, liveness)?;
     let made = Stm::If(test, a, b);
     liveness.enter(Row::Live, Row::Empty)?;
-    live_plain(alloc, &made, None, liveness)?;
+    live_plain(&made, None, liveness)?;
     Ok(made)
 }
 
@@ -198,7 +198,7 @@ fn choose_loop(
     ensures made { IfOk result (HasChosen temps liveness.old (Stm.Loop code)) }
 {
     liveness.save(Row::Live)?;
-    live_loop(alloc, &code, liveness)?;
+    live_loop(&code, liveness)?;
     liveness.enter(Row::Saved(0), Row::Live)?;
     let made = choose_code(alloc, temps, code, liveness)?;
     liveness.turn(Row::Start(0));

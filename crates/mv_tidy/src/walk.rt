@@ -76,20 +76,20 @@ fn ends(stm: &Stm, kept: &[Stm], calling: &mut bool) -> bool
 }
 
 // The same statement, and from what is live behind it to what is live before it.
-fn pass(alloc: Global, stm: Stm, liveness: &mut Liveness) -> Result<Stm, AllocError>
+fn pass(stm: Stm, liveness: &mut Liveness) -> Result<Stm, AllocError>
     ensures same { IfOk result (λ same. same ≡ stm) }
     ensures live { IfOk result (λ same. liveness.new ≡ passed stm liveness.old) }
 {
-    let step = live_stm(alloc, &stm, liveness);
+    let step = live_stm(&stm, liveness);
     let (stm, ()) = both(stm, step)?;
     Ok(stm)
 }
 
 // Drops a statement, and from what is live behind it to what is live before it.
-fn leave_out(alloc: Global, stm: Stm, liveness: &mut Liveness) -> Result<(), AllocError>
+fn leave_out(stm: Stm, liveness: &mut Liveness) -> Result<(), AllocError>
     ensures { OnOk result (liveness.new ≡ passed stm liveness.old) }
 {
-    let step = live_stm(alloc, &stm, liveness);
+    let step = live_stm(&stm, liveness);
     drop(stm);
     step
 }
@@ -106,7 +106,7 @@ fn end(
 {
     liveness.forget();
     let (jump, ()) = both(jump, liveness.save(Row::Saved(0)))?;
-    let jump = pass(alloc, jump, liveness)?;
+    let jump = pass(jump, liveness)?;
     drop(mem::replace(kept, List::new(alloc)));
     Ok(kept.push(jump)?)
 }
@@ -161,7 +161,7 @@ fn tidy_next(
         ) }
 {
     if is_idle(temps, &stm, liveness) {
-        return leave_out(alloc, stm, liveness);
+        return leave_out(stm, liveness);
     }
     if ends(&stm, kept.as_slice(), calling) {
         return end(alloc, stm, kept, liveness);
@@ -187,7 +187,7 @@ fn keep(
     match one {
         Some(one) => {
             replace_last(kept, one);
-            leave_out(alloc, stm, liveness)
+            leave_out(stm, liveness)
         }
         None => put(alloc, temps, stm, kept, liveness),
     }
@@ -223,7 +223,7 @@ fn tidy_stm(alloc: Global, temps: u32, stm: Stm, liveness: &mut Liveness) -> Res
         Stm::If(test, a, b) => tidy_choice(alloc, temps, test, a, b, liveness),
         Stm::Loop(code) => Ok(Stm::Loop(tidy_loop(alloc, temps, code, liveness)?)),
         Stm::Block(code) => Ok(Stm::Block(tidy_block(alloc, temps, code, liveness)?)),
-        other => pass(alloc, other, liveness),
+        other => pass(other, liveness),
     }
 }
 
@@ -242,7 +242,7 @@ fn tidy_choice(
 {
     let (test, (a, b)) = both(test, tidy_sides(alloc, temps, a, b, liveness))?;
     let made = Stm::If(test, a, b);
-    let step = live_plain(alloc, &made, None, liveness);
+    let step = live_plain(&made, None, liveness);
     let (made, ()) = both(made, step)?;
     Ok(made)
 }
@@ -272,11 +272,11 @@ fn tidy_sides(
 }
 
 // From behind a loop to the end of its statements. What is live at its start has to be known before, since they go back there.
-fn turn_in(alloc: Global, code: &List<Stm>, liveness: &mut Liveness) -> Result<(), AllocError>
+fn turn_in(code: &List<Stm>, liveness: &mut Liveness) -> Result<(), AllocError>
     ensures { OnOk result (liveness.new ≡ turning liveness.old code.now) }
 {
     liveness.save(Row::Live)?;
-    live_loop(alloc, code, liveness)?;
+    live_loop(code, liveness)?;
     liveness.enter(Row::Saved(0), Row::Live)?;
     liveness.forget();
     Ok(())
@@ -293,7 +293,7 @@ fn tidy_loop(
     ensures live { IfOk result (λ left. liveness.new ≡ passed (Stm.Loop code) liveness.old) }
     ensures left { IfOk result (IsLeft temps (turning liveness.old code) code) }
 {
-    let step = turn_in(alloc, &code, liveness);
+    let step = turn_in(&code, liveness);
     let (code, ()) = both(code, step)?;
     let left = tidy_code(alloc, temps, code, liveness)?;
     liveness.turn(Row::Start(0));
