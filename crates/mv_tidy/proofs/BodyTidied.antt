@@ -5,11 +5,11 @@ use Rattle.mv_ir.specs.declared.body.Body.{Body}
 use Rattle.mv_ir.specs.Live.{nowhere}
 use Rattle.mv_tidy.specs.Tidying.{IsJoinedCode}
 use Rattle.mv_tidy.specs.Tidied.{IsPlainJoined, IsTidiedCode, IsTidied}
-use Rattle.mv_tidy.proofs.AsGood.{IsAsGood, after}
+use Rattle.mv_plain.proofs.AsGood.{IsAsGood, after}
 use Rattle.mv_tidy.proofs.Thinning.{tidied_whole, tidied_temps}
 use Rattle.mv_tidy.proofs.Measures.{tidied_no_greater, tidied_well_formed}
 use Rattle.mv_tidy.proofs.TidiedKept.{tidied_keeps}
-use Rattle.mv_tidy.proofs.PlainGood.{plain_good}
+use Rattle.mv_plain.proofs.PlainGood.{plain_good}
 use Rattle.mv_tidy.proofs.ChosenGood.{chosen_good}
 use Rattle.mv_tidy.proofs.ChoosingWalked.{itself}
 

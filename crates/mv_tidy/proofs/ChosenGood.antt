@@ -4,7 +4,7 @@ use Rattle.mv_ir.specs.declared.stm.Stm.{Stm}
 use Rattle.mv_ir.specs.declared.body.Body.{Body}
 use Rattle.mv_ir.specs.Live.{nowhere}
 use Rattle.mv_tidy.specs.Choosing.{Chosen}
-use Rattle.mv_tidy.proofs.AsGood.{IsAsGood}
+use Rattle.mv_plain.proofs.AsGood.{IsAsGood}
 use Rattle.mv_tidy.proofs.ChosenThin.{chosen_whole, chosen_temps}
 use Rattle.mv_tidy.proofs.ChosenKept.{chosen_keeps}
 use Rattle.mv_tidy.proofs.ChosenWithin.{chosen_no_greater, chosen_well_formed}

@@ -1,4 +1,3 @@
-mod AsGood
 pub mod Equations
 pub mod Values
 pub mod Pairs
@@ -17,8 +16,3 @@ pub mod BodyTidied
 pub mod QuietCode
 pub mod Walked
 pub mod Joined
-pub mod PlainTrees
-pub mod PlainCode
-pub mod PlainNumbers
-pub mod PlainKept
-pub mod PlainGood

@@ -26,11 +26,11 @@ use Rattle.mv_ir.proofs.Rolls.{value_roll, nodes_roll, depth_roll, reads_roll, r
 use Rattle.mv_fold.proofs.Reached.{eqb_self}
 use Rattle.mv_fold.proofs.Within.{none_among, Less, with, less_right}
 use Rattle.mv_fold.proofs.FoldedWithin.{of_tree}
-use Rattle.mv_tidy.specs.Plain as plain
-use Rattle.mv_tidy.specs.Plain.{narrow, is_truth, Plainer}
+use Rattle.mv_plain.specs.Plain as plain
+use Rattle.mv_plain.specs.Plain.{narrow, is_truth, Plainer}
 use Rattle.mv_tidy.specs.Tidying.{taking, layer_is_leaf, is_leaf, Takes, whole, truth, twice_truth, narrowed_truth, through}
 use Rattle.mv_tidy.proofs.Equations.{leaf_roll, taking_roll}
-use Rattle.mv_tidy.proofs.PlainKept as kept
+use Rattle.mv_plain.proofs.PlainKept as kept
 
 pub apart : (a b : ℕ) → eqb a b ≡ false → a ≡ b → ⊥
 apart a b o e = let same : eqb a b ≡ true = eq-eqb a b e in let no : false ≡ true = sym o ∙ same in absurd (cc)

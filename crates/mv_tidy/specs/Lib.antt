@@ -1,4 +1,3 @@
-pub mod Plain
 pub mod Tidying
 pub mod Choosing
 pub mod Attaching

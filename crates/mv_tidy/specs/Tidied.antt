@@ -6,7 +6,7 @@ use Rattle.mv_ir.specs.Keeps.{KeepsBody}
 use Rattle.mv_ir.specs.Live.{IsWhole, HasTemps, nowhere}
 use Rattle.mv_ir.specs.WellFormed.{IsWellFormed}
 use Rattle.mv_fold.specs.Folded.{IsNoGreater}
-use Rattle.mv_tidy.specs.Plain.{PlainCode}
+use Rattle.mv_plain.specs.Plain.{PlainCode}
 use Rattle.mv_tidy.specs.Tidying.{IsJoinedCode}
 use Rattle.mv_tidy.specs.Choosing.{Chosen}
 

@@ -16,7 +16,7 @@ use Rattle.mv_ir.specs.Live.{reads_temp, Around, with_after, around_block, aroun
 use Rattle.mv_ir.specs.Operators as operator
 use Rattle.mv_ir.specs.Rolled.{number, temp, unary, binary, set, set_global, divide, choose, call, read, write, repeat, enclosed, known}
 use Rattle.mv_fold.specs.Simple.{jumps}
-use Rattle.mv_tidy.specs.Plain.{narrow, is_truth}
+use Rattle.mv_plain.specs.Plain.{narrow, is_truth}
 
 -- ---- trees
 

@@ -2,7 +2,7 @@
 //!
 //! - `tidy`: the body means what the given one means, traps included, at no greater cost, in each frame, whatever it holds at first, and under each numbering
 //!   (`KeepsBody`). In three steps (`specs/Tidied.antt`):
-//!   1. Plainer trees: constants computed, and operators and conversions that change nothing left out (`specs/Plain.antt`).
+//!   1. Plainer trees: constants computed, and operators and conversions that change nothing left out (`mv_plain`).
 //!   2. Statements joined: a result that is only moved to another temporary is made there, and a value that was put into a temporary for the next statement
 //!      alone, or that this one sets again, stands in that statement, where it is all that the statement computes, or one node, or a truth of which the
 //!      statement only asks whether it is one. A set of a temporary goes that nothing reads, or that gives it what it has, and so does what stands behind a
@@ -22,17 +22,16 @@ ghost use Rattle.mv_tidy.specs.Tidied.{IsPlainJoined, IsTidied, IsTidiedCode};
 mod attach;
 mod choices;
 mod one;
-mod plain;
 mod quiet;
 mod trees;
 mod walk;
 
 use crate::choices::choose;
-use crate::plain::plain_code;
 use crate::walk::tidy_code;
 use mv_ir::body::Body;
 use mv_ir::stm::Stm;
 use mv_num::list::List;
+use mv_plain::plain_code;
 use mv_regalloc::liveness::Liveness;
 use std::alloc::{AllocError, Global};
 

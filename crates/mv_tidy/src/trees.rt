@@ -4,15 +4,15 @@ ghost use Rattle.mv_ir.specs.declared.tree.Tree.{Tree};
 ghost use Rattle.mv_ir.specs.Live.{reads_temp};
 ghost use Rattle.mv_ir.specs.Operators as operator;
 ghost use Rattle.mv_ir.specs.Rolled as rolled;
-ghost use Rattle.mv_tidy.specs.Plain.{is_truth};
+ghost use Rattle.mv_plain.specs.Plain.{is_truth};
 ghost use Rattle.mv_tidy.specs.Tidying.{is_leaf, taking, Takes};
 
-use crate::plain::is_truth;
 use mv_fold::copies::copy_tree;
 use mv_fold::simple::constant;
 use mv_ir::operators;
 use mv_ir::tree::Tree;
 use mv_num::boxed::Boxed;
+use mv_plain::is_truth;
 use std::alloc::{AllocError, Global};
 
 /// Whether a tree reads a temporary.

@@ -12,8 +12,8 @@ use Rattle.mv_ir.specs.Trees as value
 use Rattle.mv_ir.specs.Rolled.{number, unary, binary}
 use Rattle.mv_ir.proofs.Induction.{Each}
 use Rattle.mv_select.proofs.OfBodies.Naming.{TreeNames, StmNames, CodeNames, tree_in, tree_out, CalleeNames, stm_in, stm_out}
-use Rattle.mv_tidy.specs.Plain as plain
-use Rattle.mv_tidy.specs.Plain.{Plainer, ArePlainer, IsPlainerCallee, PlainCode, PlainStm}
+use Rattle.mv_plain.specs.Plain as plain
+use Rattle.mv_plain.specs.Plain.{Plainer, ArePlainer, IsPlainerCallee, PlainCode, PlainStm}
 use Rattle.mv_variants.proofs.OfBound.FoldedNames.{IsClosed}
 
 module _ (F : ℕ → Type 0) (K : Known → Type 0) (C : ℕ → Type 0) (closed : IsClosed C) where

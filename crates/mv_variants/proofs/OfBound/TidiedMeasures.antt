@@ -14,8 +14,8 @@ use Rattle.mv_ir.specs.Rolled.{number, temp, unary, binary, set, choose}
 use Rattle.mv_ir.proofs.Induction.{Each, StmChildren, stm_ind, stms_ind}
 use Rattle.mv_ir.proofs.Rolls.{calls_roll}
 use Rattle.mv_fold.specs.Simple.{alone}
-use Rattle.mv_tidy.specs.Plain as plain
-use Rattle.mv_tidy.specs.Plain.{PlainCode, PlainStm, IsPlainerCallee}
+use Rattle.mv_plain.specs.Plain as plain
+use Rattle.mv_plain.specs.Plain.{PlainCode, PlainStm, IsPlainerCallee}
 use Rattle.mv_tidy.specs.Tidying.{IsOne, divided, fetched, called, asked, carried, stored, written}
 use Rattle.mv_tidy.specs.Choosing as chosen
 use Rattle.mv_tidy.specs.Choosing.{Attached, layer_jumps_only, is_jump, is_nothing, taken, sides}

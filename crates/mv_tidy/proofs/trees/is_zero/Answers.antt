@@ -1,6 +1,6 @@
 use Rattle.std.proofs.Common.{sym, ◌∙◌, ap, eqb-true}
 use Rattle.mv_ir.specs.Rolled.{number}
-use Rattle.mv_tidy.proofs.PlainTrees.{constant_is}
+use Rattle.mv_plain.proofs.PlainTrees.{constant_is}
 use Rattle.mv_tidy.proofs.trees.is_zero.Goals as goal
 
 pub returns-in-Some : goal.returns-in-Some

@@ -1,6 +1,0 @@
-use Rattle.std.proofs.Common.{take}
-use Rattle.mv_tidy.specs.Plain.{PlainCode}
-use Rattle.mv_tidy.proofs.plain.+plain.Given as goal
-
-abbrev pub invariant-plain_code-loop-stm : goal.invariant-plain_code-loop-stm
-invariant-plain_code-loop-stm l = PlainCode (take l.stm-index l.code) l.plain

@@ -1,6 +1,0 @@
-use Rattle.std.proofs.Common.{take}
-use Rattle.mv_tidy.specs.Plain.{ArePlainer}
-use Rattle.mv_tidy.proofs.plain.plain_trees.Given as goal
-
-abbrev pub invariant-loop-tree : goal.invariant-loop-tree
-invariant-loop-tree l = ArePlainer (take l.tree-index l.trees) l.plain
